@@ -1,0 +1,26 @@
+use Rattle.std.proofs.Common.{◌≡◌, min, length, drop, take, ℕ, ◌+◌, ◌-◌, ◌<◌, List, [], ◌++◌, sym, ◌∙◌, ap, arith}
+use Rattle.std.proofs.Math.Seq.{take-append_seam}
+use Rattle.std.proofs.lemmas.Grind.{common_steps}
+use Rattle.std.proofs.lemmas.List.{take-append-drop, drop-drop, drop_all}
+use Rattle.router_disk.proofs.memory.source.MemSourceSource.read.Goals as goal
+
+-- what was copied, and then what is left, is what was left before
+taken_then_left : (bytes rest copied : List ℕ) (place n : ℕ) → copied ≡ take n (drop place bytes) → length copied ≡ n →
+    drop place bytes ≡ take n (copied ++ rest) ++ drop (place + n) bytes
+taken_then_left bytes rest copied place n same len =
+    let all = take-append-drop n (drop place bytes) in
+    let front = take-append_seam copied rest in
+    let back = drop-drop n place bytes in cc
+
+-- where there was room and nothing was taken, nothing is left
+none_left : (bytes : List ℕ) (place n most room : ℕ) → n ≡ min (min most room) (length bytes - place) → 0 < most → 0 < room → n ≡ 0 →
+    drop (place + n) bytes ≡ []
+none_left bytes place n most room is positive space none = drop_all (place + n) bytes (omega arith)
+
+pub returns-clause-bytes : goal.returns-clause-bytes
+returns-clause-bytes c = (
+  sym (ap (λ s. s.left) c.self.view_is) ∙ taken_then_left c.self.inside.bytes.items (drop c.min-count.result c.args.buf.now) c.copy_from_slice.new.self c.self.inside.place c.min-count.result
+      (grind (arith, common_steps)) (grind (arith, common_steps)),
+  λ none room. none_left c.self.inside.bytes.items c.self.inside.place c.min-count.result c.self.inside.most (length c.args.buf.now)
+      (grind (arith, common_steps)) (grind arith) (grind (arith, common_steps)) none,
+)

@@ -1,0 +1,19 @@
+// The one error of the outside, and how it is counted.
+ghost use Rattle.std.specs.Prelude.{IsErr};
+ghost use Rattle.router_disk.specs.Faults.{CountsFaults};
+
+use thiserror::Error;
+
+/// A call of an object of the outside failed. The object's count of faults tells that it did.
+#[derive(Clone, Copy, Debug, PartialEq, Eq, Error)]
+#[error("the outside failed")]
+pub struct Failed;
+
+/// Counts a fault, and answers it.
+pub(crate) fn fail<T>(faults: &mut u64) -> Result<T, Failed>
+    ensures fails { IsErr result }
+    ensures count { CountsFaults faults.old faults.new result }
+{
+    *faults = faults.saturating_add(1);
+    Err(Failed)
+}

@@ -1,0 +1,20 @@
+//! The outside as traits, a source of bytes, a sink, a clock, a disk and a link, with doubles in memory and adapters.
+#![tactic(auto)]
+
+mod adapter;
+mod clock;
+mod disk;
+mod fault;
+mod link;
+mod memory;
+mod sink;
+mod source;
+
+pub use adapter::{ReaderSource, SystemClock, WriterSink};
+pub use clock::Clock;
+pub use disk::Disk;
+pub use fault::Failed;
+pub use link::{Link, LinkFault};
+pub use memory::{Failing, MemClock, MemSink, MemSource};
+pub use sink::Sink;
+pub use source::Source;

@@ -1,0 +1,10 @@
+// Doubles in memory, which tell what they hold.
+mod clock;
+mod failing;
+mod sink;
+mod source;
+
+pub use clock::MemClock;
+pub use failing::Failing;
+pub use sink::MemSink;
+pub use source::MemSource;
