@@ -18,3 +18,6 @@ pub use link::{Link, LinkFault};
 pub use memory::{Failing, MemClock, MemSink, MemSource};
 pub use sink::Sink;
 pub use source::Source;
+
+#[cfg(test)]
+mod tests;

@@ -6,7 +6,8 @@ use crate::fault::fail;
 use crate::{Failed, Sink};
 use std::io::{ErrorKind, Write};
 
-/// A sink that writes to a writer, and hands on at once what the writer held back. It tells what the writer tells.
+/// A sink that writes to a writer, again where it was interrupted, and hands on at once what the writer held back. It
+/// tells what the writer tells.
 #[derive(Drop)]
 pub struct WriterSink<W> {
     writer: W,
@@ -45,7 +46,8 @@ impl<W: Write + Send> Sink for WriterSink<W> {
     }
 }
 
-// Writes until all is written, and flushes. std's own loop says nothing of what a failure leaves.
+// Writes until all is written, and flushes. The loop is not left to std, whose contract says nothing of what a failure
+// leaves.
 fn write_on<W: Write>(writer: &mut W, bytes: &[u8]) -> Result<(), Failed>
     ensures { WritesAll (W.contents writer.old) (W.contents writer.new) result bytes.now }
 {
@@ -67,8 +69,12 @@ fn write_on<W: Write>(writer: &mut W, bytes: &[u8]) -> Result<(), Failed>
 fn flush<W: Write>(writer: &mut W) -> Result<(), Failed>
     ensures { Keeps (W.contents writer.old) (W.contents writer.new) }
 {
-    match writer.flush() {
-        Ok(()) => Ok(()),
-        Err(_) => Err(Failed),
+    for _ in 0..u64::MAX {
+        match writer.flush() {
+            Ok(()) => return Ok(()),
+            Err(fault) if fault.kind() == ErrorKind::Interrupted => {}
+            Err(_) => break,
+        }
     }
+    Err(Failed)
 }

@@ -1,0 +1,3 @@
+pub mod HostFault
+pub mod Knock
+pub mod Host

@@ -1,0 +1,79 @@
+// What gives disks, doors and links.
+ghost use Rattle.std.specs.Prelude.{◌≡◌, ℕ};
+
+use crate::Door;
+use router_disk::{Disk, Link};
+use thiserror::Error;
+
+/// Why a host gave nothing.
+#[derive(Clone, Copy, Debug, PartialEq, Eq, Error)]
+pub enum HostFault {
+    /// The host failed, which its count of faults for that call tells.
+    #[error("the host failed")]
+    Failed,
+    /// Memory ran out. It is no fault of the host.
+    #[error("out of memory")]
+    NoMemory,
+}
+
+/// What gives disks, doors and links, and takes them back. What it gave and got back is not told yet.
+pub trait Host {
+    ghost use Rattle.router_disk.specs.Faults.{CountsFaults};
+    ghost use Rattle.bus_host.specs.HostFault.{host_outcome};
+    ghost use Rattle.bus_host.specs.Host.{SameFaults};
+
+    type Disk: Disk;
+    type Door: Door;
+    type Link: Link;
+
+    /// How often `disk` has failed.
+    ghost disk_faults: { Self → ℕ };
+
+    /// How often `door` has failed.
+    ghost door_faults: { Self → ℕ };
+
+    /// How often `link` has failed.
+    ghost link_faults: { Self → ℕ };
+
+    /// The count of faults of `disk`, which stands still at the last `u64`.
+    fn disk_faults(&self) -> u64
+        ensures { result ≡ disk_faults self.now };
+
+    /// The count of faults of `door`, which stands still at the last `u64`.
+    fn door_faults(&self) -> u64
+        ensures { result ≡ door_faults self.now };
+
+    /// The count of faults of `link`, which stands still at the last `u64`.
+    fn link_faults(&self) -> u64
+        ensures { result ≡ link_faults self.now };
+
+    /// The file at `path`, which is made, empty, where it is missing.
+    fn disk(&mut self, path: &str) -> Result<Self::Disk, HostFault>
+        ensures count { CountsFaults (disk_faults self.old) (disk_faults self.new) (host_outcome result) }
+        ensures door { door_faults self.new ≡ door_faults self.old }
+        ensures link { link_faults self.new ≡ link_faults self.old };
+
+    /// A door at `port` of this machine.
+    fn door(&mut self, port: u16) -> Result<Self::Door, HostFault>
+        ensures count { CountsFaults (door_faults self.old) (door_faults self.new) (host_outcome result) }
+        ensures disk { disk_faults self.new ≡ disk_faults self.old }
+        ensures link { link_faults self.new ≡ link_faults self.old };
+
+    /// A link to other machines.
+    fn link(&mut self) -> Result<Self::Link, HostFault>
+        ensures count { CountsFaults (link_faults self.old) (link_faults self.new) (host_outcome result) }
+        ensures disk { disk_faults self.new ≡ disk_faults self.old }
+        ensures door { door_faults self.new ≡ door_faults self.old };
+
+    /// Takes a disk back.
+    fn back_disk(&mut self, disk: Self::Disk)
+        ensures { SameFaults disk_faults door_faults link_faults self.old self.new };
+
+    /// Takes a door back.
+    fn back_door(&mut self, door: Self::Door)
+        ensures { SameFaults disk_faults door_faults link_faults self.old self.new };
+
+    /// Takes a link back.
+    fn back_link(&mut self, link: Self::Link)
+        ensures { SameFaults disk_faults door_faults link_faults self.old self.new };
+}

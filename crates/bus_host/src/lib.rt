@@ -1,0 +1,15 @@
+//! The host as traits, a door where connections come in, a host that gives disks, doors and links, and a gate.
+#![tactic(auto)]
+
+mod door;
+mod gate;
+mod host;
+mod no_host;
+
+pub use door::{Door, Knock};
+pub use gate::{Gate, NoGate, Point};
+pub use host::{Host, HostFault};
+pub use no_host::{NoDisk, NoDoor, NoHost, NoLink};
+
+#[cfg(test)]
+mod tests;

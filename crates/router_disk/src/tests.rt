@@ -1,0 +1,157 @@
+use crate::{
+    Clock, Failed, Failing, MemClock, MemSink, MemSource, ReaderSource, Sink, Source, SystemClock,
+    WriterSink,
+};
+use std::alloc::{AllocError, Global};
+use std::io;
+use std::io::{ErrorKind, Read, Write};
+use std::test::Fail;
+use std::time::Duration;
+
+const TEXT: &[u8] = b"POST / HTTP/1.1\r\n";
+
+// Reads to the end, past failures, and answers the bytes and how many calls failed.
+fn read_all<S: Source>(alloc: Global, source: &mut S) -> Result<(Vec<u8>, u64), AllocError> {
+    let mut bytes = Vec::new(alloc);
+    let mut failed = 0u64;
+    let mut buf = [0u8; 8];
+    for _ in 0..100 {
+        match source.read(&mut buf) {
+            Ok(0) => break,
+            Ok(count) => bytes.extend_from_slice(&buf[..count])?,
+            Err(Failed) => failed = failed.saturating_add(1),
+        }
+    }
+    Ok((bytes, failed))
+}
+
+#[test]
+fn a_source_gives_the_same_bytes_in_any_pieces(rt: HostRuntime) -> Result<(), Fail> {
+    for most in [1, 2, 7, 8, 9, 1000] {
+        let mut source = MemSource::new(TEXT.to_vec(rt.alloc())?).in_pieces(most);
+        let (bytes, failed) = read_all(rt.alloc(), &mut source)?;
+        assert_eq!(rt; bytes.as_slice(), TEXT, "in pieces of {most}");
+        assert_eq!(rt; failed, 0, "in pieces of {most}");
+    }
+    Ok(())
+}
+
+#[test]
+fn a_failed_call_loses_no_byte_and_is_counted(rt: HostRuntime) -> Result<(), Fail> {
+    for sound in [0, 1, 2] {
+        let source = MemSource::new(TEXT.to_vec(rt.alloc())?);
+        let mut failing = Failing::after(sound, source);
+        let (bytes, failed) = read_all(rt.alloc(), &mut failing)?;
+        assert_eq!(rt; bytes.as_slice(), TEXT, "after {sound}");
+        assert_eq!(rt; failed, 1, "after {sound}");
+        assert_eq!(rt; Source::faults(&failing), 1, "after {sound}");
+    }
+    let mut sink = Failing::after(1, MemSink::new(rt.alloc()));
+    for (part, want) in [("ab", Ok(())), ("cd", Err(Failed)), ("ef", Ok(()))] {
+        assert_eq!(rt; sink.write_all(part.as_bytes()), want, "at {part}");
+    }
+    assert_eq!(rt; sink.inner.bytes(), b"abef".as_slice());
+    assert_eq!(rt; Sink::faults(&sink), 1);
+    Ok(())
+}
+
+#[test]
+fn a_clock_in_memory_repeats_its_last_reading(rt: HostRuntime) -> Result<(), Fail> {
+    let mut clock = MemClock::new(5, [3, 9].to_vec(rt.alloc())?);
+    for want in [5, 3, 9, 9, 9] {
+        assert_eq!(rt; clock.now(), want);
+    }
+    let mut still = MemClock::always(rt.alloc(), 1_700_000_000);
+    for _ in 0..3 {
+        assert_eq!(rt; still.now(), 1_700_000_000);
+    }
+    Ok(())
+}
+
+// Gives and takes one byte at a call. Every second call is interrupted, and the call of number `fails` fails.
+#[derive(Drop)]
+struct Slow {
+    calls: u64,
+    fails: u64,
+    bytes: Vec<u8>,
+}
+
+impl Slow {
+    fn step(&mut self) -> io::Result<()> {
+        self.calls = self.calls.saturating_add(1);
+        if self.calls == self.fails {
+            Err(io::Error::from(ErrorKind::BrokenPipe))
+        } else if self.calls % 2 == 0 {
+            Err(io::Error::from(ErrorKind::Interrupted))
+        } else {
+            Ok(())
+        }
+    }
+}
+
+impl Write for Slow {
+    fn write(&mut self, buf: &[u8]) -> io::Result<usize> {
+        self.step()?;
+        if buf.is_empty() {
+            return Ok(0);
+        }
+        self.bytes.push(buf[0])?;
+        Ok(1)
+    }
+
+    fn flush(&mut self) -> io::Result<()> {
+        self.step()
+    }
+}
+
+impl Read for Slow {
+    fn read(&mut self, buf: &mut [u8]) -> io::Result<usize> {
+        self.step()?;
+        if buf.is_empty() || self.bytes.is_empty() {
+            return Ok(0);
+        }
+        buf[0] = self.bytes.remove(0);
+        Ok(1)
+    }
+}
+
+impl std::time::Clock for Slow {
+    fn monotonic(&self) -> io::Result<Duration> {
+        Ok(Duration::from_secs(1))
+    }
+
+    fn since_1970(&self) -> io::Result<Duration> {
+        Ok(Duration::new(1_700_000_000, 999_999_999))
+    }
+}
+
+#[test]
+fn adapters_try_again_where_interrupted_and_count_failures(rt: HostRuntime) -> Result<(), Fail> {
+    let alloc = rt.alloc();
+    let mut source = ReaderSource::new(Slow {
+        calls: 0,
+        fails: 5,
+        bytes: b"abcd".to_vec(alloc)?,
+    });
+    let (bytes, failed) = read_all(alloc, &mut source)?;
+    assert_eq!(rt; bytes.as_slice(), b"abcd".as_slice());
+    assert_eq!(rt; failed, 1);
+    assert_eq!(rt; source.faults(), 1);
+
+    let mut sink = WriterSink::new(Slow {
+        calls: 0,
+        fails: 9,
+        bytes: Vec::new(alloc),
+    });
+    assert_eq!(rt; sink.write_all(b"ab"), Ok(()));
+    assert_eq!(rt; sink.write_all(b"cd"), Err(Failed));
+    assert_eq!(rt; sink.faults(), 1);
+
+    let mut clock = SystemClock::new(Slow {
+        calls: 0,
+        fails: 0,
+        bytes: Vec::new(alloc),
+    });
+    assert_eq!(rt; clock.now(), 1_700_000_000);
+    Ok(())
+}
