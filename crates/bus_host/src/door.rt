@@ -24,6 +24,7 @@ pub trait Door: Send {
     ghost use Rattle.bus_host.specs.Knock.{knock_outcome};
 
     type In: Source;
+
     type Out: Sink;
 
     /// How often a call of `next` has failed.

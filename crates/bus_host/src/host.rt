@@ -23,7 +23,9 @@ pub trait Host {
     ghost use Rattle.bus_host.specs.Host.{SameFaults};
 
     type Disk: Disk;
+
     type Door: Door;
+
     type Link: Link;
 
     /// How often `disk` has failed.

@@ -60,6 +60,7 @@ impl Link for NoLink {
 
 impl Door for NoDoor {
     type In = MemSource;
+
     type Out = MemSink;
 
     ghost faults = { λ _. 0 };
@@ -108,7 +109,9 @@ impl Host for NoHost {
     ghost use Rattle.bus_host.specs.HostFault.{host_outcome};
 
     type Disk = NoDisk;
+
     type Door = NoDoor;
+
     type Link = NoLink;
 
     ghost disk_faults = { λ h. h.disk_faults };
