@@ -1,81 +1,27 @@
-// A host that gives nothing.
-ghost use Rattle.std.specs.Prelude.{◌≡◌, Err};
-ghost use Rattle.router_disk.specs.Faults.{CountsFaults};
+// A host that gives nothing, and the types of what it would give.
+ghost use Rattle.std.specs.Prelude.{◌≡◌, ◌≤◌, Err};
+ghost use Rattle.router_disk.specs.Faults.{CountsFaults, Rose};
 ghost use Rattle.bus_host.specs.HostFault.{host_outcome};
 
 use crate::{Door, Host, HostFault, Knock};
 use router_disk::{Disk, Failed, Link, LinkFault, MemSink, MemSource};
 
-/// A disk that is never given.
-#[derive(Drop)]
-pub enum NoDisk {}
-
-/// A door that is never given.
-#[derive(Drop)]
-pub enum NoDoor {}
-
-/// A link that is never given.
-#[derive(Drop)]
-pub enum NoLink {}
-
-impl Disk for NoDisk {
-    ghost faults = { λ _. 0 };
-
-    fn faults(&self) -> u64 {
-        match *self {}
-    }
-
-    fn size(&mut self) -> Result<u64, Failed> {
-        match *self {}
-    }
-
-    fn read(&mut self, _at: u64, _into: &mut [u8]) -> Result<(), Failed> {
-        match *self {}
-    }
-
-    fn write_at(&mut self, _at: u64, _bytes: &[u8]) -> Result<(), Failed> {
-        match *self {}
-    }
-
-    fn cut(&mut self, _len: u64) -> Result<(), Failed> {
-        match *self {}
-    }
-
-    fn sync(&mut self) -> Result<(), Failed> {
-        match *self {}
-    }
+/// A disk whose every call fails.
+#[derive(Debug, Default, Drop)]
+pub struct NoDisk {
+    faults: u64,
 }
 
-impl Link for NoLink {
-    ghost faults = { λ _. 0 };
-
-    fn faults(&self) -> u64 {
-        match *self {}
-    }
-
-    fn send(&mut self, _to: &str, _body: &str) -> Result<u16, LinkFault> {
-        match *self {}
-    }
+/// A door whose every call of `next` fails.
+#[derive(Debug, Default, Drop)]
+pub struct NoDoor {
+    faults: u64,
 }
 
-impl Door for NoDoor {
-    type In = MemSource;
-
-    type Out = MemSink;
-
-    ghost faults = { λ _. 0 };
-
-    fn faults(&self) -> u64 {
-        match *self {}
-    }
-
-    fn next(&mut self) -> Knock<MemSource, MemSink> {
-        match *self {}
-    }
-
-    fn done(&mut self, _input: MemSource, _output: MemSink, _cut: bool) {
-        match *self {}
-    }
+/// A link whose every send fails.
+#[derive(Debug, Default, Drop)]
+pub struct NoLink {
+    faults: u64,
 }
 
 /// A host whose every call that can fail fails.
@@ -87,8 +33,6 @@ pub struct NoHost {
 }
 
 impl NoHost {
-    ghost use Rattle.std.specs.Prelude.{◌≡◌};
-
     /// A host with no fault yet.
     pub fn new() -> Self
         ensures disk { ⟦<NoHost as Host>⟧.disk_faults result ≡ 0 }
@@ -103,11 +47,99 @@ impl NoHost {
     }
 }
 
-impl Host for NoHost {
-    ghost use Rattle.std.specs.Prelude.{◌≡◌, Err};
-    ghost use Rattle.router_disk.specs.Faults.{CountsFaults};
-    ghost use Rattle.bus_host.specs.HostFault.{host_outcome};
+impl Disk for NoDisk {
+    ghost use Rattle.std.specs.Prelude.{IsErr};
 
+    ghost faults = { λ d. d.faults };
+
+    fn faults(&self) -> u64 {
+        self.faults
+    }
+
+    fn size(&mut self) -> Result<u64, Failed>
+        ensures count { CountsFaults self.old.faults self.new.faults result }
+        ensures fails { IsErr result }
+    {
+        raise(&mut self.faults);
+        Err(Failed)
+    }
+
+    fn read(&mut self, _at: u64, _into: &mut [u8]) -> Result<(), Failed>
+        ensures count { CountsFaults self.old.faults self.new.faults result }
+        ensures fails { IsErr result }
+    {
+        raise(&mut self.faults);
+        Err(Failed)
+    }
+
+    fn write_at(&mut self, _at: u64, _bytes: &[u8]) -> Result<(), Failed>
+        ensures count { CountsFaults self.old.faults self.new.faults result }
+        ensures fails { IsErr result }
+    {
+        raise(&mut self.faults);
+        Err(Failed)
+    }
+
+    fn cut(&mut self, _len: u64) -> Result<(), Failed>
+        ensures count { CountsFaults self.old.faults self.new.faults result }
+        ensures fails { IsErr result }
+    {
+        raise(&mut self.faults);
+        Err(Failed)
+    }
+
+    fn sync(&mut self) -> Result<(), Failed>
+        ensures count { CountsFaults self.old.faults self.new.faults result }
+        ensures fails { IsErr result }
+    {
+        raise(&mut self.faults);
+        Err(Failed)
+    }
+}
+
+impl Link for NoLink {
+    ghost use Rattle.router_disk.specs.Faults.{link_outcome};
+
+    ghost faults = { λ l. l.faults };
+
+    fn faults(&self) -> u64 {
+        self.faults
+    }
+
+    fn send(&mut self, _to: &str, _body: &str) -> Result<u16, LinkFault>
+        ensures count { CountsFaults self.old.faults self.new.faults (link_outcome result) }
+        ensures fails { result ≡ Err LinkFault.Failed }
+    {
+        raise(&mut self.faults);
+        Err(LinkFault::Failed)
+    }
+}
+
+impl Door for NoDoor {
+    ghost use Rattle.bus_host.specs.Knock.{knock_outcome};
+
+    type In = MemSource;
+
+    type Out = MemSink;
+
+    ghost faults = { λ d. d.faults };
+
+    fn faults(&self) -> u64 {
+        self.faults
+    }
+
+    fn next(&mut self) -> Knock<MemSource, MemSink>
+        ensures count { CountsFaults self.old.faults self.new.faults (knock_outcome result) }
+        ensures fails { result ≡ Knock.Failed }
+    {
+        raise(&mut self.faults);
+        Knock::Failed
+    }
+
+    fn done(&mut self, _input: MemSource, _output: MemSink, _cut: bool) {}
+}
+
+impl Host for NoHost {
     type Disk = NoDisk;
 
     type Door = NoDoor;
@@ -138,7 +170,8 @@ impl Host for NoHost {
         ensures link { self.new.link_faults ≡ self.old.link_faults }
         ensures fails { result ≡ Err HostFault.Failed }
     {
-        fail(&mut self.disk_faults)
+        raise(&mut self.disk_faults);
+        Err(HostFault::Failed)
     }
 
     fn door(&mut self, _port: u16) -> Result<NoDoor, HostFault>
@@ -147,7 +180,8 @@ impl Host for NoHost {
         ensures link { self.new.link_faults ≡ self.old.link_faults }
         ensures fails { result ≡ Err HostFault.Failed }
     {
-        fail(&mut self.door_faults)
+        raise(&mut self.door_faults);
+        Err(HostFault::Failed)
     }
 
     fn link(&mut self) -> Result<NoLink, HostFault>
@@ -156,27 +190,21 @@ impl Host for NoHost {
         ensures door { self.new.door_faults ≡ self.old.door_faults }
         ensures fails { result ≡ Err HostFault.Failed }
     {
-        fail(&mut self.link_faults)
+        raise(&mut self.link_faults);
+        Err(HostFault::Failed)
     }
 
-    fn back_disk(&mut self, disk: NoDisk) {
-        match disk {}
-    }
+    fn back_disk(&mut self, _disk: NoDisk) {}
 
-    fn back_door(&mut self, door: NoDoor) {
-        match door {}
-    }
+    fn back_door(&mut self, _door: NoDoor) {}
 
-    fn back_link(&mut self, link: NoLink) {
-        match link {}
-    }
+    fn back_link(&mut self, _link: NoLink) {}
 }
 
-// Counts a fault, and answers it.
-fn fail<T>(faults: &mut u64) -> Result<T, HostFault>
-    ensures fails { result ≡ Err HostFault.Failed }
-    ensures count { CountsFaults faults.old faults.new (host_outcome result) }
+// Counts a fault.
+fn raise(faults: &mut u64)
+    ensures later { faults.old ≤ faults.new }
+    ensures rose { Rose faults.old faults.new }
 {
     *faults = faults.saturating_add(1);
-    Err(HostFault::Failed)
 }

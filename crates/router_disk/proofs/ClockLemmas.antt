@@ -1,8 +1,8 @@
 -- Readings given by several calls. Callers cite `Gives-none`, `Gives-append` and, of a clock that repeats one reading,
 -- `Gives-constant`.
-use Rattle.std.proofs.Common.{◌≡◌, ℕ, zero, suc, List, [], ◌∷◌, ◌++◌, refl, sym, ◌∙◌, Option, Some, None, All}
+use Rattle.std.proofs.Common.{◌≡◌, ℕ, zero, suc, List, [], ◌∷◌, ◌++◌, refl, sym, ◌∙◌, subst, Option, Some, None, All}
 use Rattle.std.proofs.lemmas.List.Elements.{All-nil, All-cons}
-use Rattle.router_disk.specs.Clock.{followed_by, Gives, repeating}
+use Rattle.router_disk.specs.Clock.{followed_by, BeginsWith, Gives, repeating}
 
 followed_by-append : (xs ys : List ℕ) (later : ℕ → ℕ) (k : ℕ) → followed_by (xs ++ ys) later k ≡ followed_by xs (followed_by ys later) k
 followed_by-append [] ys later k = refl
@@ -14,23 +14,36 @@ followed_by-same [] f g same k = same k
 followed_by-same (x ∷ xs) f g same zero = refl
 followed_by-same (x ∷ xs) f g same (suc k) = followed_by-same xs f g same k
 
+BeginsWith-none : (ahead : Option (ℕ → ℕ)) → BeginsWith ahead ahead []
+BeginsWith-none None = tt
+BeginsWith-none (Some f) = λ k. refl
+
 -- no call, no reading
 pub Gives-none : (ahead : Option (ℕ → ℕ)) → Gives ahead ahead []
-Gives-none None = tt
-Gives-none (Some f) = λ k. refl
+Gives-none ahead = record { in_order = BeginsWith-none ahead }
 
--- readings of calls, then those of later calls
-pub Gives-append : (old mid new : Option (ℕ → ℕ)) (xs ys : List ℕ) → Gives old mid xs → Gives mid new ys → Gives old new (xs ++ ys)
-Gives-append None mid new xs ys first second = tt
-Gives-append (Some f) None new xs ys first second = absurd first
-Gives-append (Some f) (Some g) None xs ys first second = absurd second
-Gives-append (Some f) (Some g) (Some h) xs ys first second = λ k.
+BeginsWith-append : (old mid new : Option (ℕ → ℕ)) (xs ys : List ℕ) → BeginsWith old mid xs → BeginsWith mid new ys → BeginsWith old new (xs ++ ys)
+BeginsWith-append None mid new xs ys first second = tt
+BeginsWith-append (Some f) None new xs ys first second = absurd first
+BeginsWith-append (Some f) (Some g) None xs ys first second = absurd second
+BeginsWith-append (Some f) (Some g) (Some h) xs ys first second = λ k.
     first k ∙ followed_by-same xs g (followed_by ys h) second k ∙ sym (followed_by-append xs ys h k)
 
+-- readings of calls, then those of later calls
+pub Gives-append : {old mid new : Option (ℕ → ℕ)} {xs ys : List ℕ} → Gives old mid xs → Gives mid new ys → Gives old new (xs ++ ys)
+Gives-append {old} {mid} {new} {xs} {ys} first second =
+    record { in_order = BeginsWith-append old mid new xs ys first.in_order second.in_order }
+
+constant-front : (x : ℕ) (gave : List ℕ) (g : ℕ → ℕ) → ((k : ℕ) → x ≡ followed_by gave g k) → All (λ y. y ≡ x) gave
+constant-front x [] g same = All-nil (λ y. y ≡ x)
+constant-front x (y ∷ ys) g same = All-cons (λ y. y ≡ x) y ys (sym (same zero)) (constant-front x ys g (λ k. same (suc k)))
+
+repeats-front : (x : ℕ) (new : Option (ℕ → ℕ)) (gave : List ℕ) → BeginsWith (Some (repeating x [])) new gave → All (λ y. y ≡ x) gave
+repeats-front x None gave given = absurd given
+repeats-front x (Some g) gave given = constant-front x gave g given
+
 -- all readings of a clock that repeats one reading are that one
-pub Gives-constant : (x : ℕ) (new : Option (ℕ → ℕ)) (gave : List ℕ) → Gives (Some (repeating x [])) new gave → All (λ y. y ≡ x) gave
-Gives-constant x None gave given = absurd given
-Gives-constant x (Some g) gave given = constant-front x gave g given where
-  constant-front : (x : ℕ) (gave : List ℕ) (g : ℕ → ℕ) → ((k : ℕ) → x ≡ followed_by gave g k) → All (λ y. y ≡ x) gave
-  constant-front x [] g same = All-nil (λ y. y ≡ x)
-  constant-front x (y ∷ ys) g same = All-cons (λ y. y ≡ x) y ys (sym (same zero)) (constant-front x ys g (λ k. same (suc k)))
+pub Gives-constant : (x : ℕ) {old new : Option (ℕ → ℕ)} {gave : List ℕ} → old ≡ Some (repeating x []) → Gives old new gave →
+    All (λ y. y ≡ x) gave
+Gives-constant x {old} {new} {gave} is given =
+    repeats-front x new gave (subst (λ ahead. BeginsWith ahead new gave) is given.in_order)

@@ -7,11 +7,15 @@ followed_by [] later k = later k
 followed_by (x ∷ xs) later zero = x
 followed_by (x ∷ xs) later (suc k) = followed_by xs later k
 
--- from readings ahead, where they are known, a clock gave these, in order, and those of `new` are still ahead
-abbrev pub Gives : Option (ℕ → ℕ) → Option (ℕ → ℕ) → List ℕ → Type 0
-Gives None new gave = ⊤
-Gives (Some old) None gave = ⊥
-Gives (Some old) (Some new) gave = (k : ℕ) → old k ≡ followed_by gave new k
+-- where the readings ahead are known, they were these, in order, and then those that are ahead now
+abbrev pub BeginsWith : Option (ℕ → ℕ) → Option (ℕ → ℕ) → List ℕ → Type 0
+BeginsWith None new gave = ⊤
+BeginsWith (Some old) None gave = ⊥
+BeginsWith (Some old) (Some new) gave = (k : ℕ) → old k ≡ followed_by gave new k
+
+-- a clock with readings `old` ahead gave these, in order, and has `new` ahead now
+pub record Gives (old new : Option (ℕ → ℕ)) (gave : List ℕ) : Type 0 where
+  pub in_order : BeginsWith old new gave
 
 -- this reading, then those of the list, the last of them for ever
 abbrev pub repeating : ℕ → List ℕ → ℕ → ℕ
