@@ -1,0 +1,18 @@
+-- What a pattern of StringLike spells.
+use Rattle.std.specs.Prelude.{ℕ, ◌==◌, if◌then◌else◌, List, map}
+use Rattle.leaf_match.specs.declared.piece.Piece.{Piece}
+use Rattle.leaf_match.specs.declared.piece.Piece.TheVariants.{Letter, Run, OneCharacter}
+use Rattle.leaf_match.specs.Wild.{star}
+
+-- the byte of `?`
+abbrev pub question : ℕ
+question = 63
+
+-- `*` is a run, `?` one character, and any other byte, a backslash too, is itself
+abbrev pub like_piece : ℕ → Piece
+like_piece byte =
+    if byte == star then Run else (if byte == question then OneCharacter else Letter byte)
+
+-- each byte of the pattern is one piece
+abbrev pub like_pieces : List ℕ → List Piece
+like_pieces pattern = map like_piece pattern
