@@ -1,0 +1,200 @@
+-- What the reader keeps, as it goes on: `put_whole`, `put_in_list`, `put_in_object`; a key and its place: `key_waits`.
+use Rattle.std.proofs.Common.{◌≡◌, ℕ, suc, ◌+◌, List, [], ◌∷◌, ◌++◌, length, map, reverse, Bool, true, false, Option, Some, None, refl, sym, ap, ◌∙◌, subst, arith, cond, if◌then◌else◌, ◌||◌, ◌⊎◌, inl, inr}
+use Rattle.std.specs.Prelude.{unwrap_or}
+use Rattle.std.proofs.lemmas.Slice.Eq.{bytes_eq-Decides}
+use Rattle.std.specs.List.{list_any}
+use Rattle.std.specs.Str.{bytes_eq}
+use Rattle.std.proofs.lemmas.List.{reverse-append, map-append}
+use Rattle.json_text.specs.Tree.{Tree, null}
+use Rattle.json_text.specs.View.{tree_of, trees_of, pairs_of}
+use Rattle.json_text.specs.Node.{Node, value_of, values_of, members_after, with_member, first_of, first_repeat, first_repeat_in, first_repeat_behind}
+use Rattle.json_text.specs.Objects.{with_value, slot_from, Reserves}
+use Rattle.json_text.specs.Reading.{Member, Waiting, in_list, in_object, nodes_of, fields_of, after_item, after_member, put}
+use Rattle.json_text.specs.Kept.{keys_behind, repeat_at, repeat_of, Keeps, KeepsAll, HoldsMembers}
+use Rattle.json_text.specs.declared.value.Json.{Json}
+use Rattle.json_text.specs.declared.state.Kept.{Kept}
+use Rattle.json_text.specs.declared.state.Kept.TheVariants.{List as kept_list, Object as kept_object}
+
+bool_or : (b : Bool) → (b ≡ true) ⊎ (b ≡ false)
+bool_or true = inl refl
+bool_or false = inr refl
+
+bytes_eq_true : (a b : List ℕ) → bytes_eq a b ≡ true → a ≡ b
+bytes_eq_true a b h = (bytes_eq-Decides a b).0 h
+
+pub first_of-assoc : (a b c : Option ℕ) → first_of (first_of a b) c ≡ first_of a (first_of b c)
+first_of-assoc None b c = refl
+first_of-assoc (Some at) b c = refl
+
+pub first_of-none : (a : Option ℕ) → first_of a None ≡ a
+first_of-none None = refl
+first_of-none (Some at) = refl
+
+-- one node more
+pub first_repeat_in-more : (ns : List Node) (n : Node) → first_repeat_in (nodes_of (ns ++ n ∷ [])) ≡ first_of (first_repeat_in (nodes_of ns)) (first_repeat n)
+first_repeat_in-more [] n = first_of-none (first_repeat n)
+first_repeat_in-more (m ∷ ns) n = ap (first_of (first_repeat m)) (first_repeat_in-more ns n) ∙ sym (first_of-assoc (first_repeat m) (first_repeat_in (nodes_of ns)) (first_repeat n))
+
+pub values_of-nodes : (ns : List Node) → values_of (nodes_of ns) ≡ map value_of ns
+values_of-nodes [] = refl
+values_of-nodes (n ∷ ns) = ap (λ ts. value_of n ∷ ts) (values_of-nodes ns)
+
+-- one member more
+pub members_after-more : (acc : List (List ℕ × Tree)) (ms : List Member) (m : Member)
+    → members_after acc (fields_of (ms ++ m ∷ [])) ≡ with_member m.key (value_of m.of) (members_after acc (fields_of ms))
+members_after-more acc [] m = refl
+members_after-more acc (o ∷ ms) m = members_after-more (with_member o.key (value_of o.of) acc) ms m
+
+first_repeat_behind-more : (keys : List (List ℕ)) (ms : List Member) (m : Member)
+    → first_repeat_behind keys (fields_of (ms ++ m ∷ [])) ≡ first_of (first_repeat_behind keys (fields_of ms)) (first_of (repeat_at (keys_behind keys ms) m.place m.key) (first_repeat m.of))
+first_repeat_behind-more keys [] m = ap (first_of (repeat_at keys m.place m.key)) (first_of-none (first_repeat m.of))
+first_repeat_behind-more keys (o ∷ ms) m =
+    let key = repeat_at keys o.place o.key in
+    let inner = first_repeat o.of in
+    let rest = first_repeat_behind (o.key ∷ keys) (fields_of ms) in
+    let last = first_of (repeat_at (keys_behind (o.key ∷ keys) ms) m.place m.key) (first_repeat m.of) in
+    ap (λ r. first_of key (first_of inner r)) (first_repeat_behind-more (o.key ∷ keys) ms m)
+    ∙ ap (first_of key) (sym (first_of-assoc inner rest last))
+    ∙ sym (first_of-assoc key (first_of inner rest) last)
+
+-- what stays at the end of a reversed list
+keeps_last : (ks : List Kept) (k : Kept) (outer : List Waiting) → KeepsAll (reverse (ks ++ k ∷ [])) outer
+    → (w : Waiting) × (rest : List Waiting) × (outer ≡ w ∷ rest) × Keeps k w × KeepsAll (reverse ks) rest
+keeps_last ks k [] h = absurd (let g : KeepsAll (k ∷ reverse ks) [] = rw reverse-append at h in g)
+keeps_last ks k (w ∷ rest) h = let g : KeepsAll (k ∷ reverse ks) (w ∷ rest) = rw reverse-append at h in (w, rest, refl, g.0, g.1)
+
+-- a list or an object more waits
+pub keeps_more : (ks : List Kept) (k : Kept) (outer : List Waiting) (w : Waiting) → KeepsAll (reverse ks) outer → Keeps k w → KeepsAll (reverse (ks ++ k ∷ [])) (w ∷ outer)
+keeps_more ks k outer w h here = rw reverse-append (here, h)
+
+pub put_whole : (outer : List Waiting) → KeepsAll [] outer → outer ≡ []
+put_whole [] h = refl
+put_whole (w ∷ outer) h = absurd h
+
+-- whether a member has the key
+abbrev has : {V : Type 0} → List ℕ → List (List ℕ × V) → Bool
+has key ms = list_any (λ m. bytes_eq key m.0) ms
+
+twice : (a b c : Bool) → a ≡ b → (a || (b || c)) ≡ (b || c)
+twice true true c h = refl
+twice true false c h = cc
+twice false true c h = cc
+twice false false c h = refl
+
+swap_or : (a b c : Bool) → (a || (b || c)) ≡ (b || (a || c))
+swap_or true true c = refl
+swap_or true false c = refl
+swap_or false true c = refl
+swap_or false false c = refl
+
+has-with_member : (key k : List ℕ) (t : Tree) (ms : List (List ℕ × Tree)) → has key (with_member k t ms) ≡ (bytes_eq key k || has key ms)
+has-with_member key k t [] = refl
+has-with_member key k t (m ∷ ms) =
+    elim (bool_or (bytes_eq k m.0)) [
+      | inl same ↦ ap (λ b. has key (cond b ((m.0, t) ∷ ms) (m ∷ with_member k t ms))) same
+          ∙ sym (twice (bytes_eq key k) (bytes_eq key m.0) (has key ms) (ap (bytes_eq key) (bytes_eq_true k m.0 same)))
+      | inr other ↦ ap (λ b. has key (cond b ((m.0, t) ∷ ms) (m ∷ with_member k t ms))) other
+          ∙ ap (λ b. bytes_eq key m.0 || b) (has-with_member key k t ms) ∙ swap_or (bytes_eq key m.0) (bytes_eq key k) (has key ms)
+    ]
+
+has-members_after : (key : List ℕ) (keys : List (List ℕ)) (acc : List (List ℕ × Tree)) (ms : List Member)
+    → has key acc ≡ list_any (bytes_eq key) keys → has key (members_after acc (fields_of ms)) ≡ list_any (bytes_eq key) (keys_behind keys ms)
+has-members_after key keys acc [] h = h
+has-members_after key keys acc (m ∷ ms) h =
+    has-members_after key (m.key ∷ keys) (with_member m.key (value_of m.of) acc) ms (has-with_member key m.key (value_of m.of) acc ∙ ap (λ b. bytes_eq key m.key || b) h)
+
+none_has : {V : Type 0} (at : ℕ) (key : List ℕ) (ms : List (List ℕ × V)) → slot_from at key ms ≡ None → has key ms ≡ false
+none_has at key [] h = refl
+none_has at key (m ∷ ms) h =
+    elim (bytes_eq key m.0) as (λ b. cond b (Some at) (slot_from (at + 1) key ms) ≡ None → (b || has key ms) ≡ false) [
+      | true ↦ λ g. cc
+      | false ↦ λ g. none_has (at + 1) key ms g
+    ] h
+
+some_has : {V : Type 0} (at slot : ℕ) (key : List ℕ) (ms : List (List ℕ × V)) → slot_from at key ms ≡ Some slot → has key ms ≡ true
+some_has at slot key [] h = cc
+some_has at slot key (m ∷ ms) h =
+    elim (bytes_eq key m.0) as (λ b. cond b (Some at) (slot_from (at + 1) key ms) ≡ Some slot → (b || has key ms) ≡ true) [
+      | true ↦ λ g. refl
+      | false ↦ λ g. some_has (at + 1) slot key ms g
+    ] h
+
+-- the member with the key gets its value at its place
+with_value-slot : (at slot : ℕ) (key : List ℕ) (t : Tree) (ms : List (List ℕ × Tree)) → slot_from at key ms ≡ Some slot
+    → (n : ℕ) × (slot ≡ at + n) × (with_value n t ms ≡ with_member key t ms)
+with_value-slot at slot key t [] h = cc
+with_value-slot at slot key t (m ∷ ms) h =
+    elim (bytes_eq key m.0) as (λ b. cond b (Some at) (slot_from (at + 1) key ms) ≡ Some slot
+    → (n : ℕ) × (slot ≡ at + n) × (with_value n t (m ∷ ms) ≡ cond b ((m.0, t) ∷ ms) (m ∷ with_member key t ms))) [
+      | true ↦ λ g. (0, sym (ap (λ o. unwrap_or o 0) g) ∙ omega arith, refl)
+      | false ↦ λ g. let r = with_value-slot (at + 1) slot key t ms g in (suc r.0, omega (arith, r.1), ap (λ rest. m ∷ rest) r.2)
+    ] h
+
+-- a new member gets its value at the end
+with_value-end : (at : ℕ) (key : List ℕ) (t u : Tree) (ms : List (List ℕ × Tree)) → slot_from at key ms ≡ None
+    → with_value (length ms) t (ms ++ (key, u) ∷ []) ≡ with_member key t ms
+with_value-end at key t u [] h = refl
+with_value-end at key t u (m ∷ ms) h =
+    elim (bytes_eq key m.0) as (λ b. cond b (Some at) (slot_from (at + 1) key ms) ≡ None
+    → (m ∷ with_value (length ms) t (ms ++ (key, u) ∷ [])) ≡ cond b ((m.0, t) ∷ ms) (m ∷ with_member key t ms)) [
+      | true ↦ λ g. cc
+      | false ↦ λ g. ap (λ rest. m ∷ rest) (with_value-end (at + 1) key t u ms g)
+    ] h
+
+-- A key's place was found or made: what the member's object becomes, and whether the key came twice.
+pub key_waits : (old new : List (List ℕ × Tree)) (key : List ℕ) (slot : ℕ) (there : Bool) (ms : List Member) → Reserves old new key slot there → old ≡ members_after [] (fields_of ms)
+    → ((t : Tree) → with_value slot t new ≡ with_member key t (members_after [] (fields_of ms)))
+key_waits old new key slot true ms h is t =
+    let r = with_value-slot 0 slot key t old h.1 in
+    ap (with_value slot t) h.0 ∙ ap (λ n. with_value n t old) (let e : slot ≡ r.0 = omega (arith, r.1) in e) ∙ r.2 ∙ ap (with_member key t) is
+key_waits old new key slot false ms h is t =
+    ap (with_value slot t) h.0 ∙ ap (λ n. with_value n t (old ++ (key, null) ∷ [])) h.2 ∙ with_value-end 0 key t null old h.1 ∙ ap (with_member key t) is
+
+pub key_repeats : (old new : List (List ℕ × Tree)) (key : List ℕ) (slot place : ℕ) (there : Bool) (ms : List Member) → Reserves old new key slot there → old ≡ members_after [] (fields_of ms)
+    → repeat_at (keys_behind [] ms) place key ≡ (if there then Some place else None)
+key_repeats old new key slot place true ms h is =
+    ap (λ b. cond b (Some place) None) (sym (has-members_after key [] [] ms refl) ∙ ap (has key) (sym is) ∙ some_has 0 slot key old h.1)
+key_repeats old new key slot place false ms h is =
+    ap (λ b. cond b (Some place) None) (sym (has-members_after key [] [] ms refl) ∙ ap (has key) (sym is) ∙ none_has 0 key old h.1)
+
+-- a whole value for the innermost of what waits, which is a list
+list_takes : (v : _) (w : Waiting) (rest : List Waiting) (pushed : List Json) (json : Json) (n : Node) (repeat : Option ℕ)
+    → Keeps (kept_list v) w → pushed ≡ v.items ++ json ∷ [] → tree_of json ≡ value_of n → repeat ≡ first_of (repeat_of (w ∷ rest)) (first_repeat n)
+    → (x : List Node) × (put n (w ∷ rest) ≡ after_item x rest) × (repeat ≡ first_of (repeat_of rest) (first_repeat_in (nodes_of x))) × (trees_of pushed ≡ map value_of x)
+list_takes v (in_list ns) rest pushed json n repeat k more is r = (
+  ns ++ n ∷ [],
+  refl,
+  r ∙ first_of-assoc (repeat_of rest) (first_repeat_in (nodes_of ns)) (first_repeat n) ∙ ap (first_of (repeat_of rest)) (sym (first_repeat_in-more ns n)),
+  ap trees_of more ∙ map-append tree_of v.items (json ∷ []) ∙ ap (λ ts. ts ++ tree_of json ∷ []) k ∙ ap (λ t. map value_of ns ++ t ∷ []) is ∙ sym (map-append value_of ns (n ∷ [])),
+)
+list_takes v (in_object ms place key) rest pushed json n repeat k more is r = absurd k
+
+pub put_in_list : (ks all : List Kept) (v : _) (pushed : List Json) (json : Json) (n : Node) (outer : List Waiting) (repeat : Option ℕ)
+    → all ≡ ks ++ kept_list v ∷ [] → pushed ≡ v.items ++ json ∷ [] → tree_of json ≡ value_of n → KeepsAll (reverse all) outer → repeat ≡ first_of (repeat_of outer) (first_repeat n)
+    → (x : List Node) × (x' : List Waiting) × (put n outer ≡ after_item x x') × KeepsAll (reverse ks) x' × (repeat ≡ first_of (repeat_of x') (first_repeat_in (nodes_of x))) × (trees_of pushed ≡ map value_of x)
+put_in_list ks all v pushed json n outer repeat last more is kept r =
+    let cut = keeps_last ks (kept_list v) outer (subst (λ xs. KeepsAll (reverse xs) outer) last kept) in
+    let done = list_takes v cut.0 cut.1 pushed json n repeat cut.3 more is (r ∙ ap (λ o. first_of (repeat_of o) (first_repeat n)) cut.2) in
+    (done.0, cut.1, ap (put n) cut.2 ∙ done.1, cut.4, done.2, done.3)
+
+-- the same for an object
+object_takes : (o : _) (w : Waiting) (rest : List Waiting) (set : List (List ℕ × Json)) (json : Json) (n : Node) (repeat : Option ℕ)
+    → Keeps (kept_object o) w → pairs_of set ≡ with_value o.slot (tree_of json) (pairs_of o.object.members.items) → tree_of json ≡ value_of n → repeat ≡ first_of (repeat_of (w ∷ rest)) (first_repeat n)
+    → (x : List Member) × (put n (w ∷ rest) ≡ after_member x rest) × (repeat ≡ first_of (repeat_of rest) (first_repeat_behind [] (fields_of x))) × HoldsMembers set x
+object_takes o (in_list ns) rest set json n repeat k more is r = absurd k
+object_takes o (in_object ms place key) rest set json n repeat k more is r =
+    let m : Member = record { place = place; key = key; of = n } in (
+      ms ++ m ∷ [],
+      refl,
+      r ∙ first_of-assoc (repeat_of rest) (first_of (first_repeat_behind [] (fields_of ms)) (repeat_at (keys_behind [] ms) place key)) (first_repeat n)
+          ∙ ap (first_of (repeat_of rest)) (first_of-assoc (first_repeat_behind [] (fields_of ms)) (repeat_at (keys_behind [] ms) place key) (first_repeat n) ∙ sym (first_repeat_behind-more [] ms m)),
+      more ∙ k (tree_of json) ∙ ap (λ t. with_member key t (members_after [] (fields_of ms))) is ∙ sym (members_after-more [] ms m),
+    )
+
+pub put_in_object : (ks all : List Kept) (o : _) (set : List (List ℕ × Json)) (json : Json) (n : Node) (outer : List Waiting) (repeat : Option ℕ)
+    → all ≡ ks ++ kept_object o ∷ [] → pairs_of set ≡ with_value o.slot (tree_of json) (pairs_of o.object.members.items) → tree_of json ≡ value_of n → KeepsAll (reverse all) outer → repeat ≡ first_of (repeat_of outer) (first_repeat n)
+    → (x : List Member) × (x' : List Waiting) × (put n outer ≡ after_member x x') × KeepsAll (reverse ks) x' × (repeat ≡ first_of (repeat_of x') (first_repeat_behind [] (fields_of x))) × HoldsMembers set x
+put_in_object ks all o set json n outer repeat last more is kept r =
+    let cut = keeps_last ks (kept_object o) outer (subst (λ xs. KeepsAll (reverse xs) outer) last kept) in
+    let done = object_takes o cut.0 cut.1 set json n repeat cut.3 more is (r ∙ ap (λ p. first_of (repeat_of p) (first_repeat n)) cut.2) in
+    (done.0, cut.1, ap (put n) cut.2 ∙ done.1, cut.4, done.2, done.3)

@@ -1,0 +1,221 @@
+-- A number's machine reads exactly the spellings of numbers.
+use Rattle.std.proofs.Common.{◌≡◌, ℕ, ◌≤◌, true, false, not, ◌||◌, ◌==◌, List, [], ◌∷◌, ◌++◌, Option, Some, None, inl, inr, ⊎_elim, refl, sym, ap, ◌∙◌, subst, arith, eqb-true, eq-eqb, ne_eqb, leb-true}
+use Rattle.std.specs.Char.{is_ascii_digit}
+use Rattle.std.proofs.lemmas.Bool.{and_parts, or_cases, cond-true, cond-false, not-true}
+use Rattle.json_text.proofs.Choices.{choose, or_none}
+use Rattle.json_text.specs.Number.{IsNumber, is_digit_above_zero, AreDigits, IsDigits, IsInt, IsFraction, IsSignedDigits, IsExponent, IsMinus}
+use Rattle.json_text.specs.Reading.{NumberPart, number_step, may_end, digit_goes, exponent_goes, minus, zero_int, int, point, fraction, exponent, exponent_sign, exponent_digits}
+
+-- the bytes take a number from this part to an end
+abbrev pub Accepts : NumberPart → List ℕ → Type 0
+Accepts part [] = may_end part ≡ true
+Accepts part (b ∷ bs) = (p : NumberPart) × (number_step part b ≡ Some p) × Accepts p bs
+
+-- [ frac ] [ exp ]
+abbrev AreFractionExponent : List ℕ → Type 0
+AreFractionExponent t = (f e : List ℕ) × (t ≡ f ++ e) × IsFraction f × IsExponent e
+
+-- what stands behind each part of a number
+abbrev Tail : NumberPart → List ℕ → Type 0
+Tail minus t = (i u : List ℕ) × (t ≡ i ++ u) × IsInt i × AreFractionExponent u
+Tail zero_int t = AreFractionExponent t
+Tail int t = (ds u : List ℕ) × (t ≡ ds ++ u) × AreDigits ds × AreFractionExponent u
+Tail point t = (ds e : List ℕ) × (t ≡ ds ++ e) × IsDigits ds × IsExponent e
+Tail fraction t = (ds e : List ℕ) × (t ≡ ds ++ e) × AreDigits ds × IsExponent e
+Tail exponent t = IsSignedDigits t
+Tail exponent_sign t = IsDigits t
+Tail exponent_digits t = AreDigits t
+
+same : (x p : NumberPart) → Some x ≡ Some p → x ≡ p
+same x p e = cc
+
+none_not : {P : Type 0} (p : NumberPart) → None ≡ Some p → P
+none_not p e = cc
+
+came : (x p : NumberPart) (bs : List ℕ) → Some x ≡ Some p → Tail p bs → Tail x bs
+came x p bs e h = subst (λ q. Tail q bs) (sym (same x p e)) h
+
+step_digit : {P : Type 0} (x p : NumberPart) (b : ℕ) (bs : List ℕ) → digit_goes x b ≡ Some p → (is_ascii_digit b ≡ true → Tail x bs → P) → Tail p bs → P
+step_digit x p b bs e f h = choose (is_ascii_digit b) _ _ _ (λ t e. f t (came x p bs e h)) (λ _ e. none_not p e) e
+
+step_exponent : {P : Type 0} (p : NumberPart) (b : ℕ) (bs : List ℕ) (other : Option NumberPart) → exponent_goes b other ≡ Some p → ((b == 101) || (b == 69) ≡ true → IsSignedDigits bs → P) → (other ≡ Some p → P) → Tail p bs → P
+step_exponent p b bs other e f g h = choose ((b == 101) || (b == 69)) _ _ _ (λ t e. f t (came exponent p bs e h)) (λ _ e. g e) e
+
+-- a point, and behind it digits
+with_point : (b : ℕ) (bs : List ℕ) → (b == 46) ≡ true → Tail point bs → AreFractionExponent (b ∷ bs)
+with_point b bs t h = (b ∷ h.0, h.1, ap (λ u. b ∷ u) h.2, (eqb-true b 46 t, h.3), h.4)
+
+with_exponent : (b : ℕ) (bs : List ℕ) → (b == 101) || (b == 69) ≡ true → IsSignedDigits bs → AreFractionExponent (b ∷ bs)
+with_exponent b bs t h = ([], b ∷ bs, refl, tt, (t, h))
+
+above_zero : (b : ℕ) → is_ascii_digit b ≡ true → (b == 48) ≡ false → is_digit_above_zero b ≡ true
+above_zero b t f = rw (t, f)
+
+tail_step : (part p : NumberPart) (b : ℕ) (bs : List ℕ) → number_step part b ≡ Some p → Tail p bs → Tail part (b ∷ bs)
+tail_step minus p b bs e h =
+    choose (b == 48) _ _ _ (λ t e. (b ∷ [], bs, refl, inl (eqb-true b 48 t, refl), came zero_int p bs e h)) (λ f e.
+    step_digit int p b bs e (λ t u. (b ∷ u.0, u.1, ap (λ x. b ∷ x) u.2, inr (above_zero b t f, u.3), u.4)) h) e
+tail_step zero_int p b bs e h =
+    choose (b == 46) _ _ _ (λ t e. with_point b bs t (came point p bs e h)) (λ _ e.
+    step_exponent p b bs None e (λ t u. with_exponent b bs t u) (λ e. none_not p e) h) e
+tail_step int p b bs e h =
+    choose (b == 46) _ _ _ (λ t e. ([], b ∷ bs, refl, tt, with_point b bs t (came point p bs e h))) (λ _ e.
+    step_exponent p b bs (digit_goes int b) e (λ t u. ([], b ∷ bs, refl, tt, with_exponent b bs t u)) (λ e.
+    step_digit int p b bs e (λ t u. (b ∷ u.0, u.1, ap (λ x. b ∷ x) u.2, (t, u.3), u.4)) h) h) e
+tail_step point p b bs e h = step_digit fraction p b bs e (λ t u. (b ∷ u.0, u.1, ap (λ x. b ∷ x) u.2, (t, u.3), u.4)) h
+tail_step fraction p b bs e h =
+    step_exponent p b bs (digit_goes fraction b) e (λ t u. ([], b ∷ bs, refl, tt, (t, u))) (λ e.
+    step_digit fraction p b bs e (λ t u. (b ∷ u.0, u.1, ap (λ x. b ∷ x) u.2, (t, u.3), u.4)) h) h
+tail_step exponent p b bs e h =
+    choose ((b == 45) || (b == 43)) _ _ _ (λ t e. inl (t, came exponent_sign p bs e h)) (λ _ e.
+    step_digit exponent_digits p b bs e (λ t u. inr (t, u)) h) e
+tail_step exponent_sign p b bs e h = step_digit exponent_digits p b bs e (λ t u. (t, u)) h
+tail_step exponent_digits p b bs e h = step_digit exponent_digits p b bs e (λ t u. (t, u)) h
+
+tail_end : (part : NumberPart) → may_end part ≡ true → Tail part []
+tail_end minus e = cc
+tail_end zero_int e = ([], [], refl, tt, tt)
+tail_end int e = ([], [], refl, tt, ([], [], refl, tt, tt))
+tail_end point e = cc
+tail_end fraction e = ([], [], refl, tt, tt)
+tail_end exponent e = cc
+tail_end exponent_sign e = cc
+tail_end exponent_digits e = tt
+
+tail_of : (bs : List ℕ) (part : NumberPart) → Accepts part bs → Tail part bs
+tail_of [] part h = tail_end part h
+tail_of (b ∷ bs) part h = tail_step part h.0 b bs h.1 (tail_of bs h.0 h.2)
+
+pub minus_number : (t : List ℕ) → Accepts minus t → IsNumber (45 ∷ t)
+minus_number t h = let u = tail_of t minus h in let v = u.4 in record {
+  minus = 45 ∷ [];
+  int = u.0;
+  fraction = v.0;
+  exponent = v.1;
+  spelled = ap (λ x. 45 ∷ x) (u.2 ∙ ap (λ x. u.0 ++ x) v.2);
+  is_minus = (refl, refl);
+  is_int = u.3;
+  is_fraction = v.3;
+  is_exponent = v.4;
+}
+
+pub zero_number : (t : List ℕ) → Accepts zero_int t → IsNumber (48 ∷ t)
+zero_number t h = let v = tail_of t zero_int h in record {
+  minus = [];
+  int = 48 ∷ [];
+  fraction = v.0;
+  exponent = v.1;
+  spelled = ap (λ x. 48 ∷ x) v.2;
+  is_minus = tt;
+  is_int = inl (refl, refl);
+  is_fraction = v.3;
+  is_exponent = v.4;
+}
+
+pub int_number : (b : ℕ) (t : List ℕ) → is_digit_above_zero b ≡ true → Accepts int t → IsNumber (b ∷ t)
+int_number b t d h = let u = tail_of t int h in let v = u.4 in record {
+  minus = [];
+  int = b ∷ u.0;
+  fraction = v.0;
+  exponent = v.1;
+  spelled = ap (λ x. b ∷ x) (u.2 ∙ ap (λ x. u.0 ++ x) v.2);
+  is_minus = tt;
+  is_int = inr (d, u.3);
+  is_fraction = v.3;
+  is_exponent = v.4;
+}
+
+-- the other way
+digit_from : (b : ℕ) → is_ascii_digit b ≡ true → 48 ≤ b
+digit_from b t = leb-true 48 b (and_parts _ _ t).0
+
+digit_to : (b : ℕ) → is_ascii_digit b ≡ true → b ≤ 57
+digit_to b t = leb-true b 57 (and_parts _ _ t).1
+
+not_point : (b : ℕ) → is_ascii_digit b ≡ true → (b == 46) ≡ false
+not_point b t = let h : 48 ≤ b = digit_from b t in ne_eqb b 46 (λ e. omega arith)
+
+not_exponent : (b : ℕ) → is_ascii_digit b ≡ true → (b == 101) || (b == 69) ≡ false
+not_exponent b t = let h : b ≤ 57 = digit_to b t in or_none (b == 101) (b == 69) (ne_eqb b 101 (λ e. omega arith)) (ne_eqb b 69 (λ e. omega arith))
+
+not_sign : (b : ℕ) → is_ascii_digit b ≡ true → (b == 45) || (b == 43) ≡ false
+not_sign b t = let h : 48 ≤ b = digit_from b t in or_none (b == 45) (b == 43) (ne_eqb b 45 (λ e. omega arith)) (ne_eqb b 43 (λ e. omega arith))
+
+exponent_not_point : (b : ℕ) → (b == 101) || (b == 69) ≡ true → (b == 46) ≡ false
+exponent_not_point b t = ⊎_elim (λ e. let h : b ≡ 101 = eqb-true b 101 e in ne_eqb b 46 (λ e. omega arith)) (λ e. let h : b ≡ 69 = eqb-true b 69 e in ne_eqb b 46 (λ e. omega arith)) (or_cases _ _ t)
+
+-- the parts that digits repeat
+int_digit : (b : ℕ) → is_ascii_digit b ≡ true → number_step int b ≡ Some int
+int_digit b t = cond-false _ _ _ (not_point b t) ∙ (cond-false _ _ _ (not_exponent b t) ∙ cond-true _ _ _ t)
+
+fraction_digit : (b : ℕ) → is_ascii_digit b ≡ true → number_step fraction b ≡ Some fraction
+fraction_digit b t = cond-false _ _ _ (not_exponent b t) ∙ cond-true _ _ _ t
+
+exponent_digit : (b : ℕ) → is_ascii_digit b ≡ true → number_step exponent_digits b ≡ Some exponent_digits
+exponent_digit b t = cond-true _ _ _ t
+
+digits_accepted : (part : NumberPart) → ((b : ℕ) → is_ascii_digit b ≡ true → number_step part b ≡ Some part) → (ds t : List ℕ) → AreDigits ds → Accepts part t → Accepts part (ds ++ t)
+digits_accepted part f [] t d h = h
+digits_accepted part f (b ∷ ds) t d h = (part, f b d.0, digits_accepted part f ds t d.1 h)
+
+exponent_only : (ds : List ℕ) → AreDigits ds → Accepts exponent_digits ds
+exponent_only [] d = refl
+exponent_only (b ∷ ds) d = (exponent_digits, exponent_digit b d.0, exponent_only ds d.1)
+
+signed_accepted : (bs : List ℕ) → IsSignedDigits bs → Accepts exponent bs
+signed_accepted [] h = absurd h
+signed_accepted (b ∷ []) (inl h) = absurd h.1
+signed_accepted (b ∷ c ∷ ds) (inl h) = (exponent_sign, cond-true _ _ _ h.0, (exponent_digits, cond-true _ _ _ h.1.0, exponent_only ds h.1.1))
+signed_accepted (b ∷ bs) (inr h) = (exponent_digits, cond-false _ _ _ (not_sign b h.0) ∙ cond-true _ _ _ h.0, exponent_only bs h.1)
+
+exponent_accepted : (part : NumberPart) → may_end part ≡ true → ((b : ℕ) → (b == 101) || (b == 69) ≡ true → number_step part b ≡ Some exponent) → (e : List ℕ) → IsExponent e → Accepts part e
+exponent_accepted part m f [] h = m
+exponent_accepted part m f (b ∷ bs) h = (exponent, f b h.0, signed_accepted bs h.1)
+
+fraction_exponent : (b : ℕ) → (b == 101) || (b == 69) ≡ true → number_step fraction b ≡ Some exponent
+fraction_exponent b t = cond-true _ _ _ t
+
+point_accepted : (ds e : List ℕ) → IsDigits ds → IsExponent e → Accepts point (ds ++ e)
+point_accepted [] e d h = absurd d
+point_accepted (b ∷ ds) e d h = (fraction, cond-true _ _ _ d.0, digits_accepted fraction fraction_digit ds e d.1 (exponent_accepted fraction refl fraction_exponent e h))
+
+-- a fraction and an exponent, behind a whole part
+tail_accepted : (part : NumberPart) → may_end part ≡ true → number_step part 46 ≡ Some point → ((b : ℕ) → (b == 101) || (b == 69) ≡ true → number_step part b ≡ Some exponent) → (f e : List ℕ) → IsFraction f → IsExponent e → Accepts part (f ++ e)
+tail_accepted part m p g [] e i h = exponent_accepted part m g e h
+tail_accepted part m p g (b ∷ ds) e i h = (point, ap (λ x. number_step part x) i.0 ∙ p, point_accepted ds e i.1 h)
+
+zero_accepted : (f e : List ℕ) → IsFraction f → IsExponent e → Accepts zero_int (f ++ e)
+zero_accepted f e i h = tail_accepted zero_int refl refl (λ b t. cond-false _ _ _ (exponent_not_point b t) ∙ cond-true _ _ _ t) f e i h
+
+int_accepted : (ds f e : List ℕ) → AreDigits ds → IsFraction f → IsExponent e → Accepts int (ds ++ (f ++ e))
+int_accepted ds f e d i h = digits_accepted int int_digit ds (f ++ e) d (tail_accepted int refl refl (λ b t. cond-false _ _ _ (exponent_not_point b t) ∙ cond-true _ _ _ t) f e i h)
+
+-- how a number begins, and the part that it begins with
+pub data Starts : List ℕ → Type 0 where
+  with_minus : (t : List ℕ) → Accepts minus t → Starts (45 ∷ t)
+  with_zero : (t : List ℕ) → Accepts zero_int t → Starts (48 ∷ t)
+  with_digit : (b : ℕ) (t : List ℕ) → is_digit_above_zero b ≡ true → Accepts int t → Starts (b ∷ t)
+
+above_not_zero : (b : ℕ) → is_digit_above_zero b ≡ true → (b == 48) ≡ false
+above_not_zero b t = not-true (b == 48) (and_parts _ _ t).1
+
+above_is_digit : (b : ℕ) → is_digit_above_zero b ≡ true → is_ascii_digit b ≡ true
+above_is_digit b t = (and_parts (is_ascii_digit b) (not (b == 48)) t).0
+
+minus_accepted : (i f e : List ℕ) → IsInt i → IsFraction f → IsExponent e → Accepts minus (i ++ (f ++ e))
+minus_accepted [] f e i u h = absurd i
+minus_accepted (b ∷ bs) f e (inl i) u h = subst (λ x. Accepts minus (b ∷ (x ++ (f ++ e)))) (sym i.1) (zero_int, cond-true _ _ _ (eq-eqb b 48 i.0), zero_accepted f e u h)
+minus_accepted (b ∷ bs) f e (inr i) u h = (int, cond-false _ _ _ (above_not_zero b i.0) ∙ cond-true _ _ _ (above_is_digit b i.0), int_accepted bs f e i.1 u h)
+
+int_starts : (i f e : List ℕ) → IsInt i → IsFraction f → IsExponent e → Starts (i ++ (f ++ e))
+int_starts [] f e i u h = absurd i
+int_starts (b ∷ bs) f e (inl i) u h = subst (λ x. Starts (x ∷ (bs ++ (f ++ e)))) (sym i.0) (subst (λ x. Starts (48 ∷ (x ++ (f ++ e)))) (sym i.1) (with_zero (f ++ e) (zero_accepted f e u h)))
+int_starts (b ∷ bs) f e (inr i) u h = with_digit b (bs ++ (f ++ e)) i.0 (int_accepted bs f e i.1 u h)
+
+number_starts : (m i f e : List ℕ) → IsMinus m → IsInt i → IsFraction f → IsExponent e → Starts (m ++ (i ++ (f ++ e)))
+number_starts [] i f e m n u h = int_starts i f e n u h
+number_starts (b ∷ bs) i f e m n u h = subst (λ x. Starts (x ∷ (bs ++ (i ++ (f ++ e))))) (sym m.0) (subst (λ x. Starts (45 ∷ (x ++ (i ++ (f ++ e))))) (sym m.1) (with_minus (i ++ (f ++ e)) (minus_accepted i f e n u h)))
+
+-- each number begins so
+pub starts : (bytes : List ℕ) → IsNumber bytes → Starts bytes
+starts bytes n = subst Starts (sym n.spelled) (number_starts n.minus n.int n.fraction n.exponent n.is_minus n.is_int n.is_fraction n.is_exponent)

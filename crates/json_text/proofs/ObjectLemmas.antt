@@ -1,0 +1,92 @@
+-- The index of an object's members: `slot_from-set`, `slot_from-push`, `with_value-set`, `slot_from-pairs`, `slot_from-below`.
+use Rattle.std.proofs.Common.{◌≡◌, ◌<◌, ℕ, zero, suc, ◌+◌, List, [], ◌∷◌, ◌++◌, length, Bool, true, false, Some, None, refl, sym, ap, ◌∙◌, arith, cond, if◌then◌else◌, get_or, ◌⊎◌, inl, inr}
+use Rattle.std.proofs.lemmas.Slice.Eq.{bytes_eq-Decides}
+use Rattle.std.proofs.Math.ListN.{set}
+use Rattle.std.specs.Prelude.{unwrap_or, IsOk, is_ok, Result, Ok, Err}
+use Rattle.std.specs.Str.{bytes_eq}
+use Rattle.json_text.specs.View.{tree_of, pairs_of}
+use Rattle.json_text.specs.Objects.{slot_from, with_value}
+use Rattle.json_text.specs.declared.value.Json.{Json}
+
+either : (b : Bool) → (b ≡ true) ⊎ (b ≡ false)
+either true = inl refl
+either false = inr refl
+
+-- the key of the member at a place
+abbrev KeyAt : List (List ℕ × Json) → ℕ → List ℕ → Type 0
+KeyAt [] slot key = ⊥
+KeyAt (m ∷ ms) zero key = m.0 ≡ key
+KeyAt (m ∷ ms) (suc slot) key = KeyAt ms slot key
+
+key_at : (ms : List (List ℕ × Json)) (slot : ℕ) (d : List ℕ × Json) → slot < length ms → d ≡ get_or ms slot d → KeyAt ms slot d.0
+key_at [] slot d h e = absurd (omega (arith, h))
+key_at (m ∷ ms) zero d h e = sym (ap (λ p. p.0) e)
+key_at (m ∷ ms) (suc slot) d h e = key_at ms slot d (omega (arith, h)) e
+
+kept_slot : (at : ℕ) (key k : List ℕ) (v : Json) (slot : ℕ) (ms : List (List ℕ × Json)) → KeyAt ms slot k → slot_from at key (set ms slot (k, v)) ≡ slot_from at key ms
+kept_slot at key k v slot [] h = absurd h
+kept_slot at key k v zero (m ∷ ms) h = ap (λ n. if bytes_eq key n then Some at else slot_from (at + 1) key ms) (sym h)
+kept_slot at key k v (suc slot) (m ∷ ms) h = ap (λ o. if bytes_eq key m.0 then Some at else o) (kept_slot (at + 1) key k v slot ms h)
+
+pub slot_from-set : (at : ℕ) (key : List ℕ) (v : Json) (slot : ℕ) (ms : List (List ℕ × Json)) (d : List ℕ × Json) → slot < length ms → d ≡ get_or ms slot d
+    → slot_from at key (set ms slot (d.0, v)) ≡ slot_from at key ms
+slot_from-set at key v slot ms d h e = kept_slot at key d.0 v slot ms (key_at ms slot d h e)
+
+valued : (k : List ℕ) (v : Json) (slot : ℕ) (ms : List (List ℕ × Json)) → KeyAt ms slot k → pairs_of (set ms slot (k, v)) ≡ with_value slot (tree_of v) (pairs_of ms)
+valued k v slot [] h = absurd h
+valued k v zero (m ∷ ms) h = ap (λ n. (n, tree_of v) ∷ pairs_of ms) (sym h)
+valued k v (suc slot) (m ∷ ms) h = ap (λ rest. (m.0, tree_of m.1) ∷ rest) (valued k v slot ms h)
+
+pub with_value-set : (v : Json) (slot : ℕ) (ms : List (List ℕ × Json)) (d : List ℕ × Json) → slot < length ms → d ≡ get_or ms slot d
+    → pairs_of (set ms slot (d.0, v)) ≡ with_value slot (tree_of v) (pairs_of ms)
+with_value-set v slot ms d h e = valued d.0 v slot ms (key_at ms slot d h e)
+
+pub slot_from-pairs : (at : ℕ) (key : List ℕ) (ms : List (List ℕ × Json)) → slot_from at key (pairs_of ms) ≡ slot_from at key ms
+slot_from-pairs at key [] = refl
+slot_from-pairs at key (m ∷ ms) = ap (λ o. if bytes_eq key m.0 then Some at else o) (slot_from-pairs (at + 1) key ms)
+
+pub slot_from-below : {V : Type 0} (at slot : ℕ) (key : List ℕ) (ms : List (List ℕ × V)) → slot_from at key ms ≡ Some slot → slot < at + length ms
+slot_from-below at slot key [] h = cc
+slot_from-below at slot key (m ∷ ms) h =
+    elim (bytes_eq key m.0) as (λ b. cond b (Some at) (slot_from (at + 1) key ms) ≡ Some slot → slot < at + suc (length ms)) [
+      | true ↦ λ g. let e : at ≡ slot = ap (λ o. unwrap_or o 0) g in omega (arith, e)
+      | false ↦ λ g. omega (arith, slot_from-below (at + 1) slot key ms g)
+    ] h
+
+true_false : {b : Bool} {P : Type 0} → b ≡ true → b ≡ false → P
+true_false h g = absurd (cc (h, g))
+
+bytes_eq-comm : (a b : List ℕ) → bytes_eq a b ≡ bytes_eq b a
+bytes_eq-comm a b =
+    elim (either (bytes_eq a b)) [
+      | inl same ↦ same ∙ sym ((bytes_eq-Decides b a).1 (sym ((bytes_eq-Decides a b).0 same)))
+      | inr other ↦ other ∙ sym (elim (either (bytes_eq b a)) [
+        | inl back ↦ true_false ((bytes_eq-Decides a b).1 (sym ((bytes_eq-Decides b a).0 back))) other
+        | inr none ↦ none
+      ])
+    ]
+
+not_first : {V : Type 0} (at : ℕ) (k : List ℕ) (m : List ℕ × V) (ms : List (List ℕ × V)) → slot_from at k (m ∷ ms) ≡ None → (bytes_eq k m.0 ≡ false) × (slot_from (at + 1) k ms ≡ None)
+not_first at k m ms = elim (bytes_eq k m.0) as (λ b. cond b (Some at) (slot_from (at + 1) k ms) ≡ None → (b ≡ false) × (slot_from (at + 1) k ms ≡ None)) [ true ↦ λ h. cc | false ↦ λ h. (refl, h) ]
+
+-- a member with a new key at the end
+pub slot_from-push : {V : Type 0} (at : ℕ) (key k : List ℕ) (v : V) (ms : List (List ℕ × V)) → slot_from at k ms ≡ None
+    → slot_from at key (ms ++ (k, v) ∷ []) ≡ (if bytes_eq k key then Some (at + length ms) else slot_from at key ms)
+slot_from-push at key k v [] h = ap (λ b. if b then Some at else None) (bytes_eq-comm key k) ∙ ap (λ n. if bytes_eq k key then Some n else None) (omega arith)
+slot_from-push at key k v (m ∷ ms) h =
+    let first = not_first at k m ms h in
+    ap (λ o. if bytes_eq key m.0 then Some at else o) (slot_from-push (at + 1) key k v ms first.1)
+    ∙ elim (either (bytes_eq k key)) [
+      | inl same ↦
+          ap (λ b. cond b (Some at) (cond (bytes_eq k key) (Some (at + 1 + length ms)) (slot_from (at + 1) key ms))) (ap (λ x. bytes_eq x m.0) (sym ((bytes_eq-Decides k key).0 same)) ∙ first.0)
+          ∙ ap (λ b. cond b (Some (at + 1 + length ms)) (slot_from (at + 1) key ms)) same ∙ ap (λ n. Some n) (omega arith)
+          ∙ sym (ap (λ b. cond b (Some (at + suc (length ms))) (cond (bytes_eq key m.0) (Some at) (slot_from (at + 1) key ms))) same)
+      | inr other ↦
+          ap (λ b. cond (bytes_eq key m.0) (Some at) (cond b (Some (at + 1 + length ms)) (slot_from (at + 1) key ms))) other
+          ∙ sym (ap (λ b. cond b (Some (at + suc (length ms))) (cond (bytes_eq key m.0) (Some at) (slot_from (at + 1) key ms))) other)
+    ]
+
+-- what a list is after a push that has its room
+pub pushed : {A T E : Type 0} (r : Result T E) (more same new : List A) → IsOk r → new ≡ (if is_ok r then more else same) → new ≡ more
+pushed (Ok x) more same new h e = e
+pushed (Err x) more same new h e = cc

@@ -1,0 +1,268 @@
+-- The compact text of a value spells it: `compact_spelled`.
+use Rattle.std.proofs.Common.{◌≡◌, ◌≢◌, ℕ, suc, max, ◌+◌, ◌/◌, ◌%◌, ◌≤◌, ◌<◌, Bool, true, false, cond, ◌==◌, nat_lt, List, [], ◌∷◌, ◌++◌, length, flat_map, Some, None, refl, sym, ap, ◌∙◌, subst, arith, IsUtf8, encode_utf8, append_assoc, append-nil, ⊎_elim, eqb-true}
+use Rattle.std.specs.Char.{IsScalar}
+use Rattle.std.specs.Str.{bytes_eq, encode_utf8_all, all_scalars}
+use Rattle.std.specs.List.{list_any}
+use Rattle.std.proofs.lemmas.Bool.{and_parts, cond_both, cond-false, eqb-false, ltb-true, ltb-false, cases_lt}
+use Rattle.std.proofs.lemmas.Grind.{flat_map-append}
+use Rattle.std.proofs.lemmas.Slice.Eq.{bytes_eq-Decides}
+use Rattle.std.proofs.lemmas.Bool.Decides.{nat_tests}
+use Rattle.json_text.specs.Tree.{Tree, null, truth, number, text, list, object, Items, no_items, item, Members, no_members, member, items_of, members_of}
+use Rattle.json_text.specs.Characters.{SpellsCharacter, unescaped, escaped, unit, SpellsCharacters, none, more, SpellsString, IsHex, hex_digit_of}
+use Rattle.json_text.specs.Node.{Node, null_node, truth_node, number_node, text_node, list_node, object_node, Nodes, no_nodes, node, Fields, no_fields, field, with_member, value_of, values_of, members_after, levels_of, levels_of_nodes, levels_of_fields, first_of, first_repeat, first_repeat_in, first_repeat_behind}
+use Rattle.json_text.specs.Grammar.{SpellsValue, SpellsItems, SpellsMoreItems, SpellsMembers, SpellsMoreMembers, IsText, Padded}
+use Rattle.json_text.specs.Compact.{lower_hex, escape, quoted, compact_text, items_text, more_items_text, members_text, more_members_text, LacksKey, IsValue, AreItems, AreMembers, tree_levels, items_levels, members_levels}
+use Rattle.json_text.proofs.Encoded.{encode_1, encode_2, encode_3, encode_4, low_is_scalar}
+
+-- strings
+digit_hex : (n : ℕ) → n < 10 → hex_digit_of (48 + n) ≡ Some n
+digit_hex n h = grind (arith, nat_tests)
+
+letter_hex : (n : ℕ) → 10 ≤ n → n < 16 → hex_digit_of (87 + n) ≡ Some n
+letter_hex n l h = grind (arith, nat_tests)
+
+hex_lower : (n : ℕ) → n < 16 → hex_digit_of (lower_hex n) ≡ Some n
+hex_lower n h = cond_both (nat_lt n 10) (48 + n) (87 + n) (λ x. hex_digit_of x ≡ Some n) (λ t. digit_hex n (ltb-true n 10 t)) (λ f. letter_hex n (ltb-false n 10 f) h)
+
+control_hex : (c : ℕ) → c < 32 → IsHex (48 ∷ 48 ∷ lower_hex (c / 16) ∷ lower_hex (c % 16) ∷ []) c
+control_hex c h = (48, 48, lower_hex (c / 16), lower_hex (c % 16), 0, 0, c / 16, c % 16, refl, refl, refl, hex_lower (c / 16) (omega arith), hex_lower (c % 16) (omega arith), omega arith)
+
+one_byte : (c : ℕ) → c < 128 → (a : List ℕ) → SpellsCharacter a (encode_utf8 c) → SpellsCharacter a (c ∷ [])
+one_byte c h a p = subst (SpellsCharacter a) (encode_1 c h) p
+
+plain_character : (c : ℕ) → c < 128 → 32 ≤ c → c ≢ 34 → c ≢ 92 → SpellsCharacter (c ∷ []) (c ∷ [])
+plain_character c h l q s = subst (λ x. SpellsCharacter x x) (encode_1 c h) (unescaped c (low_is_scalar c (omega arith)) l q s)
+
+two_characters : (b d c : ℕ) → c ≡ d → SpellsCharacter (92 ∷ b ∷ []) (d ∷ []) → SpellsCharacter (92 ∷ b ∷ []) (c ∷ [])
+two_characters b d c e p = subst (λ x. SpellsCharacter (92 ∷ b ∷ []) (x ∷ [])) (sym e) p
+
+-- what a byte below 128 is written as spells it
+escape_spelled : (c : ℕ) → c < 128 → SpellsCharacter (escape c) (c ∷ [])
+escape_spelled c h =
+    cond_both (c == 34) _ _ (λ e. SpellsCharacter e (c ∷ [])) (λ t. two_characters 34 34 c (eqb-true c 34 t) (escaped 34 34 refl)) (λ q.
+    cond_both (c == 92) _ _ (λ e. SpellsCharacter e (c ∷ [])) (λ t. two_characters 92 92 c (eqb-true c 92 t) (escaped 92 92 refl)) (λ s.
+    cond_both (c == 8) _ _ (λ e. SpellsCharacter e (c ∷ [])) (λ t. two_characters 98 8 c (eqb-true c 8 t) (escaped 98 8 refl)) (λ _.
+    cond_both (c == 12) _ _ (λ e. SpellsCharacter e (c ∷ [])) (λ t. two_characters 102 12 c (eqb-true c 12 t) (escaped 102 12 refl)) (λ _.
+    cond_both (c == 10) _ _ (λ e. SpellsCharacter e (c ∷ [])) (λ t. two_characters 110 10 c (eqb-true c 10 t) (escaped 110 10 refl)) (λ _.
+    cond_both (c == 13) _ _ (λ e. SpellsCharacter e (c ∷ [])) (λ t. two_characters 114 13 c (eqb-true c 13 t) (escaped 114 13 refl)) (λ _.
+    cond_both (c == 9) _ _ (λ e. SpellsCharacter e (c ∷ [])) (λ t. two_characters 116 9 c (eqb-true c 9 t) (escaped 116 9 refl)) (λ _.
+    cond_both (nat_lt c 32) _ _ (λ e. SpellsCharacter e (c ∷ []))
+    (λ t. one_byte c h (92 ∷ 117 ∷ 48 ∷ 48 ∷ lower_hex (c / 16) ∷ lower_hex (c % 16) ∷ []) (unit (48 ∷ 48 ∷ lower_hex (c / 16) ∷ lower_hex (c % 16) ∷ []) c (control_hex c (ltb-true c 32 t)) (low_is_scalar c (omega arith))))
+    (λ f. plain_character c h (ltb-false c 32 f) (eqb-false c 34 q) (eqb-false c 92 s)))))))))
+
+-- a byte of a longer character stands for itself
+escape_high : (b : ℕ) → 128 ≤ b → escape b ≡ b ∷ []
+escape_high b h = grind (arith, nat_tests)
+
+escapes_2 : (a b : ℕ) → 128 ≤ a → 128 ≤ b → flat_map escape (a ∷ b ∷ []) ≡ a ∷ b ∷ []
+escapes_2 a b h i = rw (escape_high a h, escape_high b i)
+
+escapes_3 : (a b c : ℕ) → 128 ≤ a → 128 ≤ b → 128 ≤ c → flat_map escape (a ∷ b ∷ c ∷ []) ≡ a ∷ b ∷ c ∷ []
+escapes_3 a b c h i j = rw (escape_high a h, escape_high b i, escape_high c j)
+
+escapes_4 : (a b c d : ℕ) → 128 ≤ a → 128 ≤ b → 128 ≤ c → 128 ≤ d → flat_map escape (a ∷ b ∷ c ∷ d ∷ []) ≡ a ∷ b ∷ c ∷ d ∷ []
+escapes_4 a b c d h i j k = rw (escape_high a h, escape_high b i, escape_high c j, escape_high d k)
+
+abbrev IsPlain : List ℕ → Type 0
+IsPlain bytes = flat_map escape bytes ≡ bytes
+
+long_plain : (c : ℕ) → 128 ≤ c → IsPlain (encode_utf8 c)
+long_plain c h =
+    ⊎_elim (λ l. subst IsPlain (sym (encode_2 c h l)) (escapes_2 _ _ (omega arith) (omega arith))) (λ l.
+    ⊎_elim (λ u. subst IsPlain (sym (encode_3 c l u)) (escapes_3 _ _ _ (omega arith) (omega arith) (omega arith)))
+    (λ u. subst IsPlain (sym (encode_4 c u)) (escapes_4 _ _ _ _ (omega arith) (omega arith) (omega arith) (omega arith)))
+    (cases_lt c 65536)) (cases_lt c 2048)
+
+long_spelled : (c : ℕ) → IsScalar c → 128 ≤ c → SpellsCharacter (flat_map escape (encode_utf8 c)) (encode_utf8 c)
+long_spelled c s h = subst (λ x. SpellsCharacter x (encode_utf8 c)) (sym (long_plain c h)) (unescaped c s (omega arith) (λ e. omega arith) (λ e. omega arith))
+
+short_spelled : (c : ℕ) → c < 128 → SpellsCharacter (flat_map escape (encode_utf8 c)) (encode_utf8 c)
+short_spelled c h = subst (λ x. SpellsCharacter (flat_map escape x) x) (sym (encode_1 c h)) (subst (λ x. SpellsCharacter x (c ∷ [])) (sym (append-nil (escape c))) (escape_spelled c h))
+
+character_spelled : (c : ℕ) → IsScalar c → SpellsCharacter (flat_map escape (encode_utf8 c)) (encode_utf8 c)
+character_spelled c s = ⊎_elim (λ h. short_spelled c h) (λ h. long_spelled c s h) (cases_lt c 128)
+
+characters_spelled : (cs : List ℕ) → all_scalars cs ≡ true → SpellsCharacters (flat_map escape (encode_utf8_all cs)) (encode_utf8_all cs)
+characters_spelled [] h = none
+characters_spelled (c ∷ cs) h = let p = and_parts _ _ h in
+    subst (λ x. SpellsCharacters x (encode_utf8 c ++ encode_utf8_all cs)) (sym (flat_map-append escape (encode_utf8 c) (encode_utf8_all cs))) (more (character_spelled c p.0) (characters_spelled cs p.1))
+
+pub quoted_spelled : (bytes : List ℕ) → IsUtf8 bytes → SpellsString (quoted bytes) bytes
+quoted_spelled bytes u = (flat_map escape bytes, refl, subst (λ x. SpellsCharacters (flat_map escape x) x) u.1.1 (characters_spelled u.0 u.1.0))
+
+-- a node that stands for a tree, with no key twice and as many levels
+record Back (n : Node) (t : Tree) : Type 0 where
+  same : value_of n ≡ t
+  once : first_repeat n ≡ None
+  levels : levels_of n ≡ tree_levels t
+
+data ItemsBack : Nodes → Items → Type 0 where
+  no_items_back : ItemsBack no_nodes no_items
+  item_back : {n : Node} {t : Tree} {ns : Nodes} {items : Items} → Back n t → ItemsBack ns items → ItemsBack (node n ns) (item t items)
+
+data MembersBack : Fields → Members → Type 0 where
+  no_members_back : MembersBack no_fields no_members
+  member_back : (place : ℕ) (key : List ℕ) {n : Node} {t : Tree} {fs : Fields} {ms : Members} → Back n t → MembersBack fs ms → MembersBack (field place key n fs) (member key t ms)
+
+items_same : {ns : Nodes} {items : Items} → ItemsBack ns items → items_of (values_of ns) ≡ items
+items_same no_items_back = refl
+items_same (item_back {n = n} {t = t} {ns = ns} {items = items} b bs) = let f : value_of n ≡ t = b.same in let g : items_of (values_of ns) ≡ items = items_same bs in cc
+
+items_once : {ns : Nodes} {items : Items} → ItemsBack ns items → first_repeat_in ns ≡ None
+items_once no_items_back = refl
+items_once (item_back {ns = ns} b bs) = ap (λ x. first_of x (first_repeat_in ns)) b.once ∙ items_once bs
+
+max_same : (a b c d : ℕ) → a ≡ c → b ≡ d → max a b ≡ max c d
+max_same a b c d e f = cc
+
+items_same_levels : {ns : Nodes} {items : Items} → ItemsBack ns items → levels_of_nodes ns ≡ items_levels items
+items_same_levels no_items_back = refl
+items_same_levels (item_back b bs) = max_same _ _ _ _ b.levels (items_same_levels bs)
+
+members_same_levels : {fs : Fields} {ms : Members} → MembersBack fs ms → levels_of_fields fs ≡ members_levels ms
+members_same_levels no_members_back = refl
+members_same_levels (member_back place key b bs) = max_same _ _ _ _ b.levels (members_same_levels bs)
+
+-- none of the keys is a member's
+abbrev LackKeys : List (List ℕ) → Members → Type 0
+LackKeys [] ms = Unit {0}
+LackKeys (k ∷ ks) ms = LacksKey k ms × LackKeys ks ms
+
+keys_behind_one : (ks : List (List ℕ)) (key : List ℕ) (t : Tree) (ms : Members) → LackKeys ks (member key t ms) → LackKeys ks ms
+keys_behind_one [] key t ms h = tt
+keys_behind_one (k ∷ ks) key t ms h = (h.0.1, keys_behind_one ks key t ms h.1)
+
+bool_false : (b : Bool) → (b ≡ true → ⊥) → b ≡ false
+bool_false true h = absurd (h refl)
+bool_false false h = refl
+
+keys_differ : (key k : List ℕ) → k ≢ key → bytes_eq key k ≡ false
+keys_differ key k h = bool_false (bytes_eq key k) (λ t. h (sym ((bytes_eq-Decides key k).0 t)))
+
+not_among : (ks : List (List ℕ)) (key : List ℕ) (t : Tree) (ms : Members) → LackKeys ks (member key t ms) → list_any (bytes_eq key) ks ≡ false
+not_among [] key t ms h = refl
+not_among (k ∷ ks) key t ms h = rw (keys_differ key k h.0.0, not_among ks key t ms h.1)
+
+members_once : {fs : Fields} {ms : Members} → MembersBack fs ms → (ks : List (List ℕ)) → AreMembers ms → LackKeys ks ms → first_repeat_behind ks fs ≡ None
+members_once no_members_back ks v h = refl
+members_once (member_back place key {n = n} {t = t} {fs = fs} {ms = ms} b bs) ks v h =
+    ap (λ x. first_of (cond x (Some place) None) (first_of (first_repeat n) (first_repeat_behind (key ∷ ks) fs))) (not_among ks key t ms h)
+    ∙ ap (λ x. first_of x (first_repeat_behind (key ∷ ks) fs)) b.once
+    ∙ members_once bs (key ∷ ks) v.3 (v.1, keys_behind_one ks key t ms h)
+
+-- members behind others
+abbrev joined : List (List ℕ × Tree) → Members → Members
+joined [] ms = ms
+joined (m ∷ before) ms = member m.0 m.1 (joined before ms)
+
+abbrev keys_of : List (List ℕ × Tree) → List (List ℕ)
+keys_of [] = []
+keys_of (m ∷ ms) = m.0 ∷ keys_of ms
+
+joined_none : (before : List (List ℕ × Tree)) → members_of before ≡ joined before no_members
+joined_none [] = refl
+joined_none (m ∷ before) = ap (member m.0 m.1) (joined_none before)
+
+joined_one : (before : List (List ℕ × Tree)) (key : List ℕ) (t : Tree) (ms : Members) → joined (before ++ (key, t) ∷ []) ms ≡ joined before (member key t ms)
+joined_one [] key t ms = refl
+joined_one (m ∷ before) key t ms = ap (member m.0 m.1) (joined_one before key t ms)
+
+-- a key that is lacking goes to the end
+at_end : (before : List (List ℕ × Tree)) (key : List ℕ) (u t : Tree) (ms : Members) → LackKeys (keys_of before) (member key u ms) → with_member key t before ≡ before ++ (key, t) ∷ []
+at_end [] key u t ms h = refl
+at_end (m ∷ before) key u t ms h = cond-false _ _ _ (keys_differ key m.0 h.0.0) ∙ ap (λ x. m ∷ x) (at_end before key u t ms h.1)
+
+lack_one_more : (before : List (List ℕ × Tree)) (key : List ℕ) (t : Tree) (ms : Members) → LackKeys (keys_of before) ms → LacksKey key ms → LackKeys (keys_of (before ++ (key, t) ∷ [])) ms
+lack_one_more [] key t ms h l = (l, tt)
+lack_one_more (m ∷ before) key t ms h l = (h.0, lack_one_more before key t ms h.1 l)
+
+members_same : {fs : Fields} {ms : Members} → MembersBack fs ms → (before : List (List ℕ × Tree)) → AreMembers ms → LackKeys (keys_of before) ms → members_of (members_after before fs) ≡ joined before ms
+members_same no_members_back before v h = joined_none before
+members_same (member_back place key {n = n} {t = t} {fs = fs} {ms = ms} b bs) before v h =
+    ap (λ x. members_of (members_after x fs)) (at_end before key t (value_of n) ms h ∙ ap (λ x. before ++ (key, x) ∷ []) b.same)
+    ∙ members_same bs (before ++ (key, t) ∷ []) v.3 (lack_one_more before key t ms (keys_behind_one (keys_of before) key t ms h) v.1)
+    ∙ joined_one before key t ms
+
+list_back : (ns : Nodes) (items : Items) → ItemsBack ns items → Back (list_node ns) (list items)
+list_back ns items bs = record { same = ap list (items_same bs); once = items_once bs; levels = ap suc (items_same_levels bs) }
+
+object_back : (fs : Fields) (ms : Members) → AreMembers ms → MembersBack fs ms → Back (object_node fs) (object ms)
+object_back fs ms v bs = record { same = ap object (members_same bs [] v tt); once = members_once bs [] v tt; levels = ap suc (members_same_levels bs) }
+
+leaf_back : (n : Node) (t : Tree) → value_of n ≡ t → first_repeat n ≡ None → levels_of n ≡ tree_levels t → Back n t
+leaf_back n t e f g = record { same = e; once = f; levels = g }
+
+-- with no white space around it
+unpadded : (P : ℕ → List ℕ → Type 0) (at : ℕ) (bytes : List ℕ) → P (at + 0) bytes → Padded P at bytes
+unpadded P at bytes h = ([], bytes, [], sym (append-nil bytes), tt, h, tt)
+
+abbrev IsSpelled : ℕ → List ℕ → Tree → Type 0
+IsSpelled at bytes t = (n : Node) × SpellsValue at bytes n × Back n t
+
+mutual
+  value_spelled : (t : Tree) (at : ℕ) → IsValue t → IsSpelled at (compact_text t) t
+  value_spelled null at v = (null_node, refl, leaf_back null_node null refl refl refl)
+  value_spelled (truth true) at v = (truth_node true, refl, leaf_back (truth_node true) (truth true) refl refl refl)
+  value_spelled (truth false) at v = (truth_node false, refl, leaf_back (truth_node false) (truth false) refl refl refl)
+  value_spelled (number spelling) at v = (number_node spelling, (refl, v), leaf_back (number_node spelling) (number spelling) refl refl refl)
+  value_spelled (text t) at v = (text_node t, quoted_spelled t v, leaf_back (text_node t) (text t) refl refl refl)
+  value_spelled (list items) at v = let r = items_spelled items (at + 1) v in (list_node r.0, (items_text items, refl, r.1), list_back r.0 items r.2)
+  value_spelled (object ms) at v = let r = members_spelled ms (at + 1) v in (object_node r.0, (members_text ms, refl, r.1), object_back r.0 ms v r.2)
+
+  items_spelled : (items : Items) (at : ℕ) → AreItems items → (ns : Nodes) × SpellsItems at (items_text items) ns × ItemsBack ns items
+  items_spelled no_items at v = (no_nodes, tt, no_items_back)
+  items_spelled (item t items) at v =
+      let r = value_spelled t (at + 0) v.0 in
+      let q = more_items_spelled items (at + length (compact_text t)) v.1 in
+      (node r.0 q.0, (compact_text t, more_items_text items, refl, unpadded (λ place inside. SpellsValue place inside r.0) at (compact_text t) r.1, q.1), item_back r.2 q.2)
+
+  more_items_spelled : (items : Items) (at : ℕ) → AreItems items → (ns : Nodes) × SpellsMoreItems at (more_items_text items) ns × ItemsBack ns items
+  more_items_spelled no_items at v = (no_nodes, refl, no_items_back)
+  more_items_spelled (item t items) at v =
+      let r = value_spelled t (at + 1 + 0) v.0 in
+      let q = more_items_spelled items (at + 1 + length (compact_text t)) v.1 in
+      (node r.0 q.0, (compact_text t, more_items_text items, refl, unpadded (λ place inside. SpellsValue place inside r.0) (at + 1) (compact_text t) r.1, q.1), item_back r.2 q.2)
+
+  members_spelled : (ms : Members) (at : ℕ) → AreMembers ms → (fs : Fields) × SpellsMembers at (members_text ms) fs × MembersBack fs ms
+  members_spelled no_members at v = (no_fields, tt, no_members_back)
+  members_spelled (member key t ms) at v =
+      let first = quoted key ++ 58 ∷ compact_text t in
+      let there = at + 0 + length (quoted key) + 0 + 1 in
+      let r = value_spelled t (there + 0) v.2 in
+      let q = more_members_spelled ms (at + length first) v.3 in (
+        field (at + 0) key r.0 q.0,
+        (
+          first,
+          more_members_text ms,
+          sym (append_assoc (quoted key) (58 ∷ compact_text t) (more_members_text ms)),
+          ([], quoted key, [], compact_text t, refl, tt, refl, quoted_spelled key v.0, tt, unpadded (λ place inside. SpellsValue place inside r.0) there (compact_text t) r.1),
+          q.1,
+        ),
+        member_back (at + 0) key r.2 q.2,
+      )
+
+  more_members_spelled : (ms : Members) (at : ℕ) → AreMembers ms → (fs : Fields) × SpellsMoreMembers at (more_members_text ms) fs × MembersBack fs ms
+  more_members_spelled no_members at v = (no_fields, refl, no_members_back)
+  more_members_spelled (member key t ms) at v =
+      let first = quoted key ++ 58 ∷ compact_text t in
+      let there = at + 1 + 0 + length (quoted key) + 0 + 1 in
+      let r = value_spelled t (there + 0) v.2 in
+      let q = more_members_spelled ms (at + 1 + length first) v.3 in (
+        field (at + 1 + 0) key r.0 q.0,
+        (
+          first,
+          more_members_text ms,
+          ap (λ x. 44 ∷ x) (sym (append_assoc (quoted key) (58 ∷ compact_text t) (more_members_text ms))),
+          ([], quoted key, [], compact_text t, refl, tt, refl, quoted_spelled key v.0, tt, unpadded (λ place inside. SpellsValue place inside r.0) there (compact_text t) r.1),
+          q.1,
+        ),
+        member_back (at + 1 + 0) key r.2 q.2,
+      )
+
+at_most : (a b : ℕ) → a ≡ b → a ≤ b
+at_most a b e = omega arith
+
+-- the compact text of a value is a JSON text of its levels that stands for it, with no key twice
+pub compact_spelled : (t : Tree) → IsValue t → (n : Node) × IsText (tree_levels t) (compact_text t) n × (value_of n ≡ t) × (first_repeat n ≡ None)
+compact_spelled t v = let r = value_spelled t (0 + 0) v in
+    (r.0, record { spelled = unpadded (λ place inside. SpellsValue place inside r.0) 0 (compact_text t) r.1; within = at_most (levels_of r.0) (tree_levels t) r.2.levels }, r.2.same, r.2.once)

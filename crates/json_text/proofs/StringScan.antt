@@ -1,0 +1,216 @@
+-- What `scan_string` does, a byte or a part at a time; its text is UTF-8: `scan_utf8`.
+use Rattle.std.proofs.Common.{◌≡◌, ℕ, zero, suc, ◌+◌, ◌-◌, ◌^◌, ◌<◌, ◌≤◌, true, false, List, [], ◌∷◌, ◌++◌, length, take, drop, get_or, cond, ◌≢◌, Some, None, Result, Ok, Err, refl, sym, ap, ◌∙◌, subst, arith, append_assoc, append-nil, one-add, IsUtf8, length-drop, ne_eqb, eq-eqb, encode_utf8}
+use Rattle.std.proofs.lemmas.Grind.{get_or_after_one}
+use Rattle.std.proofs.lemmas.List.{drop-drop, drop_all, drop_more, take_all}
+use Rattle.std.proofs.lemmas.Bool.Decides.{nat_tests}
+use Rattle.json_text.specs.declared.fault.TokenFault.{TokenFault}
+use Rattle.json_text.specs.declared.fault.TokenFault.TheVariants.{Stop, NoMemory}
+use Rattle.json_text.specs.Characters.{escape_of}
+use Rattle.json_text.specs.Reading.{StringPart, between, backslash, hex, high, high_backslash, tail, StringStep, goes_on, ends, stops, string_step, tail_after, is_within, unescaped_step, escape_step}
+use Rattle.json_text.specs.Scan.{scan_string, string_on, Passes, Scanned, Taken, HasRoom, behind_of, first_step, IsUnit}
+use Rattle.json_text.proofs.StringReads.{IsTextOf, text_goes, text_ends}
+
+module _ (part : StringPart) (text : List ℕ) (b : ℕ) (bs : List ℕ) where
+  pub scan_goes : (p : StringPart) (t : List ℕ) (base : ℕ) → string_step part text b ≡ goes_on p t → scan_string part text base (b ∷ bs) ≡ scan_string p t (base + 1) bs
+  unfolding scan_string
+  scan_goes p t base e = ap (λ s. string_on s text base (λ q u. scan_string q u (base + 1) bs)) e
+
+  pub scan_stops : (base : ℕ) → string_step part text b ≡ stops → scan_string part text base (b ∷ bs) ≡ Err base
+  unfolding scan_string
+  scan_stops base e = ap (λ s. string_on s text base (λ q u. scan_string q u (base + 1) bs)) e
+
+  pub scan_ends : (base : ℕ) → string_step part text b ≡ ends → scan_string part text base (b ∷ bs) ≡ Ok (text, base + 1)
+  unfolding scan_string
+  scan_ends base e = ap (λ s. string_on s text base (λ q u. scan_string q u (base + 1) bs)) e
+
+-- the first byte goes on, or stops, or none is there
+module _ (part : StringPart) (text : List ℕ) where
+  pub first_passes : (xs : List ℕ) (p : StringPart) (t : List ℕ) → 1 ≤ length xs → string_step part text (get_or xs 0 0) ≡ goes_on p t → Passes part text xs p t 1
+  first_passes [] p t h e = absurd (omega arith)
+  first_passes (b ∷ bs) p t h e = (h, λ base. scan_goes part text b bs p t base e)
+
+  pub first_stops : (xs : List ℕ) (other : StringPart) (new : List ℕ) → 1 ≤ length xs → string_step part text (get_or xs 0 0) ≡ stops → Scanned part text xs other new (Err (Stop 0))
+  first_stops [] other new h e = absurd (omega arith)
+  first_stops (b ∷ bs) other new h e = (omega arith, λ base. scan_stops part text b bs base e ∙ ap Err (omega arith))
+
+  pub none_stops : (xs : List ℕ) (other : StringPart) (new : List ℕ) → length xs < 1 → Scanned part text xs other new (Err (Stop 0))
+  unfolding scan_string
+  none_stops [] other new h = (omega arith, λ base. ap Err (omega arith))
+  none_stops (b ∷ bs) other new h = absurd (omega arith)
+
+-- bytes that are passed over, and what is behind them
+scanned_on : (part : StringPart) (text : List ℕ) (xs : List ℕ) (mid : StringPart) (t : List ℕ) (n : ℕ) (other : StringPart) (new : List ℕ) (r : Result ℕ TokenFault)
+    → Passes part text xs mid t n → Scanned mid t (drop n xs) other new r → Scanned part text xs other new (behind_of n r)
+scanned_on part text xs mid t n other new (Ok m) p s = (
+  omega (arith, p.0, s.0, length-drop n xs),
+  λ base. p.1 base ∙ s.1 (base + n) ∙ ap (λ l. scan_string other new ((base + n) + m) l) (drop-drop m n xs) ∙ ap (λ k. scan_string other new k (drop (n + m) xs)) (omega arith),
+)
+scanned_on part text xs mid t n other new (Err (Stop m)) p s =
+    (omega (arith, p.0, s.0, length-drop n xs), λ base. p.1 base ∙ s.1 (base + n) ∙ ap Err (omega arith))
+scanned_on part text xs mid t n other new (Err NoMemory) p s = tt
+
+-- what a slice pattern leaves behind so many
+pub rest_is : (n : ℕ) (xs : List ℕ) → take (length xs - n) (drop n xs) ≡ drop n xs
+rest_is n xs = take_all (length xs - n) (drop n xs) (omega (arith, length-drop n xs))
+
+pub scanned_behind : (part : StringPart) (text : List ℕ) (xs : List ℕ) (mid : StringPart) (t : List ℕ) (n : ℕ) (rest : List ℕ) (other : StringPart) (new : List ℕ) (r : Result ℕ TokenFault)
+    → Passes part text xs mid t n → rest ≡ drop n xs → Scanned mid t rest other new r → Scanned part text xs other new (behind_of n r)
+scanned_behind part text xs mid t n rest other new r p e s = scanned_on part text xs mid t n other new r p (subst (λ l. Scanned mid t l other new r) e s)
+
+-- what is scanned lies within the bytes
+pub has_room : (part : StringPart) (text : List ℕ) (xs : List ℕ) (other : StringPart) (new : List ℕ) (count : ℕ) (r : Result ℕ TokenFault)
+    → Scanned part text xs other new r → count + length xs < 2 ^ 64 → HasRoom count r
+has_room part text xs other new count (Ok n) s h = omega (arith, s.0)
+has_room part text xs other new count (Err (Stop n)) s h = omega (arith, s.0)
+has_room part text xs other new count (Err NoMemory) s h = tt
+
+pub taken_none : (xs : List ℕ) → Taken between xs (Ok 0)
+taken_none xs text = (omega arith, λ base. ap (λ t. scan_string between t base xs) (sym (append-nil text)) ∙ ap (λ k. scan_string between (text ++ []) k xs) (omega arith))
+
+taken_on : (part : StringPart) (xs : List ℕ) (p : StringPart) (r : Result ℕ TokenFault) → 1 ≤ length xs
+    → ((text : List ℕ) → string_step part text (get_or xs 0 0) ≡ goes_on p (text ++ get_or xs 0 0 ∷ [])) → Taken p (drop 1 xs) r → Taken part xs (behind_of 1 r)
+taken_on part [] p r h e s text = absurd (omega arith)
+taken_on part (b ∷ bs) p (Ok n) h e s text =
+    let new : List ℕ = (text ++ b ∷ []) ++ take n bs in
+    subst (λ t. Scanned part text (b ∷ bs) between t (Ok (1 + n))) (append_assoc text (b ∷ []) (take n bs) ∙ ap (λ k. text ++ take k (b ∷ bs)) (sym (one-add n)))
+    (scanned_on part text (b ∷ bs) p (text ++ b ∷ []) 1 between new (Ok n) (first_passes part text (b ∷ bs) p (text ++ b ∷ []) h (e text)) (s (text ++ b ∷ [])))
+taken_on part (b ∷ bs) p (Err (Stop n)) h e s text =
+    scanned_on part text (b ∷ bs) p (text ++ b ∷ []) 1 between [] (Err (Stop n)) (first_passes part text (b ∷ bs) p (text ++ b ∷ []) h (e text)) (s (text ++ b ∷ []))
+taken_on part (b ∷ bs) p (Err NoMemory) h e s text = tt
+
+-- one byte that stands for itself
+pub taken_behind : (part : StringPart) (xs : List ℕ) (p : StringPart) (rest : List ℕ) (r : Result ℕ TokenFault) → 1 ≤ length xs
+    → ((text : List ℕ) → string_step part text (get_or xs 0 0) ≡ goes_on p (text ++ get_or xs 0 0 ∷ [])) → rest ≡ drop 1 xs → Taken p rest r → Taken part xs (behind_of 1 r)
+taken_behind part xs p rest r h e f s = taken_on part xs p r h e (subst (λ l. Taken p l r) f s)
+
+-- a character's byte in the range goes on, and no other
+module _ (low up more : ℕ) (text : List ℕ) (b : ℕ) where
+  pub tail_goes : low ≤ b → b ≤ up → string_step (tail low up more) text b ≡ goes_on (tail_after more) (text ++ b ∷ [])
+  tail_goes h i = ap (λ v. cond v (goes_on (tail_after more) (text ++ b ∷ [])) stops) (let e : is_within low up b ≡ true = grind (arith, nat_tests) in e)
+
+  pub tail_stops_below : b < low → string_step (tail low up more) text b ≡ stops
+  tail_stops_below h = ap (λ v. cond v (goes_on (tail_after more) (text ++ b ∷ [])) stops) (let e : is_within low up b ≡ false = grind (arith, nat_tests) in e)
+
+  pub tail_stops_above : up < b → string_step (tail low up more) text b ≡ stops
+  tail_stops_above h = ap (λ v. cond v (goes_on (tail_after more) (text ++ b ∷ [])) stops) (let e : is_within low up b ≡ false = grind (arith, nat_tests) in e)
+
+pub tail_after_more : (more : ℕ) → more ≢ 0 → tail_after more ≡ tail 128 191 (more - 1)
+tail_after_more zero h = absurd (h refl)
+tail_after_more (suc n) h = ap (tail 128 191) (omega arith)
+
+-- a byte between characters that is no quotation mark and no backslash
+unescaped_by_first : (text : List ℕ) (b : ℕ) → b ≢ 34 → b ≢ 92 → string_step between text b ≡ unescaped_step text b
+unescaped_by_first text b h i = rw (ne_eqb b 34 h, ne_eqb b 92 i)
+
+pub plain_goes : (text : List ℕ) (b : ℕ) → b ≢ 34 → b ≢ 92 → 32 ≤ b → b ≤ 127 → string_step between text b ≡ goes_on between (text ++ b ∷ [])
+plain_goes text b h i l u = unescaped_by_first text b h i ∙ (let e : is_within 32 127 b ≡ true = grind (arith, nat_tests) in rw e)
+
+pub first_goes : (text : List ℕ) (b low up more : ℕ) → b ≢ 34 → b ≢ 92 → unescaped_step text b ≡ first_step text b (Some (low, up, more)) → string_step between text b ≡ goes_on (tail low up more) (text ++ b ∷ [])
+first_goes text b low up more h i e = unescaped_by_first text b h i ∙ e
+
+pub first_is_none : (text : List ℕ) (b : ℕ) → b ≢ 34 → b ≢ 92 → unescaped_step text b ≡ first_step text b None → string_step between text b ≡ stops
+first_is_none text b h i e = unescaped_by_first text b h i ∙ e
+
+-- behind a high surrogate
+module _ (lead : ℕ) (text : List ℕ) (xs : List ℕ) (other : StringPart) (new : List ℕ) where
+  first_backslash : 1 ≤ length xs → get_or xs 0 0 ≡ 92 → Passes (high lead) text xs (high_backslash lead) text 1
+  first_backslash h e = first_passes (high lead) text xs (high_backslash lead) text h (rw (eq-eqb (get_or xs 0 0) 92 e))
+
+  pub high_passes : 2 ≤ length xs → get_or xs 0 0 ≡ 92 → get_or xs 1 0 ≡ 117 → Passes (high lead) text xs (hex (Some lead) 4 0) text 2
+  high_passes h e f = scanned_behind (high lead) text xs (high_backslash lead) text 1 (drop 1 xs) (hex (Some lead) 4 0) text (Ok 1) (first_backslash (omega arith) e) refl
+      (let g : get_or (drop 1 xs) 0 0 ≡ 117 = get_or_after_one xs 0 0 ∙ f in
+      first_passes (high_backslash lead) text (drop 1 xs) (hex (Some lead) 4 0) text (omega (arith, length-drop 1 xs)) (rw (eq-eqb (get_or (drop 1 xs) 0 0) 117 g)))
+
+  pub high_stops : 1 ≤ length xs → get_or xs 0 0 ≢ 92 → Scanned (high lead) text xs other new (Err (Stop 0))
+  high_stops h e = first_stops (high lead) text xs other new h (rw (ne_eqb (get_or xs 0 0) 92 e))
+
+  pub backslash_ends : 1 ≤ length xs → get_or xs 0 0 ≡ 92 → length xs < 2 → Scanned (high lead) text xs other new (Err (Stop 1))
+  backslash_ends h e f = scanned_behind (high lead) text xs (high_backslash lead) text 1 (drop 1 xs) other new (Err (Stop 0)) (first_backslash h e) refl
+      (none_stops (high_backslash lead) text (drop 1 xs) other new (omega (arith, length-drop 1 xs)))
+
+  pub backslash_stops : 2 ≤ length xs → get_or xs 0 0 ≡ 92 → get_or xs 1 0 ≢ 117 → Scanned (high lead) text xs other new (Err (Stop 1))
+  backslash_stops h e f = scanned_behind (high lead) text xs (high_backslash lead) text 1 (drop 1 xs) other new (Err (Stop 0)) (first_backslash (omega arith) e) refl
+      (let g : get_or (drop 1 xs) 0 0 ≢ 117 = λ i. f (sym (get_or_after_one xs 0 0) ∙ i) in
+      first_stops (high_backslash lead) text (drop 1 xs) other new (omega (arith, length-drop 1 xs)) (rw (ne_eqb (get_or (drop 1 xs) 0 0) 117 g)))
+
+-- a unit that is a high surrogate
+pub high_unit : (text digits : List ℕ) (unit : ℕ) → IsUnit None digits (Ok unit) → is_within 0xD800 0xDBFF unit ≡ true → Passes (hex None 4 0) text digits (high unit) text 4
+high_unit text digits unit h e = (
+  h.0,
+  λ base. h.2 text base
+      ∙ ap (λ v. string_on (cond v (goes_on (high unit) text) (goes_on between (text ++ encode_utf8 unit))) text (base + 4) (λ p t. scan_string p t (base + 4) (drop 4 digits))) e,
+)
+
+-- behind a backslash
+module _ (text : List ℕ) (xs : List ℕ) (h : 1 ≤ length xs) where
+  escaped_step : get_or xs 0 0 ≢ 117 → string_step backslash text (get_or xs 0 0) ≡ escape_step text (escape_of (get_or xs 0 0))
+  escaped_step e = ap (λ v. cond v (goes_on (hex None 4 0) text) (escape_step text (escape_of (get_or xs 0 0)))) (ne_eqb (get_or xs 0 0) 117 e)
+
+  pub unicode_passes : get_or xs 0 0 ≡ 117 → Passes backslash text xs (hex None 4 0) text 1
+  unicode_passes e = first_passes backslash text xs (hex None 4 0) text h
+      (ap (λ v. cond v (goes_on (hex None 4 0) text) (escape_step text (escape_of (get_or xs 0 0)))) (eq-eqb (get_or xs 0 0) 117 e))
+
+  pub escape_passes : (c : ℕ) → get_or xs 0 0 ≢ 117 → Some c ≡ escape_of (get_or xs 0 0) → Passes backslash text xs between (text ++ c ∷ []) 1
+  escape_passes c e f = first_passes backslash text xs between (text ++ c ∷ []) h (escaped_step e ∙ ap (escape_step text) (sym f))
+
+  pub escape_stops : (other : StringPart) (new : List ℕ) → get_or xs 0 0 ≢ 117 → None ≡ escape_of (get_or xs 0 0) → Scanned backslash text xs other new (Err (Stop 0))
+  escape_stops other new e f = first_stops backslash text xs other new h (escaped_step e ∙ ap (escape_step text) (sym f))
+
+-- a backslash between characters
+pub backslash_passes : (text : List ℕ) (xs : List ℕ) → 1 ≤ length xs → get_or xs 0 0 ≡ 92 → Passes between text xs backslash text 1
+backslash_passes text xs h e = first_passes between text xs backslash text h
+    (let f : get_or xs 0 0 ≢ 34 = omega arith in rw (ne_eqb (get_or xs 0 0) 34 f, eq-eqb (get_or xs 0 0) 92 e))
+
+-- where it stops does not depend on the text that was to be
+pub stopped : (part : StringPart) (text xs : List ℕ) (other : StringPart) (new new' : List ℕ) (e : TokenFault) → Scanned part text xs other new (Err e) → Scanned part text xs other new' (Err e)
+stopped part text xs other new new' (Stop n) h = h
+stopped part text xs other new new' NoMemory h = tt
+
+-- the quotation mark, or the end of the bytes
+pub at_mark : (bytes text : List ℕ) (at : ℕ) → at < length bytes → get_or bytes at 0 ≡ 34 → scan_string between text at (drop at bytes) ≡ Ok (text, at + 1)
+at_mark bytes text at h e = ap (λ l. scan_string between text at l) (drop_more bytes at 0 h)
+    ∙ scan_ends between text (get_or bytes at 0) (drop (at + 1) bytes) at (rw (eq-eqb (get_or bytes at 0) 34 e))
+
+pub at_end : (bytes text : List ℕ) (at : ℕ) → at ≡ length bytes → scan_string between text at (drop at bytes) ≡ Err at
+unfolding scan_string
+at_end bytes text at e = ap (λ l. scan_string between text at l) (drop_all at bytes (omega arith))
+
+-- what a string holds is UTF-8
+text_of : Result (List ℕ × ℕ) ℕ → List ℕ
+text_of (Ok x) = x.0
+text_of (Err n) = []
+
+ended_text : (text t : List ℕ) (m n : ℕ) → ◌≡◌ {A = Result (List ℕ × ℕ) ℕ} (Ok (text, m)) (Ok (t, n)) → text ≡ t
+unfolding text_of
+ended_text text t m n f = ap text_of f
+
+on_utf8 : (part : StringPart) (text t : List ℕ) (b m n : ℕ) (x : StringStep) (next : StringPart → List ℕ → Result (List ℕ × ℕ) ℕ) → IsTextOf part text → string_step part text b ≡ x
+    → ((p : StringPart) (u : List ℕ) → IsTextOf p u → next p u ≡ Ok (t, n) → IsUtf8 t) → string_on x text m next ≡ Ok (t, n) → IsUtf8 t
+on_utf8 part text t b m n (goes_on p u) next h e ih f = ih p u (text_goes part p text u b h e) f
+on_utf8 part text t b m n ends next h e ih f = subst IsUtf8 (ended_text text t (m + 1) n f) (text_ends part text b h e)
+on_utf8 part text t b m n stops next h e ih f = cc
+
+pub scan_utf8 : (bytes : List ℕ) (part : StringPart) (text t : List ℕ) (m n : ℕ) → IsTextOf part text → scan_string part text m bytes ≡ Ok (t, n) → IsUtf8 t
+unfolding scan_string
+scan_utf8 [] part text t m n h f = cc
+scan_utf8 (b ∷ bs) part text t m n h f = on_utf8 part text t b m n (string_step part text b) (λ p u. scan_string p u (m + 1) bs) h refl (λ p u g. scan_utf8 bs p u t (m + 1) n g) f
+
+-- the place where a string stops lies within the bytes
+stop_of : Result (List ℕ × ℕ) ℕ → ℕ
+stop_of (Ok x) = 0
+stop_of (Err n) = n
+
+stopped_at : (m e : ℕ) → ◌≡◌ {A = Result (List ℕ × ℕ) ℕ} (Err m) (Err e) → m ≡ e
+unfolding stop_of
+stopped_at m e f = ap stop_of f
+
+on_within : (text bs : List ℕ) (m e : ℕ) (x : StringStep) (next : StringPart → List ℕ → Result (List ℕ × ℕ) ℕ)
+    → ((p : StringPart) (u : List ℕ) → next p u ≡ Err e → e ≤ (m + 1) + length bs) → string_on x text m next ≡ Err e → e ≤ m + suc (length bs)
+on_within text bs m e (goes_on p u) next ih f = let h : e ≤ (m + 1) + length bs = ih p u f in omega arith
+on_within text bs m e ends next ih f = cc
+on_within text bs m e stops next ih f = let h : m ≡ e = stopped_at m e f in omega arith
+
+pub stop_within : (bytes : List ℕ) (part : StringPart) (text : List ℕ) (m e : ℕ) → scan_string part text m bytes ≡ Err e → e ≤ m + length bytes
+unfolding scan_string
+stop_within [] part text m e f = let h : m ≡ e = stopped_at m e f in omega arith
+stop_within (b ∷ bs) part text m e f = on_within text bs m e (string_step part text b) (λ p u. scan_string p u (m + 1) bs) (λ p u g. stop_within bs p u (m + 1) e g) f

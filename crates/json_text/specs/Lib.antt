@@ -1,0 +1,14 @@
+pub mod Tree
+pub mod Number
+pub mod Characters
+pub mod Node
+pub mod Grammar
+pub mod Faults
+pub mod Compact
+pub mod Objects
+pub mod Reading
+pub mod Scan
+pub mod Parts
+pub mod Kept
+pub mod View
+pub mod Once

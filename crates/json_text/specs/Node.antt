@@ -1,0 +1,88 @@
+-- The members of a JSON text as they stand in it: every one of them, also where a key comes twice, each key with its
+-- place, which is the number of bytes before its opening quotation mark. And the value that they stand for.
+use Rattle.std.specs.Prelude.{ℕ, suc, max, Bool, List, [], ◌∷◌, Option, Some, None, if◌then◌else◌}
+use Rattle.std.specs.List.{list_any}
+use Rattle.std.specs.Str.{bytes_eq}
+use Rattle.json_text.specs.Tree.{Tree, null, truth, number, text, list, object, items_of, members_of}
+
+mutual
+  pub data Node : Type 0 where
+    null_node : Node
+    truth_node : Bool → Node
+    number_node : List ℕ → Node
+    text_node : List ℕ → Node
+    list_node : Nodes → Node
+    object_node : Fields → Node
+
+  pub data Nodes : Type 0 where
+    no_nodes : Nodes
+    node : Node → Nodes → Nodes
+
+  pub data Fields : Type 0 where
+    no_fields : Fields
+    field : ℕ → List ℕ → Node → Fields → Fields
+
+-- A member with this key gets the value where it stands, and else is put at the end.
+abbrev pub with_member : List ℕ → Tree → List (List ℕ × Tree) → List (List ℕ × Tree)
+with_member key tree [] = (key, tree) ∷ []
+with_member key tree (m ∷ ms) = if bytes_eq key m.0 then (m.0, tree) ∷ ms else m ∷ with_member key tree ms
+
+-- Of a repeated key the first place counts, and the last value (this project's own rule; RFC 8259, section 4, leaves it open).
+abbrev mutual
+  pub value_of : Node → Tree
+  value_of null_node = null
+  value_of (truth_node b) = truth b
+  value_of (number_node spelling) = number spelling
+  value_of (text_node t) = text t
+  value_of (list_node ns) = list (items_of (values_of ns))
+  value_of (object_node fs) = object (members_of (members_after [] fs))
+
+  pub values_of : Nodes → List Tree
+  values_of no_nodes = []
+  values_of (node n ns) = value_of n ∷ values_of ns
+
+  pub members_after : List (List ℕ × Tree) → Fields → List (List ℕ × Tree)
+  members_after ms no_fields = ms
+  members_after ms (field place key n fs) = members_after (with_member key (value_of n) ms) fs
+
+-- how many lists and objects stand one inside another
+abbrev mutual
+  pub levels_of : Node → ℕ
+  levels_of null_node = 0
+  levels_of (truth_node b) = 0
+  levels_of (number_node spelling) = 0
+  levels_of (text_node t) = 0
+  levels_of (list_node ns) = suc (levels_of_nodes ns)
+  levels_of (object_node fs) = suc (levels_of_fields fs)
+
+  pub levels_of_nodes : Nodes → ℕ
+  levels_of_nodes no_nodes = 0
+  levels_of_nodes (node n ns) = max (levels_of n) (levels_of_nodes ns)
+
+  pub levels_of_fields : Fields → ℕ
+  levels_of_fields no_fields = 0
+  levels_of_fields (field place key n fs) = max (levels_of n) (levels_of_fields fs)
+
+abbrev pub first_of : Option ℕ → Option ℕ → Option ℕ
+first_of None other = other
+first_of (Some at) other = Some at
+
+-- The place of the first key, in the order of the text, that an earlier member of its object has too.
+abbrev mutual
+  pub first_repeat : Node → Option ℕ
+  first_repeat null_node = None
+  first_repeat (truth_node b) = None
+  first_repeat (number_node spelling) = None
+  first_repeat (text_node t) = None
+  first_repeat (list_node ns) = first_repeat_in ns
+  first_repeat (object_node fs) = first_repeat_behind [] fs
+
+  pub first_repeat_in : Nodes → Option ℕ
+  first_repeat_in no_nodes = None
+  first_repeat_in (node n ns) = first_of (first_repeat n) (first_repeat_in ns)
+
+  -- of members with members of these keys before them
+  pub first_repeat_behind : List (List ℕ) → Fields → Option ℕ
+  first_repeat_behind keys no_fields = None
+  first_repeat_behind keys (field place key n fs) =
+      first_of (if list_any (bytes_eq key) keys then Some place else None) (first_of (first_repeat n) (first_repeat_behind (key ∷ keys) fs))

@@ -1,0 +1,12 @@
+-- What `read_once` answers of a text.
+use Rattle.std.specs.Prelude.{◌≡◌, Some}
+use Rattle.json_text.specs.Node.{Node, first_repeat}
+use Rattle.json_text.specs.declared.fault.JsonFault.{JsonFault}
+use Rattle.json_text.specs.declared.fault.JsonFault.TheVariants.{NotJson, TooDeep, KeyTwice, NoMemory}
+
+-- of a JSON text: the first repeated key, or want of memory
+abbrev pub IsRepeatOrMemory : Node → JsonFault → Type 0
+IsRepeatOrMemory n (NotJson at) = ⊥
+IsRepeatOrMemory n (TooDeep at) = ⊥
+IsRepeatOrMemory n (KeyTwice at) = first_repeat n ≡ Some at
+IsRepeatOrMemory n NoMemory = Unit {0}

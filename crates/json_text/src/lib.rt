@@ -1,0 +1,22 @@
+//! A text is read to the JSON value that it spells, and to no other; a value is written as its one compact text.
+#![tactic(auto)]
+
+mod base;
+mod compact;
+mod fault;
+mod number;
+mod object;
+mod reader;
+mod reading;
+mod state;
+mod string;
+#[cfg(test)]
+mod tests;
+mod value;
+mod word;
+
+pub use base::{Bytes, NoMemory, Text};
+pub use compact::write;
+pub use fault::JsonFault;
+pub use reading::{read, read_once};
+pub use value::{Items, Json, Members, copy};

@@ -1,0 +1,41 @@
+//! What is known of a text between two of its tokens.
+ghost use Rattle.std.specs.Prelude.{◌<◌, ◌+◌, ◌^◌, length};
+
+use super::object::ObjectBuilder;
+use super::{Items, Json};
+
+/// What is left of a text, and how many bytes of it stand before.
+#[derive(Clone, Copy)]
+pub(crate) struct Place<'a> {
+    pub(crate) rest: &'a [u8],
+    pub(crate) at: usize,
+    ghost fits: { at + length rest.now < 2 ^ 64 },
+}
+
+/// A list or an object that waits for a value inside it.
+#[derive(Drop)]
+pub(crate) enum Kept {
+    List(Items),
+    Object(KeptObject),
+}
+
+/// An object, and the place of its member whose value comes.
+#[derive(Drop)]
+pub(crate) struct KeptObject {
+    pub(crate) object: ObjectBuilder,
+    pub(crate) slot: usize,
+    ghost within: { slot < length object.members.items },
+}
+
+/// What comes next.
+#[derive(Drop)]
+pub(crate) enum Next {
+    Value,
+    FirstItem,
+    AfterItem(Items),
+    FirstKey,
+    NextKey(ObjectBuilder),
+    AfterMember(ObjectBuilder),
+    /// White space alone, behind the text's own value.
+    End(Json),
+}

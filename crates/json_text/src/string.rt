@@ -1,0 +1,268 @@
+//! The characters of a string, byte for byte.
+ghost use Rattle.std.specs.Prelude.{◌≡◌, ◌≤◌, ◌<◌, ◌-◌, ◌&&◌, ◌==◌, not, false, ℕ, List, [], ◌++◌, Some, None, Ok, Err, IfOk, IfErr, OnOk, length, take, slice_index, ◌≢◌, true, IfSome, encode_utf8};
+ghost use Rattle.std.specs.Char.{IsScalar};
+ghost use Rattle.json_text.specs.Characters.{escape_of, hex_digit_of};
+ghost use Rattle.json_text.specs.Reading.{digit_fits, between, backslash, hex, high, tail, is_within, unescaped_step};
+ghost use Rattle.json_text.specs.Scan.{scan_string, Passes, Scanned, Taken, HasRoom, IsUnit, IsUnitSoFar, GoesToUnit, StopsAt, first_step, behind_of};
+
+use super::Text;
+use super::fault::TokenFault;
+use std::alloc::Global;
+
+/// A string's text, and how many bytes it takes behind its first quotation mark.
+pub(crate) fn string(alloc: Global, bytes: &[u8]) -> Result<(Text, usize), TokenFault>
+    ensures ok { IfOk result (λ r. scan_string between [] 0 bytes.now ≡ Ok (r.0, r.1)) }
+    ensures within { IfOk result (λ r. r.1 ≤ length bytes.now) }
+    ensures stop { (n : ℕ) → result ≡ Err (TokenFault.Stop n)
+        → scan_string between [] 0 bytes.now ≡ Err n }
+{
+    let mut text = Vec::new(alloc);
+    let mut at = 0;
+    while at < bytes.len() && bytes[at] != b'"' {
+        match push_characters(&mut text, &bytes[at..]) {
+            Ok(taken) => at += taken,
+            Err(TokenFault::Stop(n)) => return Err(TokenFault::Stop(at + n)),
+            Err(TokenFault::NoMemory) => return Err(TokenFault::NoMemory),
+        }
+    }
+    if at == bytes.len() {
+        return Err(TokenFault::Stop(at));
+    }
+    match String::from_utf8(text) {
+        Ok(text) => Ok((Text::from(text), at + 1)),
+        Err(_) => unreachable!(),
+    }
+}
+
+/// Puts the characters at the front, of which the first is no quotation mark, and answers how many bytes they take.
+fn push_characters(text: &mut Vec<u8>, bytes: &[u8]) -> Result<usize, TokenFault>
+    requires some { 0 < length bytes.now }
+    requires no_end { slice_index bytes.now 0 ≢ 34 }
+    ensures scanned { Scanned between text.old.items bytes.now between text.new.items result }
+    ensures goes { IfOk result (λ n. 0 < n) }
+{
+    let plain = plain_len(bytes);
+    if plain > 0 {
+        text.extend_from_slice(&bytes[..plain])?;
+        return Ok(plain);
+    }
+    if bytes[0] == b'\\' {
+        return behind(1, push_escaped(text, &bytes[1..]));
+    }
+    let len = character_len(bytes)?;
+    text.extend_from_slice(&bytes[..len])?;
+    Ok(len)
+}
+
+/// How many bytes at the front are characters of one byte that stand for themselves.
+#[tactic(auto, unfolding(crate::specs::Scan::scan_string))]
+fn plain_len(bytes: &[u8]) -> usize
+    ensures { (text : List ℕ)
+        → Passes between text bytes.now between (text ++ take result bytes.now) result }
+{
+    for (n, byte) in bytes.iter().enumerate() {
+        if !is_plain(*byte) {
+            return n;
+        }
+    }
+    bytes.len()
+}
+
+fn is_plain(byte: u8) -> bool
+    ensures { result ≡ (is_within 32 127 byte && (not (byte == 34) && not (byte == 92))) }
+{
+    byte >= b' ' && byte <= 0x7F && byte != b'"' && byte != b'\\'
+}
+
+/// Puts the character behind a backslash, and answers how many bytes it takes.
+fn push_escaped(text: &mut Vec<u8>, bytes: &[u8]) -> Result<usize, TokenFault>
+    ensures { Scanned backslash text.old.items bytes.now between text.new.items result }
+{
+    match bytes {
+        [b'u', digits @ ..] => behind(1, push_unicode(text, digits)),
+        [byte, ..] => match unescaped(*byte) {
+            Some(character) => {
+                text.push(character)?;
+                Ok(1)
+            }
+            None => Err(TokenFault::Stop(0)),
+        },
+        [] => Err(TokenFault::Stop(0)),
+    }
+}
+
+/// The same with so many bytes before it.
+fn behind(count: usize, taken: Result<usize, TokenFault>) -> Result<usize, TokenFault>
+    requires { HasRoom count taken }
+    ensures { result ≡ behind_of count taken }
+{
+    match taken {
+        Ok(n) => Ok(count + n),
+        Err(TokenFault::Stop(n)) => Err(TokenFault::Stop(count + n)),
+        Err(TokenFault::NoMemory) => Err(TokenFault::NoMemory),
+    }
+}
+
+/// What the character behind a backslash stands for.
+fn unescaped(byte: u8) -> Option<u8>
+    ensures { result ≡ escape_of byte }
+{
+    match byte {
+        b'"' | b'\\' | b'/' => Some(byte),
+        b'b' => Some(8),
+        b'f' => Some(12),
+        b'n' => Some(b'\n'),
+        b'r' => Some(b'\r'),
+        b't' => Some(b'\t'),
+        _ => None,
+    }
+}
+
+/// Puts the character of one code unit or of a pair of them, and answers how many bytes they take.
+fn push_unicode(text: &mut Vec<u8>, digits: &[u8]) -> Result<usize, TokenFault>
+    ensures { Scanned (hex None 4 0) text.old.items digits.now between text.new.items result }
+{
+    let unit = code_unit(digits, None)?;
+    if (0xD800..=0xDBFF).contains(&unit) {
+        return behind(4, push_pair(text, unit, &digits[4..]));
+    }
+    push_character(text, unit)?;
+    Ok(4)
+}
+
+/// Puts the character of a high surrogate and of the low one that is spelled behind it.
+fn push_pair(text: &mut Vec<u8>, lead: u32, bytes: &[u8]) -> Result<usize, TokenFault>
+    requires { is_within 0xD800 0xDBFF lead ≡ true }
+    ensures { Scanned (high lead) text.old.items bytes.now between text.new.items result }
+{
+    match bytes {
+        [b'\\', b'u', digits @ ..] => behind(2, push_low(text, lead, digits)),
+        [b'\\', ..] => Err(TokenFault::Stop(1)),
+        _ => Err(TokenFault::Stop(0)),
+    }
+}
+
+/// Puts the character of a high surrogate and of the low one that the digits spell.
+fn push_low(text: &mut Vec<u8>, lead: u32, digits: &[u8]) -> Result<usize, TokenFault>
+    requires { is_within 0xD800 0xDBFF lead ≡ true }
+    ensures { Scanned (hex (Some lead) 4 0) text.old.items digits.now between text.new.items result }
+{
+    let low = code_unit(digits, Some(lead))?;
+    push_character(text, 0x10000 + 0x400 * (lead - 0xD800) + (low - 0xDC00))?;
+    Ok(4)
+}
+
+fn push_character(text: &mut Vec<u8>, character: u32) -> Result<(), TokenFault>
+    requires { IsScalar character }
+    ensures ok { OnOk result (text.new.items ≡ text.old.items ++ encode_utf8 character) }
+    ensures memory { IfErr result (λ e. e ≡ TokenFault.NoMemory) }
+{
+    let mut bytes = [0; 4];
+    match char::from_u32(character) {
+        Some(character) => text.extend_from_slice(character.encode_utf8(&mut bytes).as_bytes())?,
+        None => unreachable!(),
+    }
+    Ok(())
+}
+
+/// The code unit that four hexadecimal digits spell: behind a high surrogate a low one, and else no low one.
+fn code_unit(digits: &[u8], lead: Option<u32>) -> Result<u32, TokenFault>
+    ensures { IsUnit lead digits.now result }
+{
+    let mut unit = 0;
+    for place in 0..4 {
+        match with_digit(digits, place, lead, unit) {
+            Some(next) => unit = next,
+            None => return Err(TokenFault::Stop(place)),
+        }
+    }
+    Ok(unit)
+}
+
+/// The unit so far with the digit at the place, where one stands there that it can go on with.
+fn with_digit(digits: &[u8], place: usize, lead: Option<u32>, unit: u32) -> Option<u32>
+    requires place { place < 4 }
+    requires unit { IsUnitSoFar lead (4 - place) unit }
+    ensures some { IfSome result (λ next. GoesToUnit lead digits.now place unit next) }
+    ensures none { result ≡ None → StopsAt lead digits.now place unit }
+{
+    let digit = hex_digit(*digits.get(place)?)?;
+    if fits(lead, place, unit, digit) {
+        Some(16 * unit + digit)
+    } else {
+        None
+    }
+}
+
+/// Whether the unit can go on with the digit.
+fn fits(lead: Option<u32>, place: usize, unit: u32, digit: u32) -> bool
+    requires { place < 4 }
+    ensures { result ≡ digit_fits lead (4 - place) unit digit }
+{
+    match lead {
+        None => !(place == 1 && unit == 0xD && digit >= 0xC),
+        Some(_) => match place {
+            0 => digit == 0xD,
+            1 => digit >= 0xC,
+            _ => true,
+        },
+    }
+}
+
+fn hex_digit(byte: u8) -> Option<u32>
+    ensures { result ≡ hex_digit_of byte }
+{
+    match byte {
+        b'0'..=b'9' => Some(u32::from(byte - b'0')),
+        b'A'..=b'F' => Some(u32::from(byte - b'A') + 10),
+        b'a'..=b'f' => Some(u32::from(byte - b'a') + 10),
+        _ => None,
+    }
+}
+
+/// How many bytes the character at the front takes, which is not escaped.
+fn character_len(bytes: &[u8]) -> Result<usize, TokenFault>
+    requires some { 0 < length bytes.now }
+    requires no_end { slice_index bytes.now 0 ≢ 34 }
+    requires no_escape { slice_index bytes.now 0 ≢ 92 }
+    ensures taken { Taken between bytes.now result }
+    ensures goes { IfOk result (λ n. 0 < n) }
+{
+    match bytes[0] {
+        b' '..=0x7F => Ok(1),
+        first => match tail_of(first) {
+            Some((low, up, more)) => behind(1, tail_len(&bytes[1..], low, up, more)),
+            None => Err(TokenFault::Stop(0)),
+        },
+    }
+}
+
+/// The range of the byte behind the first one of a character of several bytes, and how many come after it.
+fn tail_of(first: u8) -> Option<(u8, u8, usize)>
+    requires { is_within 32 127 first ≡ false }
+    ensures { (text : List ℕ) → unescaped_step text first ≡ first_step text first result }
+{
+    match first {
+        0xC2..=0xDF => Some((0x80, 0xBF, 0)),
+        0xE0 => Some((0xA0, 0xBF, 1)),
+        0xED => Some((0x80, 0x9F, 1)),
+        0xE1..=0xEF => Some((0x80, 0xBF, 1)),
+        0xF0 => Some((0x90, 0xBF, 2)),
+        0xF1..=0xF3 => Some((0x80, 0xBF, 2)),
+        0xF4 => Some((0x80, 0x8F, 2)),
+        _ => None,
+    }
+}
+
+/// How many bytes the rest of a character takes: the first in the range, and so many more.
+fn tail_len(bytes: &[u8], low: u8, up: u8, more: usize) -> Result<usize, TokenFault>
+    ensures { Taken (tail low up more) bytes.now result }
+{
+    match bytes {
+        [byte, rest @ ..] if low <= *byte && *byte <= up => match more {
+            0 => Ok(1),
+            _ => behind(1, tail_len(rest, 0x80, 0xBF, more - 1)),
+        },
+        _ => Err(TokenFault::Stop(0)),
+    }
+}
