@@ -1,0 +1,63 @@
+//! Measures the calls of a leaf crate: `leaf_bench WORD SIZE NUMBER`. The answer goes to stdout, the
+//! microseconds to stderr.
+//!
+//! - `wild_*`, `like_*`: a pattern of SIZE letters on a text of NUMBER.
+//! - `ranges_*`: SIZE ranges, made once, and NUMBER looked up a thousand times.
+//! - `json`: standard input, read and written SIZE times; NUMBER is not looked at.
+#![tactic(auto)]
+
+mod ranges;
+mod texts;
+mod wildcards;
+
+use anyhow::{Context, Result};
+use std::env;
+use std::io::Read;
+use std::rt::Clock;
+use std::time::Instant;
+
+fn main(rt: HostRuntime) -> Result<()> {
+    let words: Vec<String> = env::args(&rt)?.collect(rt.alloc())?;
+    let [_program, word, size, number] = words.as_slice() else {
+        println!(rt; "usage: leaf_bench WORD SIZE NUMBER")?;
+        return Ok(());
+    };
+    let size: u32 = size.as_str().parse().context("the size")?;
+    let number: u32 = number.as_str().parse().context("the number")?;
+    measure(&rt, word.as_str(), size, number)
+}
+
+fn measure(
+    rt: &(impl Print + Eprint + Input + Clock + AllocGlobal),
+    word: &str,
+    size: u32,
+    number: u32,
+) -> Result<()> {
+    if word == "json" {
+        let mut text = Vec::new(rt.alloc());
+        rt.reader().read_to_end(&mut text)?;
+        let figures = texts::measure(rt, rt.alloc(), &text, size)?;
+        println!(rt; "{}", figures.bytes)?;
+        eprintln!(rt;
+            "{} {}",
+            figures.read.as_micros(),
+            figures.written.as_micros()
+        )?;
+    } else if word.starts_with("ranges") {
+        let figures = ranges::measure(rt, rt.alloc(), word, size, number)?;
+        println!(rt; "{}", figures.hit)?;
+        eprintln!(rt;
+            "{} {}",
+            figures.made.as_micros(),
+            figures.found.as_micros()
+        )?;
+    } else {
+        let case = wildcards::Case::make(rt.alloc(), word, size, number)?;
+        let start = Instant::now(rt)?;
+        let answer = case.answer();
+        let micros = start.elapsed(rt)?.as_micros();
+        println!(rt; "{answer}")?;
+        eprintln!(rt; "{micros}")?;
+    }
+    Ok(())
+}
