@@ -1,0 +1,98 @@
+//! Bytes in, messages out.
+ghost use Rattle.std.specs.Prelude.{◌≡◌, ◌≤◌, [], ◌++◌, true, false, length, drop, OnOk, OnErr, IsErrOf};
+ghost use Rattle.api_wire.specs.Reading.{Answers};
+
+use crate::front::{Front, read_front};
+use crate::message::{Message, WireFault};
+use json_text::NoMemory;
+use std::alloc::Global;
+use std::marker::Model;
+
+/// The incoming half of a connection.
+#[derive(Debug, Drop)]
+pub struct WireIn {
+    alloc: Global,
+    buffer: Vec<u8>,
+    /// Where the bytes begin that no message has taken.
+    start: usize,
+    refused: bool,
+}
+
+impl Model for WireIn {
+    ghost use Rattle.std.specs.Prelude.{◌≡◌, ◌≤◌, true, length, drop};
+    ghost use Rattle.api_wire.specs.Messages.{IsRefused};
+    ghost use Rattle.api_wire.specs.Reading.{Incoming};
+
+    ghost Value = { Incoming };
+
+    ghost view = { λ w. record { rest = drop w.start w.buffer.items; refused = w.refused } };
+
+    ghost invariant = { λ w. (w.start ≤ length w.buffer.items)
+        × (w.refused ≡ true → IsRefused (drop w.start w.buffer.items)) };
+}
+
+impl WireIn {
+    pub fn new(alloc: Global) -> WireIn
+        ensures rest { result.rest ≡ [] }
+        ensures refused { result.refused ≡ false }
+    {
+        WireIn {
+            alloc,
+            buffer: Vec::new(alloc),
+            start: 0,
+            refused: false,
+        }
+    }
+
+    /// Takes the next bytes, as many as came.
+    pub fn feed(&mut self, piece: &[u8]) -> Result<(), NoMemory>
+        ensures ok { OnOk result (self.new ≡ record self.old { rest = self.old.rest ++ piece.now }) }
+        ensures err { OnErr result (self.new ≡ self.old) }
+    {
+        self.buffer.extend_from_slice(piece)?;
+        Ok(())
+    }
+
+    /// The next message, if a whole one is there.
+    ///
+    /// Only the message under way is read anew at the next call. Each byte is moved a bounded number of times, however
+    /// many messages one piece holds.
+    pub fn next(&mut self) -> Result<Option<Message>, WireFault>
+        ensures answers { Answers self.old self.new result }
+        ensures for_good { self.old.refused ≡ true → IsErrOf result WireFault.BadHead }
+    {
+        if self.refused {
+            return Err(WireFault::BadHead);
+        }
+        let (message, len) = match read_front(self.rest()) {
+            Front::Whole(found) => (found.message(self.alloc)?, found.len),
+            Front::Awaited => return Ok(None),
+            Front::Refused => {
+                self.refused = true;
+                return Err(WireFault::BadHead);
+            }
+        };
+        self.take(len);
+        Ok(Some(message))
+    }
+
+    /// The bytes fed that no message has taken.
+    pub fn rest(&self) -> &[u8]
+        ensures { result.now ≡ self.now.rest }
+    {
+        &self.buffer[self.start..]
+    }
+
+    fn take(&mut self, len: usize)
+        requires in_range { len ≤ length self.old.rest }
+        requires served { self.old.refused ≡ false }
+        ensures { self.new ≡ record self.old { rest = drop len self.old.rest } }
+    {
+        self.start += len;
+        // A front is given up once it is the longer half, so each byte is moved once at most for each byte taken.
+        if self.start > self.buffer.len() / 2 {
+            self.buffer.drain(..self.start);
+            self.start = 0;
+        }
+    }
+}
