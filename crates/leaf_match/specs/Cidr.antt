@@ -17,9 +17,9 @@ abbrev pub dot : ℕ
 dot = 46
 
 -- The text writes the family's address of this value, as std reads it: four decimal numbers below
--- 256 without leading zeros (RFC 4632, section 3.1), or groups of one to four hexadecimal digits with
--- `::` for zeros (RFC 4291, section 2.2, forms 1 and 2). Form 3, which ends in dotted decimals, is no
--- address here.
+-- 256 (RFC 4632, section 3.1), by std's rule without leading zeros, or groups of one to four
+-- hexadecimal digits with `::` for zeros (RFC 4291, section 2.2, forms 1 and 2). Form 3, which ends in
+-- dotted decimals, is no address here.
 abbrev pub IsAddressText : Family → List ℕ → ℕ → Type 0
 IsAddressText V4 text bits =
     (address : Ipv4Addr) × IsIpv4Text text address × (bits ≡ ipv4_bits address)
@@ -51,7 +51,7 @@ Holds prefix text =
     (bits : ℕ) × IsAddressText prefix.family text bits
     × (leading_bits prefix.family prefix.length bits ≡ prefix.first_bits)
 
--- a decimal digit comes first, and `0` only where nothing follows
+-- a decimal digit comes first, and `0` only where nothing follows; no public clause names this
 abbrev pub BeginsPlainly : List ℕ → Type 0
 BeginsPlainly digits =
     (0 < length digits) × (48 ≤ slice_index digits 0) × (slice_index digits 0 ≤ 57)

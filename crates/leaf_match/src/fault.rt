@@ -7,7 +7,7 @@ use thiserror::Error;
 /// Why a wildcard was not read.
 #[derive(Debug, Drop, PartialEq, Eq, Error)]
 pub enum WildFault {
-    /// Two runs side by side, or a backslash that stands before anything but `*` and a backslash.
+    /// Two runs side by side, or a backslash at the end or before anything but `*` and a backslash.
     #[error("not a wildcard: two * side by side, or a backslash that escapes nothing")]
     BadWild,
     #[error("out of memory")]

@@ -10,7 +10,8 @@ use crate::piece::Piece;
 use std::alloc::Global;
 use std::marker::Model;
 
-/// A wildcard that was read. Contracts see it as its pieces, letters and runs.
+/// A wildcard that was read. Contracts see it as its pieces; those that `read` gives are letters and
+/// runs alone.
 #[derive(Debug, Drop)]
 pub struct Wild {
     front: Vec<u8>,
@@ -76,8 +77,7 @@ impl Wild {
         })
     }
 
-    /// The bytes with which each text that fits begins: the letters before the first run, all of
-    /// them where there is none.
+    /// The letters before the first run, all of them where there is none.
     pub fn literal_front(&self) -> &[u8]
         ensures { result.now ≡ literal_front self.now }
     {

@@ -1,4 +1,4 @@
--- The digits of a number apart from its trailing zeros
+-- The digits of a number apart from its trailing zeros. No public clause names these.
 use Rattle.std.specs.Prelude.{◌≡◌, ℕ, ◌*◌, ◌^◌, ◌%◌, ◌<◌, ◌≤◌}
 use Rattle.numeric_keys.specs.Number.{largest_size}
 use Rattle.numeric_keys.specs.declared.significand.Significand.{Significand}

@@ -1,4 +1,4 @@
--- The parts that a `Spelling` holds
+-- The parts that a `Spelling` holds. No public clause names these.
 use Rattle.std.specs.Prelude.{ℕ, Bool, List}
 use Rattle.numeric_keys.specs.Number.{Parts}
 use Rattle.numeric_keys.specs.declared.spelling.Spelling.{Spelling}
