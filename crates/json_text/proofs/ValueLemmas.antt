@@ -101,3 +101,6 @@ mutual
   levels_of_members_kept : (fs : Fields) (ms : List (List ℕ × Tree)) → members_levels (members_of (members_after ms fs)) ≤ max (members_levels (members_of ms)) (levels_of_fields fs)
   levels_of_members_kept no_fields ms = omega arith
   levels_of_members_kept (field place key n fs) ms = through_max _ _ _ _ _ _ (levels_of_members_kept fs (with_member key (value_of n) ms)) (with_member_levels key (value_of n) ms) (levels_kept n)
+
+pub text_within : (levels : ℕ) (bytes : List ℕ) (n : Node) → IsText levels bytes n → tree_levels (value_of n) ≤ levels
+text_within levels bytes n h = let a : tree_levels (value_of n) ≤ levels_of n = levels_kept n in let b : levels_of n ≤ levels = h.within in omega arith

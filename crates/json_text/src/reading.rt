@@ -1,10 +1,10 @@
 //! Texts to values.
-ghost use Rattle.std.specs.Prelude.{◌≡◌, ℕ, Some, None, IfOk, MatchResult};
+ghost use Rattle.std.specs.Prelude.{◌≡◌, ◌≤◌, ℕ, Some, None, IfOk, MatchResult};
 ghost use Rattle.json_text.specs.View.{tree_of};
 ghost use Rattle.json_text.specs.Node.{Node, value_of, first_repeat};
 ghost use Rattle.json_text.specs.Grammar.{IsText};
 ghost use Rattle.json_text.specs.Faults.{FailsAt, OpensTooMany};
-ghost use Rattle.json_text.specs.Compact.{IsValue};
+ghost use Rattle.json_text.specs.Compact.{IsValue, tree_levels};
 ghost use Rattle.json_text.specs.Once.{IsRepeatOrMemory};
 
 use super::reader::{Read, read_all};
@@ -12,7 +12,8 @@ use super::{Json, JsonFault};
 use std::alloc::Global;
 
 /// The value that the text spells, within so many levels of lists and objects. Of a repeated key the first place counts,
-/// and the last value. A place is the number of bytes before it.
+/// and the last value. A place is the number of bytes before it. A value is dropped and copied by one call inside another for
+/// each level, so `levels` has to fit the stack: a hundred take some 40 kB.
 pub fn read(alloc: Global, bytes: &[u8], levels: u32) -> Result<Json, JsonFault>
     ensures found { IfOk result (λ v. (n : Node) × IsText levels bytes.now n
         × (tree_of v ≡ value_of n)) }
@@ -24,6 +25,7 @@ pub fn read(alloc: Global, bytes: &[u8], levels: u32) -> Result<Json, JsonFault>
         → FailsAt levels bytes.now at × OpensTooMany levels bytes.now at }
     ensures never_twice { (at : ℕ) → result ≡ Err (JsonFault.KeyTwice at) → ⊥ }
     ensures value { IfOk result (λ v. IsValue (tree_of v)) }
+    ensures levels { IfOk result (λ v. tree_levels (tree_of v) ≤ levels) }
 {
     match read_all(alloc, bytes, levels) {
         Ok(Read { json, repeat: _ }) => Ok(json),
@@ -46,6 +48,7 @@ pub fn read_once(alloc: Global, bytes: &[u8], levels: u32) -> Result<Json, JsonF
     ensures key_twice { (at : ℕ) → result ≡ Err (JsonFault.KeyTwice at) → (n : Node)
         × IsText levels bytes.now n × (first_repeat n ≡ Some at) }
     ensures value { IfOk result (λ v. IsValue (tree_of v)) }
+    ensures levels { IfOk result (λ v. tree_levels (tree_of v) ≤ levels) }
 {
     match read_all(alloc, bytes, levels) {
         Ok(Read { json, repeat }) => match repeat {

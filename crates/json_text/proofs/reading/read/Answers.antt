@@ -1,8 +1,8 @@
-use Rattle.std.proofs.Common.{◌∙◌, sym, ap, subst}
+use Rattle.std.proofs.Common.{◌≤◌, ◌∙◌, sym, ap, subst}
 use Rattle.json_text.specs.Node.{value_of}
-use Rattle.json_text.specs.Compact.{IsValue}
+use Rattle.json_text.specs.Compact.{IsValue, tree_levels}
 use Rattle.json_text.proofs.TextReads.{read_spelled}
-use Rattle.json_text.proofs.ValueLemmas.{text_is_value}
+use Rattle.json_text.proofs.ValueLemmas.{text_is_value, text_within}
 use Rattle.json_text.proofs.ReadLemmas.{is_only, only_memory, stands_so, deep_so, same_fault}
 use Rattle.json_text.proofs.reading.read.Goals as goal
 
@@ -23,3 +23,6 @@ returns-in-Err-clause-not_json c at is = stands_so c.args.levels c.args.bytes.no
 
 pub returns-in-Err-clause-too_deep : goal.returns-in-Err-clause-too_deep
 returns-in-Err-clause-too_deep c at is = deep_so c.args.levels c.args.bytes.now c.in-Err.fault at c.in-Err.ensures.err (same_fault is)
+
+pub returns-in-Ok-clause-levels : goal.returns-in-Ok-clause-levels
+returns-in-Ok-clause-levels c = let r = c.in-Ok.ensures.ok in subst (λ t. tree_levels t ≤ c.args.levels) (sym r.2) (text_within c.args.levels c.args.bytes.now r.0 (read_spelled c.args.levels c.args.bytes.now r.0 r.1))
