@@ -25,4 +25,5 @@ pub mod TurnLemmas
 pub mod UnitScan
 pub mod ValueLemmas
 pub mod ViewLemmas
+pub mod WrittenUtf8
 pub mod ReadLemmas

@@ -63,10 +63,10 @@ escapes_3 a b c h i j = rw (escape_high a h, escape_high b i, escape_high c j)
 escapes_4 : (a b c d : ℕ) → 128 ≤ a → 128 ≤ b → 128 ≤ c → 128 ≤ d → flat_map escape (a ∷ b ∷ c ∷ d ∷ []) ≡ a ∷ b ∷ c ∷ d ∷ []
 escapes_4 a b c d h i j k = rw (escape_high a h, escape_high b i, escape_high c j, escape_high d k)
 
-abbrev IsPlain : List ℕ → Type 0
+abbrev pub IsPlain : List ℕ → Type 0
 IsPlain bytes = flat_map escape bytes ≡ bytes
 
-long_plain : (c : ℕ) → 128 ≤ c → IsPlain (encode_utf8 c)
+pub long_plain : (c : ℕ) → 128 ≤ c → IsPlain (encode_utf8 c)
 long_plain c h =
     ⊎_elim (λ l. subst IsPlain (sym (encode_2 c h l)) (escapes_2 _ _ (omega arith) (omega arith))) (λ l.
     ⊎_elim (λ u. subst IsPlain (sym (encode_3 c l u)) (escapes_3 _ _ _ (omega arith) (omega arith) (omega arith)))

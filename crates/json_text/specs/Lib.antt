@@ -12,3 +12,5 @@ pub mod Parts
 pub mod Kept
 pub mod View
 pub mod Once
+pub mod Moment
+pub mod Code

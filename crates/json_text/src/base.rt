@@ -6,6 +6,9 @@ use std::alloc::{AllocError, AllocFailed, Global};
 use std::marker::Model;
 use thiserror::Error;
 
+/// The last moment, a number of whole seconds since 1970-01-01T00:00:00Z.
+pub const LAST_MOMENT: u64 = 250_000_000_000;
+
 /// Memory was refused.
 #[derive(Debug, Drop, Error)]
 #[error("out of memory")]

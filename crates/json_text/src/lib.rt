@@ -15,7 +15,7 @@ mod tests;
 mod value;
 mod word;
 
-pub use base::{Bytes, NoMemory, Text};
+pub use base::{Bytes, LAST_MOMENT, NoMemory, Text};
 pub use compact::write;
 pub use fault::JsonFault;
 pub use reading::{read, read_once};
