@@ -25,7 +25,7 @@ pub record IsMessage (bytes : List ℕ) (m : Message) : Type 0 where
 
 -- the bytes show that no message begins with them, whatever follows
 pub data IsRefused (bytes : List ℕ) : Type 0 where
-  -- nothing continues them to a head (RFC 9112, section 3)
+  -- nothing continues them to a head (RFC 9112, sections 2 to 5)
   never : NeverHasRequest bytes → IsRefused bytes
   -- 65 whole field lines stand in them
   many : RequestExceeds 64 bytes → RequestOverflows 64 bytes → IsRefused bytes
@@ -34,8 +34,8 @@ pub data IsRefused (bytes : List ℕ) : Type 0 where
   -- a whole head breaks a rule on its fields
   unsound : (h : RequestHead) (rest : List ℕ) → ReadsRequest bytes h rest → body_length h ≡ None → IsRefused bytes
 
--- less than a message, and nothing is refused yet: a part of a head, or a head with less than its body. No bytes are the
--- part of a head too, so are empty lines alone
+-- less than a message: a part of a head, or less than the body behind a head that no rule refuses. No bytes are the part
+-- of a head too, so are empty lines alone. Bytes that end inside a request target are one even where nothing makes it UTF-8
 pub data IsAwaited (bytes : List ℕ) : Type 0 where
   head_awaited : length bytes < 16384 → HasNoRequest bytes → MayBecomeRequest bytes → IsAwaited bytes
   body_awaited : (h : RequestHead) (part : List ℕ) (body_len : ℕ) → ReadsRequest bytes h part → IsServed h body_len → length part < body_len → IsAwaited bytes

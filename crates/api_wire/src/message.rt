@@ -12,14 +12,14 @@ pub struct Message {
     /// The value of the field `x-caller-account`, in the same way.
     pub caller: Option<Text>,
     pub body: Bytes,
-    /// The sender closes after this message: version 1.0, or a field `Connection: close`.
+    /// The sender asks to close after this message: version 1.0, or a field `Connection` whose whole value is `close`.
     pub close: bool,
 }
 
 /// Why no message is given.
 #[derive(Debug, Drop, Error)]
 pub enum WireFault {
-    /// No message begins with these bytes.
+    /// No message begins with these bytes, whatever follows.
     #[error("the head is not a request head that is served")]
     BadHead,
     #[error("out of memory")]

@@ -81,8 +81,10 @@ fn messages_follow_one_another_in_any_pieces(rt: HostRuntime) -> Result<(), Fail
 }
 
 #[test]
-fn heads_that_break_a_rule_are_refused_for_good(rt: HostRuntime) -> Result<(), Fail> {
-    let heads: [(&str, &[u8]); 16] = [
+fn heads_that_break_a_rule_are_refused_at_their_last_byte_for_good(
+    rt: HostRuntime,
+) -> Result<(), Fail> {
+    let heads: [(&str, &[u8]); 19] = [
         (
             "another method",
             b"GET / HTTP/1.1\r\nHost: x\r\nContent-Length: 0\r\n\r\n",
@@ -98,6 +100,10 @@ fn heads_that_break_a_rule_are_refused_for_good(rt: HostRuntime) -> Result<(), F
         (
             "Host twice",
             b"POST / HTTP/1.1\r\nHost: x\r\nhost: x\r\nContent-Length: 0\r\n\r\n",
+        ),
+        (
+            "Host twice in 1.0",
+            b"POST / HTTP/1.0\r\nHost: x\r\nHost: x\r\nContent-Length: 0\r\n\r\n",
         ),
         ("no length", b"POST / HTTP/1.1\r\nHost: x\r\n\r\n"),
         (
@@ -132,12 +138,17 @@ fn heads_that_break_a_rule_are_refused_for_good(rt: HostRuntime) -> Result<(), F
             "caller twice",
             b"POST / HTTP/1.1\r\nHost: x\r\nContent-Length: 0\r\nx-caller-account: 1\r\nX-Caller-Account: 1\r\n\r\n",
         ),
+        ("a target that is not UTF-8", b"POST /\xff "),
+        ("a space before the colon", b"POST / HTTP/1.1\r\nHost "),
         ("version 2", b"POST / HTTP/2"),
         ("no method", b" "),
         ("a folded line", b"POST / HTTP/1.1\r\nHost: x\r\n "),
     ];
     for (name, head) in heads {
-        let mut wire = fed(rt.alloc(), head)?;
+        let last = head.len().saturating_sub(1);
+        let mut wire = fed(rt.alloc(), &head[..last])?;
+        assert_eq!(rt; answer_of(&wire.next()), Answer::Awaited, "{name}, before");
+        wire.feed(&head[last..])?;
         assert_eq!(rt; answer_of(&wire.next()), Answer::Refused, "{name}");
         wire.feed(CALL)?;
         assert_eq!(rt; answer_of(&wire.next()), Answer::Refused, "{name}, again");
@@ -166,10 +177,7 @@ fn a_sender_asks_to_close_by_version_or_by_a_field(rt: HostRuntime) -> Result<()
             false,
             b"\r\n\r\nPOST / HTTP/1.1\r\nHost:\r\nContent-Length: 0000000002\r\n\r\n{}",
         ),
-        (
-            false,
-            b"POST / HTTP/1.1\nHost: x\nContent-Length: 0\nX-Amz-Target: \xff\n\n",
-        ),
+        (false, b"POST / HTTP/1.1\nHost: x\nContent-Length: 0\n\n"),
     ];
     for (close, bytes) in rows {
         let mut wire = fed(rt.alloc(), bytes)?;
@@ -181,11 +189,26 @@ fn a_sender_asks_to_close_by_version_or_by_a_field(rt: HostRuntime) -> Result<()
 }
 
 #[test]
+fn a_field_that_is_not_utf_8_is_an_empty_text(rt: HostRuntime) -> Result<(), Fail> {
+    let bytes = b"POST / HTTP/1.1\r\nHost: x\r\nContent-Length: 0\r\nX-Amz-Target: a\xff\r\n\r\n";
+    let mut wire = fed(rt.alloc(), bytes)?;
+    match wire.next()? {
+        Some(message) => {
+            let target = message.target.as_ref().map(|text| text.as_str());
+            assert_eq!(rt; target, Some(""));
+            assert!(rt; message.caller.is_none());
+        }
+        None => assert!(rt; false, "no message"),
+    }
+    Ok(())
+}
+
+#[test]
 fn a_head_ends_within_16384_bytes(rt: HostRuntime) -> Result<(), Fail> {
     let start = b"POST / HTTP/1.1\r\nHost: x\r\nContent-Length: 0\r\nx: ";
-    for (value, answer) in [
-        (16_384 - 48 - 4, Answer::Whole),
-        (16_384 - 48 - 3, Answer::Refused),
+    for (value, before, answer) in [
+        (16_384 - 48 - 4, Answer::Awaited, Answer::Whole),
+        (16_384 - 48 - 3, Answer::Refused, Answer::Refused),
     ] {
         let mut wire = fed(rt.alloc(), start)?;
         wire.feed(vec![in rt.alloc(); b'y'; value]?.as_slice())?;
@@ -194,24 +217,35 @@ fn a_head_ends_within_16384_bytes(rt: HostRuntime) -> Result<(), Fail> {
             Answer::Awaited,
             "a value of {value} bytes"
         );
-        wire.feed(b"\r\n\r\n")?;
+        wire.feed(b"\r\n\r")?;
+        assert_eq!(rt; answer_of(&wire.next()), before, "a value of {value} bytes");
+        wire.feed(b"\n")?;
         assert_eq!(rt; answer_of(&wire.next()), answer, "a value of {value} bytes");
     }
     Ok(())
 }
 
 #[test]
-fn a_head_has_64_fields_at_most(rt: HostRuntime) -> Result<(), Fail> {
-    for (more, answer) in [(62, Answer::Whole), (63, Answer::Refused)] {
+fn a_65th_field_is_refused_with_the_end_of_its_line(rt: HostRuntime) -> Result<(), Fail> {
+    let ends: [(&[u8], Answer); 2] = [(b"\r\n", Answer::Whole), (b"a: b\r\n", Answer::Refused)];
+    for (end, answer) in ends {
         let mut wire = fed(
             rt.alloc(),
             b"POST / HTTP/1.1\r\nHost: x\r\nContent-Length: 0\r\n",
         )?;
-        for _ in 0..more {
+        for _ in 0..62 {
             wire.feed(b"a: b\r\n")?;
         }
-        wire.feed(b"\r\n")?;
-        assert_eq!(rt; answer_of(&wire.next()), answer, "{more} fields more");
+        let last = end.len().saturating_sub(1);
+        wire.feed(&end[..last])?;
+        assert_eq!(rt;
+            answer_of(&wire.next()),
+            Answer::Awaited,
+            "{} bytes",
+            end.len()
+        );
+        wire.feed(&end[last..])?;
+        assert_eq!(rt; answer_of(&wire.next()), answer, "{} bytes", end.len());
     }
     Ok(())
 }

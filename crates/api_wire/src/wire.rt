@@ -55,8 +55,8 @@ impl WireIn {
 
     /// The next message, if a whole one is there.
     ///
-    /// Only the message under way is read anew at the next call. Each byte is moved a bounded number of times, however
-    /// many messages one piece holds.
+    /// Only the message under way is read anew at the next call. Within the buffer no more bytes are moved, over all
+    /// calls, than messages took, however many messages one piece holds.
     pub fn next(&mut self) -> Result<Option<Message>, WireFault>
         ensures answers { Answers self.old self.new result }
         ensures for_good { self.old.refused ≡ true → IsErrOf result WireFault.BadHead }
@@ -89,7 +89,7 @@ impl WireIn {
         ensures { self.new ≡ record self.old { rest = drop len self.old.rest } }
     {
         self.start += len;
-        // A front is given up once it is the longer half, so each byte is moved once at most for each byte taken.
+        // A front is given up once it is the longer half, so fewer bytes are moved than are given up.
         if self.start > self.buffer.len() / 2 {
             self.buffer.drain(..self.start);
             self.start = 0;
