@@ -1,0 +1,9 @@
+pub mod Found
+pub mod NameLemmas
+pub mod NumberLemmas
+pub mod ClockLemmas
+pub mod EntryLemmas
+pub mod CheckLemmas
+pub mod MakeLemmas
+pub mod EventLemmas
+pub mod ValidLemmas

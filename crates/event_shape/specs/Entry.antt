@@ -1,0 +1,39 @@
+-- An entry of a publisher as contracts see it, and its size.
+use Rattle.std.specs.Prelude.{ℕ, ◌+◌, List, Option, Some, None, length, sum_by}
+use Rattle.std.specs.Option.{option_map}
+use Rattle.json_text.specs.Tree.{Tree}
+use Rattle.json_text.specs.View.{tree_of}
+use Rattle.event_shape.specs.declared.entry.EventEntry.{EventEntry}
+
+-- each member as it was given, or none
+pub record Entry : Type 0 where
+  pub time : Option Tree
+  pub source : Option (List ℕ)
+  pub resources : List (List ℕ)
+  pub detail_type : Option (List ℕ)
+  pub detail : Option (List ℕ)
+  pub bus : Option (List ℕ)
+
+abbrev pub entry_of : EventEntry → Entry
+entry_of e = record {
+  time = option_map tree_of e.time;
+  source = e.source;
+  resources = e.resources.items;
+  detail_type = e.detail_type;
+  detail = e.detail;
+  bus = e.bus;
+}
+
+-- 14 for a Time (this project's own rule)
+abbrev pub time_size : Option Tree → ℕ
+time_size None = 0
+time_size (Some tree) = 14
+
+-- the bytes of a text
+abbrev pub text_size : Option (List ℕ) → ℕ
+text_size None = 0
+text_size (Some t) = length t
+
+-- Source, DetailType, Detail and each resource by its bytes; the bus doesn't count (this project's own rule)
+abbrev pub size_of : Entry → ℕ
+size_of e = time_size e.time + text_size e.source + text_size e.detail_type + text_size e.detail + sum_by length e.resources

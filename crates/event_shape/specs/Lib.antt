@@ -1,0 +1,7 @@
+pub mod Names
+pub mod Time
+pub mod Clock
+pub mod Id
+pub mod Entry
+pub mod Fault
+pub mod Event

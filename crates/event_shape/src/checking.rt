@@ -1,0 +1,207 @@
+//! The faults that an entry shows by itself.
+ghost use Rattle.std.specs.Prelude.{◌≡◌, ◌≢◌, ◌↔◌, [], ℕ, All, IsTrue, IfOk, MatchResult, Some, None};
+ghost use Rattle.std.specs.Option.{option_map};
+ghost use Rattle.std.specs.Str.{IsUtf8};
+ghost use Rattle.json_text.specs.Tree.{Tree};
+ghost use Rattle.json_text.specs.View.{tree_of};
+ghost use Rattle.event_shape.specs.Entry.{entry_of};
+ghost use Rattle.event_shape.specs.Fault.{LacksText, IsNoTime, IsNoBus, IsObject, IsDetail, IsNoDetail, IsReserved, IsMemoryOr, IsFirstFault};
+ghost use Rattle.event_shape.specs.Event.{IsTimeOf, IsBusOf, IsCheckedOf};
+ghost use Rattle.event_shape.specs.declared.entry.EntryFault.{EntryFault};
+
+use crate::entry::{CheckFault, EntryFault, EventEntry};
+use crate::names::{DEFAULT_BUS, behind, bus_of};
+use crate::time::read_time;
+use json_text::{Json, JsonFault, Text, read};
+use std::alloc::Global;
+use std::marker::Model;
+
+/// How many levels of lists and objects a detail may have. In the event it stands one level deeper.
+const DETAIL_LEVELS: u32 = 99;
+
+/// Sources that begin so are the cloud's own.
+const RESERVED: &str = "aws.";
+
+/// An entry without a fault.
+#[derive(Debug, Drop)]
+pub struct Checked {
+    pub(crate) source: Text,
+    pub(crate) detail_type: Text,
+    pub(crate) resources: Vec<Text>,
+    pub(crate) time: Option<u64>,
+    pub(crate) detail: Json,
+    bus: Text,
+}
+
+impl Model for Checked {
+    ghost use Rattle.json_text.specs.View.{tree_of};
+    ghost use Rattle.event_shape.specs.Event.{Checked as Seen, IsChecked, checked_code};
+
+    ghost Value = { Seen };
+
+    ghost coded = { checked_code };
+
+    ghost view = { λ c. record {
+      source = c.source;
+      detail_type = c.detail_type;
+      resources = c.resources.items;
+      time = c.time;
+      detail = tree_of c.detail;
+      bus = c.bus;
+    } };
+
+    ghost invariant = { λ c. IsChecked (record {
+      source = c.source;
+      detail_type = c.detail_type;
+      resources = c.resources.items;
+      time = c.time;
+      detail = tree_of c.detail;
+      bus = c.bus;
+    }) };
+}
+
+impl Checked {
+    /// The name of the bus, `default` where the entry names none.
+    pub fn bus(&self) -> &str
+        ensures { result.now ≡ self.now.bus }
+    {
+        self.bus.as_str()
+    }
+}
+
+/// The entry's members as they were read, if it has none of the faults; else the first one, in the order of
+/// `EntryFault`. Whether the bus is there, and whether its policy allows the entry, is not asked here.
+pub fn check(alloc: Global, entry: EventEntry) -> Result<Checked, CheckFault>
+    ensures checked { IfOk result (λ c. IsCheckedOf (entry_of entry) c) }
+    ensures fault { (f : EntryFault) → result ≡ Err (CheckFault.Entry f) → IsFirstFault (entry_of entry) f }
+{
+    let EventEntry {
+        time,
+        source,
+        resources,
+        detail_type,
+        detail,
+        bus,
+    } = entry;
+    let source = given(source, EntryFault::Source)?;
+    let detail_type = given(detail_type, EntryFault::DetailType)?;
+    let detail = spelled(detail)?;
+    let time = moment_given(time)?;
+    let bus = bus_given(alloc, bus)?;
+    let detail = detail_given(alloc, detail)?;
+    if is_reserved(&source) {
+        return Err(CheckFault::Entry(EntryFault::NotAuthorized));
+    }
+    read_each(&resources);
+    Ok(Checked {
+        source,
+        detail_type,
+        resources,
+        time,
+        detail,
+        bus,
+    })
+}
+
+/// The text, if it is given and not empty.
+fn given(text: Option<Text>, fault: EntryFault) -> Result<Text, EntryFault>
+    ensures { MatchResult result
+        (λ t. (text ≡ Some t) × (t ≢ []) × IsUtf8 t)
+        (λ e. LacksText text × (e ≡ fault)) }
+{
+    match text {
+        Some(text) => {
+            if text.as_str().is_empty() {
+                Err(fault)
+            } else {
+                Ok(text)
+            }
+        }
+        None => Err(fault),
+    }
+}
+
+fn spelled(detail: Option<Text>) -> Result<Text, EntryFault>
+    ensures { MatchResult result (λ t. detail ≡ Some t) (λ e. (detail ≡ None) × (e ≡ EntryFault.Detail)) }
+{
+    match detail {
+        Some(text) => Ok(text),
+        None => Err(EntryFault::Detail),
+    }
+}
+
+fn moment_given(time: Option<Json>) -> Result<Option<u64>, EntryFault>
+    ensures { MatchResult result
+        (λ m. IsTimeOf (option_map tree_of time) m)
+        (λ e. IsNoTime (option_map tree_of time) × (e ≡ EntryFault.Time)) }
+{
+    match time {
+        Some(json) => match read_time(&json) {
+            Some(moment) => Ok(Some(moment)),
+            None => Err(EntryFault::Time),
+        },
+        None => Ok(None),
+    }
+}
+
+fn bus_given(alloc: Global, bus: Option<Text>) -> Result<Text, CheckFault>
+    ensures { MatchResult result (λ name. IsBusOf bus name) (λ e. IsMemoryOr e EntryFault.Bus (IsNoBus bus)) }
+{
+    match bus {
+        Some(text) => match bus_of(text.as_str()) {
+            Some(name) => Ok(Text::from_str(alloc, name)?),
+            None => Err(CheckFault::Entry(EntryFault::Bus)),
+        },
+        None => Ok(Text::from_str(alloc, DEFAULT_BUS)?),
+    }
+}
+
+/// The object that the detail's text spells.
+fn detail_given(alloc: Global, detail: Text) -> Result<Json, CheckFault>
+    ensures { MatchResult result
+        (λ json. IsDetail detail (tree_of json) × ((tree : Tree) → IsDetail detail tree → tree ≡ tree_of json))
+        (λ e. IsMemoryOr e EntryFault.Malformed (IsNoDetail (Some detail))) }
+{
+    match read(alloc, detail.as_str().as_bytes(), DETAIL_LEVELS) {
+        Ok(json) => {
+            if is_object(&json) {
+                Ok(json)
+            } else {
+                Err(CheckFault::Entry(EntryFault::Malformed))
+            }
+        }
+        Err(JsonFault::NoMemory) => Err(CheckFault::NoMemory),
+        Err(_) => Err(CheckFault::Entry(EntryFault::Malformed)),
+    }
+}
+
+fn is_object(json: &Json) -> bool
+    ensures { IsTrue result ↔ IsObject (tree_of json.now) }
+{
+    match json {
+        Json::Null => false,
+        Json::Truth(_) => false,
+        Json::Num(_) => false,
+        Json::Str(_) => false,
+        Json::List(_) => false,
+        Json::Obj(_) => true,
+    }
+}
+
+fn is_reserved(source: &Text) -> bool
+    ensures { IsTrue result ↔ IsReserved (Some source.now) }
+{
+    match behind(source.as_str(), RESERVED) {
+        Some(_) => true,
+        None => false,
+    }
+}
+
+/// A contract knows that a text's bytes are UTF-8 only where the text is read.
+fn read_each(texts: &[Text])
+    ensures { All IsUtf8 texts.now }
+{
+    for text in texts {
+        let _bytes = text.as_str();
+    }
+}

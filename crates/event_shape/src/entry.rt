@@ -1,0 +1,93 @@
+//! What a publisher hands in.
+ghost use Rattle.std.specs.Prelude.{◌≡◌, ◌+◌, ◌-◌, ◌^◌, ℕ, List, Option, min, length, sum_by};
+ghost use Rattle.event_shape.specs.Entry.{entry_of, size_of, text_size};
+
+use json_text::{Json, NoMemory, Text};
+use thiserror::Error;
+
+/// An entry of a request to put events. An absent bus is `default`.
+#[derive(Debug, Drop)]
+pub struct EventEntry {
+    pub time: Option<Json>,
+    pub source: Option<Text>,
+    pub resources: Vec<Text>,
+    pub detail_type: Option<Text>,
+    pub detail: Option<Text>,
+    /// A bus's name or its ARN.
+    pub bus: Option<Text>,
+}
+
+/// What makes an entry no event, in the order in which it is told.
+#[derive(Clone, Copy, Debug, PartialEq, Eq, Error)]
+pub enum EntryFault {
+    #[error("the source is absent or empty")]
+    Source,
+    #[error("the detail type is absent or empty")]
+    DetailType,
+    #[error("the detail is absent")]
+    Detail,
+    #[error("the time is no moment")]
+    Time,
+    #[error("the bus is neither a name nor an ARN")]
+    Bus,
+    #[error("the detail is no JSON object of at most 99 levels")]
+    Malformed,
+    #[error("the source begins with `aws.`")]
+    NotAuthorized,
+}
+
+/// Why an entry was not taken.
+#[derive(Debug, Drop, Error)]
+pub enum CheckFault {
+    #[error("{0}")]
+    Entry(EntryFault),
+    #[error("out of memory")]
+    NoMemory,
+}
+
+impl From<NoMemory> for CheckFault {
+    ghost use Rattle.std.specs.Prelude.{◌≡◌};
+    ghost use Rattle.event_shape.specs.declared.entry.CheckFault.TheVariants.{NoMemory as refused};
+
+    ghost from_gives = { λ _ e. e ≡ refused };
+
+    fn from(_refused: NoMemory) -> CheckFault {
+        CheckFault::NoMemory
+    }
+}
+
+impl From<EntryFault> for CheckFault {
+    ghost use Rattle.std.specs.Prelude.{◌≡◌};
+    ghost use Rattle.event_shape.specs.declared.entry.CheckFault.TheVariants.{Entry};
+
+    ghost from_gives = { λ f e. e ≡ Entry f };
+
+    fn from(fault: EntryFault) -> CheckFault {
+        CheckFault::Entry(fault)
+    }
+}
+
+/// The size of the entry, in bytes: 14 for a time, and the UTF-8 of its texts but the bus. A sum past the type's end
+/// stands at that end.
+pub fn size(entry: &EventEntry) -> u64
+    ensures { result ≡ min (size_of (entry_of entry.now)) (2 ^ 64 - 1) }
+{
+    let time: u64 = if entry.time.is_some() { 14 } else { 0 };
+    let mut total = time
+        .saturating_add(text_len(&entry.source))
+        .saturating_add(text_len(&entry.detail_type))
+        .saturating_add(text_len(&entry.detail));
+    for resource in &entry.resources {
+        total = total.saturating_add(resource.as_str().len() as u64);
+    }
+    total
+}
+
+fn text_len(text: &Option<Text>) -> u64
+    ensures { result ≡ text_size text.now }
+{
+    match text {
+        Some(text) => text.as_str().len() as u64,
+        None => 0,
+    }
+}

@@ -1,0 +1,152 @@
+//! Names and ARNs.
+ghost use Rattle.std.specs.Prelude.{◌≡◌, ◌↔◌, ◌++◌, ℕ, List, ◌≤◌, ◌==◌, ◌&&◌, ◌||◌, nat_le, length, codes, IsTrue, IfOk, MatchOption};
+ghost use Rattle.std.specs.List.{list_all};
+ghost use Rattle.event_shape.specs.Names as spec;
+
+use crate::digits::all_digits;
+use json_text::{NoMemory, Text};
+use std::alloc::Global;
+
+/// The account that owns every bus.
+pub const OWNER: &str = "111122223333";
+
+/// The region of every bus.
+pub const REGION: &str = "us-east-1";
+
+/// The name of the bus that is always there.
+pub const DEFAULT_BUS: &str = "default";
+
+const BUS_PREFIX: &str = "arn:aws:events:us-east-1:111122223333:event-bus/";
+
+const QUEUE_PREFIX: &str = "arn:aws:sqs:us-east-1:111122223333:";
+
+fn is_queue_byte(byte: u8) -> bool
+    ensures { result ≡ spec.is_queue_byte byte }
+{
+    byte.is_ascii_alphanumeric() || byte == b'-' || byte == b'_'
+}
+
+fn is_name_byte(byte: u8) -> bool
+    ensures { result ≡ spec.is_name_byte byte }
+{
+    is_queue_byte(byte) || byte == b'.'
+}
+
+fn are_name_bytes(name: &str) -> bool
+    ensures { result ≡ list_all spec.is_name_byte name.now }
+{
+    name.as_bytes().iter().all(|byte| is_name_byte(*byte))
+}
+
+fn are_queue_bytes(name: &str) -> bool
+    ensures { result ≡ list_all spec.is_queue_byte name.now }
+{
+    name.as_bytes().iter().all(|byte| is_queue_byte(*byte))
+}
+
+/// The same for rules, targets and replays.
+fn is_short_name(name: &str) -> bool
+    ensures { IsTrue result ↔ spec.IsShortName name.now }
+{
+    !name.is_empty() && name.len() <= 64 && are_name_bytes(name)
+}
+
+/// A rule's name has 1 to 64 bytes of `A-Z a-z 0-9 . - _`.
+pub fn is_rule_name(name: &str) -> bool
+    ensures { IsTrue result ↔ spec.IsShortName name.now }
+{
+    is_short_name(name)
+}
+
+/// The id of a target, which is unique in its rule, has 1 to 64 bytes of `A-Z a-z 0-9 . - _`.
+pub fn is_target_id(id: &str) -> bool
+    ensures { IsTrue result ↔ spec.IsShortName id.now }
+{
+    is_short_name(id)
+}
+
+/// A queue's name has 1 to 80 bytes of `A-Z a-z 0-9 - _`.
+pub fn is_queue_name(name: &str) -> bool
+    ensures { IsTrue result ↔ spec.IsQueueName name.now }
+{
+    !name.is_empty() && name.len() <= 80 && are_queue_bytes(name)
+}
+
+fn is_bus_name(name: &str) -> bool
+    ensures { IsTrue result ↔ spec.IsBusName name.now }
+{
+    !name.is_empty() && name.len() <= 256 && are_name_bytes(name)
+}
+
+/// An account has 12 digits.
+pub fn is_account(account: &str) -> bool
+    ensures { IsTrue result ↔ spec.IsAccount account.now }
+{
+    account.len() == 12 && all_digits(account.as_bytes())
+}
+
+/// What stands behind the front, where the text begins with it.
+pub(crate) fn behind<'a>(text: &'a str, front: &str) -> Option<&'a str>
+    ensures { MatchOption result
+        ((rest : List ℕ) → ¬ (text.now ≡ front.now ++ rest))
+        (λ rest. text.now ≡ front.now ++ rest.now) }
+{
+    text.strip_prefix(front)
+}
+
+fn bus_named(name: &str) -> Option<&str>
+    ensures { MatchOption result
+        (¬ spec.IsBusName name.now)
+        (λ bus. spec.IsBusName name.now × (bus.now ≡ name.now)) }
+{
+    if is_bus_name(name) { Some(name) } else { None }
+}
+
+/// The bus that the text names or is the ARN of.
+pub fn bus_of(text: &str) -> Option<&str>
+    ensures { MatchOption result
+        ((bus : List ℕ) → ¬ spec.IsBusGiven text.now bus)
+        (λ bus. spec.IsBusGiven text.now bus.now) }
+{
+    match behind(text, BUS_PREFIX) {
+        Some(name) => bus_named(name),
+        None => bus_named(text),
+    }
+}
+
+/// The queue that the text is the ARN of.
+pub fn queue_of(arn: &str) -> Option<&str>
+    ensures { MatchOption result
+        ((queue : List ℕ) → ¬ spec.IsQueueArn arn.now queue)
+        (λ queue. spec.IsQueueArn arn.now queue.now) }
+{
+    match behind(arn, QUEUE_PREFIX) {
+        Some(name) => {
+            if is_queue_name(name) {
+                Some(name)
+            } else {
+                None
+            }
+        }
+        None => None,
+    }
+}
+
+/// The ARN of the queue.
+pub fn queue_arn(alloc: Global, queue: &str) -> Result<Text, NoMemory>
+    ensures { IfOk result (λ arn. arn ≡ spec.queue_arn queue.now) }
+{
+    Ok(Text::from(format!(in alloc; "arn:aws:sqs:us-east-1:111122223333:{queue}")?))
+}
+
+/// The ARN of the rule on the bus.
+pub fn rule_arn(alloc: Global, bus: &str, rule: &str) -> Result<Text, NoMemory>
+    ensures { IfOk result (λ arn. arn ≡ spec.rule_arn bus.now rule.now) }
+{
+    let arn = if bus == DEFAULT_BUS {
+        format!(in alloc; "arn:aws:events:us-east-1:111122223333:rule/{rule}")?
+    } else {
+        format!(in alloc; "arn:aws:events:us-east-1:111122223333:rule/{bus}/{rule}")?
+    };
+    Ok(Text::from(arn))
+}
