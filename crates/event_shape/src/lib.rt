@@ -18,3 +18,6 @@ pub use names::{
     queue_arn, queue_of, rule_arn,
 };
 pub use time::{iso, read_time};
+
+#[cfg(test)]
+mod tests;

@@ -1,0 +1,257 @@
+use crate::{
+    CheckFault, EntryFault, Event, EventEntry, bus_of, check, event_id, iso, queue_arn, queue_of,
+    read_time, rule_arn, size,
+};
+use json_text::{Json, LAST_MOMENT, Text};
+use std::alloc::Global;
+use std::test::Fail;
+
+/// Civil dates in UTC and their seconds since 1970, by the rules of the Gregorian calendar, worked out outside.
+const DATES: [(u64, &str); 30] = [
+    (0, "1970-01-01T00:00:00Z"),
+    (5_097_599, "1970-02-28T23:59:59Z"),
+    (31_535_999, "1970-12-31T23:59:59Z"),
+    (31_536_000, "1971-01-01T00:00:00Z"),
+    (68_212_800, "1972-02-29T12:00:00Z"),
+    (68_256_000, "1972-03-01T00:00:00Z"),
+    (99_791_999, "1973-02-28T23:59:59Z"),
+    (946_684_799, "1999-12-31T23:59:59Z"),
+    (946_684_800, "2000-01-01T00:00:00Z"),
+    (951_782_399, "2000-02-28T23:59:59Z"),
+    (951_782_400, "2000-02-29T00:00:00Z"),
+    (951_868_800, "2000-03-01T00:00:00Z"),
+    (1_000_000_000, "2001-09-09T01:46:40Z"),
+    (1_104_451_200, "2004-12-31T00:00:00Z"),
+    (1_483_228_799, "2016-12-31T23:59:59Z"),
+    (1_682_899_199, "2023-04-30T23:59:59Z"),
+    (1_700_000_000, "2023-11-14T22:13:20Z"),
+    (1_709_251_199, "2024-02-29T23:59:59Z"),
+    (1_709_251_200, "2024-03-01T00:00:00Z"),
+    (2_147_483_648, "2038-01-19T03:14:08Z"),
+    (3_981_312_000, "2096-02-29T00:00:00Z"),
+    (4_107_542_399, "2100-02-28T23:59:59Z"),
+    (4_107_542_400, "2100-03-01T00:00:00Z"),
+    (4_233_686_400, "2104-02-29T00:00:00Z"),
+    (7_258_118_399, "2199-12-31T23:59:59Z"),
+    (13_574_563_200, "2400-02-29T00:00:00Z"),
+    (13_574_649_600, "2400-03-01T00:00:00Z"),
+    (64_065_709_815, "4000-02-29T06:30:15Z"),
+    (221_850_489_599, "9000-02-28T23:59:59Z"),
+    (250_000_000_000, "9892-03-08T12:26:40Z"),
+];
+
+/// A time and the moment that it gives.
+const TEXTS: [(&str, Option<u64>); 16] = [
+    ("2023-11-14T22:13:20.75Z", Some(1_700_000_000)),
+    ("2023-11-14T22:13:60Z", None),
+    ("2023-11-14T24:00:00Z", None),
+    ("2023-11-14T22:60:00Z", None),
+    ("2023-02-29T00:00:00Z", None),
+    ("2023-04-31T00:00:00Z", None),
+    ("2100-02-29T00:00:00Z", None),
+    ("2023-11-14T22:13:20.Z", None),
+    ("2023-11-14t22:13:20Z", None),
+    ("2023-11-14T22:13:20z", None),
+    ("2023-11-14T22:13:20+00:00", None),
+    ("2023-11-14T22:13:20", None),
+    ("2023-11-14T22:13:20Z ", None),
+    ("1969-12-31T23:59:59Z", None),
+    ("9892-03-08T12:26:40Z", Some(250_000_000_000)),
+    ("9892-03-08T12:26:41Z", None),
+];
+
+const NUMBERS: [(&str, Option<u64>); 16] = [
+    ("1700000000", Some(1_700_000_000)),
+    ("1700000000.9", Some(1_700_000_000)),
+    ("0", Some(0)),
+    ("-0", Some(0)),
+    ("-0.5", Some(0)),
+    ("0.5", Some(0)),
+    ("-1", None),
+    ("-1.5", None),
+    ("1.7e9", None),
+    ("1e1", None),
+    ("250000000000", Some(250_000_000_000)),
+    ("250000000000.5", Some(250_000_000_000)),
+    ("250000000001", None),
+    ("99999999999999999999999", None),
+    ("01", None),
+    ("1.", None),
+];
+
+#[test]
+fn civil_dates_are_their_seconds(rt: HostRuntime) -> Result<(), Fail> {
+    for (moment, shown) in DATES {
+        let json = Json::Str(Text::from_str(rt.alloc(), shown)?);
+        assert_eq!(rt; read_time(&json), Some(moment), "{moment}");
+        assert!(rt; moment <= LAST_MOMENT);
+        let text = iso(rt.alloc(), moment)?;
+        assert!(rt; text.as_str() == shown, "{moment}");
+    }
+    Ok(())
+}
+
+#[test]
+fn a_time_gives_its_moment_or_none(rt: HostRuntime) -> Result<(), Fail> {
+    for (time, moment) in TEXTS {
+        let json = Json::Str(Text::from_str(rt.alloc(), time)?);
+        assert_eq!(rt; read_time(&json), moment, "{time}");
+    }
+    for (time, moment) in NUMBERS {
+        let json = Json::Num(Text::from_str(rt.alloc(), time)?);
+        assert_eq!(rt; read_time(&json), moment, "{time}");
+    }
+    assert_eq!(rt; read_time(&Json::Truth(true)), None);
+    Ok(())
+}
+
+#[test]
+fn names_arns_and_ids_are_as_they_are_spelled(rt: HostRuntime) -> Result<(), Fail> {
+    let alloc = rt.alloc();
+    let queue = queue_arn(alloc, "q")?;
+    assert_eq!(rt; queue.as_str(), "arn:aws:sqs:us-east-1:111122223333:q");
+    assert_eq!(rt; queue_of(queue.as_str()), Some("q"));
+    assert_eq!(rt; queue_of("arn:aws:sqs:us-east-1:111122223333:q.r"), None);
+    let rule = rule_arn(alloc, "default", "r")?;
+    assert_eq!(rt;
+        rule.as_str(),
+        "arn:aws:events:us-east-1:111122223333:rule/r"
+    );
+    let rule = rule_arn(alloc, "b", "r")?;
+    assert_eq!(rt;
+        rule.as_str(),
+        "arn:aws:events:us-east-1:111122223333:rule/b/r"
+    );
+    let arn = "arn:aws:events:us-east-1:111122223333:event-bus/b";
+    assert_eq!(rt; bus_of(arn), Some("b"));
+    assert_eq!(rt; bus_of("b"), Some("b"));
+    assert_eq!(rt; bus_of("a/b"), None);
+    assert_eq!(rt; bus_of(""), None);
+    let id = event_id(alloc, 1)?;
+    assert_eq!(rt; id.as_str(), "00000000-0000-8000-8000-000000000001");
+    let id = event_id(alloc, 0xAB)?;
+    assert_eq!(rt; id.as_str(), "00000000-0000-8000-8000-0000000000ab");
+    Ok(())
+}
+
+fn entry(alloc: Global, source: &str, detail_type: &str, detail: &str) -> Result<EventEntry, Fail> {
+    Ok(EventEntry {
+        time: None,
+        source: Some(Text::from_str(alloc, source)?),
+        resources: Vec::new(alloc),
+        detail_type: Some(Text::from_str(alloc, detail_type)?),
+        detail: Some(Text::from_str(alloc, detail)?),
+        bus: None,
+    })
+}
+
+/// Source, detail type and detail, and the fault that is told.
+const FAULTS: [(&str, &str, &str, Option<EntryFault>); 8] = [
+    ("", "", "", Some(EntryFault::Source)),
+    ("a", "", "", Some(EntryFault::DetailType)),
+    ("a", "b", "", Some(EntryFault::Malformed)),
+    ("a", "b", "[1]", Some(EntryFault::Malformed)),
+    ("aws.x", "b", "[1]", Some(EntryFault::Malformed)),
+    ("aws.x", "b", "{}", Some(EntryFault::NotAuthorized)),
+    ("aws", "b", "{}", None),
+    ("a", "b", "{\"total\":12.50}", None),
+];
+
+#[test]
+fn the_first_fault_is_told(rt: HostRuntime) -> Result<(), Fail> {
+    let alloc = rt.alloc();
+    for (source, detail_type, detail, fault) in FAULTS {
+        let told = fault_of(alloc, entry(alloc, source, detail_type, detail)?)?;
+        assert_eq!(rt; told, fault, "{source} {detail_type} {detail}");
+    }
+    let mut faulty = entry(alloc, "aws.x", "b", "[1]")?;
+    faulty.bus = Some(Text::from_str(alloc, "a/b")?);
+    assert_eq!(rt; fault_of(alloc, faulty)?, Some(EntryFault::Bus));
+    let mut faulty = entry(alloc, "aws.x", "b", "[1]")?;
+    faulty.bus = Some(Text::from_str(alloc, "a/b")?);
+    faulty.time = Some(Json::Null);
+    assert_eq!(rt; fault_of(alloc, faulty)?, Some(EntryFault::Time));
+    let mut faulty = entry(alloc, "aws.x", "b", "[1]")?;
+    faulty.time = Some(Json::Null);
+    faulty.detail = None;
+    assert_eq!(rt; fault_of(alloc, faulty)?, Some(EntryFault::Detail));
+    Ok(())
+}
+
+fn fault_of(alloc: Global, entry: EventEntry) -> Result<Option<EntryFault>, Fail> {
+    match check(alloc, entry) {
+        Err(CheckFault::Entry(fault)) => Ok(Some(fault)),
+        Err(CheckFault::NoMemory) => Err(Fail::from("memory was refused")),
+        Ok(_) => Ok(None),
+    }
+}
+
+#[test]
+fn an_event_has_its_exact_text(rt: HostRuntime) -> Result<(), Fail> {
+    let alloc = rt.alloc();
+    let checked = check(
+        alloc,
+        entry(alloc, "shop.orders", "Order", "{\"total\":12.50}")?,
+    )?;
+    assert_eq!(rt; checked.bus(), "default");
+    let event = Event::make(alloc, checked, 1, 1_700_000_000, "111122223333")?;
+    assert_eq!(rt; event.moment(), 1_700_000_000);
+    let text = event.text(alloc, None)?;
+    assert_eq!(rt;
+        text.as_str(),
+        "{\"version\":\"0\",\"id\":\"00000000-0000-8000-8000-000000000001\",\"detail-type\":\"Order\",\"source\":\"shop.orders\",\"account\":\"111122223333\",\"time\":\"2023-11-14T22:13:20Z\",\"region\":\"us-east-1\",\"resources\":[],\"detail\":{\"total\":12.50}}"
+    );
+    let replayed = event.text(alloc, Some("nightly"))?;
+    assert!(rt;
+        replayed.as_str().ends_with("\"detail\":{\"total\":12.50},\"replay-name\":\"nightly\"}")
+    );
+    Ok(())
+}
+
+fn letters_of(alloc: Global, count: usize) -> Result<String, Fail> {
+    match String::from_utf8(vec![in alloc; b'x'; count]?) {
+        Ok(text) => Ok(text),
+        Err(_) => Err(Fail::from("letters are UTF-8")),
+    }
+}
+
+// An object with lists in it, so many levels in all.
+fn nested(alloc: Global, levels: usize) -> Result<String, Fail> {
+    let mut text = String::from_str(alloc, "{\"a\":")?;
+    for _ in 1..levels {
+        text.push('[')?;
+    }
+    for _ in 1..levels {
+        text.push(']')?;
+    }
+    text.push('}')?;
+    Ok(text)
+}
+
+#[test]
+fn a_detail_has_at_most_99_levels(rt: HostRuntime) -> Result<(), Fail> {
+    let alloc = rt.alloc();
+    let detail = nested(alloc, 99)?;
+    check(alloc, entry(alloc, "a", "b", detail.as_str())?)?;
+    let detail = nested(alloc, 100)?;
+    let told = fault_of(alloc, entry(alloc, "a", "b", detail.as_str())?)?;
+    assert_eq!(rt; told, Some(EntryFault::Malformed));
+    Ok(())
+}
+
+#[test]
+fn a_size_is_the_sum_of_its_bytes(rt: HostRuntime) -> Result<(), Fail> {
+    let alloc = rt.alloc();
+    let mut entry = entry(alloc, "a", "b", "{}")?;
+    assert_eq!(rt; size(&entry), 4);
+    entry.time = Some(Json::Null);
+    assert_eq!(rt; size(&entry), 18);
+    entry.bus = Some(Text::from_str(alloc, "shop")?);
+    assert_eq!(rt; size(&entry), 18);
+    for (letters, sum) in [(262_134, 262_144), (262_135, 262_145)] {
+        let detail = letters_of(alloc, letters)?;
+        let long = self::entry(alloc, "shop", "Orders", detail.as_str())?;
+        assert_eq!(rt; size(&long), sum);
+    }
+    Ok(())
+}
