@@ -1,7 +1,7 @@
 #!/usr/bin/env python3
 """Times the calls of the leaf crates by the proved program leaf_bench, and prints tables.
 
-    bench/leaves.py [wildcards] [ranges] [json]
+    bench/leaves.py [wildcards] [ranges] [json] [events]
 
 Run at the top of the repository, once `rt run` in crates/leaf_bench has built crates/leaf_bench/out/leaf_bench.
 Where c++ and Debian's rapidjson-dev are installed, RapidJSON's rates stand beside ours. Outside the gate: nothing
@@ -139,6 +139,15 @@ def jsons():
             row(name, *bytes_a_round, *rates(ours), *theirs)
 
 
+def events():
+    table("event, bytes", "events from entry to text a second")
+    for lines in [0, 13, 100]:
+        detail = {"order": 12, "paid": True, "lines": [{"sku": f"sku-{i}", "count": i, "price": i * 19.95} for i in range(lines)]}
+        rounds = 2_000
+        length, [micros] = run("events", rounds, 0, json.dumps(detail).encode())
+        row(length, round(1e6 * rounds / micros))
+
+
 def built_rapidjson(folder):
     """The program for RapidJSON, or nothing where it cannot be built here."""
     program = os.path.join(folder, "rapidjson")
@@ -152,7 +161,7 @@ def main():
     if not os.path.exists(PROGRAM):
         sys.exit(f"{PROGRAM} is not built: run `rt run` in crates/leaf_bench")
     print(f"{datetime.date.today()}, {os.cpu_count()} processors, {platform.machine()}, {' '.join(sys.argv)}")
-    tables = {"wildcards": wildcards, "ranges": ranges, "json": jsons}
+    tables = {"wildcards": wildcards, "ranges": ranges, "json": jsons, "events": events}
     for name in sys.argv[1:] or tables:
         tables[name]()
 

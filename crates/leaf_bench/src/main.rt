@@ -4,15 +4,17 @@
 //! - `wild_*`, `like_*`: a pattern of SIZE letters on a text of NUMBER.
 //! - `ranges_*`: SIZE ranges, made once, and NUMBER looked up a thousand times.
 //! - `json`: standard input, read and written SIZE times; NUMBER is not looked at.
+//! - `events`: SIZE events with standard input as their detail; NUMBER is not looked at.
 #![tactic(auto)]
 
+mod events;
 mod ranges;
 mod texts;
 mod wildcards;
 
 use anyhow::{Context, Result};
 use std::env;
-use std::io::Read;
+use std::io::{self, Read};
 use std::rt::Clock;
 use std::time::Instant;
 
@@ -43,6 +45,11 @@ fn measure(
             figures.read.as_micros(),
             figures.written.as_micros()
         )?;
+    } else if word == "events" {
+        let detail = io::read_to_string(rt.alloc(), rt.reader())?;
+        let figures = events::measure(rt, rt.alloc(), detail.as_str(), size)?;
+        println!(rt; "{}", figures.bytes)?;
+        eprintln!(rt; "{}", figures.took.as_micros())?;
     } else if word.starts_with("ranges") {
         let figures = ranges::measure(rt, rt.alloc(), word, size, number)?;
         println!(rt; "{}", figures.hit)?;
