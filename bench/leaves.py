@@ -40,7 +40,7 @@ WILDCARDS = [
 RANGES = [
     ("ranges_disjoint", lambda count: {"none": 7, "one": 3}),
     ("ranges_nested", lambda count: {"none": 2 * count + 1, "one": 0, "all": count}),
-    ("ranges_one_sided", lambda count: {"one": 0, "all": count}),
+    ("ranges_one_sided", lambda count: {"none": 0, "one": 1, "all": count}),
     ("ranges_equal", lambda count: {"none": 4, "all": 7}),
 ]
 RANGE_COUNTS = [10, 1_000, 100_000]

@@ -86,7 +86,7 @@ fn range_of(shape: Shape, size: u32, i: u32) -> (i64, i64, u32)
     match shape {
         Shape::Disjoint => (10 * place, 10 * place + 5, 0),
         Shape::Nested => (place, 2 * i64::from(size) - place, 0),
-        Shape::OneSided => (place, i64::MAX, 0),
+        Shape::OneSided => (place + 1, i64::MAX, 0),
         Shape::Equal => (5, 9, 0),
     }
 }
