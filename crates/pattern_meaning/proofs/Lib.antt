@@ -1,0 +1,4 @@
+pub mod LeafLemmas
+pub mod PathLemmas
+pub mod ViewLemmas
+pub mod MeetsLemmas

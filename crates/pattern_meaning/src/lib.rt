@@ -1,0 +1,8 @@
+//! A pattern holds of a JSON value, so of an event's tree.
+#![tactic(auto)]
+
+mod holds;
+mod pattern;
+
+pub use holds::{plain_holds, unseen_member};
+pub use pattern::{Field, Fields, LeafTest, LeafTests, Pattern};
