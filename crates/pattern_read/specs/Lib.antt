@@ -1,0 +1,3 @@
+pub mod Text
+pub mod Test
+pub mod Fault
