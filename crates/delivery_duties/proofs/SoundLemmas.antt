@@ -1,0 +1,213 @@
+-- Each step keeps what is true of all duties that are kept: the `sound_` lemmas.
+use Rattle.std.proofs.Common.{◌≡◌, ℕ, ◌+◌, ◌<◌, ◌≤◌, ◌^◌, ◌==◌, Bool, true, false, not, cond, List, [], ◌∷◌, ◌++◌, Some, None, length, refl, sym, ap, ◌∙◌, subst, inl, inr, arith, length-append}
+use Rattle.std.specs.Prelude.{All, Any, Option, filter, find, ◌⊎◌, zero, suc, IfSome, IfNone}
+use Rattle.std.specs.Str.{bytes_eq}
+use Rattle.std.proofs.lemmas.List.{get_or_append_left, length-map}
+use Rattle.std.proofs.lemmas.List.Elements.{All-nil, All-cons, All-head, All-tail, All-push, All-weaker, All-filter, All-map}
+use Rattle.std.proofs.lemmas.Bool.Decides.{nat_tests}
+use Rattle.event_shape.specs.Names.{queue_arn}
+use Rattle.delivery_duties.specs.declared.duty.NewDuty.{NewDuty}
+use Rattle.delivery_duties.specs.declared.duty.DutyRow.{DutyRow}
+use Rattle.delivery_duties.specs.declared.claim.Claim.{Claim}
+use Rattle.delivery_duties.specs.Duties.{Duties, Mailbox, HasMailbox, marked, marked_row, begun, with_next, taken_in}
+use Rattle.delivery_duties.specs.Mailboxes.{empty_mailbox}
+use Rattle.delivery_duties.specs.Sound.{ComesBefore, IsOrdered, IsWithin, IsKept, IsSound}
+use Rattle.delivery_duties.proofs.RowLemmas.{All-middle, ordered_push, without_at}
+
+pub any_here : {X : Type 0} (P : X → Type 0) (x : X) (xs : List X) → P x → Any P (x ∷ xs)
+any_here P x xs p = (0, x, omega arith, refl, p)
+
+pub any_there : {X : Type 0} (P : X → Type 0) (x : X) (xs : List X) → Any P xs → Any P (x ∷ xs)
+any_there P x xs (k, y, l, e, p) = (suc k, y, omega arith, e, p)
+
+pub any_behind : {X : Type 0} (P : X → Type 0) (front : List X) (x : X) (xs : List X) → P x → Any P (front ++ x ∷ xs)
+any_behind P [] x xs p = any_here P x xs p
+any_behind P (y ∷ ys) x xs p = any_there P y (ys ++ x ∷ xs) (any_behind P ys x xs p)
+
+pub any_cases : {X : Type 0} (P : X → Type 0) (x : X) (xs : List X) → Any P (x ∷ xs) → P x ⊎ Any P xs
+any_cases P x xs (zero, y, l, e, p) = inl (subst P (sym e) p)
+any_cases P x xs (suc k, y, l, e, p) = inr (k, y, omega arith, e, p)
+
+pub any_left : {X : Type 0} (P : X → Type 0) (xs ys : List X) → Any P xs → Any P (xs ++ ys)
+any_left P xs ys (k, x, l, e, p) =
+    (k, x, omega (arith, length-append xs ys), get_or_append_left xs ys x k l ∙ e, p)
+
+-- a queue is made
+pub sound_opened : {s : Duties} (queue : List ℕ) (mailboxes : List Mailbox) → IsSound s → mailboxes ≡ s.mailboxes ++ empty_mailbox queue ∷ [] →
+    IsSound (record s { mailboxes = mailboxes })
+sound_opened {s} queue mailboxes h e =
+    let P : DutyRow → Type 0 = IsKept s.created s.latest s.mailboxes in
+    let Q : DutyRow → Type 0 = IsKept s.created s.latest (s.mailboxes ++ empty_mailbox queue ∷ []) in
+    let F : List Mailbox → Type 0 = λ ms. IsSound (record s { mailboxes = ms }) in
+    let opened : F (s.mailboxes ++ empty_mailbox queue ∷ []) = record {
+      ordered = h.ordered;
+      kept = All-weaker P Q (λ r k. (k.0, k.1, any_left (λ m. r.duty.endpoint ≡ queue_arn m.queue) s.mailboxes (empty_mailbox queue ∷ []) k.2)) s.pending h.kept;
+      within = All-push (IsWithin s.delivered) s.mailboxes (empty_mailbox queue) h.within (omega arith, omega arith);
+      one_state = h.one_state;
+      room = h.room;
+    } in
+    subst F (sym e) opened
+
+-- what is true of a row with either mark
+pub marked_kept : (P : DutyRow → Type 0) (mark : Bool) (number : ℕ) (row : DutyRow) → P row → P (record row { claimed = mark }) → P (marked_row mark number row)
+marked_kept P mark number row p q =
+    elim (row.number == number) as (λ b. P (cond b (record row { claimed = mark }) row)) [ true ↦ q | false ↦ p ]
+
+ordered_marked : (mark : Bool) (number : ℕ) (rows : List DutyRow) → IsOrdered rows → IsOrdered (marked mark number rows)
+ordered_marked mark number [] h = tt
+ordered_marked mark number (row ∷ rows) h =
+    let f : DutyRow → DutyRow = marked_row mark number in
+    let first : (o : DutyRow) → ComesBefore row o → ComesBefore (f row) o = λ o b. marked_kept (λ r. ComesBefore r o) mark number row b b in
+    let both : (o : DutyRow) → ComesBefore row o → ComesBefore (f row) (f o) =
+    λ o b. marked_kept (ComesBefore (f row)) mark number o (first o b) (first o b) in
+    (All-map (ComesBefore (f row)) f rows (All-weaker (ComesBefore row) (λ o. ComesBefore (f row) (f o)) both rows h.0), ordered_marked mark number rows h.1)
+
+-- a duty is claimed, or given free again
+pub sound_marked : {s : Duties} (mark : Bool) (number : ℕ) (pending : List DutyRow) → IsSound s → pending ≡ marked mark number s.pending →
+    IsSound (record s { pending = pending })
+sound_marked {s} mark number pending h e =
+    let P : DutyRow → Type 0 = IsKept s.created s.latest s.mailboxes in
+    let F : List DutyRow → Type 0 = λ rows. IsSound (record s { pending = rows }) in
+    let f : DutyRow → DutyRow = marked_row mark number in
+    let changed : F (marked mark number s.pending) = record {
+      ordered = ordered_marked mark number s.pending h.ordered;
+      kept = All-map P f s.pending (All-weaker P (λ r. P (f r)) (λ r k. marked_kept P mark number r k k) s.pending h.kept);
+      within = h.within;
+      one_state = h.one_state ∙ ap (λ n. n + s.delivered + s.dropped) (sym (length-map s.pending f));
+      room = h.room;
+    } in
+    subst F (sym e) changed
+
+-- a duty whose text is too long is made
+pub sound_too_long : {s : Duties} (moment : ℕ) → IsSound s → s.latest ≤ moment → s.created + 1 < 2 ^ 63 →
+    IsSound (record s { created = s.created + 1; dropped = s.dropped + 1; latest = moment })
+sound_too_long {s} moment h later room =
+    let P : DutyRow → Type 0 = IsKept s.created s.latest s.mailboxes in
+    let Q : DutyRow → Type 0 = IsKept (s.created + 1) moment s.mailboxes in
+    record {
+      ordered = h.ordered;
+      kept = All-weaker P Q (λ r k. (omega (arith, k.0), omega (arith, k.1), k.2)) s.pending h.kept;
+      within = h.within;
+      one_state = omega (arith, h.one_state);
+      room = room;
+    }
+
+-- another duty is made
+pub sound_begun : {s : Duties} (duty : NewDuty) (moment : ℕ) (pending : List DutyRow) → IsSound s → s.latest ≤ moment → s.created + 1 < 2 ^ 63 → HasMailbox duty.endpoint s.mailboxes →
+    pending ≡ s.pending ++ begun (s.created + 1) moment duty ∷ [] → IsSound (record s { created = s.created + 1; pending = pending; latest = moment })
+sound_begun {s} duty moment pending h later room there e =
+    let row : DutyRow = begun (s.created + 1) moment duty in
+    let P : DutyRow → Type 0 = IsKept s.created s.latest s.mailboxes in
+    let Q : DutyRow → Type 0 = IsKept (s.created + 1) moment s.mailboxes in
+    let F : List DutyRow → Type 0 = λ rows. IsSound (record s { created = s.created + 1; pending = rows; latest = moment }) in
+    let made : F (s.pending ++ row ∷ []) = record {
+      ordered = ordered_push s.pending row h.ordered (All-weaker P (λ o. ComesBefore o row) (λ r k. (omega (arith, k.0), omega (arith, k.1))) s.pending h.kept);
+      kept = All-push Q s.pending row (All-weaker P Q (λ r k. (omega (arith, k.0), omega (arith, k.1), k.2)) s.pending h.kept) (omega arith, omega arith, there);
+      within = h.within;
+      one_state = omega (arith, h.one_state, length-append s.pending (row ∷ []));
+      room = room;
+    } in
+    subst F (sym e) made
+
+ordered_filter : (p : DutyRow → Bool) (rows : List DutyRow) → IsOrdered rows → IsOrdered (filter p rows)
+ordered_filter p [] h = tt
+ordered_filter p (row ∷ rows) h =
+    elim (p row) as (λ b. IsOrdered (cond b (row ∷ filter p rows) (filter p rows))) [
+      | true ↦ (All-filter p (ComesBefore row) rows h.0, ordered_filter p rows h.1)
+      | false ↦ ordered_filter p rows h.1
+    ]
+
+-- what is found stands in the list
+pub found_split : {X : Type 0} (p : X → Bool) (xs : List X) (x : X) → find p xs ≡ Some x →
+    (front : List X) × (rest : List X) × (xs ≡ front ++ x ∷ rest) × (p x ≡ true)
+found_split p [] x h = absurd (cc)
+found_split {X} p (y ∷ ys) x h =
+    (elim (p y) as (λ b. p y ≡ b → cond b (Some y) (find p ys) ≡ Some x → (front : List X) × (rest : List X) × (y ∷ ys ≡ front ++ x ∷ rest) × (p x ≡ true)) [
+      | true ↦ λ e f. let same : y ≡ x = cc in ([], ys, ap (λ z. z ∷ ys) same, subst (λ (z : X). p z ≡ true) same e)
+      | false ↦ λ e f. let k = found_split p ys x f in (y ∷ k.0, k.1, ap (λ zs. y ∷ zs) k.2, k.3)
+    ]) refl h
+
+has_mailbox_taken : (endpoint body arn : List ℕ) (mailboxes : List Mailbox) → HasMailbox arn mailboxes → HasMailbox arn (taken_in endpoint body mailboxes)
+has_mailbox_taken endpoint body arn [] h = h
+has_mailbox_taken endpoint body arn (m ∷ ms) h =
+    let P : Mailbox → Type 0 = λ o. arn ≡ queue_arn o.queue in
+    elim (bytes_eq endpoint (queue_arn m.queue)) as (λ b. Any P (cond b (with_next body m ∷ ms) (m ∷ taken_in endpoint body ms))) [
+      | true ↦ elim (any_cases P m ms h) [ inl p ↦ any_here P (with_next body m) ms p | inr r ↦ any_there P (with_next body m) ms r ]
+      | false ↦ elim (any_cases P m ms h) [ inl p ↦ any_here P m (taken_in endpoint body ms) p | inr r ↦ any_there P m (taken_in endpoint body ms) (has_mailbox_taken endpoint body arn ms r) ]
+    ]
+
+within_taken : (delivered : ℕ) (endpoint body : List ℕ) (mailboxes : List Mailbox) → All (IsWithin delivered) mailboxes → All (IsWithin (delivered + 1)) (taken_in endpoint body mailboxes)
+within_taken delivered endpoint body [] h = All-nil (IsWithin (delivered + 1))
+within_taken delivered endpoint body (m ∷ ms) h =
+    let P : Mailbox → Type 0 = IsWithin delivered in
+    let Q : Mailbox → Type 0 = IsWithin (delivered + 1) in
+    let first = All-head P m ms h in
+    let weaker : (o : Mailbox) → P o → Q o = λ o w. (w.0, omega (arith, w.1)) in
+    elim (bytes_eq endpoint (queue_arn m.queue)) as (λ b. All Q (cond b (with_next body m ∷ ms) (m ∷ taken_in endpoint body ms))) [
+      | true ↦ All-cons Q (with_next body m) ms (omega (arith, first.0, length-append m.messages (record { number = m.sent + 1; body = body } ∷ [])), omega (arith, first.1))
+          (All-weaker P Q weaker ms (All-tail P m ms h))
+      | false ↦ All-cons Q m (taken_in endpoint body ms) (weaker m first) (within_taken delivered endpoint body ms (All-tail P m ms h))
+    ]
+
+same_number : (n m : ℕ) → (n == m) ≡ true → n ≡ m
+same_number n m h = grind (arith, nat_tests)
+
+-- one fewer is pending
+pub length_without : (number : ℕ) (rows : List DutyRow) (owed : DutyRow) → IsOrdered rows → find (λ row. row.number == number) rows ≡ Some owed →
+    length (filter (λ row. not (row.number == number)) rows) + 1 ≡ length rows
+length_without number rows owed o f =
+    let k = found_split (λ (row : DutyRow). row.number == number) rows owed f in
+    let named : owed.number ≡ number = same_number owed.number number k.3 in
+    let F : List DutyRow → Type 0 = λ ys. length (filter (λ row. not (row.number == number)) ys) + 1 ≡ length ys in
+    let G : ℕ → Type 0 = λ n. filter (λ (row : DutyRow). not (row.number == n)) (k.0 ++ owed ∷ k.1) ≡ k.0 ++ k.1 in
+    let w : G number = subst G named (without_at k.0 owed k.1 (subst IsOrdered k.2 o)) in
+    subst F (sym k.2) (omega (arith, ap (length {A = DutyRow}) w, length-append k.0 k.1, length-append k.0 (owed ∷ k.1)))
+
+-- a duty is dropped
+pub sound_dropped : {s : Duties} (number : ℕ) (owed : DutyRow) (pending : List DutyRow) → IsSound s → find (λ row. row.number == number) s.pending ≡ Some owed →
+    pending ≡ filter (λ row. not (row.number == number)) s.pending → IsSound (record s { pending = pending; dropped = s.dropped + 1 })
+sound_dropped {s} number owed pending h f e =
+    let p : DutyRow → Bool = λ row. not (row.number == number) in
+    let F : List DutyRow → Type 0 = λ rows. IsSound (record s { pending = rows; dropped = s.dropped + 1 }) in
+    let left : F (filter p s.pending) = record {
+      ordered = ordered_filter p s.pending h.ordered;
+      kept = All-filter p (IsKept s.created s.latest s.mailboxes) s.pending h.kept;
+      within = h.within;
+      one_state = omega (arith, h.one_state, length_without number s.pending owed h.ordered f);
+      room = h.room;
+    } in
+    subst F (sym e) left
+
+-- a duty is delivered
+pub sound_delivered : {s : Duties} (number : ℕ) (owed : DutyRow) (pending : List DutyRow) (mailboxes : List Mailbox) → IsSound s →
+    find (λ row. row.number == number) s.pending ≡ Some owed → pending ≡ filter (λ row. not (row.number == number)) s.pending →
+    mailboxes ≡ taken_in owed.duty.endpoint owed.duty.text s.mailboxes →
+    IsSound (record s { pending = pending; mailboxes = mailboxes; delivered = s.delivered + 1 })
+sound_delivered {s} number owed pending mailboxes h f e t =
+    let p : DutyRow → Bool = λ row. not (row.number == number) in
+    let P : DutyRow → Type 0 = IsKept s.created s.latest s.mailboxes in
+    let taken : List Mailbox = taken_in owed.duty.endpoint owed.duty.text s.mailboxes in
+    let Q : DutyRow → Type 0 = IsKept s.created s.latest taken in
+    let F : List DutyRow → Type 0 = λ rows. IsSound (record s { pending = rows; mailboxes = taken; delivered = s.delivered + 1 }) in
+    let G : List Mailbox → Type 0 = λ ms. IsSound (record s { pending = pending; mailboxes = ms; delivered = s.delivered + 1 }) in
+    let left : F (filter p s.pending) = record {
+      ordered = ordered_filter p s.pending h.ordered;
+      kept = All-filter p Q s.pending (All-weaker P Q (λ r k. (k.0, k.1, has_mailbox_taken owed.duty.endpoint owed.duty.text r.duty.endpoint s.mailboxes k.2)) s.pending h.kept);
+      within = within_taken s.delivered owed.duty.endpoint owed.duty.text s.mailboxes h.within;
+      one_state = omega (arith, h.one_state, length_without number s.pending owed h.ordered f);
+      room = h.room;
+    } in
+    subst G (sym t) (subst F (sym e) left)
+
+-- a duty that is pending is kept
+pub kept_found : {s : Duties} (number : ℕ) (owed : DutyRow) → IsSound s → find (λ row. row.number == number) s.pending ≡ Some owed → IsKept s.created s.latest s.mailboxes owed
+kept_found {s} number owed h f =
+    let k = found_split (λ (row : DutyRow). row.number == number) s.pending owed f in
+    let P : DutyRow → Type 0 = IsKept s.created s.latest s.mailboxes in
+    All-middle P k.0 owed k.1 (subst (All P) k.2 h.kept)
+
+-- a claim is made, or none
+pub sound_claimed : {s : Duties} (r : Option Claim) (pending : List DutyRow) → IsSound s → IfSome r (λ c. pending ≡ marked true c.number s.pending) → IfNone r (pending ≡ s.pending) →
+    IsSound (record s { pending = pending })
+sound_claimed {s} None pending h some none = let F : List DutyRow → Type 0 = λ rows. IsSound (record s { pending = rows }) in subst F (sym none) h
+sound_claimed (Some c) pending h some none = sound_marked true c.number pending h some

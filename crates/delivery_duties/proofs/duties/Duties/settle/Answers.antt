@@ -1,0 +1,50 @@
+use Rattle.std.proofs.Common.{◌≡◌, sym, subst, ap, ◌∙◌, map}
+use Rattle.delivery_duties.specs.Duties.{Mailbox, Duties}
+use Rattle.delivery_duties.proofs.SoundLemmas.{sound_delivered, sound_dropped, kept_found}
+use Rattle.delivery_duties.proofs.StepLemmas.{settled_accepted, queues_taken}
+use Rattle.std.specs.Prelude.{Any, Contains}
+use Rattle.std.proofs.lemmas.List.Elements.{All-contains}
+use Rattle.delivery_duties.specs.declared.duty.DutyRow.{DutyRow}
+use Rattle.delivery_duties.specs.Duties.{IsOut, HasMailbox}
+use Rattle.delivery_duties.specs.Sound.{IsKept, IsSound}
+use Rattle.delivery_duties.proofs.OutLemmas.{Out, still_out_settled}
+use Rattle.delivery_duties.proofs.duties.Duties.settle.Goals as goal
+
+has_queue_of : {s : Duties} (v : Duties) → s ≡ v → IsSound s → (row : DutyRow) → Contains v.pending row → HasMailbox row.duty.endpoint v.mailboxes
+has_queue_of {s} v e h =
+    let F : Duties → Type 0 = λ v. (row : DutyRow) → Contains v.pending row → HasMailbox row.duty.endpoint v.mailboxes in
+    let at_s : F s = λ row t. let k : IsKept s.created s.latest s.mailboxes row = All-contains (IsKept s.created s.latest s.mailboxes) s.pending row h.kept t in k.2 in
+    subst F e at_s
+
+pub deliver-requires-clause-there : goal.deliver-requires-clause-there
+deliver-requires-clause-there c = (kept_found c.args.claim.number c.take_out-owed.result c.self.invariant c.take_out-owed.ensures.found).2
+
+pub invariant_of-self : goal.invariant_of-self
+invariant_of-self c = sound_delivered c.args.claim.number c.take_out-owed.result c.take_out-owed.new.rows c.deliver.new.mailboxes c.self.invariant
+    c.take_out-owed.ensures.found c.take_out-owed.ensures.rest c.deliver.ensures
+
+pub invariant_of-self-in-TooOld : goal.invariant_of-self-in-TooOld
+invariant_of-self-in-TooOld c = sound_dropped c.args.claim.number c.take_out-owed.result c.take_out-owed.new.rows c.self.invariant c.take_out-owed.ensures.found c.take_out-owed.ensures.rest
+
+pub returns-in-Accepted-clause-settled : goal.returns-in-Accepted-clause-settled
+returns-in-Accepted-clause-settled c = settled_accepted c.args.self.now c.args.claim.number c.args.outcome c.take_out-owed.result c.take_out-owed.new.rows c.deliver.new.mailboxes c.self.view_is c.in-Accepted.is
+    c.take_out-owed.ensures.found c.take_out-owed.ensures.rest c.deliver.ensures
+
+pub returns-in-Accepted-clause-queues : goal.returns-in-Accepted-clause-queues
+returns-in-Accepted-clause-queues c =
+    ap (map (λ (m : Mailbox). m.queue)) c.deliver.ensures ∙ queues_taken c.take_out-owed.result.duty.endpoint c.take_out-owed.result.duty.text c.self.inside.mailboxes
+    ∙ ap (λ (s : Duties). map (λ (m : Mailbox). m.queue) s.mailboxes) c.self.view_is
+
+pub returns-in-Accepted-clause-still_out : goal.returns-in-Accepted-clause-still_out
+returns-in-Accepted-clause-still_out c = λ n other h.
+    subst (Any (Out n)) (sym c.take_out-owed.ensures.rest) (still_out_settled c.args.claim.number c.self.inside.pending n other (subst (IsOut n) (sym c.self.view_is) h))
+
+pub returns-in-Accepted-clause-has_queue : goal.returns-in-Accepted-clause-has_queue
+returns-in-Accepted-clause-has_queue c = has_queue_of c.args.self.now c.self.view_is c.self.invariant
+
+pub returns-in-TooOld-clause-still_out : goal.returns-in-TooOld-clause-still_out
+returns-in-TooOld-clause-still_out c = λ n other h.
+    subst (Any (Out n)) (sym c.take_out-owed.ensures.rest) (still_out_settled c.args.claim.number c.self.inside.pending n other (subst (IsOut n) (sym c.self.view_is) h))
+
+pub returns-in-TooOld-clause-has_queue : goal.returns-in-TooOld-clause-has_queue
+returns-in-TooOld-clause-has_queue c = has_queue_of c.args.self.now c.self.view_is c.self.invariant

@@ -1,0 +1,137 @@
+-- Duties (one event owed to one target each), their fates, and the messages of queues.
+use Rattle.std.specs.Prelude.{◌≡◌, ℕ, ◌+◌, ◌<◌, ◌≤◌, ◌⊎◌, Bool, true, false, not, ◌==◌, if◌then◌else◌, List, [], ◌∷◌, ◌++◌, Option, Some, None, Any, Contains, map, filter, find}
+use Rattle.std.specs.Str.{bytes_eq}
+use Rattle.event_shape.specs.Names.{queue_arn}
+use Rattle.delivery_duties.specs.declared.duty.NewDuty.{NewDuty}
+use Rattle.delivery_duties.specs.declared.duty.DutyRow.{DutyRow}
+use Rattle.delivery_duties.specs.declared.message.QueueMessage.{QueueMessage}
+use Rattle.delivery_duties.specs.declared.fate.Outcome.{Outcome}
+use Rattle.delivery_duties.specs.declared.fate.Outcome.TheVariants.{Accepted, TooOld}
+use Rattle.delivery_duties.specs.declared.fate.Fate.{Fate}
+use Rattle.delivery_duties.specs.declared.fate.Fate.TheVariants.{Delivered, Dropped}
+
+-- a queue: its name, the number of its last message, and the messages that stand, oldest first
+pub record Mailbox : Type 0 where
+  pub queue : List ℕ
+  pub sent : ℕ
+  pub messages : List QueueMessage
+
+-- the pending duties in the order of their numbers, the queues in the order in which they were made, how many duties were
+-- made, delivered and dropped so far, and the moment of the last that were made
+pub record Duties : Type 0 where
+  pub pending : List DutyRow
+  pub mailboxes : List Mailbox
+  pub created : ℕ
+  pub delivered : ℕ
+  pub dropped : ℕ
+  pub latest : ℕ
+
+-- no duties and no queues
+abbrev pub no_duties : Duties
+no_duties = record { pending = []; mailboxes = []; created = 0; delivered = 0; dropped = 0; latest = 0 }
+
+-- there is a queue of this name
+abbrev pub has_queue : List ℕ → List Mailbox → Bool
+has_queue queue [] = false
+has_queue queue (m ∷ ms) = if bytes_eq m.queue queue then true else has_queue queue ms
+
+-- the endpoint is the ARN of one of these queues
+abbrev pub HasMailbox : List ℕ → List Mailbox → Type 0
+HasMailbox endpoint mailboxes = Any (λ m. endpoint ≡ queue_arn m.queue) mailboxes
+
+-- a queue is made, with no message
+abbrev pub opened : List ℕ → Duties → Duties
+opened queue s = record s { mailboxes = s.mailboxes ++ record { queue = queue; sent = 0; messages = [] } ∷ [] }
+
+-- the duty with this number, made at the moment and due at once
+abbrev pub begun : ℕ → ℕ → NewDuty → DutyRow
+begun number moment duty = record { number = number; duty = duty; accepted = moment; due = moment; claimed = false }
+
+-- a duty is made: it gets the next number and is due at once; one whose text was too long is dropped at its making
+abbrev pub added_one : NewDuty → ℕ → Duties → Duties
+added_one duty moment s =
+    if duty.too_long then record s { created = s.created + 1; dropped = s.dropped + 1; latest = moment }
+    else record s {
+      created = s.created + 1;
+      pending = s.pending ++ begun (s.created + 1) moment duty ∷ [];
+      latest = moment;
+    }
+
+-- the duties are made in their order
+abbrev pub added : List NewDuty → ℕ → Duties → Duties
+added [] moment s = s
+added (duty ∷ duties) moment s = added duties moment (added_one duty moment s)
+
+-- the row comes no later than the other: it is due earlier, or at the same time and has no larger number
+abbrev pub IsNoLater : DutyRow → DutyRow → Type 0
+IsNoLater row other = (row.due < other.due) ⊎ ((row.due ≡ other.due) × (row.number ≤ other.number))
+
+-- of the duties that are due at the moment and not claimed, the one of this number comes first, by due moment, then number
+pub record IsNext (s : Duties) (moment number : ℕ) : Type 0 where
+  pub row : DutyRow
+  pub there : Contains s.pending row
+  pub named : row.number ≡ number
+  pub free : row.claimed ≡ false
+  pub due : row.due ≤ moment
+  pub first : (other : DutyRow) → Contains s.pending other → other.claimed ≡ false → other.due ≤ moment → IsNoLater row other
+
+-- no duty that is not claimed is due
+abbrev pub NoneDue : Duties → ℕ → Type 0
+NoneDue s moment = (row : DutyRow) → Contains s.pending row → row.claimed ≡ false → moment < row.due
+
+-- the row, with its mark set so where it has this number
+abbrev pub marked_row : Bool → ℕ → DutyRow → DutyRow
+marked_row mark number row = if row.number == number then record row { claimed = mark } else row
+
+-- the rows with the mark of this number set so
+abbrev pub marked : Bool → ℕ → List DutyRow → List DutyRow
+marked mark number rows = map (marked_row mark number) rows
+
+-- the duty of this number is claimed
+abbrev pub claimed : ℕ → Duties → Duties
+claimed number s = record s { pending = marked true number s.pending }
+
+-- the claim of the duty of this number is given back
+abbrev pub unclaimed : ℕ → Duties → Duties
+unclaimed number s = record s { pending = marked false number s.pending }
+
+-- this duty is pending, and claimed
+abbrev pub IsOut : ℕ → Duties → Type 0
+IsOut number s = Any (λ row. (row.number ≡ number) × (row.claimed ≡ true)) s.pending
+
+-- the queue, with the text as its next message
+abbrev pub with_next : List ℕ → Mailbox → Mailbox
+with_next body m = record m { sent = m.sent + 1; messages = m.messages ++ record { number = m.sent + 1; body = body } ∷ [] }
+
+-- the first queue whose ARN is the endpoint takes the text as its next message
+abbrev pub taken_in : List ℕ → List ℕ → List Mailbox → List Mailbox
+taken_in endpoint body [] = []
+taken_in endpoint body (m ∷ ms) =
+    if bytes_eq endpoint (queue_arn m.queue) then with_next body m ∷ ms else m ∷ taken_in endpoint body ms
+
+-- what the queues take of a duty that was delivered
+abbrev pub taken_of : Option DutyRow → List Mailbox → List Mailbox
+taken_of None mailboxes = mailboxes
+taken_of (Some row) mailboxes = taken_in row.duty.endpoint row.duty.text mailboxes
+
+-- a duty ends: the queue takes its text, or it was too old and is dropped
+abbrev pub settled : ℕ → Outcome → Duties → Duties
+settled number Accepted s = record s {
+  pending = filter (λ row. not (row.number == number)) s.pending;
+  mailboxes = taken_of (find (λ row. row.number == number) s.pending) s.mailboxes;
+  delivered = s.delivered + 1;
+}
+settled number TooOld s = record s {
+  pending = filter (λ row. not (row.number == number)) s.pending;
+  dropped = s.dropped + 1;
+}
+
+-- how a duty ends whose attempt ended so
+abbrev pub fate_of : Outcome → Fate
+fate_of Accepted = Delivered
+fate_of TooOld = Dropped
+
+-- the messages of the queue of this name, none where there is no such queue
+abbrev pub messages_of : List ℕ → List Mailbox → List QueueMessage
+messages_of queue [] = []
+messages_of queue (m ∷ ms) = if bytes_eq m.queue queue then m.messages else messages_of queue ms

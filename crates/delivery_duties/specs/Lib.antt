@@ -1,0 +1,4 @@
+pub mod Duties
+pub mod Mailboxes
+pub mod Sound
+pub mod Cuts

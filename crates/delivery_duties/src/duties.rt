@@ -1,0 +1,215 @@
+//! The duties and queues of a router.
+ghost use Rattle.std.specs.Prelude.{◌≡◌, ◌≢◌, ◌↔◌, ◌+◌, ◌^◌, ◌<◌, ◌≤◌, ℕ, [], ◌∷◌, IfOk, IfSome, IfNone, IsTrue, MatchOption, All, Contains, length, map, take};
+ghost use Rattle.delivery_duties.specs.declared.duty.DutyRow.{DutyRow};
+ghost use Rattle.event_shape.specs.Names.{queue_arn};
+ghost use Rattle.delivery_duties.specs.Duties as spec;
+
+use crate::claim::Claim;
+use crate::counts::Counts;
+use crate::duty::DutyRow;
+use crate::fate::{Fate, Outcome};
+use crate::lists::{cut, join};
+use crate::mailbox::{Mailbox, NewMailbox, deliver, named};
+use crate::message::QueueMessage;
+use crate::new_duties::NewDuties;
+use crate::owed::Owed;
+use crate::rows::{begin, claim_due, free, take_out};
+use json_text::NoMemory;
+use std::alloc::Global;
+use std::collections::LinkedList;
+use std::marker::Model;
+
+/// The pending duties, the queues with their messages, and how many duties there were.
+#[derive(Debug, Drop)]
+pub struct Duties {
+    pending: LinkedList<Owed>,
+    mailboxes: LinkedList<Mailbox>,
+    created: u64,
+    delivered: u64,
+    dropped: u64,
+    latest: u64,
+}
+
+impl Model for Duties {
+    ghost use Rattle.delivery_duties.specs.Duties.{Duties as Seen};
+    ghost use Rattle.delivery_duties.specs.Sound.{IsSound};
+
+    ghost Value = { Seen };
+
+    ghost view = { λ d. record {
+      pending = d.pending;
+      mailboxes = d.mailboxes;
+      created = d.created;
+      delivered = d.delivered;
+      dropped = d.dropped;
+      latest = d.latest;
+    } };
+
+    ghost invariant = { λ d. IsSound (record {
+      pending = d.pending;
+      mailboxes = d.mailboxes;
+      created = d.created;
+      delivered = d.delivered;
+      dropped = d.dropped;
+      latest = d.latest;
+    }) };
+}
+
+impl Duties {
+    /// No duties and no queues, which take no memory.
+    pub fn new(alloc: Global) -> Duties
+        ensures { result ≡ spec.no_duties }
+    {
+        Duties {
+            pending: LinkedList::new(alloc),
+            mailboxes: LinkedList::new(alloc),
+            created: 0,
+            delivered: 0,
+            dropped: 0,
+            latest: 0,
+        }
+    }
+
+    /// Makes the queue.
+    pub fn open(&mut self, mailbox: NewMailbox)
+        requires { length self.old.mailboxes < 2 ^ 62 }
+        ensures { self.new ≡ spec.opened mailbox self.old }
+    {
+        join(&mut self.mailboxes, mailbox.into_made());
+    }
+
+    /// Whether there is a queue of this name.
+    pub fn has_queue(&self, queue: &str) -> bool
+        ensures value { result ≡ spec.has_queue queue.now self.now.mailboxes }
+        ensures arn { IsTrue result ↔ spec.HasMailbox (queue_arn queue.now) self.now.mailboxes }
+    {
+        named(&self.mailboxes, queue).is_some()
+    }
+
+    /// Makes the duties, in their order, at the moment; it takes no memory.
+    pub fn add(&mut self, duties: NewDuties, moment: u64)
+        requires order { self.old.latest ≤ moment }
+        requires room { self.old.created + length duties < 2 ^ 63 }
+        requires there { All (λ d. spec.HasMailbox d.endpoint self.old.mailboxes) duties }
+        ensures added { self.new ≡ spec.added duties moment self.old }
+        ensures created { self.new.created ≡ self.old.created + length duties }
+        ensures latest { self.new.latest ≤ moment }
+        ensures queues { self.new.mailboxes ≡ self.old.mailboxes }
+        ensures still_out { (n : ℕ) → spec.IsOut n self.old → spec.IsOut n self.new }
+    {
+        let mut rows = duties.into_rows();
+        while !rows.is_empty() {
+            let more = cut(&mut rows, 1);
+            self.add_one(rows, moment);
+            rows = more;
+        }
+    }
+
+    /// Makes the one duty at the moment.
+    fn add_one(&mut self, mut one: LinkedList<Owed>, moment: u64)
+        requires one { length one ≡ 1 }
+        requires order { self.old.latest ≤ moment }
+        requires room { self.old.created + 1 < 2 ^ 63 }
+        requires there { All (λ row. spec.HasMailbox row.duty.endpoint self.old.mailboxes) one }
+        ensures { self.new ≡ spec.added (map (λ row. row.duty) one) moment self.old }
+    {
+        self.created += 1;
+        self.latest = moment;
+        if begin(&mut one, self.created, moment) {
+            self.dropped += 1;
+        } else {
+            join(&mut self.pending, one);
+        }
+    }
+
+    /// Claims the duty that is due first, in as many steps as duties are claimed before it.
+    pub fn claim_next(&mut self, moment: u64) -> Option<Claim>
+        ensures out { IfSome result (λ c. spec.IsOut c.number self.new) }
+        ensures not_out_before { IfSome result (λ c. ¬ (spec.IsOut c.number self.old)) }
+        ensures still_out { (n : ℕ) → spec.IsOut n self.old → spec.IsOut n self.new }
+        ensures some { IfSome result (λ c. spec.IsNext self.old moment c.number × (self.new ≡ spec.claimed c.number self.old)) }
+        ensures none { IfNone result (spec.NoneDue self.old moment × (self.new ≡ self.old)) }
+    {
+        claim_due(&mut self.pending, moment)
+    }
+
+    /// Ends the claimed duty: delivered, its text is the next message of its queue.
+    pub fn settle(&mut self, claim: Claim, outcome: Outcome) -> Fate
+        requires { spec.IsOut claim.number self.old }
+        ensures fate { result ≡ spec.fate_of outcome }
+        ensures settled { self.new ≡ spec.settled claim.number outcome self.old }
+        ensures created { self.new.created ≡ self.old.created }
+        ensures latest { self.new.latest ≡ self.old.latest }
+        ensures queues { map (λ m. m.queue) self.new.mailboxes ≡ map (λ m. m.queue) self.old.mailboxes }
+        ensures still_out { (n : ℕ) → n ≢ claim.number → spec.IsOut n self.old → spec.IsOut n self.new }
+        ensures has_queue { (row : DutyRow) → Contains self.old.pending row → spec.HasMailbox row.duty.endpoint self.old.mailboxes }
+    {
+        let Claim { number } = claim;
+        let owed = take_out(&mut self.pending, number);
+        match outcome {
+            Outcome::Accepted => {
+                self.delivered += 1;
+                deliver(&mut self.mailboxes, owed);
+                Fate::Delivered
+            }
+            Outcome::TooOld => {
+                drop(owed);
+                self.dropped += 1;
+                Fate::Dropped
+            }
+        }
+    }
+
+    /// Gives the claim back: the duty may be claimed again.
+    pub fn unclaim(&mut self, claim: Claim)
+        requires { spec.IsOut claim.number self.old }
+        ensures unclaimed { self.new ≡ spec.unclaimed claim.number self.old }
+        ensures still_out { (n : ℕ) → n ≢ claim.number → spec.IsOut n self.old → spec.IsOut n self.new }
+    {
+        let Claim { number } = claim;
+        free(&mut self.pending, number);
+    }
+
+    /// How many duties were made, and how many are in each state.
+    pub fn counts(&self) -> Counts
+        ensures created { result.created ≡ self.now.created }
+        ensures pending { result.pending ≡ length self.now.pending }
+        ensures delivered { result.delivered ≡ self.now.delivered }
+        ensures dropped { result.dropped ≡ self.now.dropped }
+        ensures one_state { result.created ≡ result.pending + result.delivered + result.dropped }
+    {
+        Counts {
+            created: self.created,
+            pending: self.pending.len() as u64,
+            delivered: self.delivered,
+            dropped: self.dropped,
+        }
+    }
+
+    /// The pending duty of this number.
+    pub fn pending(&self, number: u64) -> Option<&DutyRow>
+        ensures { MatchOption result
+            ((row : DutyRow) → Contains self.now.pending row → ¬ (row.number ≡ number))
+            (λ row. Contains self.now.pending row.now × (row.now.number ≡ number)) }
+    {
+        self.pending
+            .iter()
+            .find(|owed| owed.number() == number)
+            .map(|owed| owed.row())
+    }
+
+    /// Copies of the oldest messages of the queue, as many as the limit at most.
+    pub fn peek(
+        &self,
+        alloc: Global,
+        queue: &str,
+        limit: usize,
+    ) -> Result<Vec<QueueMessage>, NoMemory>
+        ensures { IfOk result (λ ms. ms.items ≡ take limit (spec.messages_of queue.now self.now.mailboxes)) }
+    {
+        match named(&self.mailboxes, queue) {
+            Some(mailbox) => mailbox.peek(alloc, limit),
+            None => Ok(Vec::new(alloc)),
+        }
+    }
+}

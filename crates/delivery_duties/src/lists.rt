@@ -1,0 +1,27 @@
+//! Linked lists are cut and joined; nodes move, and no memory is taken.
+ghost use Rattle.std.specs.Prelude.{◌≡◌, ◌+◌, ◌^◌, ◌<◌, ◌≤◌, ◌++◌, length, take, drop};
+
+use std::collections::LinkedList;
+
+/// Cuts off the elements from the place on and answers them, in as many steps as the shorter part has elements.
+pub(crate) fn cut<T>(list: &mut LinkedList<T>, at: usize) -> LinkedList<T>
+    requires { at ≤ length list.old }
+    ensures front { list.new ≡ take at list.old }
+    ensures back { result ≡ drop at list.old }
+{
+    match list.split_off(at) {
+        Ok(back) => back,
+        Err(_) => unreachable!(),
+    }
+}
+
+/// Puts the elements at the end.
+pub(crate) fn join<T>(list: &mut LinkedList<T>, mut back: LinkedList<T>)
+    requires { length list.old + length back < 2 ^ 63 }
+    ensures { list.new ≡ list.old ++ back }
+{
+    match list.append(&mut back) {
+        Ok(()) => back.destroy_empty(),
+        Err(_) => unreachable!(),
+    }
+}
