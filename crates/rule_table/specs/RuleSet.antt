@@ -1,0 +1,133 @@
+-- The rule set: buses with their rules, queues, and how many changes made it.
+use Rattle.std.specs.Prelude.{◌≡◌, ℕ, ◌+◌, ◌<◌, ◌≤◌, ◌⊎◌, Bool, true, false, if◌then◌else◌, List, [], ◌∷◌, length, map, Option, Some, None, All, is_some}
+use Rattle.std.specs.declared.cmp.Ordering.{Ordering}
+use Rattle.std.specs.declared.cmp.Ordering.TheVariants.{Less, Equal, Greater}
+use Rattle.std.specs.Cmp.Lexicographic.{slice_cmp}
+use Rattle.std.specs.Ordering.{nat_cmp}
+use Rattle.std.specs.Str.{bytes_eq}
+use Rattle.event_shape.specs.Names.{default_bus, IsShortName, queue_arn}
+use Rattle.pattern_meaning.specs.Pattern.{Pattern}
+use Rattle.pattern_read.specs.Text.{IsPatternText}
+use Rattle.rule_table.specs.declared.control.Target.{Target}
+use Rattle.rule_table.specs.Control.{Control, rule_put, targets_put, queue_made}
+
+-- a rule: its name, its pattern's text, whether it is enabled, and its targets in the byte order of their ids
+pub record Rule : Type 0 where
+  pub name : List ℕ
+  pub pattern : List ℕ
+  pub enabled : Bool
+  pub targets : List Target
+
+-- a bus, with its rules in the byte order of their names
+pub record Bus : Type 0 where
+  pub name : List ℕ
+  pub rules : List Rule
+
+-- buses and queues in the byte order of their names
+pub record RuleSet : Type 0 where
+  pub buses : List Bus
+  pub queues : List (List ℕ)
+  pub count : ℕ
+
+-- the bus `default` alone
+abbrev pub first_set : RuleSet
+first_set = record { buses = record { name = default_bus; rules = [] } ∷ []; queues = []; count = 0 }
+
+-- one of three, by the order of two names
+abbrev pub by_order : {A : Type 0} → Ordering → A → A → A → A
+by_order Less less equal greater = less
+by_order Equal less equal greater = equal
+by_order Greater less equal greater = greater
+
+-- Rows in the byte order of their names, with this one in its place. A row of the same name gives way to `joined` of it and the new one.
+abbrev pub placed : {A : Type 0} → (A → List ℕ) → (A → A → A) → A → List A → List A
+placed name_of joined new [] = new ∷ []
+placed name_of joined new (old ∷ rest) = by_order (slice_cmp nat_cmp (name_of new) (name_of old))
+    (new ∷ old ∷ rest)
+    (joined old new ∷ rest)
+    (old ∷ placed name_of joined new rest)
+
+-- the first row of the name
+abbrev pub named : {A : Type 0} → (A → List ℕ) → List ℕ → List A → Option A
+named name_of name [] = None
+named name_of name (row ∷ rows) = if bytes_eq (name_of row) name then Some row else named name_of name rows
+
+-- the rows, with a change of those of the name
+abbrev pub changed : {A : Type 0} → (A → List ℕ) → List ℕ → (A → A) → List A → List A
+changed name_of name change rows = map (λ row. if bytes_eq (name_of row) name then change row else row) rows
+
+-- the rule put last, with the targets of the one that it replaces
+abbrev pub keeping_targets : Rule → Rule → Rule
+keeping_targets old new = record new { targets = old.targets }
+
+abbrev pub put_rule : Rule → List Rule → List Rule
+put_rule = placed (λ rule. rule.name) keeping_targets
+
+-- a target of the same id is replaced
+abbrev pub put_target : Target → List Target → List Target
+put_target = placed (λ target. target.id) (λ old new. new)
+
+-- targets put in this order
+abbrev pub put_targets : List Target → List Target → List Target
+put_targets [] targets = targets
+put_targets (new ∷ news) targets = put_targets news (put_target new targets)
+
+abbrev pub put_queue : List ℕ → List (List ℕ) → List (List ℕ)
+put_queue = placed (λ name. name) (λ old new. new)
+
+-- the rules of a bus that was found, else none
+abbrev pub rules_in : Option Bus → List Rule
+rules_in None = []
+rules_in (Some bus) = bus.rules
+
+-- the rules of a bus, none where there is no such bus
+abbrev pub rules_of : List ℕ → RuleSet → List Rule
+rules_of bus set = rules_in (named (λ b. b.name) bus set.buses)
+
+abbrev pub rule_at : List ℕ → List ℕ → RuleSet → Option Rule
+rule_at bus name set = named (λ rule. rule.name) name (rules_of bus set)
+
+abbrev pub has_bus : List ℕ → RuleSet → Bool
+has_bus bus set = is_some (named (λ b. b.name) bus set.buses)
+
+abbrev pub has_queue : List ℕ → RuleSet → Bool
+has_queue name set = is_some (named (λ queue. queue) name set.queues)
+
+-- the rule set after a change
+abbrev pub applied : Control → RuleSet → RuleSet
+applied (rule_put bus name pattern enabled) set = record set {
+  buses = changed (λ b. b.name) bus (λ b. record b { rules = put_rule (record { name = name; pattern = pattern; enabled = enabled; targets = [] }) b.rules }) set.buses;
+  count = set.count + 1;
+}
+applied (targets_put bus rule targets) set = record set {
+  buses = changed (λ b. b.name) bus (λ b. record b { rules = changed (λ r. r.name) rule (λ r. record r { targets = put_targets targets r.targets }) b.rules }) set.buses;
+  count = set.count + 1;
+}
+applied (queue_made name) set = record set { queues = put_queue name set.queues; count = set.count + 1 }
+
+-- the text is the ARN of a queue that is there
+abbrev pub IsQueueThere : RuleSet → List ℕ → Type 0
+IsQueueThere set arn = (queue : List ℕ) × (arn ≡ queue_arn queue) × (has_queue queue set ≡ true)
+
+-- of a rule that is there, the fact holds
+abbrev pub ForRule : Option Rule → (Rule → Type 0) → Type 0
+ForRule None fact = ⊥
+ForRule (Some rule) fact = fact rule
+
+-- What a change asks for: a text that is a pattern, a bus, and fewer than 300 rules of it where the rule is new; a rule, target
+-- ids of the syntax, queues that are there, and no more than five targets in the end; a name that no queue has, and fewer
+-- than 1,000 queues. (All limits but that on targets are this project's own.)
+abbrev pub IsAccepted : Control → RuleSet → Type 0
+IsAccepted (rule_put bus name pattern enabled) set =
+    ((p : Pattern) × IsPatternText pattern p) × (has_bus bus set ≡ true)
+    × ((is_some (rule_at bus name set) ≡ true) ⊎ (length (rules_of bus set) < 300))
+IsAccepted (targets_put bus rule targets) set =
+    ForRule (rule_at bus rule set) (λ r. All (λ target. IsShortName target.id × IsQueueThere set target.arn) targets
+    × (length (put_targets targets r.targets) ≤ 5))
+IsAccepted (queue_made name) set = (has_queue name set ≡ false) × (length set.queues < 1000)
+
+-- what holds of each rule set that changes made of the first one
+pub record IsSound (set : RuleSet) : Type 0 where
+  pub rules : All (λ bus. length bus.rules ≤ 300) set.buses
+  pub targets : All (λ bus. All (λ rule. (length rule.targets ≤ 5) × All (λ target. IsQueueThere set target.arn) rule.targets) bus.rules) set.buses
+  pub queues : length set.queues ≤ 1000

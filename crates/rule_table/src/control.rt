@@ -1,0 +1,89 @@
+//! Changes of the configuration.
+ghost use Rattle.std.specs.Prelude.{◌≡◌, IfOk};
+
+use json_text::{NoMemory, Text};
+use std::alloc::{AllocError, AllocFailed, Global};
+use thiserror::Error;
+
+/// A target of a rule: its id, which is unique in the rule, and the ARN of its queue.
+#[derive(Debug, Drop)]
+pub struct Target {
+    pub id: Text,
+    pub arn: Text,
+}
+
+impl Target {
+    /// A copy of the target, in memory of its own.
+    pub fn copy(&self, alloc: Global) -> Result<Target, NoMemory>
+        ensures { IfOk result (λ target. target ≡ self.now) }
+    {
+        Ok(Target {
+            id: self.id.copy(alloc)?,
+            arn: self.arn.copy(alloc)?,
+        })
+    }
+}
+
+/// A change of the configuration.
+#[derive(Debug, Drop)]
+pub enum Control {
+    /// A rule is put on a bus.
+    RulePut {
+        bus: Text,
+        name: Text,
+        pattern: Text,
+        enabled: bool,
+    },
+    /// Targets are put to a rule.
+    TargetsPut {
+        bus: Text,
+        rule: Text,
+        targets: Vec<Target>,
+    },
+    /// A queue is made.
+    QueueMade {
+        name: Text,
+    },
+}
+
+/// Why a change is not made.
+#[derive(Debug, Drop, Error)]
+pub enum ControlFault {
+    #[error("the change is refused")]
+    NotBuilt,
+    #[error("out of memory")]
+    NoMemory,
+}
+
+impl From<NoMemory> for ControlFault {
+    ghost use Rattle.std.specs.Prelude.{◌≡◌};
+    ghost use Rattle.rule_table.specs.declared.control.ControlFault.TheVariants.{NoMemory as no_memory};
+
+    ghost from_gives = { λ _ e. e ≡ no_memory };
+
+    fn from(_refused: NoMemory) -> ControlFault {
+        ControlFault::NoMemory
+    }
+}
+
+impl From<AllocError> for ControlFault {
+    ghost use Rattle.std.specs.Prelude.{◌≡◌};
+    ghost use Rattle.rule_table.specs.declared.control.ControlFault.TheVariants.{NoMemory as no_memory};
+
+    ghost from_gives = { λ _ e. e ≡ no_memory };
+
+    fn from(_refused: AllocError) -> ControlFault {
+        ControlFault::NoMemory
+    }
+}
+
+impl<T: Drop> From<AllocFailed<T>> for ControlFault {
+    ghost use Rattle.std.specs.Prelude.{◌≡◌};
+    ghost use Rattle.rule_table.specs.declared.control.ControlFault.TheVariants.{NoMemory as no_memory};
+
+    ghost from_gives = { λ _ e. e ≡ no_memory };
+
+    fn from(_refused: AllocFailed<T>) -> ControlFault {
+        ControlFault::NoMemory
+    }
+}
