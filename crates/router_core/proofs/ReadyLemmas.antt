@@ -1,0 +1,165 @@
+-- What a change that was made ready does to the tables. Callers cite `queues_take`, `opened_counts`, `mailbox_names`, `queues_of_accepted`,
+-- `after_control`, `after_events` and `not_full`.
+use Rattle.std.proofs.Common.{◌≡◌, ℕ, ◌+◌, ◌<◌, ◌≤◌, ◌⊎◌, inl, inr, Bool, true, false, ◌||◌, cond, List, [], ◌∷◌, ◌++◌, length, map, Option, Some, None, sym, refl, ap, ◌∙◌, arith, length-append}
+use Rattle.std.specs.Prelude.{nat_le, is_some, bytes_eq}
+use Rattle.std.specs.declared.cmp.Ordering.TheVariants.{Less, Equal, Greater}
+use Rattle.std.specs.Cmp.Lexicographic.{slice_cmp}
+use Rattle.std.specs.Ordering.{nat_cmp}
+use Rattle.std.proofs.lemmas.Bool.Decides.{nat_tests}
+use Rattle.std.proofs.lemmas.Slice.Eq.{bytes_eq-Decides}
+use Rattle.delivery_duties.proofs.SoundLemmas.{any_here, any_there, any_cases}
+use Rattle.event_shape.specs.Names.{queue_arn}
+use Rattle.rule_table.specs.Control.{Control, rule_put, targets_put, queue_made}
+use Rattle.rule_table.specs.RuleSet.{RuleSet, by_order, put_queue, named, has_queue, applied}
+use Rattle.delivery_duties.specs.Duties.{Mailbox, Duties, HasMailbox}
+use Rattle.router_core.specs.Batch as batch
+use Rattle.router_core.specs.Tables.{Tables, after_entry, after_entries, after_batch, is_full, number_limit}
+use Rattle.router_core.specs.declared.ready.AcceptedEvent.{AcceptedEvent}
+use Rattle.router_core.specs.Ready.{accepted_of, added_all, opened_by, HasPlace}
+
+receives : List ℕ → Mailbox → Type 0
+receives endpoint m = endpoint ≡ queue_arn m.queue
+
+pub mailbox_append : (endpoint : List ℕ) (ms more : List Mailbox) → HasMailbox endpoint ms → HasMailbox endpoint (ms ++ more)
+unfolding receives
+mailbox_append endpoint [] more (k, m, below, is, here) = absurd (omega arith)
+mailbox_append endpoint (m ∷ ms) more has = elim (any_cases (receives endpoint) m ms has) [
+  | inl here ↦ any_here (receives endpoint) m (ms ++ more) here
+  | inr there ↦ any_there (receives endpoint) m (ms ++ more) (mailbox_append endpoint ms more there)
+]
+
+pub mailbox_last : (queue : List ℕ) (ms : List Mailbox) (m : Mailbox) → m.queue ≡ queue → HasMailbox (queue_arn queue) (ms ++ m ∷ [])
+unfolding receives
+mailbox_last queue [] m is = any_here (receives (queue_arn queue)) m [] (ap queue_arn (sym is))
+mailbox_last queue (n ∷ ms) m is = any_there (receives (queue_arn queue)) n (ms ++ m ∷ []) (mailbox_last queue ms m is)
+
+opened_mailbox : (mailbox : Option (List ℕ)) (duties : Duties) (endpoint : List ℕ) → HasMailbox endpoint duties.mailboxes → HasMailbox endpoint (opened_by mailbox duties).mailboxes
+opened_mailbox None duties endpoint there = there
+opened_mailbox (Some queue) duties endpoint there = mailbox_append endpoint duties.mailboxes _ there
+
+opened_own : (mailbox : Option (List ℕ)) (duties : Duties) (queue : List ℕ) → mailbox ≡ Some queue → HasMailbox (queue_arn queue) (opened_by mailbox duties).mailboxes
+opened_own None duties queue is = cc
+opened_own (Some name) duties queue is = let same : name ≡ queue = cc in mailbox_last queue duties.mailboxes _ same
+
+-- each queue of the new rule set takes messages
+pub queues_take : (mailbox : Option (List ℕ)) (duties : Duties) (old new : RuleSet)
+    → ((queue : List ℕ) → has_queue queue new ≡ true → (has_queue queue old ≡ true) ⊎ (mailbox ≡ Some queue))
+    → ((queue : List ℕ) → has_queue queue old ≡ true → HasMailbox (queue_arn queue) duties.mailboxes)
+    → (queue : List ℕ) → has_queue queue new ≡ true → HasMailbox (queue_arn queue) (opened_by mailbox duties).mailboxes
+queues_take mailbox duties old new from before queue there =
+    by_source (from queue there)
+  where
+    by_source : (has_queue queue old ≡ true) ⊎ (mailbox ≡ Some queue) → HasMailbox (queue_arn queue) (opened_by mailbox duties).mailboxes
+    by_source (inl was) = opened_mailbox mailbox duties (queue_arn queue) (before queue was)
+    by_source (inr is) = opened_own mailbox duties queue is
+
+pub opened_counts : (mailbox : Option (List ℕ)) (duties : Duties)
+    → ((opened_by mailbox duties).created ≡ duties.created) × ((opened_by mailbox duties).latest ≡ duties.latest) × (length (opened_by mailbox duties).mailboxes ≤ length duties.mailboxes + 1)
+opened_counts None duties = (refl, refl, omega arith)
+opened_counts (Some queue) duties = (refl, refl, omega (arith, length-append duties.mailboxes (record { queue = queue; sent = 0; messages = [] } ∷ [])))
+
+-- queues of the same names
+pub mailbox_names : (endpoint : List ℕ) (ms ns : List Mailbox) → map (λ (m : Mailbox). m.queue) ms ≡ map (λ (m : Mailbox). m.queue) ns
+    → HasMailbox endpoint ms → HasMailbox endpoint ns
+unfolding receives
+mailbox_names endpoint [] ns same (k, m, below, is, here) = absurd (omega arith)
+mailbox_names endpoint (m ∷ ms) [] same has = cc
+mailbox_names endpoint (m ∷ ms) (n ∷ ns) same has =
+    let first : m.queue ≡ n.queue = cc in
+    let later : map (λ (o : Mailbox). o.queue) ms ≡ map (λ (o : Mailbox). o.queue) ns = cc in
+    elim (any_cases (receives endpoint) m ms has) [
+      | inl here ↦ any_here (receives endpoint) n ns (here ∙ ap queue_arn first)
+      | inr there ↦ any_there (receives endpoint) n ns (mailbox_names endpoint ms ns later there)
+    ]
+
+has : List ℕ → List (List ℕ) → Bool
+has name rows = is_some (named (λ (queue : List ℕ). queue) name rows)
+
+has_first : (name row : List ℕ) (rows : List (List ℕ)) → has name (row ∷ rows) ≡ true → (name ≡ row) ⊎ (has name rows ≡ true)
+unfolding has
+has_first name row rows is =
+    let d = bytes_eq-Decides row name in
+    (elim (bytes_eq row name) as (λ b. bytes_eq row name ≡ b → is_some (cond b (Some row) (named (λ (queue : List ℕ). queue) name rows)) ≡ true → (name ≡ row) ⊎ (has name rows ≡ true)) [
+      | true ↦ λ e _. inl (sym (d.0 e))
+      | false ↦ λ _ later. inr later
+    ]) refl is
+
+has_behind : (name row : List ℕ) (rows : List (List ℕ)) → (name ≡ row) ⊎ (has name rows ≡ true) → has name (row ∷ rows) ≡ true
+unfolding has
+has_behind name row rows which =
+    let d = bytes_eq-Decides row name in
+    (elim (bytes_eq row name) as (λ b. bytes_eq row name ≡ b → is_some (cond b (Some row) (named (λ (queue : List ℕ). queue) name rows)) ≡ true) [
+      | true ↦ λ _. refl
+      | false ↦ λ e. elim which [ inl same ↦ let is : bytes_eq row name ≡ true = d.1 (sym same) in cc | inr later ↦ later ]
+    ]) refl
+
+-- a queue that is there once another was put is that other, or was there
+has_put : (name new : List ℕ) (rows : List (List ℕ)) → has name (put_queue new rows) ≡ true → (name ≡ new) ⊎ (has name rows ≡ true)
+has_put name new [] is = has_first name new [] is
+has_put name new (row ∷ rows) is =
+    (elim (slice_cmp nat_cmp new row) as (λ o. has name (by_order o (new ∷ row ∷ rows) (new ∷ rows) (row ∷ put_queue new rows)) ≡ true → (name ≡ new) ⊎ (has name (row ∷ rows) ≡ true)) [
+      | Less ↦ λ e. has_first name new (row ∷ rows) e
+      | Equal ↦ λ e. elim (has_first name new rows e) [ inl same ↦ inl same | inr later ↦ inr (has_behind name row rows (inr later)) ]
+      | Greater ↦ λ e. elim (has_first name row (put_queue new rows) e) [
+        | inl same ↦ inr (has_behind name row rows (inl same))
+        | inr later ↦ elim (has_put name new rows later) [ inl same ↦ inl same | inr there ↦ inr (has_behind name row rows (inr there)) ]
+      ]
+    ]) is
+
+-- the queues that are there after a change
+pub queues_of_accepted : (c : Control) (mailbox : Option (List ℕ)) (set : RuleSet) → HasPlace c mailbox
+    → (queue : List ℕ) → has_queue queue (applied c set) ≡ true → (has_queue queue set ≡ true) ⊎ (mailbox ≡ Some queue)
+unfolding has
+queues_of_accepted (rule_put bus name pattern enabled) mailbox set place queue there = inl there
+queues_of_accepted (targets_put bus rule targets) mailbox set place queue there = inl there
+queues_of_accepted (queue_made name) mailbox set place queue there = elim (has_put queue name set.queues there) [
+  | inl same ↦ inr (place ∙ ap Some (sym same))
+  | inr before ↦ inl before
+]
+
+pub count_of_accepted : (c : Control) (set : RuleSet) → (applied c set).count ≡ set.count + 1
+count_of_accepted (rule_put bus name pattern enabled) set = refl
+count_of_accepted (targets_put bus rule targets) set = refl
+count_of_accepted (queue_made name) set = refl
+
+-- the tables after a change of the configuration
+pub after_control : (c : Control) (mailbox : Option (List ℕ)) (moment : ℕ) (t : Tables) → HasPlace c mailbox
+    → record t { set = applied c t.set; duties = opened_by mailbox t.duties; entries = t.entries + 1; moment = moment }
+    ≡ after_batch (record { moment = moment; entries = batch.control c ∷ [] }) t
+after_control (rule_put bus name pattern enabled) mailbox moment t place =
+    ap (λ (m : Option (List ℕ)). record t { set = applied (rule_put bus name pattern enabled) t.set; duties = opened_by m t.duties; entries = t.entries + 1; moment = moment }) place
+after_control (targets_put bus rule targets) mailbox moment t place =
+    ap (λ (m : Option (List ℕ)). record t { set = applied (targets_put bus rule targets) t.set; duties = opened_by m t.duties; entries = t.entries + 1; moment = moment }) place
+after_control (queue_made name) mailbox moment t place =
+    ap (λ (m : Option (List ℕ)). record t { set = applied (queue_made name) t.set; duties = opened_by m t.duties; entries = t.entries + 1; moment = moment }) place
+
+-- the tables after events
+events_after : (events : List AcceptedEvent) (moment : ℕ) (t : Tables)
+    → after_entries moment (map (λ (e : AcceptedEvent). batch.accepted (accepted_of e)) events) t
+    ≡ record t { duties = added_all events moment t.duties; events = t.events + length events; entries = t.entries + length events }
+events_after [] moment t =
+    let a : t.events ≡ t.events + 0 = omega arith in
+    let b : t.entries ≡ t.entries + 0 = omega arith in
+    ap (λ (n : ℕ). record t { events = n }) a ∙ ap (λ (n : ℕ). record t { events = t.events + 0; entries = n }) b
+events_after (e ∷ es) moment t =
+    let a : t.events + 1 + length es ≡ t.events + length (e ∷ es) = omega arith in
+    let b : t.entries + 1 + length es ≡ t.entries + length (e ∷ es) = omega arith in
+    events_after es moment (after_entry moment (batch.accepted (accepted_of e)) t)
+    ∙ ap (λ (n : ℕ). record t { duties = added_all (e ∷ es) moment t.duties; events = n; entries = t.entries + 1 + length es }) a
+    ∙ ap (λ (n : ℕ). record t { duties = added_all (e ∷ es) moment t.duties; events = t.events + length (e ∷ es); entries = n }) b
+
+pub after_events : (events : List AcceptedEvent) (moment : ℕ) (t : Tables)
+    → record t { duties = added_all events moment t.duties; events = t.events + length events; entries = t.entries + length events; moment = moment }
+    ≡ after_batch (record { moment = moment; entries = map (λ (e : AcceptedEvent). batch.accepted (accepted_of e)) events }) t
+after_events events moment t = ap (λ (s : Tables). record s { moment = moment }) (sym (events_after events moment t))
+
+either_false : (a b : Bool) → (a || b) ≡ false → (a ≡ false) × (b ≡ false)
+either_false true b e = cc
+either_false false b e = (refl, e)
+
+pub not_full : (t : Tables) → is_full t ≡ false → (t.entries < number_limit) × (t.duties.created < number_limit)
+not_full t e =
+    let both = either_false (nat_le number_limit t.entries) (nat_le number_limit t.duties.created) e in
+    let a : nat_le number_limit t.entries ≡ false = both.0 in
+    let b : nat_le number_limit t.duties.created ≡ false = both.1 in
+    (grind (arith, nat_tests), grind (arith, nat_tests))

@@ -1,0 +1,30 @@
+use Rattle.std.proofs.Common.{◌≡◌, map, length, ap, sym, subst, arith}
+use Rattle.std.proofs.lemmas.List.{length-map}
+use Rattle.delivery_duties.specs.Duties.{Mailbox, IsOut}
+use Rattle.router_core.specs.Tables.{Tables}
+use Rattle.router_core.proofs.ReadyLemmas.{mailbox_names, not_full}
+use Rattle.router_core.proofs.tables.Tables.record.Goals as goal
+
+pub unreachable-requires : goal.unreachable-requires
+unreachable-requires c =
+    let out : IsOut c.args.claim.number c.self.inside.duties = subst (λ (t : Tables). IsOut c.args.claim.number t.duties) (sym c.self.view_is) c.requires.out in
+    c.in-None.ensures out.1 (out.0, out.2, out.3) out.4.0
+
+pub invariant_of-self : goal.invariant_of-self
+invariant_of-self c =
+    let i = c.self.inside in
+    let was = c.self.invariant in
+    let limits = not_full c.args.self.now c.requires.numbered in
+    let entries : i.entries ≡ c.args.self.now.entries = ap (λ (t : Tables). t.entries) c.self.view_is in
+    let later : i.moment ≡ c.args.self.now.moment = ap (λ (t : Tables). t.moment) c.self.view_is in
+    let names : map (λ (m : Mailbox). m.queue) c.settle.new.self.mailboxes ≡ map (λ (m : Mailbox). m.queue) i.duties.mailboxes = c.settle.ensures.queues in
+    record {
+      queues = λ queue there. mailbox_names _ i.duties.mailboxes c.settle.new.self.mailboxes (sym names) (was.queues queue there);
+      latest = omega (arith, was.latest, c.settle.ensures.latest, later, c.requires.later);
+      moment = c.requires.moment;
+      count = omega (arith, was.count);
+      events = omega (arith, was.events);
+      entries = omega (arith, limits.0, entries);
+      created = omega (arith, was.created, c.settle.ensures.created);
+      mailboxes = omega (arith, was.mailboxes, ap length names, length-map c.settle.new.self.mailboxes (λ (m : Mailbox). m.queue), length-map i.duties.mailboxes (λ (m : Mailbox). m.queue));
+    }

@@ -1,0 +1,8 @@
+pub mod Request
+pub mod Reply
+pub mod Seen
+pub mod Batch
+pub mod Tables
+pub mod Matching
+pub mod Ready
+pub mod Steps

@@ -1,0 +1,73 @@
+-- A change that is ready to be made: all its memory is taken.
+use Rattle.std.specs.Prelude.{◌≡◌, ℕ, ◌+◌, ◌^◌, ◌<◌, ◌≤◌, true, false, List, [], ◌∷◌, length, map, Option, Some, None, All}
+use Rattle.json_text.specs.Moment.{IsMoment}
+use Rattle.event_shape.specs.Names.{queue_arn}
+use Rattle.rule_table.specs.Control.{Control, rule_put, targets_put, queue_made}
+use Rattle.rule_table.specs.Seen.{control_of}
+use Rattle.rule_table.specs.RuleSet.{has_queue, IsAccepted, applied}
+use Rattle.delivery_duties.specs.Duties.{Mailbox, Duties, HasMailbox, added, opened}
+use Rattle.router_core.specs.Batch as batch
+use Rattle.router_core.specs.Tables.{Tables, number_limit, is_full}
+use Rattle.router_core.specs.declared.ready.AcceptedEvent.{AcceptedEvent}
+use Rattle.router_core.specs.declared.ready.Change.{Change}
+use Rattle.router_core.specs.declared.ready.Change.TheVariants.{Configuration, Events}
+use Rattle.router_core.specs.declared.ready.Ready.{Ready}
+
+-- the event as a batch records it
+abbrev pub accepted_of : AcceptedEvent → batch.Accepted
+accepted_of e = record { number = e.number; bus = e.bus; version = e.version; time = e.time; text = e.text; duties = e.duties }
+
+-- the entries that record the change
+abbrev pub entries_of : Change → List batch.Entry
+entries_of (Configuration control set mailbox) = batch.control (control_of control) ∷ []
+entries_of (Events events) = map (λ e. batch.accepted (accepted_of e)) events.items
+
+-- the batch that records the change at its moment
+abbrev pub batch_of : Ready → batch.Batch
+batch_of r = record { moment = r.moment; entries = entries_of r.change }
+
+-- the duties with the queue of this name, if there is one to make; it has no message
+abbrev pub opened_by : Option (List ℕ) → Duties → Duties
+opened_by None duties = duties
+opened_by (Some queue) duties = opened queue duties
+
+-- the duties of events, made one after the other
+abbrev pub added_all : List AcceptedEvent → ℕ → Duties → Duties
+added_all [] moment duties = duties
+added_all (e ∷ es) moment duties = added_all es moment (added e.duties moment duties)
+
+-- a change that makes a queue comes with that queue's place, and any other with none
+abbrev pub HasPlace : Control → Option (List ℕ) → Type 0
+HasPlace (rule_put bus name pattern enabled) mailbox = mailbox ≡ None
+HasPlace (targets_put bus rule targets) mailbox = mailbox ≡ None
+HasPlace (queue_made name) mailbox = mailbox ≡ Some name
+
+-- each event has at most 1,500 duties (five targets of each of 300 rules), and each duty goes to one of these queues
+abbrev pub AreDeliverable : List Mailbox → List AcceptedEvent → Type 0
+AreDeliverable mailboxes [] = Unit {0}
+AreDeliverable mailboxes (e ∷ es) = (length e.duties ≤ 1500) × All (λ d. HasMailbox d.endpoint mailboxes) e.duties × AreDeliverable mailboxes es
+
+-- what was made ready for these tables: an accepted change with the rule set after it; or at most ten events whose duties go to their queues
+abbrev pub IsMadeAt : Tables → Change → Type 0
+IsMadeAt t (Configuration control set mailbox) =
+    IsAccepted (control_of control) t.set × (set ≡ applied (control_of control) t.set) × HasPlace (control_of control) mailbox
+IsMadeAt t (Events events) = (length events.items ≤ 10) × AreDeliverable t.duties.mailboxes events.items
+
+-- the change may be made of these tables: its moment is no earlier than the last batch's, and a further batch is numbered
+pub record IsReadyAt (t : Tables) (r : Ready) : Type 0 where
+  pub moment : IsMoment r.moment
+  pub later : t.moment ≤ r.moment
+  pub numbered : is_full t ≡ false
+  pub made : IsMadeAt t r.change
+
+-- what holds of all tables that batches made of the first ones
+pub record IsConsistent (t : Tables) : Type 0 where
+  -- each queue takes messages
+  pub queues : (queue : List ℕ) → has_queue queue t.set ≡ true → HasMailbox (queue_arn queue) t.duties.mailboxes
+  pub latest : t.duties.latest ≤ t.moment
+  pub moment : IsMoment t.moment
+  pub count : t.set.count ≤ t.entries
+  pub events : t.events ≤ t.entries
+  pub entries : t.entries < number_limit + 2 ^ 20
+  pub created : t.duties.created < number_limit + 2 ^ 20
+  pub mailboxes : length t.duties.mailboxes ≤ t.entries

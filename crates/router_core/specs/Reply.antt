@@ -1,0 +1,54 @@
+-- Replies: a status and a JSON value. Texts and statuses of refusals are this project's own.
+use Rattle.std.specs.Prelude.{ℕ, List, [], ◌∷◌, codes, decimal}
+use Rattle.json_text.specs.Tree.{Tree, number, text, object, members_of}
+
+-- a reply: its HTTP status, and its body
+pub record Reply : Type 0 where
+  pub status : ℕ
+  pub body : Tree
+
+-- the reply to a request that was served, with these members
+abbrev pub served : List (List ℕ × Tree) → Reply
+served members = record { status = 200; body = object (members_of members) }
+
+-- a refusal with its type and message
+abbrev pub refusal : ℕ → List ℕ → List ℕ → Reply
+refusal status kind message = record {
+  status = status;
+  body = object (members_of ((codes "__type", text kind) ∷ (codes "message", text message) ∷ []));
+}
+
+-- no operation of the name is served
+abbrev pub unknown_operation : Reply
+unknown_operation = refusal 400 (codes "UnknownOperationException") (codes "Unknown operation.")
+
+-- the operation is served, but not in this form
+abbrev pub not_built : Reply
+not_built = refusal 400 (codes "NotBuilt") (codes "Not built yet.")
+
+-- no further batch is numbered
+abbrev pub number_limit : Reply
+number_limit = refusal 400 (codes "LimitExceededException") (codes "Number limit 281474976710656 reached.")
+
+-- memory was refused
+abbrev pub no_memory : Reply
+no_memory = refusal 503 (codes "NoMemory") (codes "Out of memory.")
+
+-- the bytes of a request have no head that is served
+abbrev pub bad_head : Reply
+bad_head = refusal 400 (codes "BadHead") (codes "The head is not HTTP.")
+
+-- what one DeliverDue did: how many duties it attempted, and how many of them were delivered and dropped
+pub record Counts : Type 0 where
+  pub attempts : ℕ
+  pub delivered : ℕ
+  pub dropped : ℕ
+
+-- the reply to a DeliverDue; nothing goes to a dead-letter queue yet
+abbrev pub counted : Counts → Reply
+counted n = served (
+    (codes "Attempts", number (decimal n.attempts))
+    ∷ (codes "Delivered", number (decimal n.delivered))
+    ∷ (codes "DeadLettered", number (codes "0"))
+    ∷ (codes "Dropped", number (decimal n.dropped))
+    ∷ [])

@@ -1,0 +1,216 @@
+//! The router's tables.
+ghost use Rattle.std.specs.Prelude.{◌≡◌, ◌+◌, ◌*◌, ◌^◌, ◌<◌, ◌≤◌, ◌⊎◌, ℕ, List, IfOk, IfSome, IfNone, Some, true, false, length};
+ghost use Rattle.rule_table.specs.RuleSet.{has_queue};
+ghost use Rattle.json_text.specs.Moment.{IsMoment};
+ghost use Rattle.delivery_duties.specs.Duties.{IsNext, NoneDue, IsOut};
+ghost use Rattle.router_core.specs.Tables.{first_tables, after_batch, is_full};
+ghost use Rattle.router_core.specs.Ready.{AreDeliverable, added_all, opened_by, batch_of, IsReadyAt, IsConsistent};
+ghost use Rattle.router_core.specs.Steps.{EndsSo, outcome_of, record_of, claiming, giving_back};
+
+use crate::ready::{AcceptedEvent, Change, Ready};
+use delivery_duties::{Claim, Duties, DutyRow, NewMailbox, Outcome};
+use json_text::NoMemory;
+use rule_table::RuleSet;
+use std::alloc::Global;
+use std::collections::VecDeque;
+use std::marker::Model;
+
+/// At so many entries or so many duties no new batch begins.
+const NUMBER_LIMIT: u64 = 1 << 48;
+
+/// The rule set, the duties with the queues' messages, and how much came so far.
+#[derive(Drop)]
+pub struct Tables {
+    set: RuleSet,
+    duties: Duties,
+    events: u64,
+    entries: u64,
+    moment: u64,
+}
+
+impl Model for Tables {
+    ghost use Rattle.router_core.specs.Tables.{Tables as Seen};
+    ghost use Rattle.router_core.specs.Ready.{IsConsistent};
+
+    ghost Value = { Seen };
+
+    ghost view = { λ t. record { set = t.set; duties = t.duties; events = t.events; entries = t.entries; moment = t.moment } };
+
+    ghost invariant = { λ t. IsConsistent (record { set = t.set; duties = t.duties; events = t.events; entries = t.entries; moment = t.moment }) };
+}
+
+impl Tables {
+    /// The tables before any batch.
+    pub fn first(alloc: Global) -> Result<Tables, NoMemory>
+        ensures { IfOk result (λ t. t ≡ first_tables) }
+    {
+        Ok(Tables {
+            set: RuleSet::first(alloc)?,
+            duties: Duties::new(alloc),
+            events: 0,
+            entries: 0,
+            moment: 0,
+        })
+    }
+
+    /// Whether no further batch is numbered.
+    pub fn full(&self) -> bool
+        ensures full { result ≡ is_full self.now }
+        ensures consistent { IsConsistent self.now }
+    {
+        self.entries >= NUMBER_LIMIT || self.duties.counts().created >= NUMBER_LIMIT
+    }
+
+    /// The rule set, as the last change of the configuration left it.
+    pub fn set(&self) -> &RuleSet
+        ensures { result.now ≡ self.now.set }
+    {
+        &self.set
+    }
+
+    /// The duties and the messages of the queues.
+    pub fn duties(&self) -> &Duties
+        ensures { result.now ≡ self.now.duties }
+    {
+        &self.duties
+    }
+
+    /// How many events were accepted so far.
+    pub fn events(&self) -> u64
+        ensures { result ≡ self.now.events }
+    {
+        self.events
+    }
+
+    /// The moment of the last batch, in seconds since 1970-01-01T00:00:00Z; 0 before the first.
+    pub fn moment(&self) -> u64
+        ensures { result ≡ self.now.moment }
+    {
+        self.moment
+    }
+
+    /// Makes the change, as one batch. It takes no memory.
+    pub fn apply(&mut self, ready: Ready)
+        requires { IsReadyAt self.old ready }
+        ensures { self.new ≡ after_batch (batch_of ready) self.old }
+    {
+        let Ready { moment, change } = ready;
+        match change {
+            Change::Configuration {
+                control,
+                set,
+                mailbox,
+            } => {
+                drop(control);
+                self.configure(set, mailbox, moment);
+            }
+            Change::Events(events) => self.publish(events, moment),
+        }
+    }
+
+    fn configure(&mut self, set: RuleSet, mailbox: Option<NewMailbox>, moment: u64)
+        requires moment { IsMoment moment }
+        requires later { self.old.moment ≤ moment }
+        requires numbered { is_full self.old ≡ false }
+        requires count { set.count ≡ self.old.set.count + 1 }
+        requires queues { (queue : List ℕ) → has_queue queue set ≡ true → (has_queue queue self.old.set ≡ true) ⊎ (mailbox ≡ Some queue) }
+        ensures { self.new ≡ record self.old { set = set; duties = opened_by mailbox self.old.duties; entries = self.old.entries + 1; moment = moment } }
+    {
+        self.set = set;
+        open(&mut self.duties, mailbox);
+        self.entries += 1;
+        self.moment = moment;
+    }
+
+    fn publish(&mut self, events: VecDeque<AcceptedEvent>, moment: u64)
+        requires moment { IsMoment moment }
+        requires later { self.old.moment ≤ moment }
+        requires numbered { is_full self.old ≡ false }
+        requires few { length events.items ≤ 10 }
+        requires there { AreDeliverable self.old.duties.mailboxes events.items }
+        ensures { self.new ≡ record self.old {
+          duties = added_all events.items moment self.old.duties;
+          events = self.old.events + length events.items;
+          entries = self.old.entries + length events.items;
+          moment = moment;
+        } }
+    {
+        let count = events.len() as u64;
+        accept(&mut self.duties, events, moment);
+        self.events += count;
+        self.entries += count;
+        self.moment = moment;
+    }
+
+    /// Claims the duty that is due first. No batch records it.
+    pub fn claim_next(&mut self, moment: u64) -> Option<Claim>
+        ensures some { IfSome result (λ c. IsNext self.old.duties moment c.number × IsOut c.number self.new.duties × (self.new ≡ claiming c.number self.old)) }
+        ensures none { IfNone result (NoneDue self.old.duties moment × (self.new ≡ self.old)) }
+    {
+        self.duties.claim_next(moment)
+    }
+
+    /// Attempts the claimed duty: its queue takes its text, unless it is too old; the batch records which.
+    pub fn record(&mut self, claim: Claim, moment: u64) -> Outcome
+        requires out { IsOut claim.number self.old.duties }
+        requires numbered { is_full self.old ≡ false }
+        requires moment { IsMoment moment }
+        requires later { self.old.moment ≤ moment }
+        ensures ends { EndsSo self.old claim.number moment result }
+        ensures recorded { self.new ≡ after_batch (record_of moment claim.number result) self.old }
+    {
+        let outcome = match self.duties.pending(claim.number) {
+            Some(row) => outcome_at(row, moment),
+            None => unreachable!(),
+        };
+        self.duties.settle(claim, outcome);
+        self.entries += 1;
+        self.moment = moment;
+        outcome
+    }
+
+    /// Gives the claim back: the duty may be claimed again.
+    pub fn put_back(&mut self, claim: Claim)
+        requires { IsOut claim.number self.old.duties }
+        ensures { self.new ≡ giving_back claim.number self.old }
+    {
+        self.duties.unclaim(claim);
+    }
+}
+
+/// Makes the queue, if one is made.
+fn open(duties: &mut Duties, mailbox: Option<NewMailbox>)
+    requires { length duties.old.mailboxes < 2 ^ 62 }
+    ensures { duties.new ≡ opened_by mailbox duties.old }
+{
+    if let Some(mailbox) = mailbox {
+        duties.open(mailbox);
+    }
+}
+
+/// How an attempt of the duty ends at the moment.
+fn outcome_at(row: &DutyRow, moment: u64) -> Outcome
+    ensures { result ≡ outcome_of moment row.now }
+{
+    if moment.saturating_sub(row.accepted) > u64::from(row.duty.age) {
+        Outcome::TooOld
+    } else {
+        Outcome::Accepted
+    }
+}
+
+/// Makes the duties of the events, in their order.
+fn accept(duties: &mut Duties, mut events: VecDeque<AcceptedEvent>, moment: u64)
+    requires latest { duties.old.latest ≤ moment }
+    requires room { duties.old.created + 1500 * length events.items < 2 ^ 63 }
+    requires there { AreDeliverable duties.old.mailboxes events.items }
+    ensures added { duties.new ≡ added_all events.items moment duties.old }
+    ensures created { duties.new.created ≤ duties.old.created + 1500 * length events.items }
+    ensures latest { duties.new.latest ≤ moment }
+    ensures queues { duties.new.mailboxes ≡ duties.old.mailboxes }
+{
+    while let Some(event) = events.pop_front() {
+        let AcceptedEvent { duties: new, .. } = event;
+        duties.add(new, moment);
+    }
+}

@@ -1,0 +1,182 @@
+ghost use Rattle.std.specs.Prelude.{◌≡◌, IfOk, codes};
+ghost use Rattle.event_shape.specs.Names as arns;
+
+use crate::{
+    AcceptedEvent, Change, Ready, Reply, Tables, not_built, number_limit, unknown_operation,
+};
+use delivery_duties::{NewDuties, NewDuty, NewMailbox, Outcome};
+use event_shape::queue_arn;
+use json_text::{Bytes, NoMemory, Text, write};
+use rule_table::Control;
+use std::alloc::Global;
+use std::collections::VecDeque;
+use std::test::Fail;
+
+/// Makes the queue `q` at moment 0.
+fn make_queue(alloc: Global, tables: &mut Tables) -> Result<(), Fail> {
+    if tables.full() || tables.moment() > 0 {
+        return Err(Fail::from("no change can be made"));
+    }
+    let control = Control::QueueMade {
+        name: Text::from_str(alloc, "q")?,
+    };
+    let Ok(set) = tables.set().apply(alloc, &control) else {
+        return Err(Fail::from("q is refused"));
+    };
+    let mailbox = NewMailbox::new(alloc, "q")?;
+    tables.apply(Ready {
+        moment: 0,
+        change: Change::Configuration {
+            control,
+            set,
+            mailbox: Some(mailbox),
+        },
+    });
+    Ok(())
+}
+
+fn duty(alloc: Global) -> Result<NewDuty, NoMemory>
+    ensures { IfOk result (λ d. d.endpoint ≡ arns.queue_arn (codes "q")) }
+{
+    Ok(NewDuty {
+        rule: Text::from_str(alloc, "arn:aws:events:us-east-1:111122223333:rule/r")?,
+        target: Text::from_str(alloc, "t")?,
+        endpoint: queue_arn(alloc, "q")?,
+        text: Text::from_str(alloc, "{\"a\":1}")?,
+        attempts: 185,
+        age: 86_400,
+        too_long: false,
+    })
+}
+
+/// Publishes one event at moment 1000, with one duty to the queue `q`.
+fn publish(alloc: Global, tables: &mut Tables) -> Result<(), Fail> {
+    if tables.full() || tables.moment() > 1000 || !tables.duties().has_queue("q") {
+        return Err(Fail::from("nothing can be published"));
+    }
+    let mut duties = NewDuties::new(alloc);
+    duties.push(alloc, duty(alloc)?)?;
+    let event = AcceptedEvent {
+        number: 1,
+        bus: Text::from_str(alloc, "default")?,
+        version: 1,
+        time: 1000,
+        text: Text::from_str(alloc, "{\"a\":1}")?,
+        duties,
+    };
+    let mut events = VecDeque::new(alloc);
+    events.push_back(event)?;
+    tables.apply(Ready {
+        moment: 1000,
+        change: Change::Events(events),
+    });
+    Ok(())
+}
+
+/// The tables with the queue, the event, and its duty.
+fn with_duty(alloc: Global) -> Result<Tables, Fail> {
+    let mut tables = Tables::first(alloc)?;
+    make_queue(alloc, &mut tables)?;
+    publish(alloc, &mut tables)?;
+    Ok(tables)
+}
+
+/// Claims the next duty, and gives it back; answers its number.
+fn next_due(tables: &mut Tables, moment: u64) -> Option<u64> {
+    let claim = tables.claim_next(moment)?;
+    let number = claim.number;
+    tables.put_back(claim);
+    Some(number)
+}
+
+/// Claims the next duty, and attempts it; answers its number, and how that ended.
+fn attempt_next(tables: &mut Tables, moment: u64) -> Option<(u64, Outcome)> {
+    if tables.full() || tables.moment() > moment || moment > 250_000_000_000 {
+        return None;
+    }
+    let claim = tables.claim_next(moment)?;
+    let number = claim.number;
+    Some((number, tables.record(claim, moment)))
+}
+
+fn shown(alloc: Global, tables: &Tables) -> Result<String, Fail> {
+    let mut shown = String::new(alloc);
+    for message in &tables.duties().peek(alloc, "q", 9)? {
+        let part = format!(in alloc; "{}:{};", message.number, message.body.as_str())?;
+        shown.push_str(&part)?;
+    }
+    Ok(shown)
+}
+
+fn sums(tables: &Tables) -> (u64, u64, u64, u64, u64) {
+    let counts = tables.duties().counts();
+    (
+        tables.events(),
+        tables.moment(),
+        counts.pending,
+        counts.delivered,
+        counts.dropped,
+    )
+}
+
+#[test]
+fn a_duty_is_made_claimed_and_delivered(rt: HostRuntime) -> Result<(), Fail> {
+    let alloc = rt.alloc();
+    let first = Tables::first(alloc)?;
+    assert!(rt; !first.full() && !first.set().queue("q"));
+    assert_eq!(rt; sums(&first), (0, 0, 0, 0, 0));
+    let mut tables = with_duty(alloc)?;
+    assert!(rt; !tables.full() && tables.set().queue("q"));
+    assert_eq!(rt; tables.set().control_count(), 1);
+    assert_eq!(rt; sums(&tables), (1, 1000, 1, 0, 0));
+    assert_eq!(rt; next_due(&mut tables, 999), None);
+    assert_eq!(rt; next_due(&mut tables, 1000), Some(1));
+    let ended = attempt_next(&mut tables, 1000 + 86_400);
+    assert_eq!(rt; ended, Some((1, Outcome::Accepted)));
+    assert_eq!(rt; shown(alloc, &tables)?.as_str(), "1:{\"a\":1};");
+    assert_eq!(rt; sums(&tables), (1, 87_400, 0, 1, 0));
+    assert_eq!(rt; next_due(&mut tables, 90_000), None);
+    Ok(())
+}
+
+#[test]
+fn a_duty_past_its_age_is_dropped(rt: HostRuntime) -> Result<(), Fail> {
+    let alloc = rt.alloc();
+    let mut tables = with_duty(alloc)?;
+    let ended = attempt_next(&mut tables, 1000 + 86_401);
+    assert_eq!(rt; ended, Some((1, Outcome::TooOld)));
+    assert_eq!(rt; shown(alloc, &tables)?.as_str(), "");
+    assert_eq!(rt; sums(&tables), (1, 87_401, 0, 0, 1));
+    Ok(())
+}
+
+fn written(alloc: Global, reply: Reply) -> Result<Bytes, Fail> {
+    let mut out = Bytes::new(alloc);
+    write(&reply.body, &mut out)?;
+    Ok(out)
+}
+
+#[test]
+fn refusals(rt: HostRuntime) -> Result<(), Fail> {
+    let alloc = rt.alloc();
+    let rows = [
+        (
+            not_built(alloc)?,
+            "{\"__type\":\"NotBuilt\",\"message\":\"Not built yet.\"}",
+        ),
+        (
+            unknown_operation(alloc)?,
+            "{\"__type\":\"UnknownOperationException\",\"message\":\"Unknown operation.\"}",
+        ),
+        (
+            number_limit(alloc)?,
+            "{\"__type\":\"LimitExceededException\",\"message\":\"Number limit 281474976710656 reached.\"}",
+        ),
+    ];
+    for (reply, body) in rows {
+        assert_eq!(rt; reply.status, 400);
+        let out = written(alloc, reply)?;
+        assert_eq!(rt; out.as_slice(), body.as_bytes());
+    }
+    Ok(())
+}
