@@ -12,7 +12,7 @@ use Rattle.std.proofs.lemmas.Bool.Decides.{nat_tests}
 use Rattle.std.proofs.lemmas.Slice.Eq.{bytes_eq-Decides}
 use Rattle.std.specs.Str.{IsUtf8, is_utf8}
 use Rattle.std.proofs.lemmas.Str.{IsUtf8-from_is_utf8, is_utf8-from_IsUtf8}
-use Rattle.api_wire.specs.Fields.{Pair, Occurrence, is_named, values_of, occurs, occurrence_of, length_of, text_of}
+use Rattle.api_wire.specs.Fields.{Pair, Occurrence, absent, once, repeated, is_named, values_of, occurs, occurrence_of, length_of, length_at, text_of}
 use Rattle.api_wire.specs.Reading.{and_also}
 
 pub same_test : (b c : Bool) → (b ≡ true → c ≡ true) → (c ≡ true → b ≡ true) → b ≡ c
@@ -127,3 +127,21 @@ length_of_size_cases v t test (inl empty) =
 length_of_size_cases v t test (inr large) =
     let many : 10 < length v = large.1 in
     length_of_size v (grind (arith, nat_tests))
+
+length_of-small : (v : List ℕ) (n : ℕ) → length_of v ≡ Some n → n ≤ 1048576
+unfolding length_of
+length_of-small v n e =
+    by_test (nat_le (digits_value 10 v) 1048576) (nat_le 1 (length v) && nat_le (length v) 10) (list_all is_ascii_digit v) (λ small. grind (arith, nat_tests)) e
+  where
+    by_test : (t a b : Bool) → (t ≡ true → digits_value 10 v ≤ 1048576) → cond (a && (b && t)) (Some (digits_value 10 v)) None ≡ Some n → n ≤ 1048576
+    by_test true true true small e = let same : digits_value 10 v ≡ n = cc in let few = small refl in omega arith
+    by_test true true false small e = cc
+    by_test true false b small e = cc
+    by_test false true true small e = cc
+    by_test false true false small e = cc
+    by_test false false b small e = cc
+
+pub length_at-small : (o : Occurrence) (n : ℕ) → length_at o ≡ Some n → n ≤ 1048576
+length_at-small absent n e = cc
+length_at-small (once v) n e = length_of-small v n e
+length_at-small repeated n e = cc

@@ -1,3 +1,5 @@
+pub mod CallLemmas
 pub mod FieldLemmas
 pub mod MessageLemmas
 pub mod FrontLemmas
+pub mod ReplyLemmas

@@ -1,12 +1,13 @@
 -- Messages, refused bytes and awaited bytes exclude each other.
-use Rattle.std.proofs.Common.{◌≡◌, ℕ, ◌≤◌, ◌⊎◌, inl, inr, List, [], ◌∷◌, ◌++◌, length, take, drop, Some, None, sym, refl, ap, ◌∙◌, subst, append_assoc, length-append, arith}
+use Rattle.std.proofs.Common.{◌≡◌, ℕ, ◌+◌, ◌<◌, ◌≤◌, Bool, true, false, cond, ◌⊎◌, inl, inr, List, [], ◌∷◌, ◌++◌, length, take, drop, Some, None, sym, refl, ap, ◌∙◌, subst, append_assoc, length-append, arith}
 use Rattle.std.proofs.lemmas.List.{take_at, drop_at, take-append-le, take-append-drop}
 use Rattle.std.proofs.lemmas.Bool.{cases_lt}
-use Rattle.httparse.specs.Grammar.{RequestHead, print_request, ReadsRequest, EndsInTarget}
+use Rattle.httparse.specs.Grammar.{RequestHead, print_request, ReadsRequest, HasNoRequest, EndsInTarget}
 use Rattle.httparse.specs.Spans.{RequestExceeds}
 use Rattle.httparse.proofs.GrammarLemmas.{request_unique, ReadsRequest-append}
 use Rattle.api_wire.specs.declared.message.Message.{Message}
-use Rattle.api_wire.specs.Fields.{method_of, known_of, pairs_of, text_at, body_length, asks_to_close}
+use Rattle.api_wire.specs.Fields.{method_of, known_of, pairs_of, text_at, is_sound, length_at, body_length, asks_to_close}
+use Rattle.api_wire.proofs.FieldLemmas.{length_at-small}
 use Rattle.api_wire.specs.Messages.{IsServed, IsMessage, IsRefused, never, many, long, unsound, IsAwaited, head_awaited, body_awaited, HoldsMessage, IsStream, IsLeft}
 
 -- two heads read of the same bytes announce the same length
@@ -116,3 +117,32 @@ one_stream bytes r q (m ∷ ms) (n ∷ ns) x y left other =
     let first = held_once bytes x.0 y.0 m n x.1 y.1 in
     let others = one_stream y.0 r q ms ns (subst (λ s. IsStream s ms r) first.1 x.2) y.2 left other in
     (λ i. first.0 i ∷ others.0 i, others.1)
+
+announced : (h : RequestHead) (n : ℕ) → body_length h ≡ Some n → n ≤ 1048576
+announced h n e =
+    let k = known_of (pairs_of h) in
+    by_test (is_sound (method_of h.method) h.minor k) e
+  where
+    by_test : (t : Bool) → cond t (length_at (known_of (pairs_of h)).length) None ≡ Some n → n ≤ 1048576
+    by_test true e = length_at-small _ n e
+    by_test false e = cc
+
+pub awaited_is_short : (bytes : List ℕ) → IsAwaited bytes → length bytes < 16384 + 1048576
+awaited_is_short bytes (head_awaited short none may) = omega arith
+awaited_is_short bytes (body_awaited h part n reads served less) =
+    omega (arith, ap length reads.1, length-append (print_request h) part, served.short, announced h n served.announces)
+
+-- a head is not empty
+head_some : (h : RequestHead) → 1 ≤ length (print_request h)
+unfolding print_request
+head_some h = simp length-append (omega arith)
+
+pub no_message_is_empty : (bytes rest : List ℕ) (m : Message) → HoldsMessage bytes m rest → length rest < length bytes
+no_message_is_empty bytes rest m holds =
+    let p = holds.1 in
+    omega (arith, ap length holds.2, length-append holds.0 rest, ap length p.reads.1, length-append (print_request p.head) m.body, head_some p.head)
+
+-- bytes that are refused and awaited too hold no head
+pub awaited_refused : (bytes : List ℕ) → IsRefused bytes → IsAwaited bytes → HasNoRequest bytes
+awaited_refused bytes refused (head_awaited short none may) = none
+awaited_refused bytes refused (body_awaited h part n reads served less) = absurd (not_refused_at bytes h part n reads served refused)

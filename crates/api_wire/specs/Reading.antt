@@ -1,6 +1,6 @@
 -- What the calls that read a message answer.
 use Rattle.std.specs.Prelude.{◌≡◌, ℕ, ◌≤◌, Bool, true, false, List, length, take, drop, Option, Some, None, Result, Ok, Err}
-use Rattle.httparse.specs.Grammar.{RequestHead, print_request, ReadsRequest}
+use Rattle.httparse.specs.Grammar.{RequestHead, print_request, ReadsRequest, HasNoRequest}
 use Rattle.api_wire.specs.declared.message.Message.{Message}
 use Rattle.api_wire.specs.declared.message.WireFault.{WireFault}
 use Rattle.api_wire.specs.declared.message.WireFault.TheVariants.{BadHead, NoMemory}
@@ -59,6 +59,12 @@ abbrev pub FrontIs : {A : Type 0} → List ℕ → (A → Type 0) → Front A �
 FrontIs bytes P (Whole a) = P a
 FrontIs bytes P Awaited = IsAwaited bytes
 FrontIs bytes P Refused = IsRefused bytes
+
+-- where less than a head stands at the front, no head does
+abbrev pub HeadIsAwaited : {A : Type 0} → List ℕ → Front A → Type 0
+HeadIsAwaited bytes (Whole a) = Unit {0}
+HeadIsAwaited bytes Awaited = HasNoRequest bytes
+HeadIsAwaited bytes Refused = Unit {0}
 
 -- the bytes fed and not yet taken, and whether they were refused
 pub record Incoming : Type 0 where

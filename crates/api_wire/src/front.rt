@@ -1,7 +1,10 @@
 //! What stands at the front of the bytes: a whole message, the beginning of one, or what is refused.
-ghost use Rattle.std.specs.Prelude.{◌≡◌, ◌≤◌, length, take, drop, IfOk};
+ghost use Rattle.std.specs.Prelude.{◌≡◌, ◌↔◌, ◌≤◌, length, take, drop, IfOk, IsTrue, IsFalse};
+ghost use Rattle.httparse.specs.Grammar.{HasNoRequest};
 ghost use Rattle.api_wire.specs.Fields.{text_of, text_at};
-ghost use Rattle.api_wire.specs.Reading.{IsSomeHeadAt, IsMessageAt, FrontIs, message_at, seen};
+ghost use Rattle.api_wire.specs.Reading.{IsSomeHeadAt, IsMessageAt, FrontIs, HeadIsAwaited, message_at, seen};
+ghost use Rattle.api_wire.specs.Messages.{IsAwaited};
+ghost use Rattle.api_wire.specs.Written.{AreEmptyLines, HasHead};
 
 use crate::fields::{Fields, Found};
 use crate::message::Message;
@@ -45,7 +48,8 @@ pub(crate) struct InPlace<'b> {
 }
 
 fn read_head(bytes: &[u8]) -> Front<Head<'_>>
-    ensures { FrontIs bytes.now (IsSomeHeadAt bytes.now) result }
+    ensures front { FrontIs bytes.now (IsSomeHeadAt bytes.now) result }
+    ensures awaited { HeadIsAwaited bytes.now result }
 {
     let start = &bytes[..bytes.len().min(HEAD_LIMIT)];
     let mut headers = [EMPTY_HEADER_SPAN; FIELD_LIMIT];
@@ -91,6 +95,29 @@ pub(crate) fn read_front(bytes: &[u8]) -> Front<InPlace<'_>>
         Front::Awaited => Front::Awaited,
         Front::Refused => Front::Refused,
     }
+}
+
+/// Whether a whole head is at the front.
+pub(crate) fn has_head(bytes: &[u8]) -> bool
+    ensures whole { IsTrue result → HasHead bytes.now }
+    ensures none { IsFalse result → IsAwaited bytes.now → HasNoRequest bytes.now }
+{
+    match read_head(bytes) {
+        Front::Whole(_) => true,
+        Front::Awaited => false,
+        Front::Refused => false,
+    }
+}
+
+/// Whether the bytes are empty lines alone, or none.
+pub(crate) fn are_empty_lines(bytes: &[u8]) -> bool
+    ensures { IsTrue result ↔ AreEmptyLines bytes.now }
+{
+    let mut rest = bytes;
+    while let [b'\r', b'\n', behind @ ..] = rest {
+        rest = behind;
+    }
+    rest.is_empty()
 }
 
 /// The value as a text, empty where it is not UTF-8.

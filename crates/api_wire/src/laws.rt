@@ -1,8 +1,8 @@
 //! The laws of the definitions, for every list of bytes.
-ghost use Rattle.std.specs.Prelude.{◌≡◌, ℕ, ◌++◌, ◌⊎◌, List};
+ghost use Rattle.std.specs.Prelude.{◌≡◌, ℕ, ◌+◌, ◌<◌, ◌++◌, ◌⊎◌, List, length};
 ghost use Rattle.httparse.specs.Grammar.{EndsInTarget};
 ghost use Rattle.httparse.specs.Spans.{RequestExceeds};
-ghost use Rattle.api_wire.specs.Messages.{IsMessage, IsRefused, IsAwaited, IsStream, IsLeft};
+ghost use Rattle.api_wire.specs.Messages.{IsMessage, IsRefused, IsAwaited, IsStream, IsLeft, HoldsMessage};
 ghost use Rattle.api_wire.specs.declared.message.Message.{Message};
 
 /// Bytes are read in one way, so it doesn't matter how they were cut.
@@ -19,4 +19,14 @@ pub fn one_reading()
     ensures one_stream { (bytes r q : List ℕ) (ms ns : List Message) → IsStream bytes ms r
         → IsStream bytes ns q → IsLeft r → IsLeft q → (ms ≡ ns) × (r ≡ q) }
     ensures undecided { (a : List ℕ) → IsAwaited a → IsRefused a → EndsInTarget a ⊎ RequestExceeds 64 a }
+{}
+
+/// No more than a head and a body are ever awaited.
+pub fn awaited_is_short()
+    ensures { (bytes : List ℕ) → IsAwaited bytes → length bytes < 16384 + 1048576 }
+{}
+
+/// A message takes some of the bytes.
+pub fn no_message_is_empty()
+    ensures { (bytes rest : List ℕ) (m : Message) → HoldsMessage bytes m rest → length rest < length bytes }
 {}

@@ -1,8 +1,11 @@
 //! Bytes in, messages out.
-ghost use Rattle.std.specs.Prelude.{◌≡◌, ◌≤◌, [], ◌++◌, true, false, length, drop, OnOk, OnErr, IsErrOf};
+ghost use Rattle.std.specs.Prelude.{◌≡◌, ◌↔◌, ◌≤◌, [], ◌++◌, true, false, length, drop, OnOk, OnErr, IsErrOf, IsTrue, IsFalse};
+ghost use Rattle.httparse.specs.Grammar.{HasNoRequest};
+ghost use Rattle.api_wire.specs.Messages.{IsAwaited};
 ghost use Rattle.api_wire.specs.Reading.{Answers};
+ghost use Rattle.api_wire.specs.Written.{AreEmptyLines, HasHead};
 
-use crate::front::{Front, read_front};
+use crate::front::{Front, are_empty_lines, has_head, read_front};
 use crate::message::{Message, WireFault};
 use json_text::NoMemory;
 use std::alloc::Global;
@@ -81,6 +84,21 @@ impl WireIn {
         ensures { result.now ≡ self.now.rest }
     {
         &self.buffer[self.start..]
+    }
+
+    /// Whether a whole head is at the front of the rest.
+    pub fn has_head(&self) -> bool
+        ensures whole { IsTrue result → HasHead self.now.rest }
+        ensures none { IsFalse result → IsAwaited self.now.rest → HasNoRequest self.now.rest }
+    {
+        has_head(self.rest())
+    }
+
+    /// Whether only empty lines are left, so that an input that ends here ends between messages.
+    pub fn is_between(&self) -> bool
+        ensures { IsTrue result ↔ AreEmptyLines self.now.rest }
+    {
+        are_empty_lines(self.rest())
     }
 
     fn take(&mut self, len: usize)

@@ -7,8 +7,8 @@ use Rattle.api_wire.specs.Messages.{head_awaited}
 use Rattle.api_wire.proofs.FrontLemmas.{reads_whole, refused_whole, few_fields, refused_by, long_by}
 use Rattle.api_wire.proofs.front.read_head.Goals as goal
 
-pub returns-in-Ok-Complete : goal.returns-in-Ok-Complete
-returns-in-Ok-Complete c =
+pub returns-in-Ok-Complete-clause-front : goal.returns-in-Ok-Complete-clause-front
+returns-in-Ok-Complete-clause-front c =
     let bytes = c.args.bytes.now in
     let n = c.min.result in
     let spans = c.in-Ok-Complete.spans in
@@ -31,8 +31,8 @@ returns-in-Ok-Complete c =
       },
     )
 
-pub returns-in-Ok-Partial : goal.returns-in-Ok-Partial
-returns-in-Ok-Partial c =
+pub returns-in-Ok-Partial-clause-front : goal.returns-in-Ok-Partial-clause-front
+returns-in-Ok-Partial-clause-front c =
     let bytes = c.args.bytes.now in
     let n = c.min.result in
     let none : HasNoRequest (take n bytes) = search rules in
@@ -40,15 +40,22 @@ returns-in-Ok-Partial c =
     let all = take_all n bytes (omega (arith, c.min.ensures, c.if-bytes-lt-HEAD_LIMIT.true)) in
     head_awaited c.if-bytes-lt-HEAD_LIMIT.true (subst HasNoRequest all none) (subst MayBecomeRequest all may)
 
-pub returns-in-Ok-Partial-2 : goal.returns-in-Ok-Partial-2
-returns-in-Ok-Partial-2 c =
+pub returns-in-Ok-Partial-2-clause-front : goal.returns-in-Ok-Partial-2-clause-front
+returns-in-Ok-Partial-2-clause-front c =
     let bytes = c.args.bytes.now in
     let n = c.min.result in
     let none : HasNoRequest (take n bytes) = search rules in
     refused_whole bytes n (long_by (take n bytes) (omega (arith, length-take n bytes, c.min.ensures, c.if-bytes-lt-HEAD_LIMIT.false)) none)
 
-pub returns-in-Err : goal.returns-in-Err
-returns-in-Err c =
+pub returns-in-Err-clause-front : goal.returns-in-Err-clause-front
+returns-in-Err-clause-front c =
     let bytes = c.args.bytes.now in
     let n = c.min.result in
     refused_whole bytes n (refused_by (take n bytes) c.in-Err.field-0 c.in-Err.ensures.invalid (λ e. c.in-Err.ensures.too_many (ap Err e)) c.in-Err.ensures.no_room)
+
+pub returns-in-Ok-Partial-clause-awaited : goal.returns-in-Ok-Partial-clause-awaited
+returns-in-Ok-Partial-clause-awaited c =
+    let bytes = c.args.bytes.now in
+    let n = c.min.result in
+    let none : HasNoRequest (take n bytes) = search rules in
+    subst HasNoRequest (take_all n bytes (omega (arith, c.min.ensures, c.if-bytes-lt-HEAD_LIMIT.true))) none

@@ -1,0 +1,40 @@
+-- The bytes of a reply (RFC 9112, section 4), and what stands between messages.
+use Rattle.std.specs.Prelude.{◌≡◌, ◌⊎◌, ℕ, Bool, true, false, List, [], ◌∷◌, ◌++◌, length, codes, decimal, unwrap_or}
+use Rattle.http.specs.StatusCode.{reason_phrase}
+use Rattle.httparse.specs.Grammar.{RequestHead, ReadsRequest}
+use Rattle.json_text.specs.Compact.{compact_text}
+use Rattle.router_core.specs.Reply.{Reply}
+
+abbrev pub crlf : List ℕ
+crlf = 13 ∷ 10 ∷ []
+
+-- the field that says that the connection ends behind this reply
+abbrev pub close_field : Bool → List ℕ
+close_field true = codes "Connection: close" ++ crlf
+close_field false = []
+
+-- status line, fields, an empty line and the body
+abbrev pub message_text : ℕ → List ℕ → Bool → List ℕ
+message_text status body close =
+    codes "HTTP/1.1 " ++ (decimal status ++ (codes " " ++ (unwrap_or (reason_phrase status) [] ++ (crlf
+    ++ (codes "Content-Type: application/x-amz-json-1.1" ++ (crlf
+    ++ (codes "Content-Length: " ++ (decimal (length body) ++ (crlf
+    ++ (close_field close ++ (crlf ++ body)))))))))))
+
+-- the text of a reply; `close` where the connection ends behind it
+abbrev pub reply_text : Reply → Bool → List ℕ
+reply_text reply close = message_text reply.status (compact_text reply.body) close
+
+-- the statuses that replies have
+abbrev pub IsServedStatus : ℕ → Type 0
+IsServedStatus status = (status ≡ 200) ⊎ ((status ≡ 400) ⊎ (status ≡ 503))
+
+-- pairs of carriage return and line feed, which belong to the message behind them (RFC 9112, section 2.2)
+abbrev pub AreEmptyLines : List ℕ → Type 0
+AreEmptyLines [] = Unit {0}
+AreEmptyLines (a ∷ []) = ⊥
+AreEmptyLines (a ∷ b ∷ bytes) = (a ≡ 13) × (b ≡ 10) × AreEmptyLines bytes
+
+-- a whole head is at the front
+abbrev pub HasHead : List ℕ → Type 0
+HasHead bytes = (head : RequestHead) × (rest : List ℕ) × ReadsRequest bytes head rest

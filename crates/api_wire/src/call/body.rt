@@ -1,0 +1,43 @@
+//! The body of a message.
+ghost use Rattle.std.specs.Prelude.{◌≡◌, MatchOption, MatchResult};
+ghost use Rattle.json_text.specs.Tree.{Members as Seen, object, members_of};
+ghost use Rattle.json_text.specs.View.{tree_of, pairs_of};
+ghost use Rattle.api_wire.specs.Call.{IsBody};
+ghost use Rattle.api_wire.specs.CallAnswers.{IsFault};
+
+use super::fault::CallFault;
+use json_text::{Json, Members, read};
+use std::alloc::Global;
+
+/// How many levels of lists and objects a body may have.
+const BODY_LEVELS: u32 = 100;
+
+/// The members of the object that the bytes are; no bytes count as `{}`.
+pub(super) fn read_body(alloc: Global, bytes: &[u8]) -> Result<Members, CallFault>
+    ensures read { MatchResult result
+        (λ ms. IsBody bytes.now (members_of (pairs_of ms.items)))
+        (IsFault (IsBody bytes.now)) }
+    ensures only { MatchResult result
+        (λ ms. (other : Seen) → IsBody bytes.now other → members_of (pairs_of ms.items) ≡ other)
+        (λ _. Unit {0}) }
+{
+    if bytes.is_empty() {
+        return Ok(Vec::new(alloc));
+    }
+    match members_of(read(alloc, bytes, BODY_LEVELS)?) {
+        Some(members) => Ok(members),
+        None => Err(CallFault::NotBuilt),
+    }
+}
+
+/// The members of the object that the value is.
+fn members_of(value: Json) -> Option<Members>
+    ensures { MatchOption result
+        ((members : Seen) → tree_of value ≡ object members → ⊥)
+        (λ members. tree_of value ≡ object (members_of (pairs_of members.items))) }
+{
+    match value {
+        Json::Obj(members) => Some(members),
+        Json::Null | Json::Truth(_) | Json::Num(_) | Json::Str(_) | Json::List(_) => None,
+    }
+}

@@ -1,0 +1,109 @@
+//! Replies to bytes.
+ghost use Rattle.std.specs.Prelude.{◌≡◌, ◌≤◌, ◌++◌, true, length, take, IfOk, OnOk, OnErr};
+ghost use Rattle.json_text.specs.View.{tree_of};
+ghost use Rattle.json_text.specs.Compact.{compact_text};
+ghost use Rattle.router_core.specs.Reply.{no_memory, bad_head};
+ghost use Rattle.router_core.specs.Seen.{reply_of};
+ghost use Rattle.api_wire.specs.Written.{IsServedStatus, reply_text};
+ghost use Rattle.api_wire.specs.Pieces as pieces;
+
+use itoa::Buffer;
+use json_text::{Bytes, Json, NoMemory, write};
+use router_core::Reply;
+
+/// The fields of every reply, as far as the number of bytes of its body.
+pub(crate) const FIELDS: &str = "Content-Type: application/x-amz-json-1.1\r\nContent-Length: ";
+
+/// Puts the reply's bytes at the end; `close` where the connection ends behind it.
+pub fn write_reply(reply: &Reply, close: bool, out: &mut Bytes) -> Result<(), NoMemory>
+    requires { IsServedStatus reply.now.status }
+    ensures ok { OnOk result (out.new ≡ out.old ++ reply_text (reply_of reply.now) close) }
+    ensures err { OnErr result (out.new ≡ out.old) }
+{
+    let before = out.len();
+    let written = push_reply(reply, close, out);
+    if written.is_err() {
+        out.truncate(before);
+    }
+    written
+}
+
+fn push_reply(reply: &Reply, close: bool, out: &mut Bytes) -> Result<(), NoMemory>
+    requires { IsServedStatus reply.now.status }
+    ensures ok { OnOk result (out.new ≡ out.old ++ reply_text (reply_of reply.now) close) }
+    ensures kept { take (length out.old) out.new ≡ out.old }
+{
+    let len = text_len(&reply.body, out)?;
+    push_head(reply.status, len, close, out)?;
+    write(&reply.body, out)?;
+    Ok(())
+}
+
+/// How many bytes the value's text has. It is written at the end, and taken away again.
+fn text_len(json: &Json, out: &mut Bytes) -> Result<usize, NoMemory>
+    ensures len { IfOk result (λ n. n ≡ length (compact_text (tree_of json.now))) }
+    ensures same { out.new ≡ out.old }
+{
+    let before = out.len();
+    write(json, out)?;
+    let len = out.len() - before;
+    out.truncate(before);
+    Ok(len)
+}
+
+/// What stands before a body of `len` bytes.
+fn push_head(status: u16, len: usize, close: bool, out: &mut Bytes) -> Result<(), NoMemory>
+    requires { IsServedStatus status }
+    ensures ok { OnOk result (out.new ≡ out.old ++ pieces.head_text status len close) }
+    ensures kept { take (length out.old) out.new ≡ out.old }
+{
+    out.extend(status_line(status).as_bytes())?;
+    out.extend(FIELDS.as_bytes())?;
+    out.extend(Buffer::new().format(len).as_bytes())?;
+    out.extend(head_end(close).as_bytes())?;
+    Ok(())
+}
+
+pub(crate) fn status_line(status: u16) -> &'static str
+    requires { IsServedStatus status }
+    ensures text { result.now ≡ pieces.status_line status }
+    ensures short { length result.now ≤ 34 }
+{
+    match status {
+        200 => "HTTP/1.1 200 OK\r\n",
+        400 => "HTTP/1.1 400 Bad Request\r\n",
+        503 => "HTTP/1.1 503 Service Unavailable\r\n",
+        _ => unreachable!(),
+    }
+}
+
+/// What stands between the number of bytes of the body and the body.
+#[tactic(auto, unfolding(crate::specs::Pieces::head_end))]
+pub(crate) fn head_end(close: bool) -> &'static str
+    ensures text { result.now ≡ pieces.head_end close }
+    ensures short { length result.now ≤ 23 }
+{
+    if close {
+        "\r\nConnection: close\r\n\r\n"
+    } else {
+        "\r\n\r\n"
+    }
+}
+
+/// The bytes of the reply to want of memory, which need no memory.
+pub fn no_memory_reply(close: bool) -> &'static [u8]
+    ensures { result.now ≡ reply_text no_memory close }
+{
+    if close {
+        b"HTTP/1.1 503 Service Unavailable\r\nContent-Type: application/x-amz-json-1.1\r\nContent-Length: 48\r\nConnection: close\r\n\r\n{\"__type\":\"NoMemory\",\"message\":\"Out of memory.\"}"
+    } else {
+        b"HTTP/1.1 503 Service Unavailable\r\nContent-Type: application/x-amz-json-1.1\r\nContent-Length: 48\r\n\r\n{\"__type\":\"NoMemory\",\"message\":\"Out of memory.\"}"
+    }
+}
+
+/// The bytes of the reply to bytes that no message begins with, which need no memory.
+pub fn bad_head_reply() -> &'static [u8]
+    ensures { result.now ≡ reply_text bad_head true }
+{
+    b"HTTP/1.1 400 Bad Request\r\nContent-Type: application/x-amz-json-1.1\r\nContent-Length: 54\r\nConnection: close\r\n\r\n{\"__type\":\"BadHead\",\"message\":\"The head is not HTTP.\"}"
+}
