@@ -1,0 +1,89 @@
+-- The router machine: what the turn of a request writes and answers, by cases on the request.
+use Rattle.std.specs.Prelude.{◌≡◌, ℕ, ◌+◌, ◌<◌, ◌≤◌, ◌⊎◌, max, true, if◌then◌else◌, List, [], ◌∷◌, map, take, Option, Some, None, codes, decimal}
+use Rattle.json_text.specs.Tree.{Tree, number, text, list, object, items_of, members_of, no_items, no_members}
+use Rattle.event_shape.specs.Names.{default_bus, queue_arn, rule_arn}
+use Rattle.event_shape.specs.Entry.{Entry}
+use Rattle.event_shape.specs.Id.{event_id}
+use Rattle.rule_table.specs.Control.{Control, rule_put, targets_put, queue_made}
+use Rattle.rule_table.specs.RuleSet.{IsAccepted, has_queue}
+use Rattle.delivery_duties.specs.declared.message.QueueMessage.{QueueMessage}
+use Rattle.delivery_duties.specs.Duties.{messages_of}
+use Rattle.router_core.specs.Request.{Action, create_queue, put_rule, put_targets, put_events, peek_messages, deliver_due, Request}
+use Rattle.router_core.specs.Reply.{Reply, served, not_built}
+use Rattle.router_core.specs.Reply as reply_texts
+use Rattle.router_core.specs.Batch as batch
+use Rattle.router_core.specs.Tables.{Tables, is_full}
+use Rattle.router_core.specs.Matching as matching
+
+-- the batch that is written, if one is, and the reply
+pub record Answer : Type 0 where
+  pub batch : Option batch.Batch
+  pub reply : Reply
+
+-- a reply without a batch
+abbrev pub tells : Reply → Answer
+tells reply = record { batch = None; reply = reply }
+
+-- a batch with its reply, or the refusal where no further batch is numbered
+abbrev pub writes : Tables → ℕ → List batch.Entry → Reply → Answer
+writes t moment entries reply =
+    if is_full t then tells reply_texts.number_limit
+    else record { batch = Some (record { moment = moment; entries = entries }); reply = reply }
+
+-- a change of the configuration: written where it is accepted, and else refused
+abbrev pub IsControlled : Tables → ℕ → Control → Reply → Answer → Type 0
+IsControlled t moment control reply a =
+    (IsAccepted control t.set × (a ≡ writes t moment (batch.control control ∷ []) reply))
+    ⊎ ((¬ IsAccepted control t.set) × (a ≡ tells not_built))
+
+-- PutTargets without a failed entry
+abbrev pub none_failed : Reply
+none_failed = served ((codes "FailedEntryCount", number (codes "0")) ∷ (codes "FailedEntries", list no_items) ∷ [])
+
+-- one accepted event tells its id
+abbrev pub told_event : batch.Accepted → Tree
+told_event e = object (members_of ((codes "EventId", text (event_id e.number)) ∷ []))
+
+abbrev pub told_events : List batch.Accepted → Reply
+told_events events = served ((codes "FailedEntryCount", number (codes "0")) ∷ (codes "Entries", list (items_of (map told_event events))) ∷ [])
+
+-- PutEvents: entries that are small enough together and have no fault are all accepted, numbered on from the last event
+abbrev pub IsPublished : Tables → ℕ → ℕ → List Entry → Answer → Type 0
+IsPublished t moment reading entries a =
+    ((events : List batch.Accepted) × (matching.total_size entries ≤ 262144)
+    × matching.AreAccepted t.set reading (t.events + 1) entries events
+    × (a ≡ writes t moment (map batch.accepted events) (told_events events)))
+    ⊎ (((262144 < matching.total_size entries) ⊎ matching.HasFaulty entries) × (a ≡ tells not_built))
+
+abbrev pub told_message : QueueMessage → Tree
+told_message m = object (members_of (
+    (codes "Number", number (decimal m.number))
+    ∷ (codes "Body", text m.body)
+    ∷ (codes "Attributes", object no_members)
+    ∷ []))
+
+abbrev pub told_messages : List QueueMessage → Reply
+told_messages messages = served ((codes "Messages", list (items_of (map told_message messages))) ∷ [])
+
+-- PeekMessages: the ten oldest messages of a queue that is there
+abbrev pub peeked : Tables → List ℕ → Answer
+peeked t queue = tells (if has_queue queue t.set then told_messages (take 10 (messages_of queue t.duties.mailboxes)) else not_built)
+
+-- The answer to a request at the moment of its turn, from the tables before it. DeliverDue is answered by its steps.
+abbrev pub IsAnswerAt : Tables → ℕ → ℕ → Action → Answer → Type 0
+IsAnswerAt t moment reading (create_queue name) a =
+    IsControlled t moment (queue_made name) (served ((codes "QueueArn", text (queue_arn name)) ∷ [])) a
+IsAnswerAt t moment reading (put_rule name pattern) a =
+    IsControlled t moment (rule_put default_bus name pattern true) (served ((codes "RuleArn", text (rule_arn default_bus name)) ∷ [])) a
+IsAnswerAt t moment reading (put_targets rule targets) a =
+    IsControlled t moment (targets_put default_bus rule targets) none_failed a
+IsAnswerAt t moment reading (put_events entries) a = IsPublished t moment reading entries a
+IsAnswerAt t moment reading (peek_messages queue) a = a ≡ peeked t queue
+IsAnswerAt t moment reading deliver_due a = ⊥
+
+-- the moment of a turn: the clock's reading, or the greatest moment of a batch so far where that is greater
+abbrev pub moment_at : Tables → ℕ → ℕ
+moment_at t reading = max reading t.moment
+
+abbrev pub IsAnswer : Tables → Request → Answer → Type 0
+IsAnswer t request a = IsAnswerAt t (moment_at t request.reading) request.reading request.action a
