@@ -1,0 +1,9 @@
+use Rattle.std.proofs.Common.{List, map, ap, ◌∙◌}
+use Rattle.bus_server.specs.declared.history.Turn.{Turn}
+use Rattle.bus_server.specs.Book.{turn_of}
+use Rattle.bus_server.specs.Firsts.{firsts}
+use Rattle.bus_server.proofs.HistoryLemmas.{turns_more}
+use Rattle.bus_server.proofs.history.History.push.Goals as goal
+
+pub returns : goal.returns
+returns c = ap (λ (ps : List (Turn × Unit {0})). map turn_of (firsts ps)) c.and-self.ensures ∙ turns_more _ c.args.turn.now

@@ -1,0 +1,16 @@
+use Rattle.std.proofs.Common.{◌≡◌, ℕ, ◌-◌, ◌<◌, false, List, ◌++◌, length}
+use Rattle.std.specs.Io.KnownBytes.{Consumes}
+use Rattle.bus_server.proofs.incoming.next_message.Given as goal
+
+-- the bytes at hand are those that were there and those taken in
+abbrev pub invariant-loop-message : goal.invariant-loop-message
+invariant-loop-message g l = record {
+  taken : (taken : List ℕ) × Consumes (g.S.Source.left l.initial.input) (g.S.Source.left l.input) taken × (l.wire.rest ≡ l.initial.wire.rest ++ taken);
+  unrefused : l.wire.refused ≡ false;
+  faultless : g.S.Source.faults l.input ≡ g.S.Source.faults l.initial.input;
+  room : 0 < length l.piece;
+}
+
+-- what is awaited is shorter than this
+abbrev pub decreases-loop-message : goal.decreases-loop-message
+decreases-loop-message g l = 1064960 - length l.wire.rest

@@ -1,0 +1,21 @@
+use Rattle.std.proofs.Common.{◌≡◌, ◌-◌, ◌<◌, false}
+use Rattle.bus_server.specs.Book.{book_of}
+use Rattle.bus_server.specs.Session.{request_limit}
+use Rattle.bus_server.specs.Running.{IsRunning}
+use Rattle.bus_server.proofs.session.run_session.Given as goal
+
+abbrev pub invariant-loop-message : goal.invariant-loop-message
+invariant-loop-message g l = record {
+  running : IsRunning (book_of l.initial.book) (book_of l.book)
+      (g.S.Source.left l.initial.input) (g.S.Source.left l.input)
+      (g.K.Sink.written l.initial.output) (g.K.Sink.written l.output)
+      (g.C.Clock.ahead l.initial.clock) (g.C.Clock.ahead l.clock)
+      l.wire.rest l.served;
+  unrefused : l.wire.refused ≡ false;
+  below : l.served < request_limit;
+  input_faultless : g.S.Source.faults l.input ≡ g.S.Source.faults l.initial.input;
+  output_faultless : g.K.Sink.faults l.output ≡ g.K.Sink.faults l.initial.output;
+}
+
+abbrev pub decreases-loop-message : goal.decreases-loop-message
+decreases-loop-message g l = request_limit - l.served

@@ -1,0 +1,130 @@
+-- One exchange of a session: a message, the turns that it made, and its reply.
+use Rattle.std.specs.Prelude.{◌≡◌, ℕ, ◌+◌, ◌<◌, ◌≤◌, ◌⊎◌, min, true, false, List, [], ◌∷◌, ◌++◌, length, map, Some, None, IsSome, flat_map}
+use Rattle.delivery_duties.specs.declared.fate.Outcome.{Outcome}
+use Rattle.delivery_duties.specs.declared.fate.Outcome.TheVariants.{Accepted, TooOld}
+use Rattle.delivery_duties.specs.Duties.{IsNext, NoneDue}
+use Rattle.router_core.specs.Request.{deliver_due, Request}
+use Rattle.router_core.specs.Reply.{Reply, Counts, counted, unknown_operation, not_built, number_limit, no_memory}
+use Rattle.router_core.specs.Tables.{Tables, is_full, after_batch}
+use Rattle.router_calls.specs.Answer.{Answer, IsAnswer, moment_at}
+use Rattle.api_wire.specs.declared.message.Message.{Message}
+use Rattle.api_wire.specs.Call.{operation_of, IsAsked}
+use Rattle.router_core.specs.Steps.{EndsSo, record_of, claiming, giving_back}
+use Rattle.bus_server.specs.History.{asked, claims, records, puts_back, Turn, after_written}
+
+-- the reading of the clock when the message was whole, those of its delivery steps, the turns that it made, and its reply
+pub record Exchange : Type 0 where
+  pub message : Message
+  pub reading : ℕ
+  pub steps : List ℕ
+  pub turns : List Turn
+  pub reply : Reply
+
+-- a reading of the clock as a moment: one past the last moment counts as that
+abbrev pub moment_of : ℕ → ℕ
+moment_of reading = min reading 250000000000
+
+abbrev pub no_counts : Counts
+no_counts = record { attempts = 0; delivered = 0; dropped = 0 }
+
+-- one step more, that ended so
+abbrev pub and_one : Outcome → Counts → Counts
+and_one Accepted n = record n { attempts = n.attempts + 1; delivered = n.delivered + 1 }
+and_one TooOld n = record n { attempts = n.attempts + 1; dropped = n.dropped + 1 }
+
+-- one step of delivery, at a reading of its own: the next due duty is claimed, and how its attempt ended is recorded
+pub record IsStep (t : Tables) (reading : ℕ) (turns : List Turn) (outcome : Outcome) (new : Tables) : Type 0 where
+  pub duty : ℕ
+  pub next : IsNext t.duties (moment_at t (moment_of reading)) duty
+  pub numbered : is_full t ≡ false
+  pub ends : EndsSo (claiming duty t) duty (moment_at t (moment_of reading)) outcome
+  pub turns_are : turns ≡ record { ask = claims duty (moment_of reading); batch = None }
+      ∷ record { ask = records duty (moment_of reading) outcome; batch = Some (record_of (moment_at t (moment_of reading)) duty outcome) } ∷ []
+  pub tables : new ≡ after_batch (record_of (moment_at t (moment_of reading)) duty outcome) (claiming duty t)
+
+-- steps one after the other, each at a reading of its own, and how they ended
+abbrev pub AreSteps : Tables → List ℕ → List Turn → Counts → Tables → Type 0
+AreSteps t [] turns counts new = (turns ≡ []) × (counts ≡ no_counts) × (new ≡ t)
+AreSteps t (reading ∷ readings) turns counts new =
+    (outcome : Outcome) × (mid : Tables) × (first later : List Turn) × (rest : Counts)
+    × IsStep t reading first outcome mid × AreSteps mid readings later rest new
+    × (turns ≡ first ++ later) × (counts ≡ and_one outcome rest)
+
+-- how a run of steps ended: none was due or the budget was used, a duty was due but no further batch is numbered, or memory
+-- was refused
+pub data Stop : Type 0 where
+  done limited refused : Stop
+
+-- what comes behind so many steps
+abbrev pub IsStop : ℕ → ℕ → Tables → List ℕ → List Turn → Stop → Tables → Type 0
+IsStop budget made t last turns done new =
+    (((made ≡ budget) × (last ≡ []))
+    ⊎ ((made < budget) × ((reading : ℕ) × (last ≡ reading ∷ []) × NoneDue t.duties (moment_at t (moment_of reading)))))
+    × (turns ≡ []) × (new ≡ t)
+IsStop budget made t last turns limited new =
+    (made < budget) × ((reading duty : ℕ) × (last ≡ reading ∷ [])
+    × IsNext t.duties (moment_at t (moment_of reading)) duty × (is_full t ≡ true)
+    × (turns ≡ record { ask = claims duty (moment_of reading); batch = None } ∷ record { ask = puts_back duty; batch = None } ∷ [])
+    × (new ≡ giving_back duty (claiming duty t)))
+IsStop budget made t last turns refused new =
+    (made ≤ budget) × ((last ≡ []) ⊎ ((reading : ℕ) × (last ≡ reading ∷ []))) × (turns ≡ []) × (new ≡ t)
+
+-- the steps of one DeliverDue, at most so many
+pub record IsDelivery (budget : ℕ) (t : Tables) (readings : List ℕ) (turns : List Turn) (counts : Counts) (stop : Stop) (new : Tables) : Type 0 where
+  pub made : List ℕ
+  pub last : List ℕ
+  pub stepping : List Turn
+  pub stopping : List Turn
+  pub mid : Tables
+  pub readings_are : readings ≡ made ++ last
+  pub turns_are : turns ≡ stepping ++ stopping
+  pub steps : AreSteps t made stepping counts mid
+  pub stops : IsStop budget (length made) mid last stopping stop new
+
+-- how many steps one DeliverDue makes at most
+abbrev pub default_budget : ℕ
+default_budget = 100
+
+-- the reply to a DeliverDue
+abbrev pub delivery_reply : Counts → Stop → Reply
+delivery_reply counts done = counted counts
+delivery_reply counts limited = number_limit
+delivery_reply counts refused = no_memory
+
+-- an exchange that makes no turn
+pub record IsWithoutTurn (t : Tables) (e : Exchange) (reply : Reply) (new : Tables) : Type 0 where
+  pub no_steps : e.steps ≡ []
+  pub no_turns : e.turns ≡ []
+  pub replies : e.reply ≡ reply
+  pub same : new ≡ t
+
+-- A message and its reply, from the tables before it to those after it.
+pub data IsExchange (t : Tables) (e : Exchange) (new : Tables) : Type 0 where
+  -- no operation of this name
+  unknown : operation_of e.message.target ≡ None → IsWithoutTurn t e unknown_operation new → IsExchange t e new
+  -- the operation, but no request that is built
+  unbuilt : IsSome (operation_of e.message.target) → ((r : Request) → ¬ IsAsked e.message (moment_of e.reading) r)
+      → IsWithoutTurn t e not_built new → IsExchange t e new
+  -- a request of one turn
+  answered : (r : Request) (a : Answer) → IsAsked e.message (moment_of e.reading) r → IsAnswer t r a
+      → e.steps ≡ [] → e.turns ≡ record { ask = asked r; batch = a.batch } ∷ [] → e.reply ≡ a.reply
+      → new ≡ after_written a.batch t → IsExchange t e new
+  -- DeliverDue
+  delivered : (r : Request) (counts : Counts) (stop : Stop) → IsAsked e.message (moment_of e.reading) r → r.action ≡ deliver_due
+      → IsDelivery default_budget t e.steps e.turns counts stop new → e.reply ≡ delivery_reply counts stop → IsExchange t e new
+  -- memory was refused before anything changed
+  out_of_memory : IsWithoutTurn t e no_memory new → IsExchange t e new
+
+-- exchanges one after the other
+abbrev pub AreExchanges : Tables → List Exchange → Tables → Type 0
+AreExchanges t [] new = new ≡ t
+AreExchanges t (e ∷ es) new = (mid : Tables) × IsExchange t e mid × AreExchanges mid es new
+
+abbrev pub turns_of : List Exchange → List Turn
+turns_of = flat_map (λ e. e.turns)
+
+abbrev pub readings_of : List Exchange → List ℕ
+readings_of = flat_map (λ e. e.reading ∷ e.steps)
+
+abbrev pub messages_of : List Exchange → List Message
+messages_of = map (λ e. e.message)

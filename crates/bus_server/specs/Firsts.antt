@@ -1,0 +1,6 @@
+-- The list of a history that only contracts see.
+use Rattle.std.specs.Prelude.{List, [], ◌∷◌}
+
+abbrev pub firsts : {T : Type 0} → List (T × Unit {0}) → List T
+firsts [] = []
+firsts (p ∷ ps) = p.0 ∷ firsts ps

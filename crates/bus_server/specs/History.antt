@@ -1,0 +1,75 @@
+-- The history: the turns of the router, oldest first, from the tables that it began with.
+use Rattle.std.specs.Prelude.{◌≡◌, ℕ, false, ◌==◌, List, [], ◌∷◌, Option, Some, None, Contains, filter, not}
+use Rattle.delivery_duties.specs.declared.fate.Outcome.{Outcome}
+use Rattle.delivery_duties.specs.Duties.{IsNext}
+use Rattle.router_core.specs.Request.{Request}
+use Rattle.router_core.specs.Reply.{Reply}
+use Rattle.router_core.specs.Batch.{Batch}
+use Rattle.router_core.specs.Tables.{Tables, after_batch, is_full}
+use Rattle.router_core.specs.Steps.{EndsSo, record_of, claiming, giving_back}
+use Rattle.router_calls.specs.Answer.{IsAnswer, moment_at}
+
+-- what a turn was taken for: a request; a claim of the next due duty, at a reading of the clock; the record of how a claimed
+-- duty's attempt ended, with the claim's reading; or a claim that was put back
+pub data Ask : Type 0 where
+  asked : Request → Ask
+  claims : (duty reading : ℕ) → Ask
+  records : (duty reading : ℕ) (outcome : Outcome) → Ask
+  puts_back : (duty : ℕ) → Ask
+
+-- what was asked, and the batch that the turn wrote, if one
+pub record Turn : Type 0 where
+  pub ask : Ask
+  pub batch : Option Batch
+
+-- the tables, and each duty whose claim is open with the claim's reading
+pub record State : Type 0 where
+  pub tables : Tables
+  pub open_claims : List (ℕ × ℕ)
+
+-- a turn that the router machine may take in this state: what it asks, and what it writes
+abbrev pub IsTurnOf : State → Ask → Option Batch → Type 0
+IsTurnOf s (asked request) written = (reply : Reply) × IsAnswer s.tables request (record { batch = written; reply = reply })
+IsTurnOf s (claims duty reading) written = (written ≡ None) × IsNext s.tables.duties (moment_at s.tables reading) duty
+IsTurnOf s (records duty reading outcome) written =
+    Contains s.open_claims (duty, reading) × (is_full s.tables ≡ false)
+    × EndsSo s.tables duty (moment_at s.tables reading) outcome
+    × (written ≡ Some (record_of (moment_at s.tables reading) duty outcome))
+IsTurnOf s (puts_back duty) written = (written ≡ None) × ((reading : ℕ) × Contains s.open_claims (duty, reading))
+
+-- the open claims without those of a duty
+abbrev pub closed_claims : ℕ → List (ℕ × ℕ) → List (ℕ × ℕ)
+closed_claims duty cs = filter (λ c. not (c.0 == duty)) cs
+
+abbrev pub after_written : Option Batch → Tables → Tables
+after_written None t = t
+after_written (Some b) t = after_batch b t
+
+-- the state after a turn
+abbrev pub after_ask : Ask → Option Batch → State → State
+after_ask (asked request) written s = record s { tables = after_written written s.tables }
+after_ask (claims duty reading) written s = record { tables = claiming duty s.tables; open_claims = (duty, reading) ∷ s.open_claims }
+after_ask (records duty reading outcome) written s = record { tables = after_written written s.tables; open_claims = closed_claims duty s.open_claims }
+after_ask (puts_back duty) written s = record { tables = giving_back duty s.tables; open_claims = closed_claims duty s.open_claims }
+
+abbrev pub after_turn : Turn → State → State
+after_turn turn s = after_ask turn.ask turn.batch s
+
+-- a legal history: each turn is the machine's in the state that those before it left
+abbrev pub IsLegal : State → List Turn → Type 0
+IsLegal s [] = Unit {0}
+IsLegal s (turn ∷ turns) = IsTurnOf s turn.ask turn.batch × IsLegal (after_turn turn s) turns
+
+-- the state after the turns
+abbrev pub state_after : List Turn → State → State
+state_after [] s = s
+state_after (turn ∷ turns) s = state_after turns (after_turn turn s)
+
+abbrev pub with_written : Option Batch → List Batch → List Batch
+with_written None batches = batches
+with_written (Some b) batches = b ∷ batches
+
+-- the batches that the turns wrote
+abbrev pub batches_of : List Turn → List Batch
+batches_of [] = []
+batches_of (turn ∷ turns) = with_written turn.batch (batches_of turns)

@@ -1,0 +1,49 @@
+-- What reading the next message answers.
+use Rattle.std.specs.Prelude.{◌≡◌, ℕ, ◌⊎◌, true, false, List, [], ◌++◌, Option}
+use Rattle.std.specs.Io.KnownBytes.{Appends, Consumes, IsAtEnd}
+use Rattle.router_disk.specs.Sink.{AppendsPart}
+use Rattle.router_core.specs.Reply.{no_memory, bad_head}
+use Rattle.api_wire.specs.Messages.{HoldsMessage, IsAwaited, IsRefused}
+use Rattle.api_wire.specs.Written.{reply_text, AreEmptyLines, HasHead}
+use Rattle.bus_server.specs.declared.incoming.Incoming.{Incoming}
+use Rattle.bus_server.specs.declared.incoming.Incoming.TheVariants as incoming
+use Rattle.bus_server.specs.declared.incoming.Lack.{Lack}
+use Rattle.bus_server.specs.declared.incoming.Lack.TheVariants as lacks
+use Rattle.bus_server.specs.declared.session.SessionEnd.{SessionEnd}
+use Rattle.bus_server.specs.declared.session.SessionEnd.TheVariants as ends
+
+-- why no message comes of these bytes
+abbrev pub LackOf : List ℕ → Option (List ℕ) → Lack → Type 0
+LackOf bytes left lacks.Closed = IsAtEnd left × AreEmptyLines bytes
+LackOf bytes left lacks.Cut = IsAtEnd left × IsAwaited bytes × (¬ AreEmptyLines bytes)
+LackOf bytes left lacks.Refused = IsRefused bytes
+LackOf bytes left lacks.ReadFault = IsAwaited bytes
+LackOf bytes left (lacks.NoMemory head) = (kept lost : List ℕ) × (bytes ≡ kept ++ lost)
+    × (((head ≡ true) × HasHead kept) ⊎ ((head ≡ false) × (¬ HasHead kept)))
+
+-- the bytes at hand and those taken in are the message and the rest, or give none
+abbrev pub NextOf : Option (List ℕ) → Option (List ℕ) → List ℕ → List ℕ → Incoming → Type 0
+NextOf left left_new rest rest_new (incoming.Message m) = (taken : List ℕ) × Consumes left left_new taken × HoldsMessage (rest ++ taken) m rest_new
+NextOf left left_new rest rest_new (incoming.Lack lack) = (taken : List ℕ) × Consumes left left_new taken × LackOf (rest ++ taken) left_new lack
+
+-- what is written where no message comes
+abbrev pub closing_of : Lack → List ℕ
+closing_of lacks.Closed = []
+closing_of lacks.Cut = []
+closing_of lacks.Refused = reply_text bad_head true
+closing_of lacks.ReadFault = []
+closing_of (lacks.NoMemory true) = reply_text no_memory true
+closing_of (lacks.NoMemory false) = []
+
+abbrev pub end_of : Lack → SessionEnd
+end_of lacks.Closed = ends.Closed
+end_of lacks.Cut = ends.Cut
+end_of lacks.Refused = ends.Refused
+end_of lacks.ReadFault = ends.ReadFault
+end_of (lacks.NoMemory head) = ends.NoMemory
+
+-- the end that the lack asks for, once the closing is written, or a write that failed
+abbrev pub IsFinish : Lack → Option (List ℕ) → Option (List ℕ) → SessionEnd → Type 0
+IsFinish lack written written_new end =
+    ((end ≡ end_of lack) × Appends written written_new (closing_of lack))
+    ⊎ ((end ≡ ends.WriteFault) × ((lack ≡ lacks.Refused) ⊎ (lack ≡ lacks.NoMemory true)) × AppendsPart written written_new (closing_of lack))

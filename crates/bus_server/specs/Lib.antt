@@ -1,0 +1,13 @@
+pub mod Firsts
+pub mod History
+pub mod Exchange
+pub mod Book
+pub mod Answered
+pub mod Steps
+pub mod Session
+pub mod Incoming
+pub mod Responses
+pub mod Running
+pub mod Served
+pub mod Words
+pub mod Run

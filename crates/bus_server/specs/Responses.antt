@@ -1,0 +1,35 @@
+-- What is written for one message.
+use Rattle.std.specs.Prelude.{◌≡◌, ℕ, Bool, List, ◌++◌, Option, Result, Ok, Err}
+use Rattle.json_text.specs.declared.base.NoMemory.{NoMemory}
+use Rattle.router_disk.specs.Clock.{Gives}
+use Rattle.router_disk.specs.Sink.{WritesAll}
+use Rattle.router_disk.specs.declared.fault.Failed.{Failed}
+use Rattle.router_core.specs.Reply.{Counts, no_memory, not_built, unknown_operation}
+use Rattle.api_wire.specs.Written.{reply_text}
+use Rattle.api_wire.specs.declared.call.fault.CallFault.{CallFault}
+use Rattle.api_wire.specs.declared.call.fault.CallFault.TheVariants as faults
+use Rattle.bus_server.specs.History.{Turn}
+use Rattle.bus_server.specs.Book.{BookState}
+use Rattle.bus_server.specs.Exchange.{Stop, IsDelivery, delivery_reply, default_budget}
+
+-- the bytes, or where memory was refused the reply that says so
+abbrev pub text_or : Result (List ℕ) NoMemory → Bool → List ℕ
+text_or (Ok bytes) close = bytes
+text_or (Err refused) close = reply_text no_memory close
+
+-- the reply to a message that asks for nothing that is served
+abbrev pub IsFaultText : CallFault → Bool → List ℕ → Type 0
+IsFaultText faults.UnknownOperation close bytes = bytes ≡ reply_text unknown_operation close
+IsFaultText faults.NotBuilt close bytes = bytes ≡ reply_text not_built close
+IsFaultText faults.NoMemory close bytes = ⊥
+
+-- the steps of a DeliverDue, and its reply
+pub record DeliveredOf (close : Bool) (old new : BookState) (ahead ahead_new : Option (ℕ → ℕ)) (written written_new : Option (List ℕ)) (result : Result (Unit {0}) Failed) : Type 0 where
+  pub given : List ℕ
+  pub made : List Turn
+  pub counts : Counts
+  pub stop : Stop
+  pub steps : IsDelivery default_budget old.tables given made counts stop new.tables
+  pub turns : new.turns ≡ old.turns ++ made
+  pub readings : Gives ahead ahead_new given
+  pub writes : WritesAll written written_new result (reply_text (delivery_reply counts stop) close)

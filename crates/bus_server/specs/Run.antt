@@ -1,0 +1,74 @@
+-- The program: its words, its one session, its status and the line on its faults.
+use Rattle.std.specs.Prelude.{◌≡◌, ℕ, ◌⊎◌, List, [], ◌∷◌, ◌++◌, Option, Some, None, Result, codes}
+use Rattle.std.specs.Io.KnownBytes.{Keeps}
+use Rattle.router_disk.specs.Clock.{repeating}
+use Rattle.router_disk.specs.Faults.{CountsFaults}
+use Rattle.router_disk.specs.Sink.{WritesAll}
+use Rattle.router_disk.specs.declared.fault.Failed.{Failed}
+use Rattle.router_core.specs.Tables.{first_tables}
+use Rattle.bus_server.specs.declared.session.SessionEnd.{SessionEnd}
+use Rattle.bus_server.specs.declared.session.SessionEnd.TheVariants as ends
+use Rattle.bus_server.specs.declared.program.Status.{Status}
+use Rattle.bus_server.specs.declared.program.Status.TheVariants as statuses
+use Rattle.bus_server.specs.Book.{BookState}
+use Rattle.bus_server.specs.Session.{IsSession}
+
+abbrev pub status_of : SessionEnd → Status
+status_of ends.Closed = statuses.Done
+status_of ends.Cut = statuses.Cut
+status_of ends.Refused = statuses.Refused
+status_of ends.Long = statuses.Long
+status_of ends.ReadFault = statuses.ReadFault
+status_of ends.WriteFault = statuses.WriteFault
+status_of ends.NoMemory = statuses.NoMemory
+
+-- what is written on faults; each line ends in a line feed
+abbrev pub fault_line : Status → List ℕ
+fault_line statuses.Done = []
+fault_line statuses.Usage = codes "ebusd: bad arguments" ++ 10 ∷ []
+fault_line statuses.ReadFault = codes "ebusd: input failed" ++ 10 ∷ []
+fault_line statuses.WriteFault = codes "ebusd: output failed" ++ 10 ∷ []
+fault_line statuses.NoMemory = codes "ebusd: out of memory" ++ 10 ∷ []
+fault_line statuses.Cut = codes "ebusd: input ended inside a message" ++ 10 ∷ []
+fault_line statuses.Long = codes "ebusd: request limit reached" ++ 10 ∷ []
+fault_line statuses.Refused = codes "ebusd: message refused" ++ 10 ∷ []
+
+-- the exit status of the process
+abbrev pub code_of : Status → ℕ
+code_of statuses.Done = 0
+code_of statuses.Usage = 2
+code_of statuses.ReadFault = 3
+code_of statuses.WriteFault = 4
+code_of statuses.NoMemory = 7
+code_of statuses.Cut = 9
+code_of statuses.Long = 10
+code_of statuses.Refused = 11
+
+-- the line of the status was written, or a first part of it where the write failed, which the count of faults tells
+abbrev pub IsTold : Status → Option (List ℕ) → Option (List ℕ) → ℕ → ℕ → Type 0
+IsTold status old new faults faults_new =
+    (result : Result (Unit {0}) Failed) × WritesAll old new result (fault_line status) × CountsFaults faults faults_new result
+
+-- the book before any turn
+abbrev pub first_book : BookState
+first_book = record { tables = first_tables; turns = [] }
+
+-- one session from the first book, over these ends of a source, a sink and a clock
+pub record RunsOnce (left left_new written written_new : Option (List ℕ)) (ahead ahead_new : Option (ℕ → ℕ)) (status : Status) : Type 0 where
+  pub book : BookState
+  pub end : SessionEnd
+  pub session : IsSession first_book book left left_new written written_new ahead ahead_new end
+  pub ends : status ≡ status_of end
+
+-- nothing was read and nothing written
+abbrev pub IsUnbegun : Option (List ℕ) → Option (List ℕ) → Option (List ℕ) → Option (List ℕ) → Type 0
+IsUnbegun left left_new written written_new = Keeps left left_new × Keeps written written_new
+
+-- The run of a line of words: one session, by the clock or with every reading the given one; or memory was refused at once.
+abbrev pub IsRun : Option ℕ → Option (List ℕ) → Option (List ℕ) → Option (List ℕ) → Option (List ℕ) → Option (ℕ → ℕ) → Option (ℕ → ℕ) → Status → Type 0
+IsRun None left left_new written written_new ahead ahead_new status =
+    RunsOnce left left_new written written_new ahead ahead_new status
+    ⊎ ((status ≡ statuses.NoMemory) × IsUnbegun left left_new written written_new)
+IsRun (Some moment) left left_new written written_new ahead ahead_new status =
+    ((later : Option (ℕ → ℕ)) × RunsOnce left left_new written written_new (Some (repeating moment [])) later status)
+    ⊎ ((status ≡ statuses.NoMemory) × IsUnbegun left left_new written written_new)

@@ -1,0 +1,34 @@
+-- A session under way.
+use Rattle.std.specs.Prelude.{◌≡◌, ℕ, Bool, List, ◌∷◌, ◌++◌, length, Option, Result}
+use Rattle.std.specs.Io.KnownBytes.{Appends, Consumes}
+use Rattle.router_disk.specs.Clock.{Gives}
+use Rattle.router_disk.specs.Sink.{WritesAll}
+use Rattle.router_disk.specs.declared.fault.Failed.{Failed}
+use Rattle.api_wire.specs.declared.message.Message.{Message}
+use Rattle.api_wire.specs.Messages.{IsStream}
+use Rattle.api_wire.specs.Written.{reply_text}
+use Rattle.bus_server.specs.Book.{BookState}
+use Rattle.bus_server.specs.Exchange.{Exchange, IsExchange, AreExchanges, turns_of, readings_of, messages_of}
+use Rattle.bus_server.specs.Session.{texts_of, NoneCloses}
+
+-- what was exchanged so far: so many requests, none of which asked to close
+pub record IsRunning (old now : BookState) (left left_now written written_now : Option (List ℕ)) (ahead ahead_now : Option (ℕ → ℕ)) (rest : List ℕ) (served : ℕ) : Type 0 where
+  pub exchanged : List Exchange
+  pub count : length exchanged ≡ served
+  pub open_yet : NoneCloses exchanged
+  pub taken : List ℕ
+  pub takes : Consumes left left_now taken
+  pub stream : IsStream taken (messages_of exchanged) rest
+  pub exchanges : AreExchanges old.tables exchanged now.tables
+  pub turns : now.turns ≡ old.turns ++ turns_of exchanged
+  pub readings : Gives ahead ahead_now (readings_of exchanged)
+  pub written_are : Appends written written_now (texts_of exchanged)
+
+-- one exchange, of this message
+pub record ExchangeOf (message : Message) (close : Bool) (old new : BookState) (ahead ahead_new : Option (ℕ → ℕ)) (written written_new : Option (List ℕ)) (result : Result (Unit {0}) Failed) : Type 0 where
+  pub exchanged : Exchange
+  pub message_is : exchanged.message ≡ message
+  pub is_exchange : IsExchange old.tables exchanged new.tables
+  pub turns : new.turns ≡ old.turns ++ exchanged.turns
+  pub readings : Gives ahead ahead_new (exchanged.reading ∷ exchanged.steps)
+  pub writes : WritesAll written written_new result (reply_text exchanged.reply close)

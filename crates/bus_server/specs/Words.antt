@@ -1,0 +1,16 @@
+-- The words of the program.
+use Rattle.std.specs.Prelude.{◌≡◌, ℕ, ◌≤◌, List, [], ◌∷◌, Option, Some, None, codes, decimal}
+
+-- a number of seconds that is in range, in plain digits
+abbrev pub IsMomentWord : List ℕ → ℕ → Type 0
+IsMomentWord word moment = (moment ≤ 250000000000) × (word ≡ decimal moment)
+
+-- `once`, or `once --now S`, behind the program's name; with S where it is given
+abbrev pub IsLine : List (List ℕ) → Option ℕ → Type 0
+IsLine [] now = ⊥
+IsLine (name ∷ []) now = ⊥
+IsLine (name ∷ command ∷ []) now = (command ≡ codes "once") × (now ≡ None)
+IsLine (name ∷ command ∷ option ∷ []) now = ⊥
+IsLine (name ∷ command ∷ option ∷ value ∷ []) now =
+    (command ≡ codes "once") × (option ≡ codes "--now") × ((moment : ℕ) × (now ≡ Some moment) × IsMomentWord value moment)
+IsLine (name ∷ command ∷ option ∷ value ∷ more ∷ others) now = ⊥

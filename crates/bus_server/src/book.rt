@@ -1,0 +1,119 @@
+//! The router's guarded state: its tables, and the history of its turns.
+ghost use Rattle.std.specs.Prelude.{◌≡◌, ◌≢◌, ◌++◌, ◌∷◌, [], IfOk, OnErr};
+ghost use Rattle.json_text.specs.Moment.{IsMoment};
+ghost use Rattle.router_core.specs.Request.{deliver_due};
+ghost use Rattle.router_core.specs.Seen.{action_of, request_of};
+ghost use Rattle.router_core.specs.Tables.{first_tables};
+ghost use Rattle.router_calls.specs.Decided.{IsBounded};
+ghost use Rattle.bus_server.specs.Book.{book_of};
+ghost use Rattle.bus_server.specs.Answered.{IsAnswered};
+ghost use Rattle.bus_server.specs.Steps.{StepOf};
+
+use crate::history::{Ask, History, Turn, Written};
+use crate::text::reply_bytes;
+use delivery_duties::Outcome;
+use json_text::{Bytes, LAST_MOMENT, NoMemory};
+use router_calls::decide;
+use router_core::{Request, Tables};
+use std::alloc::Global;
+use std::snapshot::Snapshot;
+
+/// The router's guarded state.
+#[derive(Drop)]
+pub struct Book {
+    pub(crate) tables: Tables,
+    pub(crate) history: History,
+}
+
+/// What one step of delivery did.
+#[derive(Clone, Copy, Debug, PartialEq, Eq)]
+pub enum Step {
+    /// No duty is due.
+    Idle,
+    /// A duty is due, and no further batch is numbered.
+    Limited,
+    /// One attempt was made, or found too old.
+    Made(Outcome),
+}
+
+impl Book {
+    /// The book before any turn.
+    pub fn first(alloc: Global) -> Result<Book, NoMemory>
+        ensures { IfOk result (λ b. book_of b ≡ record { tables = first_tables; turns = [] }) }
+    {
+        Ok(Book {
+            tables: Tables::first(alloc)?,
+            history: History::new(),
+        })
+    }
+
+    /// Answers the request, and gives the bytes of its reply. Their room is taken before the tables change.
+    pub fn answer(
+        &mut self,
+        alloc: Global,
+        request: Request,
+        close: bool,
+    ) -> Result<Bytes, NoMemory>
+        requires reading { IsMoment request.reading }
+        requires few { IsBounded (action_of request.action) }
+        requires one_turn { action_of request.action ≢ deliver_due }
+        ensures answered { IfOk result (λ bytes. IsAnswered (book_of self.old) (book_of self.new) (request_of request) close bytes) }
+        ensures unchanged { OnErr result (book_of self.new ≡ book_of self.old) }
+    {
+        let ask = Ask::Asked(Snapshot::of(&request));
+        let (ready, reply) = decide(alloc, &self.tables, request)?;
+        let bytes = reply_bytes(alloc, &reply, close)?;
+        match ready {
+            Some(ready) => {
+                let written = Written::Change(Snapshot::of(&ready));
+                self.tables.apply(ready);
+                self.history.push(&Turn { ask, written });
+            }
+            None => self.history.push(&Turn {
+                ask,
+                written: Written::Nothing,
+            }),
+        }
+        Ok(bytes)
+    }
+
+    /// One step of delivery at this reading of the clock.
+    pub fn step(&mut self, reading: u64) -> Step
+        ensures { StepOf (book_of self.old) (book_of self.new) reading result }
+    {
+        let reading = reading.min(LAST_MOMENT);
+        let moment = reading.max(self.tables.moment());
+        let full = self.tables.full();
+        let claim = match self.tables.claim_next(moment) {
+            Some(claim) => claim,
+            None => return Step::Idle,
+        };
+        let duty = claim.number;
+        self.history.push(&Turn {
+            ask: Ask::Claims { duty, reading },
+            written: Written::Nothing,
+        });
+        if full {
+            self.tables.put_back(claim);
+            self.history.push(&Turn {
+                ask: Ask::PutsBack { duty },
+                written: Written::Nothing,
+            });
+            return Step::Limited;
+        }
+        let outcome = self.tables.record(claim, moment);
+        self.history.push(&Turn {
+            ask: Ask::Records {
+                duty,
+                reading,
+                outcome,
+            },
+            written: Written::Record {
+                moment,
+                duty,
+                outcome,
+            },
+        });
+        Step::Made(outcome)
+    }
+}

@@ -1,0 +1,67 @@
+//! The steps of one DeliverDue.
+ghost use Rattle.bus_server.specs.Book.{book_of};
+ghost use Rattle.bus_server.specs.Steps.{DeliveryOf};
+
+use crate::book::{Book, Step};
+use delivery_duties::Outcome;
+use router_disk::Clock;
+
+/// How many steps are made at most.
+const BUDGET: u32 = 100;
+
+/// How the steps ended.
+#[derive(Clone, Copy, Debug, PartialEq, Eq)]
+pub enum Ending {
+    /// No duty is due, or the budget is used.
+    Done,
+    /// A duty is due, and no further batch is numbered.
+    Limited,
+}
+
+/// How many steps were made, what became of them, and how they ended.
+#[derive(Clone, Copy, Debug, PartialEq, Eq)]
+pub struct Delivery {
+    pub attempts: u32,
+    pub delivered: u32,
+    pub dropped: u32,
+    pub ending: Ending,
+}
+
+/// Makes steps of delivery, each at a reading of its own, until no duty is due or the budget is used.
+pub(crate) fn deliver<C: Clock>(book: &mut Book, clock: &mut C) -> Delivery
+    ensures { DeliveryOf (book_of book.old) (book_of book.new) (C.ahead clock.old) (C.ahead clock.new) result }
+{
+    let mut delivered: u32 = 0;
+    let mut dropped: u32 = 0;
+    for attempts in 0..BUDGET {
+        match book.step(clock.now()) {
+            Step::Made(Outcome::Accepted) => {
+                delivered += 1;
+                continue;
+            }
+            Step::Made(Outcome::TooOld) => dropped += 1,
+            Step::Idle => {
+                return Delivery {
+                    attempts,
+                    delivered,
+                    dropped,
+                    ending: Ending::Done,
+                };
+            }
+            Step::Limited => {
+                return Delivery {
+                    attempts,
+                    delivered,
+                    dropped,
+                    ending: Ending::Limited,
+                };
+            }
+        }
+    }
+    Delivery {
+        attempts: BUDGET,
+        delivered,
+        dropped,
+        ending: Ending::Done,
+    }
+}

@@ -1,0 +1,151 @@
+//! One message and its reply.
+ghost use Rattle.std.specs.Prelude.{◌≡◌, ◌↔◌, IsTrue, IfOk};
+ghost use Rattle.router_core.specs.Reply as told;
+ghost use Rattle.router_core.specs.Request.{deliver_due};
+ghost use Rattle.router_core.specs.Seen.{action_of};
+ghost use Rattle.router_disk.specs.Faults.{CountsFaults};
+ghost use Rattle.router_disk.specs.Sink.{WritesAll};
+ghost use Rattle.api_wire.specs.Written.{reply_text};
+ghost use Rattle.bus_server.specs.Book.{book_of};
+ghost use Rattle.bus_server.specs.Exchange.{delivery_reply};
+ghost use Rattle.bus_server.specs.Steps.{counts_of, stop_of};
+ghost use Rattle.bus_server.specs.Responses.{text_or, IsFaultText, DeliveredOf};
+ghost use Rattle.bus_server.specs.Running.{ExchangeOf};
+
+use crate::book::Book;
+use crate::delivery::{Delivery, Ending, deliver};
+use crate::text::reply_bytes;
+use api_wire::{CallFault, CountsReply, Message, no_memory_reply, read_call};
+use json_text::{Bytes, LAST_MOMENT, NoMemory};
+use router_core::{Action, not_built, number_limit, unknown_operation};
+use router_disk::{Clock, Failed, Sink};
+use std::alloc::Global;
+
+/// Answers the message, and writes the reply; `close` where the session ends behind it.
+pub(crate) fn answer_message<K: Sink, C: Clock>(
+    alloc: Global,
+    book: &mut Book,
+    message: &Message,
+    close: bool,
+    output: &mut K,
+    clock: &mut C,
+) -> Result<(), Failed>
+    ensures exchange { ExchangeOf message.now close (book_of book.old) (book_of book.new) (C.ahead clock.old) (C.ahead clock.new) (K.written output.old) (K.written output.new) result }
+    ensures count { CountsFaults (K.faults output.old) (K.faults output.new) result }
+{
+    let reading = clock.now();
+    match read_call(alloc, message, reading.min(LAST_MOMENT)) {
+        Ok(request) => {
+            if is_deliver_due(&request.action) {
+                return answer_delivery(alloc, book, close, output, clock);
+            }
+            let bytes = book.answer(alloc, request, close);
+            respond(bytes, close, output)
+        }
+        Err(fault) => respond(fault_bytes(alloc, fault, close), close, output),
+    }
+}
+
+fn is_deliver_due(action: &Action) -> bool
+    ensures { IsTrue result ↔ (action_of action.now ≡ deliver_due) }
+{
+    match action {
+        Action::DeliverDue => true,
+        Action::CreateQueue { .. }
+        | Action::PutRule { .. }
+        | Action::PutTargets { .. }
+        | Action::PutEvents { .. }
+        | Action::PeekMessages { .. } => false,
+    }
+}
+
+/// Writes the bytes, or that memory was refused.
+fn respond<K: Sink>(
+    bytes: Result<Bytes, NoMemory>,
+    close: bool,
+    output: &mut K,
+) -> Result<(), Failed>
+    ensures writes { WritesAll (K.written output.old) (K.written output.new) result (text_or bytes close) }
+    ensures count { CountsFaults (K.faults output.old) (K.faults output.new) result }
+{
+    match bytes {
+        Ok(bytes) => output.write_all(bytes.as_slice()),
+        Err(NoMemory) => output.write_all(no_memory_reply(close)),
+    }
+}
+
+/// The reply to a message that asks for nothing that is served.
+fn fault_bytes(alloc: Global, fault: CallFault, close: bool) -> Result<Bytes, NoMemory>
+    ensures { IfOk result (λ bytes. IsFaultText fault close bytes) }
+{
+    match fault {
+        CallFault::UnknownOperation => unknown_bytes(alloc, close),
+        CallFault::NotBuilt => not_built_bytes(alloc, close),
+        CallFault::NoMemory => Err(NoMemory),
+    }
+}
+
+fn unknown_bytes(alloc: Global, close: bool) -> Result<Bytes, NoMemory>
+    ensures { IfOk result (λ bytes. bytes ≡ reply_text told.unknown_operation close) }
+{
+    let reply = unknown_operation(alloc)?;
+    reply_bytes(alloc, &reply, close)
+}
+
+fn not_built_bytes(alloc: Global, close: bool) -> Result<Bytes, NoMemory>
+    ensures { IfOk result (λ bytes. bytes ≡ reply_text told.not_built close) }
+{
+    let reply = not_built(alloc)?;
+    reply_bytes(alloc, &reply, close)
+}
+
+/// Makes the steps of a DeliverDue, and writes its reply, whose room is taken before the first step.
+fn answer_delivery<K: Sink, C: Clock>(
+    alloc: Global,
+    book: &mut Book,
+    close: bool,
+    output: &mut K,
+    clock: &mut C,
+) -> Result<(), Failed>
+    ensures delivered { DeliveredOf close (book_of book.old) (book_of book.new) (C.ahead clock.old) (C.ahead clock.new) (K.written output.old) (K.written output.new) result }
+    ensures count { CountsFaults (K.faults output.old) (K.faults output.new) result }
+{
+    match delivery_room(alloc, close) {
+        Ok((room, limit)) => {
+            let made = deliver(book, clock);
+            write_delivery(room, limit.as_slice(), made, close, output)
+        }
+        Err(NoMemory) => output.write_all(no_memory_reply(close)),
+    }
+}
+
+/// Writes what the steps came to.
+fn write_delivery<K: Sink>(
+    mut room: CountsReply,
+    limit: &[u8],
+    made: Delivery,
+    close: bool,
+    output: &mut K,
+) -> Result<(), Failed>
+    requires { limit.now ≡ reply_text told.number_limit close }
+    ensures writes { WritesAll (K.written output.old) (K.written output.new) result (reply_text (delivery_reply (counts_of made) (stop_of made.ending)) close) }
+    ensures count { CountsFaults (K.faults output.old) (K.faults output.new) result }
+{
+    match made.ending {
+        Ending::Done => {
+            let text = room.fill(made.attempts, made.delivered, made.dropped, close);
+            output.write_all(text)
+        }
+        Ending::Limited => output.write_all(limit),
+    }
+}
+
+/// Room for the reply to a DeliverDue, and the reply where no further batch is numbered.
+fn delivery_room(alloc: Global, close: bool) -> Result<(CountsReply, Bytes), NoMemory>
+    ensures { IfOk result (λ p. p.1 ≡ reply_text told.number_limit close) }
+{
+    let room = CountsReply::new(alloc)?;
+    let reply = number_limit(alloc)?;
+    let limit = reply_bytes(alloc, &reply, close)?;
+    Ok((room, limit))
+}

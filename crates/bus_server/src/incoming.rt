@@ -1,0 +1,80 @@
+//! The next message of an input.
+ghost use Rattle.std.specs.Prelude.{◌≡◌, ◌≢◌, ◌<◌, false, length};
+ghost use Rattle.router_disk.specs.Faults.{Rose};
+ghost use Rattle.std.specs.Prelude.{ℕ, List, Option};
+ghost use Rattle.std.specs.Io.KnownBytes.{IsAtEnd};
+ghost use Rattle.api_wire.specs.Messages.{IsAwaited};
+ghost use Rattle.bus_server.specs.Incoming.{LackOf, NextOf};
+
+use api_wire::{Message, WireFault, WireIn, awaited_is_short};
+use json_text::NoMemory;
+use router_disk::{Failed, Source};
+
+/// Why no message comes.
+#[derive(Clone, Copy, Debug, PartialEq, Eq)]
+pub(crate) enum Lack {
+    /// The input ended between messages.
+    Closed,
+    /// The input ended inside a message.
+    Cut,
+    /// No message begins with the bytes.
+    Refused,
+    /// The input failed.
+    ReadFault,
+    /// Memory was refused, with a whole head at hand or without.
+    NoMemory { head: bool },
+}
+
+pub(crate) enum Incoming {
+    Message(Message),
+    Lack(Lack),
+}
+
+/// Reads until a message is whole or none comes.
+pub(crate) fn next_message<S: Source>(
+    wire: &mut WireIn,
+    input: &mut S,
+    piece: &mut [u8],
+) -> Incoming
+    requires room { 0 < length piece.old }
+    requires open { wire.old.refused ≡ false }
+    ensures next { NextOf (S.left input.old) (S.left input.new) wire.old.rest wire.new.rest result }
+    ensures open { result ≢ Incoming.Lack Lack.Refused → wire.new.refused ≡ false }
+    ensures read_fault { result ≡ Incoming.Lack Lack.ReadFault → Rose (S.faults input.old) (S.faults input.new) }
+    ensures faultless { result ≢ Incoming.Lack Lack.ReadFault → S.faults input.new ≡ S.faults input.old }
+{
+    awaited_is_short();
+    loop {
+        match wire.next() {
+            Ok(Some(message)) => return Incoming::Message(message),
+            Ok(None) => {}
+            Err(WireFault::BadHead) => return Incoming::Lack(Lack::Refused),
+            Err(WireFault::NoMemory) => return Incoming::Lack(Lack::NoMemory { head: true }),
+        }
+        match input.read(piece) {
+            Ok(0) => return Incoming::Lack(lack_at_end(wire)),
+            Ok(count) => match wire.feed(&piece[..count]) {
+                Ok(()) => {}
+                Err(NoMemory) => {
+                    return Incoming::Lack(Lack::NoMemory {
+                        head: wire.has_head(),
+                    });
+                }
+            },
+            Err(Failed) => return Incoming::Lack(Lack::ReadFault),
+        }
+    }
+}
+
+/// What an input lacks that ends here.
+fn lack_at_end(wire: &WireIn) -> Lack
+    requires { IsAwaited wire.now.rest }
+    ensures lack { (left : Option (List ℕ)) → IsAtEnd left → LackOf wire.now.rest left result }
+    ensures no_fault { result ≢ Lack.ReadFault }
+{
+    if wire.is_between() {
+        Lack::Closed
+    } else {
+        Lack::Cut
+    }
+}

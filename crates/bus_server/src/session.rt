@@ -1,0 +1,106 @@
+//! Sessions.
+ghost use Rattle.std.specs.Prelude.{◌≡◌, ◌≢◌, ◌||◌};
+ghost use Rattle.router_disk.specs.Faults.{Rose};
+ghost use Rattle.bus_server.specs.Book.{book_of};
+ghost use Rattle.bus_server.specs.Session.{IsSession};
+ghost use Rattle.bus_server.specs.Incoming.{IsFinish};
+
+use crate::book::Book;
+use crate::exchange::answer_message;
+use crate::incoming::{Incoming, Lack, next_message};
+use api_wire::{Message, WireIn, bad_head_reply, no_memory_reply};
+use router_disk::{Clock, Failed, Sink, Source};
+use std::alloc::Global;
+
+/// How many requests one session serves.
+const REQUEST_LIMIT: u64 = 1_048_576;
+
+/// How many bytes are read at once.
+const PIECE: usize = 16_384;
+
+/// Why a session ended.
+#[derive(Clone, Copy, Debug, PartialEq, Eq)]
+pub enum SessionEnd {
+    /// The input ended between messages, or a message asked to close.
+    Closed,
+    /// The input ended inside a message.
+    Cut,
+    /// No message begins with the bytes that came. The rest is unread.
+    Refused,
+    /// The last request was served that one session serves.
+    Long,
+    /// The input failed.
+    ReadFault,
+    /// The output failed.
+    WriteFault,
+    /// Memory was refused while a message was read.
+    NoMemory,
+}
+
+/// Serves the requests of `input` in order, until it ends or a message, a fault or a limit ends the session.
+pub fn run_session<S: Source, K: Sink, C: Clock>(
+    alloc: Global,
+    book: &mut Book,
+    input: &mut S,
+    output: &mut K,
+    clock: &mut C,
+) -> SessionEnd
+    ensures session { IsSession (book_of book.old) (book_of book.new) (S.left input.old) (S.left input.new) (K.written output.old) (K.written output.new) (C.ahead clock.old) (C.ahead clock.new) result }
+    ensures read_fault { result ≡ SessionEnd.ReadFault → Rose (S.faults input.old) (S.faults input.new) }
+    ensures input_faultless { result ≢ SessionEnd.ReadFault → S.faults input.new ≡ S.faults input.old }
+    ensures write_fault { result ≡ SessionEnd.WriteFault → Rose (K.faults output.old) (K.faults output.new) }
+    ensures output_faultless { result ≢ SessionEnd.WriteFault → K.faults output.new ≡ K.faults output.old }
+{
+    let mut wire = WireIn::new(alloc);
+    let mut piece = [0u8; PIECE];
+    let mut served: u64 = 0;
+    loop {
+        let message = match next_message(&mut wire, input, &mut piece) {
+            Incoming::Message(message) => message,
+            Incoming::Lack(lack) => return finish(lack, output),
+        };
+        served += 1;
+        let last = served == REQUEST_LIMIT;
+        let close = closes_behind(&message, last);
+        match answer_message(alloc, book, &message, close, output, clock) {
+            Ok(()) => {}
+            Err(Failed) => return SessionEnd::WriteFault,
+        }
+        if last {
+            return SessionEnd::Long;
+        }
+        if message.close {
+            return SessionEnd::Closed;
+        }
+    }
+}
+
+/// Whether the session ends behind the reply to the message.
+fn closes_behind(message: &Message, last: bool) -> bool
+    ensures { result ≡ (message.now.close || last) }
+{
+    message.close || last
+}
+
+/// Writes what the sender is told where no message comes.
+fn finish<K: Sink>(lack: Lack, output: &mut K) -> SessionEnd
+    ensures finish { IsFinish lack (K.written output.old) (K.written output.new) result }
+    ensures write_fault { result ≡ SessionEnd.WriteFault → Rose (K.faults output.old) (K.faults output.new) }
+    ensures output_faultless { result ≢ SessionEnd.WriteFault → K.faults output.new ≡ K.faults output.old }
+    ensures read_fault { result ≡ SessionEnd.ReadFault → lack ≡ Lack.ReadFault }
+{
+    match lack {
+        Lack::Closed => SessionEnd::Closed,
+        Lack::Cut => SessionEnd::Cut,
+        Lack::ReadFault => SessionEnd::ReadFault,
+        Lack::NoMemory { head: false } => SessionEnd::NoMemory,
+        Lack::NoMemory { head: true } => match output.write_all(no_memory_reply(true)) {
+            Ok(()) => SessionEnd::NoMemory,
+            Err(Failed) => SessionEnd::WriteFault,
+        },
+        Lack::Refused => match output.write_all(bad_head_reply()) {
+            Ok(()) => SessionEnd::Refused,
+            Err(Failed) => SessionEnd::WriteFault,
+        },
+    }
+}
