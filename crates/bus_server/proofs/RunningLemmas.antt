@@ -211,7 +211,7 @@ starved_ends es rest kept lost false none below is (inr missing) = (none, below,
 
 lack_ends : (lack : Lack) (es : List Exchange) (rest : List ℕ) (left : Option (List ℕ)) → NoneCloses es → length es < request_limit → LackOf rest left lack
     → EndsWith (end_of lack) (record { exchanges = es; rest = rest; closing = closing_of lack }) (IsAtEnd left)
-lack_ends lacks.Closed es rest left none below lacking = (below, inl (none, lacking.0, lacking.1), refl)
+lack_ends lacks.Closed es rest left none below lacking = (below, inl (none, lacking.0, lacking.1, lacking.2), refl)
 lack_ends lacks.Cut es rest left none below lacking = (below, none, lacking.0, lacking.1, lacking.2, refl)
 lack_ends lacks.Refused es rest left none below lacking = (none, below, lacking, refl)
 lack_ends lacks.ReadFault es rest left none below lacking = (below, none, lacking, refl)

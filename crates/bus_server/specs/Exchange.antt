@@ -1,5 +1,5 @@
 -- One exchange of a session: a message, the turns that it made, and its reply.
-use Rattle.std.specs.Prelude.{◌≡◌, ℕ, ◌+◌, ◌<◌, ◌≤◌, ◌⊎◌, min, true, false, List, [], ◌∷◌, ◌++◌, length, map, Some, None, IsSome, flat_map}
+use Rattle.std.specs.Prelude.{◌≡◌, ℕ, ◌+◌, ◌<◌, ◌⊎◌, min, true, false, List, [], ◌∷◌, ◌++◌, length, map, Some, None, IsSome, flat_map}
 use Rattle.delivery_duties.specs.declared.fate.Outcome.{Outcome}
 use Rattle.delivery_duties.specs.declared.fate.Outcome.TheVariants.{Accepted, TooOld}
 use Rattle.delivery_duties.specs.Duties.{IsNext, NoneDue}
@@ -66,8 +66,7 @@ IsStop budget made t last turns limited new =
     × IsNext t.duties (moment_at t (moment_of reading)) duty × (is_full t ≡ true)
     × (turns ≡ record { ask = claims duty (moment_of reading); batch = None } ∷ record { ask = puts_back duty; batch = None } ∷ [])
     × (new ≡ giving_back duty (claiming duty t)))
-IsStop budget made t last turns refused new =
-    (made ≤ budget) × ((last ≡ []) ⊎ ((reading : ℕ) × (last ≡ reading ∷ []))) × (turns ≡ []) × (new ≡ t)
+IsStop budget made t last turns refused new = (made ≡ 0) × (last ≡ []) × (turns ≡ []) × (new ≡ t)
 
 -- the steps of one DeliverDue, at most so many
 pub record IsDelivery (budget : ℕ) (t : Tables) (readings : List ℕ) (turns : List Turn) (counts : Counts) (stop : Stop) (new : Tables) : Type 0 where

@@ -14,7 +14,7 @@ use Rattle.bus_server.specs.declared.session.SessionEnd.TheVariants as ends
 
 -- why no message comes of these bytes
 abbrev pub LackOf : List ℕ → Option (List ℕ) → Lack → Type 0
-LackOf bytes left lacks.Closed = IsAtEnd left × AreEmptyLines bytes
+LackOf bytes left lacks.Closed = IsAtEnd left × AreEmptyLines bytes × IsAwaited bytes
 LackOf bytes left lacks.Cut = IsAtEnd left × IsAwaited bytes × (¬ AreEmptyLines bytes)
 LackOf bytes left lacks.Refused = IsRefused bytes
 LackOf bytes left lacks.ReadFault = IsAwaited bytes

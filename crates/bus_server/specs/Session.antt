@@ -63,7 +63,7 @@ IsStarvedAt c = NoneCloses c.exchanges × IsBelowLimit c × ((kept lost : List �
 
 -- Why the session ended; `at_end` is that the input has no byte more.
 abbrev pub EndsWith : SessionEnd → Course → Type 0 → Type 0
-EndsWith Closed c at_end = IsBelowLimit c × ((NoneCloses c.exchanges × at_end × AreEmptyLines c.rest) ⊎ LastCloses c.exchanges) × (c.closing ≡ [])
+EndsWith Closed c at_end = IsBelowLimit c × ((NoneCloses c.exchanges × at_end × AreEmptyLines c.rest × IsAwaited c.rest) ⊎ LastCloses c.exchanges) × (c.closing ≡ [])
 EndsWith Cut c at_end = IsBelowLimit c × NoneCloses c.exchanges × at_end × IsAwaited c.rest × (¬ AreEmptyLines c.rest) × (c.closing ≡ [])
 EndsWith Refused c at_end = IsRefusedAt c
 EndsWith Long c at_end = (length c.exchanges ≡ request_limit) × OpenBefore c.exchanges × (c.closing ≡ [])

@@ -1,4 +1,4 @@
-use Rattle.std.proofs.Common.{[], inl, sym, subst, refl, append-nil, arith}
+use Rattle.std.proofs.Common.{[], sym, subst, refl, append-nil}
 use Rattle.router_disk.proofs.ClockLemmas.{Gives-none}
 use Rattle.router_disk.specs.Sink.{WritesAll}
 use Rattle.bus_server.specs.Book.{book_of}
@@ -22,7 +22,7 @@ returns-in-Err-clause-delivered g c =
         readings_are = refl;
         turns_are = refl;
         steps = (refl, refl, refl);
-        stops = (omega arith, inl refl, refl, refl);
+        stops = (refl, refl, refl, refl);
       };
       turns = sym (append-nil now.turns);
       readings = Gives-none _;
