@@ -7,7 +7,7 @@ use Rattle.event_shape.specs.Entry.{Entry, size_of}
 use Rattle.event_shape.specs.declared.entry.EntryFault.{EntryFault}
 use Rattle.event_shape.specs.Fault.{HasFault}
 use Rattle.event_shape.specs.Time.{IsIso}
-use Rattle.event_shape.specs.Event.{Event, Checked, IsCheckedOf, IsMade, event_tree}
+use Rattle.event_shape.specs.Event.{Event, Checked, IsCheckedOf, IsMade, IsEvent, event_tree}
 use Rattle.pattern_meaning.specs.Pattern.{Pattern}
 use Rattle.pattern_meaning.specs.Holds.{PatternHolds}
 use Rattle.pattern_read.specs.Text.{IsPatternText}
@@ -52,6 +52,7 @@ AreDuties bus (rule ∷ rules) event text duties =
 pub record IsAcceptedAs (set : RuleSet) (reading n : ℕ) (checked : Checked) (a : batch.Accepted) : Type 0 where
   pub event : Event
   pub is_made : IsMade checked n reading owner event
+  pub is_event : IsEvent event
   pub number : a.number ≡ n
   pub bus : a.bus ≡ checked.bus
   pub version : a.version ≡ set.count
