@@ -5,6 +5,7 @@ use Rattle.std.proofs.lemmas.Bool.{cases_lt}
 use Rattle.httparse.specs.Grammar.{RequestHead, print_request, ReadsRequest, HasNoRequest, EndsInTarget}
 use Rattle.httparse.specs.Spans.{RequestExceeds}
 use Rattle.httparse.proofs.GrammarLemmas.{request_unique, ReadsRequest-append}
+use Rattle.httparse.proofs.OpenLemmas.{line_blank, request_may_from_line}
 use Rattle.api_wire.specs.declared.message.Message.{Message}
 use Rattle.api_wire.specs.Fields.{method_of, known_of, pairs_of, text_at, is_sound, length_at, body_length, asks_to_close}
 use Rattle.api_wire.proofs.FieldLemmas.{length_at-small}
@@ -141,6 +142,13 @@ pub no_message_is_empty : (bytes rest : List ℕ) (m : Message) → HoldsMessage
 no_message_is_empty bytes rest m holds =
     let p = holds.1 in
     omega (arith, ap length holds.2, length-append holds.0 rest, ap length p.reads.1, length-append (print_request p.head) m.body, head_some p.head)
+
+-- no bytes are less than a message
+pub nothing_is_awaited : IsAwaited []
+nothing_is_awaited = head_awaited (omega arith) none (request_may_from_line (inl (line_blank (record { more = []; tree = []; reads = λ rest. refl }))))
+  where
+    none : HasNoRequest []
+    none h rest reads = omega (arith, ap length reads.1, length-append (print_request h) rest, head_some h)
 
 -- bytes that are refused and awaited too hold no head
 pub awaited_refused : (bytes : List ℕ) → IsRefused bytes → IsAwaited bytes → HasNoRequest bytes

@@ -66,10 +66,11 @@ HeadIsAwaited bytes (Whole a) = Unit {0}
 HeadIsAwaited bytes Awaited = HasNoRequest bytes
 HeadIsAwaited bytes Refused = Unit {0}
 
--- the bytes fed and not yet taken, and whether they were refused
+-- the bytes fed and not yet taken, whether they were refused, and how many bytes more need no memory
 pub record Incoming : Type 0 where
   pub rest : List ℕ
   pub refused : Bool
+  pub room : ℕ
 
 -- what `next` answers, and what it leaves
 abbrev pub Answers : Incoming → Incoming → Result (Option Message) WireFault → Type 0

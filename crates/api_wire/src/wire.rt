@@ -1,5 +1,5 @@
 //! Bytes in, messages out.
-ghost use Rattle.std.specs.Prelude.{◌≡◌, ◌↔◌, ◌≤◌, [], ◌++◌, true, false, length, drop, OnOk, OnErr, IsErrOf, IsTrue, IsFalse};
+ghost use Rattle.std.specs.Prelude.{◌≡◌, ◌↔◌, ◌≤◌, [], ◌++◌, true, false, length, drop, OnOk, OnErr, IsOk, IsErrOf, IsTrue, IsFalse};
 ghost use Rattle.httparse.specs.Grammar.{HasNoRequest};
 ghost use Rattle.api_wire.specs.Messages.{IsAwaited};
 ghost use Rattle.api_wire.specs.Reading.{Answers};
@@ -22,13 +22,17 @@ pub struct WireIn {
 }
 
 impl Model for WireIn {
-    ghost use Rattle.std.specs.Prelude.{◌≡◌, ◌≤◌, true, length, drop};
+    ghost use Rattle.std.specs.Prelude.{◌≡◌, ◌≤◌, ◌-◌, true, length, drop, vec_len, vec_capacity};
     ghost use Rattle.api_wire.specs.Messages.{IsRefused};
     ghost use Rattle.api_wire.specs.Reading.{Incoming};
 
     ghost Value = { Incoming };
 
-    ghost view = { λ w. record { rest = drop w.start w.buffer.items; refused = w.refused } };
+    ghost view = { λ w. record {
+      rest = drop w.start w.buffer.items;
+      refused = w.refused;
+      room = vec_capacity w.buffer - vec_len w.buffer;
+    } };
 
     ghost invariant = { λ w. (w.start ≤ length w.buffer.items)
         × (w.refused ≡ true → IsRefused (drop w.start w.buffer.items)) };
@@ -47,10 +51,23 @@ impl WireIn {
         }
     }
 
+    /// Makes room for so many bytes more, so that feeding them needs no memory.
+    pub fn reserve(&mut self, len: usize) -> Result<(), NoMemory>
+        ensures room { OnOk result (len ≤ self.new.room) }
+        ensures err { OnErr result (self.new ≡ self.old) }
+        ensures rest { self.new.rest ≡ self.old.rest }
+        ensures refused { self.new.refused ≡ self.old.refused }
+    {
+        self.buffer.try_reserve(len)?;
+        Ok(())
+    }
+
     /// Takes the next bytes, as many as came.
     pub fn feed(&mut self, piece: &[u8]) -> Result<(), NoMemory>
-        ensures ok { OnOk result (self.new ≡ record self.old { rest = self.old.rest ++ piece.now }) }
-        ensures err { OnErr result (self.new ≡ self.old) }
+        ensures ok { OnOk result (self.new.rest ≡ self.old.rest ++ piece.now) }
+        ensures err { OnErr result (self.new.rest ≡ self.old.rest) }
+        ensures refused { self.new.refused ≡ self.old.refused }
+        ensures succeeds { length piece.now ≤ self.old.room → IsOk result }
     {
         self.buffer.extend_from_slice(piece)?;
         Ok(())
@@ -104,7 +121,8 @@ impl WireIn {
     fn take(&mut self, len: usize)
         requires in_range { len ≤ length self.old.rest }
         requires served { self.old.refused ≡ false }
-        ensures { self.new ≡ record self.old { rest = drop len self.old.rest } }
+        ensures rest { self.new.rest ≡ drop len self.old.rest }
+        ensures refused { self.new.refused ≡ self.old.refused }
     {
         self.start += len;
         // A front is given up once it is the longer half, so fewer bytes are moved than are given up.

@@ -9,7 +9,7 @@ pub returns-then-self-clause-answers : goal.returns-then-self-clause-answers
 returns-then-self-clause-answers c =
     let same = ap (λ (v : Incoming). v.refused) (sym c.self.view_is) ∙ c.if-self.true in (
       subst (λ (v : Incoming). IsRefused v.rest) c.self.view_is (c.self.invariant.1 c.if-self.true),
-      λ i. record { rest = c.args.self.now.rest; refused = same i },
+      λ i. record { rest = c.args.self.now.rest; refused = same i; room = c.args.self.now.room },
     )
 
 pub returns-in_err-message-in-Whole-clause-answers : goal.returns-in_err-message-in-Whole-clause-answers
