@@ -1,6 +1,6 @@
 -- One message, from what was written for it. Callers cite `answered_exchange`, `fault_exchange`, `delivery_exchange` and
 -- `asked_bounded`.
-use Rattle.std.proofs.Common.{◌≡◌, ℕ, Bool, List, [], ◌∷◌, Option, None, Result, Ok, Err, sym, refl, ap, ◌∙◌, subst, append-nil}
+use Rattle.std.proofs.Common.{◌≡◌, ℕ, ◌⊎◌, inl, inr, Bool, List, [], ◌∷◌, Option, None, Result, Ok, Err, sym, refl, ap, ◌∙◌, subst, append-nil}
 use Rattle.std.specs.Prelude.{IfOk, OnErr, IsSome}
 use Rattle.json_text.specs.declared.base.NoMemory.{NoMemory}
 use Rattle.router_disk.specs.Clock.{Gives}
@@ -21,7 +21,7 @@ use Rattle.bus_server.specs.History.{asked}
 use Rattle.bus_server.specs.Book.{BookState}
 use Rattle.bus_server.specs.Exchange.{unknown, unbuilt, answered, delivered, out_of_memory, moment_of, delivery_reply}
 use Rattle.bus_server.specs.Answered.{IsAnswered}
-use Rattle.bus_server.specs.Responses.{text_or, IsFaultText, DeliveredOf}
+use Rattle.bus_server.specs.Responses.{text_or, IsFaultText, IsUndelivered, DeliveredOf}
 use Rattle.bus_server.specs.Running.{ExchangeOf}
 
 -- memory was refused, and nothing changed
@@ -85,9 +85,9 @@ fault_exchange m close old ahead ahead_new written written_new result reading fa
 
 pub delivery_exchange : (m : Message) (close : Bool) (old new : BookState) (ahead ahead_mid ahead_new : Option (ℕ → ℕ)) (written written_new : Option (List ℕ)) (result : Result (Unit {0}) Failed) (reading : ℕ)
     (r : Request) → IsAsked m (moment_of reading) r → r.action ≡ deliver_due → Gives ahead ahead_mid (reading ∷ [])
-    → DeliveredOf close old new ahead_mid ahead_new written written_new result
+    → DeliveredOf close old new ahead_mid ahead_new written written_new result ⊎ IsUndelivered close old new ahead_mid ahead_new written written_new result
     → ExchangeOf m close old new ahead ahead_new written written_new result
-delivery_exchange m close old new ahead ahead_mid ahead_new written written_new result reading r is_asked due gave d = record {
+delivery_exchange m close old new ahead ahead_mid ahead_new written written_new result reading r is_asked due gave (inl d) = record {
   exchanged = record { message = m; reading = reading; steps = d.given; turns = d.made; reply = delivery_reply d.counts d.stop };
   message_is = refl;
   is_exchange = delivered r d.counts d.stop is_asked due d.steps refl;
@@ -95,6 +95,8 @@ delivery_exchange m close old new ahead ahead_mid ahead_new written written_new 
   readings = Gives-append gave d.readings;
   writes = d.writes;
 }
+delivery_exchange m close old new ahead ahead_mid ahead_new written written_new result reading r is_asked due gave (inr (same, none, writes)) =
+    refused_exchange m close old new ahead ahead_new written written_new result reading same (Gives-append gave none) writes
 
 -- a request that was asked for publishes ten entries at most
 pub asked_bounded : (m : Message) (reading : ℕ) (r : Request) → IsAsked m reading r → IsBounded r.action

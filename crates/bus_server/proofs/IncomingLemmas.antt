@@ -1,9 +1,16 @@
--- What reading one piece more does. Callers cite `at_end`, `starved` and `longer`.
-use Rattle.std.proofs.Common.{◌≡◌, ℕ, ◌-◌, ◌<◌, ◌⊎◌, inl, inr, Bool, true, false, List, ◌++◌, length, take, Option, sym, refl, ap, ◌∙◌, subst, arith, append_assoc, append-nil, length-append}
+-- What reading one piece more does. Callers cite `at_end`, `starved`, `whole_lacks`, `longer`, `left_over` and `read_behind`.
+use Rattle.std.proofs.Common.{◌≡◌, ℕ, ◌-◌, ◌<◌, ◌≤◌, ◌⊎◌, inl, inr, Bool, true, false, List, [], ◌++◌, length, take, drop, Option, sym, refl, ap, ◌∙◌, subst, arith, append_assoc, append-nil, length-append}
+use Rattle.std.proofs.lemmas.List.{take-append-drop, take-append-le}
+use Rattle.std.proofs.Math.Seq.{take-append_seam}
+use Rattle.std.proofs.lemmas.Bool.{cases_lt}
 use Rattle.std.specs.Io.KnownBytes.{Consumes, IsAtEnd}
 use Rattle.router_disk.proofs.StreamLemmas.{Consumes-append}
-use Rattle.httparse.specs.Grammar.{HasNoRequest}
+use Rattle.httparse.specs.Grammar.{HasNoRequest, print_request}
+use Rattle.api_wire.specs.declared.message.Message.{Message}
+use Rattle.api_wire.specs.Messages.{HoldsMessage, IsAwaited}
 use Rattle.api_wire.specs.Written.{HasHead}
+use Rattle.api_wire.proofs.MessageLemmas.{not_awaited, nothing_is_awaited}
+use Rattle.bus_server.specs.Session.{piece_size, IsLastRead}
 use Rattle.bus_server.specs.declared.incoming.Lack.{Lack}
 use Rattle.bus_server.specs.declared.incoming.Lack.TheVariants as lacks
 use Rattle.bus_server.specs.Incoming.{LackOf}
@@ -21,20 +28,54 @@ at_end l0 l1 l2 first rest taken buf n lack none takes is more end lacks = (
       lacks,
 )
 
--- memory was refused for a piece that was taken
-pub starved : (l0 l1 l2 : Option (List ℕ)) (first rest taken piece : List ℕ) (head : Bool)
-    → Consumes l0 l1 taken → rest ≡ first ++ taken → Consumes l1 l2 piece → (IsTrue head → HasHead rest) → (IsFalse head → HasNoRequest rest)
-    → (x : List ℕ) × Consumes l0 l2 x × LackOf (first ++ x) l2 (lacks.NoMemory head)
-starved l0 l1 l2 first rest taken piece head takes is more whole none = (
-  taken ++ piece,
-  Consumes-append l0 l1 l2 taken piece takes more,
-  (rest, piece, sym (append_assoc first taken piece) ∙ ap (λ r. r ++ piece) (sym is), by_head head whole none),
+-- whether a whole head is at hand
+by_head : (rest : List ℕ) (b : Bool) → (IsTrue b → HasHead rest) → (IsFalse b → HasNoRequest rest) → ((b ≡ true) × HasHead rest) ⊎ ((b ≡ false) × (¬ HasHead rest))
+by_head rest true there missing = inl (refl, there refl)
+by_head rest false there missing = inr (refl, λ found. missing refl found.0 found.1 found.2)
+
+-- memory was refused for the bytes behind those at hand
+pub starved : (l0 l1 : Option (List ℕ)) (first rest taken : List ℕ) (head : Bool)
+    → Consumes l0 l1 taken → rest ≡ first ++ taken → IsAwaited rest → (IsTrue head → HasHead rest) → (IsFalse head → HasNoRequest rest)
+    → (x : List ℕ) × Consumes l0 l1 x × LackOf (first ++ x) l1 (lacks.NoMemory head)
+starved l0 l1 first rest taken head takes is awaited whole none = (
+  taken,
+  takes,
+  subst (λ (bytes : List ℕ). LackOf bytes l1 (lacks.NoMemory head)) is (inl awaited, by_head rest head whole none),
 )
-  where
-    by_head : (b : Bool) → (IsTrue b → HasHead rest) → (IsFalse b → HasNoRequest rest) → ((b ≡ true) × HasHead rest) ⊎ ((b ≡ false) × (¬ HasHead rest))
-    by_head true there missing = inl (refl, there refl)
-    by_head false there missing = inr (refl, λ found. missing refl found.0 found.1 found.2)
 
 -- a piece that has a byte makes what is at hand longer
 pub longer : (rest piece : List ℕ) (limit : ℕ) → length rest < limit → 0 < length piece → limit - length (rest ++ piece) < limit - length rest
 longer rest piece limit short some = omega (arith, length-append rest piece, short, some)
+
+-- a whole message has a head
+pub whole_head : (bytes after : List ℕ) (m : Message) → HoldsMessage bytes m after → HasHead bytes
+whole_head bytes after m (front, message, whole) =
+    (message.head, m.body ++ after, (message.reads.0, whole ∙ ap (λ (b : List ℕ). b ++ after) message.reads.1 ∙ append_assoc (print_request message.head) m.body after))
+
+-- memory was refused for the message that is whole
+pub whole_lacks : (l0 l1 : Option (List ℕ)) (first rest taken after : List ℕ) (m : Message) → Consumes l0 l1 taken → rest ≡ first ++ taken
+    → IsLastRead rest → HoldsMessage rest m after
+    → (x : List ℕ) × Consumes l0 l1 x × LackOf (first ++ x) l1 (lacks.NoMemory true)
+whole_lacks l0 l1 first rest taken after m takes is read holds = (
+  taken,
+  takes,
+  subst (λ (bytes : List ℕ). LackOf bytes l1 (lacks.NoMemory true)) is (inr (read, (m, after, holds)), inl (refl, whole_head rest after m holds)),
+)
+
+-- what is left of the last read
+pub left_over : (bytes : List ℕ) → length bytes ≤ piece_size → IsLastRead bytes
+left_over bytes few = ([], bytes, refl, nothing_is_awaited, few)
+
+-- what stands behind the first message that is whole is less than the last read
+pub read_behind : (bytes behind : List ℕ) (m : Message) → IsLastRead bytes → HoldsMessage bytes m behind → length behind < piece_size
+read_behind bytes behind m (held, piece, is, awaited, small) (front, message, whole) =
+    elim (cases_lt (length held) (length front)) [
+      | inl short ↦ omega (arith, ap length (sym whole ∙ is), length-append front behind, length-append held piece, short, small)
+      | inr long ↦ absurd (not_awaited front (drop (length front) held) m message (subst IsAwaited (held_is long) awaited))
+    ]
+  where
+    held_is : length front ≤ length held → held ≡ front ++ drop (length front) held
+    held_is long =
+        sym (take-append-drop (length front) held)
+        ∙ ap (λ (xs : List ℕ). xs ++ drop (length front) held)
+        (sym (take-append-le (length front) held piece long) ∙ ap (take (length front)) (sym is ∙ whole) ∙ take-append_seam front behind)

@@ -2,5 +2,8 @@ pub mod DeliveryLemmas
 pub mod ExchangeLemmas
 pub mod HistoryLemmas
 pub mod IncomingLemmas
+pub mod LeadsLemmas
+pub mod ReadingLemmas
+pub mod RunLemmas
 pub mod RunningLemmas
 pub mod WordLemmas

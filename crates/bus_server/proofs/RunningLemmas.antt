@@ -12,18 +12,20 @@ use Rattle.router_disk.proofs.StreamLemmas.{Consumes-append, Appends-append, App
 use Rattle.router_disk.proofs.ClockLemmas.{Gives-none, Gives-append}
 use Rattle.router_core.specs.Tables.{Tables}
 use Rattle.api_wire.specs.declared.message.Message.{Message}
-use Rattle.api_wire.specs.Messages.{HoldsMessage, IsStream}
+use Rattle.api_wire.specs.Messages.{HoldsMessage, IsAwaited, IsStream}
 use Rattle.api_wire.specs.Written.{reply_text, HasHead}
 use Rattle.bus_server.specs.Book.{BookState}
 use Rattle.bus_server.specs.Exchange.{Exchange, IsExchange, AreExchanges, turns_of, readings_of, messages_of}
-use Rattle.bus_server.specs.Session.{request_limit, closes, texts_from, texts_of, NoneCloses, OpenBefore, IsStarvedAt, EndsWith, IsWritten, IsSession}
+use Rattle.bus_server.specs.Session.{request_limit, closes, texts_from, texts_of, NoneCloses, OpenBefore, Course, piece_size, IsWholeNow, IsStarvedAt, EndsWith, WritesWhole, WritesNotLast, IsWritten, IsSession}
 use Rattle.bus_server.specs.Running.{IsRunning, ExchangeOf}
-use Rattle.bus_server.specs.Served.{IsServed}
+use Rattle.bus_server.specs.Served.{WritesBehind, IsServed}
 use Rattle.bus_server.specs.declared.session.SessionEnd.TheVariants as ends
 use Rattle.bus_server.specs.declared.incoming.Lack.{Lack}
 use Rattle.bus_server.specs.declared.incoming.Lack.TheVariants as lacks
 use Rattle.bus_server.specs.declared.session.SessionEnd.{SessionEnd}
 use Rattle.bus_server.specs.Incoming.{LackOf, IsFinish, closing_of, end_of}
+use Rattle.bus_server.proofs.LeadsLemmas.{exchanges_lead}
+use Rattle.bus_server.proofs.ReadingLemmas.{exchanges_read}
 
 holds_more : (bytes after more : List ℕ) (m : Message) → HoldsMessage bytes m after → HoldsMessage (bytes ++ more) m (after ++ more)
 holds_more bytes after more m (front, is, whole) = (front, is, ap (λ b. b ++ more) whole ∙ append_assoc front after more)
@@ -56,20 +58,27 @@ turns_append es e = sym (flat_map-append (λ (x : Exchange). x.turns) es (e ∷ 
 readings_append : (es : List Exchange) (e : Exchange) → readings_of es ++ e.reading ∷ e.steps ≡ readings_of (es ++ e ∷ [])
 readings_append es e = sym (flat_map-append (λ (x : Exchange). x.reading ∷ x.steps) es (e ∷ []) ∙ ap (λ t. readings_of es ++ t) (append-nil (e.reading ∷ e.steps)))
 
-writes_append : (old mid new : Option (List ℕ)) (xs ys : List ℕ) (result : Result (Unit {0}) Failed) → Appends old mid xs → WritesAll mid new result ys → WritesAll old new result (xs ++ ys)
-writes_append old mid new xs ys (Ok u) first second = Appends-append old mid new xs ys first second
-writes_append old mid new xs ys (Err e) first (part, rest, whole, appended) =
-    (xs ++ part, rest, ap (λ y. xs ++ y) whole ∙ sym (append_assoc xs part rest), Appends-append old mid new xs part first appended)
+writes_behind : (old mid new : Option (List ℕ)) (xs ys : List ℕ) (result : Result (Unit {0}) Failed) → Appends old mid xs → WritesAll mid new result ys → WritesBehind xs ys old new result
+writes_behind old mid new xs ys (Ok u) first second = Appends-append old mid new xs ys first second
+writes_behind old mid new xs ys (Err e) first (part, behind, whole, appended) = (part, behind, whole, Appends-append old mid new xs part first appended)
+
+-- the replies of all exchanges, the last one included
+texts_whole : (before : List Exchange) (last : Exchange) → texts_of before ++ reply_text last.reply (closes (length before) last) ≡ texts_of (before ++ last ∷ [])
+texts_whole before last =
+    let at : length before ≡ 0 + length before = omega arith in
+    ap (λ (k : ℕ). texts_of before ++ reply_text last.reply (closes k last)) at ∙ sym (texts_append 0 before last)
 
 -- nothing was exchanged yet
-pub running_at_start : (old : BookState) (left written : Option (List ℕ)) (ahead : Option (ℕ → ℕ)) → IsRunning old old left left written written ahead ahead [] 0
-running_at_start old left written ahead = record {
+pub running_at_start : (old : BookState) (left written : Option (List ℕ)) (ahead : Option (ℕ → ℕ)) (rest : List ℕ) → rest ≡ []
+    → IsRunning old old left left written written ahead ahead rest 0
+running_at_start old left written ahead rest none = record {
   exchanged = [];
   count = refl;
   open_yet = tt;
   taken = [];
   takes = consumes_none left;
-  stream = refl;
+  stream = sym none;
+  few = omega (arith, ap length none);
   exchanges = refl;
   turns = sym (append-nil old.turns);
   readings = Gives-none ahead;
@@ -84,19 +93,14 @@ running_at_start old left written ahead = record {
 pub served_next : (old now new : BookState) (left left_now left_new written written_now written_new : Option (List ℕ)) (ahead ahead_now ahead_new : Option (ℕ → ℕ))
     (rest behind : List ℕ) (served : ℕ) (m : Message) (close : Bool) (result : Result (Unit {0}) Failed)
     → IsRunning old now left left_now written written_now ahead ahead_now rest served
-    → ((taken : List ℕ) × Consumes left_now left_new taken × HoldsMessage (rest ++ taken) m behind)
+    → ((taken : List ℕ) × Consumes left_now left_new taken × HoldsMessage (rest ++ taken) m behind × (length behind < piece_size))
     → ExchangeOf m close now new ahead_now ahead_new written_now written_new result
     → close ≡ (m.close || (served + 1 == request_limit))
     → IsServed m old new left left_new written written_new ahead ahead_new behind served result
-served_next old now new left left_now left_new written written_now written_new ahead ahead_now ahead_new rest behind served m close result run (more, takes, holds) x is =
+served_next old now new left left_now left_new written written_now written_new ahead ahead_now ahead_new rest behind served m close result run (more, takes, holds, few) x is =
     let e = x.exchanged in
     let es = run.exchanged in
     let closing : closes (length es) e ≡ close = ap (λ (k : ℕ). e.message.close || (k + 1 == request_limit)) run.count ∙ ap (λ (n : Message). n.close || (served + 1 == request_limit)) x.message_is ∙ sym is in
-    let at : length es ≡ 0 + length es = omega arith in
-    let text : texts_of es ++ reply_text e.reply close ≡ texts_of (es ++ e ∷ []) =
-    ap (λ (c : Bool). texts_of es ++ reply_text e.reply c) (sym closing)
-    ∙ ap (λ (k : ℕ). texts_of es ++ reply_text e.reply (closes k e)) at
-    ∙ sym (texts_append 0 es e) in
     record {
       before = es;
       last = e;
@@ -108,10 +112,12 @@ served_next old now new left left_now left_new written written_now written_new a
       stream = subst (λ (ms : List Message). IsStream (run.taken ++ more) ms behind)
           (ap (λ (n : Message). messages_of es ++ n ∷ []) (sym x.message_is) ∙ sym (map-append (λ (d : Exchange). d.message) es (e ∷ [])))
           (stream_append (run.taken ++ more) (rest ++ more) behind (messages_of es) m (stream_more run.taken more rest (messages_of es) run.stream) holds);
+      few = few;
       exchanges = exchanges_append old.tables now.tables new.tables es e run.exchanges x.is_exchange;
       turns = x.turns ∙ ap (λ t. t ++ e.turns) run.turns ∙ append_assoc old.turns (turns_of es) e.turns ∙ ap (λ t. old.turns ++ t) (turns_append es e);
       readings = subst (λ (g : List ℕ). Gives ahead ahead_new g) (readings_append es e) (Gives-append run.readings x.readings);
-      written_are = subst (WritesAll written written_new result) text (writes_append written written_now written_new (texts_of es) (reply_text e.reply close) result run.written_are x.writes);
+      written_are = subst (λ (c : Bool). WritesBehind (texts_of es) (reply_text e.reply c) written written_new result) (sym closing)
+          (writes_behind written written_now written_new (texts_of es) (reply_text e.reply close) result run.written_are x.writes);
     }
 
 -- the message asks for no end
@@ -125,10 +131,11 @@ running_on m old now left left_now written written_now ahead ahead_now rest serv
   taken = s.taken;
   takes = s.takes;
   stream = s.stream;
+  few = omega (arith, s.few);
   exchanges = s.exchanges;
   turns = s.turns;
   readings = s.readings;
-  written_are = s.written_are;
+  written_are = subst (Appends written written_now) (texts_whole s.before s.last) s.written_are;
 }
 
 open_before : (before : List Exchange) (last : Exchange) (close : Bool) → NoneCloses before → last.message.close ≡ close → OpenBefore (before ++ last ∷ [])
@@ -143,15 +150,17 @@ pub long_end : (m : Message) (old now : BookState) (left left_now written writte
     → IsServed m old now left left_now written written_now ahead ahead_now rest served (Ok tt) → served + 1 ≡ request_limit
     → IsSession old now left left_now written written_now ahead ahead_now ends.Long
 long_end m old now left left_now written written_now ahead ahead_now rest served s last = record {
-  course = record { exchanges = s.before ++ s.last ∷ []; rest = rest; closing = [] };
+  course = record { exchanges = s.before ++ s.last ∷ []; rest = rest; closing = None };
   taken = s.taken;
   takes = s.takes;
   stream = s.stream;
   exchanges = s.exchanges;
   turns = s.turns;
+  history = exchanges_lead old.tables (s.before ++ s.last ∷ []) now.tables s.exchanges;
   readings = s.readings;
-  written_are = subst (Appends written written_now) (sym (append-nil (texts_of (s.before ++ s.last ∷ [])))) s.written_are;
-  ends = (served_count s.before s.last served s.count ∙ last, open_before s.before s.last _ s.open_yet refl, refl);
+  asked_at = exchanges_read old.tables (s.before ++ s.last ∷ []) now.tables s.exchanges;
+  written_are = subst (Appends written written_now) (texts_whole s.before s.last ∙ sym (append-nil (texts_of (s.before ++ s.last ∷ [])))) s.written_are;
+  ends = (served_count s.before s.last served s.count ∙ last, open_before s.before s.last _ s.open_yet refl, s.few, refl);
 }
 
 -- the message asks to close
@@ -159,18 +168,20 @@ pub closed_end : (m : Message) (old now : BookState) (left left_now written writ
     → IsServed m old now left left_now written written_now ahead ahead_now rest served (Ok tt) → served + 1 < request_limit → m.close ≡ true
     → IsSession old now left left_now written written_now ahead ahead_now ends.Closed
 closed_end m old now left left_now written written_now ahead ahead_now rest served s below closes_it = record {
-  course = record { exchanges = s.before ++ s.last ∷ []; rest = rest; closing = [] };
+  course = record { exchanges = s.before ++ s.last ∷ []; rest = rest; closing = None };
   taken = s.taken;
   takes = s.takes;
   stream = s.stream;
   exchanges = s.exchanges;
   turns = s.turns;
+  history = exchanges_lead old.tables (s.before ++ s.last ∷ []) now.tables s.exchanges;
   readings = s.readings;
-  written_are = subst (Appends written written_now) (sym (append-nil (texts_of (s.before ++ s.last ∷ [])))) s.written_are;
+  asked_at = exchanges_read old.tables (s.before ++ s.last ∷ []) now.tables s.exchanges;
+  written_are = subst (Appends written written_now) (texts_whole s.before s.last ∙ sym (append-nil (texts_of (s.before ++ s.last ∷ [])))) s.written_are;
   ends = (
     subst (λ n. n < request_limit) (sym (served_count s.before s.last served s.count)) below,
-    inr (s.before, s.last, refl, s.open_yet, ap (λ (n : Message). n.close) s.message_is ∙ closes_it),
     refl,
+    inr ((s.before, s.last, refl, s.open_yet, ap (λ (n : Message). n.close) s.message_is ∙ closes_it), s.few),
   );
 }
 
@@ -179,64 +190,56 @@ pub write_end : (m : Message) (old now : BookState) (left left_now written writt
     → IsServed m old now left left_now written written_now ahead ahead_now rest served (Err e) → served + 1 ≤ request_limit
     → IsSession old now left left_now written written_now ahead ahead_now ends.WriteFault
 write_end m old now left left_now written written_now ahead ahead_now rest served e s below = record {
-  course = record { exchanges = s.before ++ s.last ∷ []; rest = rest; closing = [] };
+  course = record { exchanges = s.before ++ s.last ∷ []; rest = rest; closing = None };
   taken = s.taken;
   takes = s.takes;
   stream = s.stream;
   exchanges = s.exchanges;
   turns = s.turns;
+  history = exchanges_lead old.tables (s.before ++ s.last ∷ []) now.tables s.exchanges;
   readings = s.readings;
-  written_are = subst (AppendsPart written written_now) (sym (append-nil (texts_of (s.before ++ s.last ∷ [])))) s.written_are;
+  asked_at = exchanges_read old.tables (s.before ++ s.last ∷ []) now.tables s.exchanges;
+  written_are = (s.before, s.last, refl, s.written_are);
   ends = inl (
     subst (λ n. n ≤ request_limit) (sym (served_count s.before s.last served s.count)) below,
     open_before s.before s.last _ s.open_yet refl,
+    s.few,
     refl,
   );
 }
 
-all_written : (lack : Lack) (old new : Option (List ℕ)) (bytes : List ℕ) → Appends old new bytes → IsWritten (end_of lack) old new bytes
-all_written lacks.Closed old new bytes is = is
-all_written lacks.Cut old new bytes is = is
-all_written lacks.Refused old new bytes is = is
-all_written lacks.ReadFault old new bytes is = is
-all_written (lacks.NoMemory head) old new bytes is = is
+all_written : (lack : Lack) (c : Course) (old new : Option (List ℕ)) → WritesWhole c.exchanges c.closing old new → IsWritten (end_of lack) c old new
+all_written lacks.Closed c old new is = is
+all_written lacks.Cut c old new is = is
+all_written lacks.Refused c old new is = is
+all_written lacks.ReadFault c old new is = is
+all_written (lacks.NoMemory head) c old new is = is
 
-starved_ends : (es : List Exchange) (rest kept lost : List ℕ) (head : Bool) → NoneCloses es → length es < request_limit → rest ≡ kept ++ lost
-    → ((head ≡ true) × HasHead kept) ⊎ ((head ≡ false) × (¬ HasHead kept))
+starved_ends : (es : List Exchange) (rest : List ℕ) (head : Bool) → NoneCloses es → length es < request_limit → IsAwaited rest ⊎ IsWholeNow rest
+    → ((head ≡ true) × HasHead rest) ⊎ ((head ≡ false) × (¬ HasHead rest))
     → IsStarvedAt (record { exchanges = es; rest = rest; closing = closing_of (lacks.NoMemory head) })
-starved_ends es rest kept lost true none below is (inl there) = (none, below, (kept, lost, is, inl (there.1, refl)))
-starved_ends es rest kept lost true none below is (inr missing) = cc
-starved_ends es rest kept lost false none below is (inl there) = cc
-starved_ends es rest kept lost false none below is (inr missing) = (none, below, (kept, lost, is, inr (missing.1, refl)))
+starved_ends es rest true none below at (inl there) = (none, below, at, inl (there.1, refl))
+starved_ends es rest true none below at (inr missing) = cc
+starved_ends es rest false none below at (inl there) = cc
+starved_ends es rest false none below at (inr missing) = (none, below, at, inr (missing.1, refl))
 
 lack_ends : (lack : Lack) (es : List Exchange) (rest : List ℕ) (left : Option (List ℕ)) → NoneCloses es → length es < request_limit → LackOf rest left lack
     → EndsWith (end_of lack) (record { exchanges = es; rest = rest; closing = closing_of lack }) (IsAtEnd left)
-lack_ends lacks.Closed es rest left none below lacking = (below, inl (none, lacking.0, lacking.1, lacking.2), refl)
+lack_ends lacks.Closed es rest left none below lacking = (below, refl, inl (none, lacking.0, lacking.1, lacking.2))
 lack_ends lacks.Cut es rest left none below lacking = (below, none, lacking.0, lacking.1, lacking.2, refl)
-lack_ends lacks.Refused es rest left none below lacking = (none, below, lacking, refl)
+lack_ends lacks.Refused es rest left none below lacking = (none, below, lacking.0, lacking.1, refl)
 lack_ends lacks.ReadFault es rest left none below lacking = (below, none, lacking, refl)
-lack_ends (lacks.NoMemory head) es rest left none below (kept, lost, is, cause) = starved_ends es rest kept lost head none below is cause
+lack_ends (lacks.NoMemory head) es rest left none below (at, cause) = starved_ends es rest head none below at cause
 
-fault_ends : (lack : Lack) (es : List Exchange) (rest : List ℕ) (left : Option (List ℕ)) → NoneCloses es → length es < request_limit → LackOf rest left lack
-    → (lack ≡ lacks.Refused) ⊎ (lack ≡ lacks.NoMemory true)
+fault_ends : (lack : Lack) (es : List Exchange) (rest text : List ℕ) (left : Option (List ℕ)) → NoneCloses es → length es < request_limit → LackOf rest left lack
+    → closing_of lack ≡ Some text
     → EndsWith ends.WriteFault (record { exchanges = es; rest = rest; closing = closing_of lack }) (IsAtEnd left)
-fault_ends lacks.Closed es rest left none below lacking which = cc_out which
-  where
-    cc_out : (lacks.Closed ≡ lacks.Refused) ⊎ (lacks.Closed ≡ lacks.NoMemory true) → EndsWith ends.WriteFault (record { exchanges = es; rest = rest; closing = [] }) (IsAtEnd left)
-    cc_out (inl e) = cc
-    cc_out (inr e) = cc
-fault_ends lacks.Cut es rest left none below lacking which = cc_out which
-  where
-    cc_out : (lacks.Cut ≡ lacks.Refused) ⊎ (lacks.Cut ≡ lacks.NoMemory true) → EndsWith ends.WriteFault (record { exchanges = es; rest = rest; closing = [] }) (IsAtEnd left)
-    cc_out (inl e) = cc
-    cc_out (inr e) = cc
-fault_ends lacks.Refused es rest left none below lacking which = inr (inl (none, below, lacking, refl))
-fault_ends lacks.ReadFault es rest left none below lacking which = cc_out which
-  where
-    cc_out : (lacks.ReadFault ≡ lacks.Refused) ⊎ (lacks.ReadFault ≡ lacks.NoMemory true) → EndsWith ends.WriteFault (record { exchanges = es; rest = rest; closing = [] }) (IsAtEnd left)
-    cc_out (inl e) = cc
-    cc_out (inr e) = cc
-fault_ends (lacks.NoMemory head) es rest left none below (kept, lost, is, cause) which = inr (inr (starved_ends es rest kept lost head none below is cause))
+fault_ends lacks.Closed es rest text left none below lacking which = cc
+fault_ends lacks.Cut es rest text left none below lacking which = cc
+fault_ends lacks.Refused es rest text left none below lacking which = inr (inl (none, below, lacking.0, lacking.1, refl))
+fault_ends lacks.ReadFault es rest text left none below lacking which = cc
+fault_ends (lacks.NoMemory true) es rest text left none below (at, cause) which = inr (inr (starved_ends es rest true none below at cause, refl))
+fault_ends (lacks.NoMemory false) es rest text left none below lacking which = cc
 
 -- no message comes
 pub lack_end : (old now : BookState) (left left_now left_new written written_now written_new : Option (List ℕ)) (ahead ahead_now : Option (ℕ → ℕ)) (rest : List ℕ) (served : ℕ)
@@ -248,28 +251,34 @@ pub lack_end : (old now : BookState) (left left_now left_new written written_now
 lack_end old now left left_now left_new written written_now written_new ahead ahead_now rest served lack end run (more, takes, lacking) finish below =
     elim finish [
       | inl done ↦ subst (IsSession old now left left_new written written_new ahead ahead_now) (sym done.0)
-          (ended (end_of lack) (all_written lack _ _ _ (Appends-append written written_now written_new _ _ run.written_are done.1)) (lack_ends lack run.exchanged (rest ++ more) left_new run.open_yet few lacking))
+          (ended (end_of lack) (all_written lack course written written_new (Appends-append written written_now written_new _ _ run.written_are done.1)) (lack_ends lack run.exchanged (rest ++ more) left_new run.open_yet few lacking))
       | inr failed ↦ subst (IsSession old now left left_new written written_new ahead ahead_now) (sym failed.0)
-          (ended ends.WriteFault (part failed.2) (fault_ends lack run.exchanged (rest ++ more) left_new run.open_yet few lacking failed.1))
+          (ended ends.WriteFault (part failed.1.0 failed.1.1 failed.1.2) (fault_ends lack run.exchanged (rest ++ more) failed.1.0 left_new run.open_yet few lacking failed.1.1))
     ]
   where
+    course : Course
+    course = record { exchanges = run.exchanged; rest = rest ++ more; closing = closing_of lack }
+
     few : length run.exchanged < request_limit
     few = subst (λ n. n < request_limit) (sym run.count) below
 
-    part : AppendsPart written_now written_new (closing_of lack) → AppendsPart written written_new (texts_of run.exchanged ++ closing_of lack)
-    part p = (texts_of run.exchanged ++ p.0, p.1, ap (λ y. texts_of run.exchanged ++ y) p.2 ∙ sym (append_assoc (texts_of run.exchanged) p.0 p.1), Appends-append written written_now written_new (texts_of run.exchanged) p.0 run.written_are p.3)
+    part : (text : List ℕ) → closing_of lack ≡ Some text → AppendsPart written_now written_new text → IsWritten ends.WriteFault course written written_new
+    part text is (first, behind, whole, appended) =
+        subst (λ (c : Option (List ℕ)). WritesNotLast run.exchanged c written written_new) (sym is)
+        (first, behind, whole, Appends-append written written_now written_new (texts_of run.exchanged) first run.written_are appended)
 
-    ended : (stop : SessionEnd) → IsWritten stop written written_new (texts_of run.exchanged ++ closing_of lack)
-        → EndsWith stop (record { exchanges = run.exchanged; rest = rest ++ more; closing = closing_of lack }) (IsAtEnd left_new)
+    ended : (stop : SessionEnd) → IsWritten stop course written written_new → EndsWith stop course (IsAtEnd left_new)
         → IsSession old now left left_new written written_new ahead ahead_now stop
     ended stop is_written is_end = record {
-      course = record { exchanges = run.exchanged; rest = rest ++ more; closing = closing_of lack };
+      course = course;
       taken = run.taken ++ more;
       takes = Consumes-append left left_now left_new run.taken more run.takes takes;
       stream = stream_more run.taken more rest (messages_of run.exchanged) run.stream;
       exchanges = run.exchanges;
       turns = run.turns;
+      history = exchanges_lead old.tables run.exchanged now.tables run.exchanges;
       readings = run.readings;
+      asked_at = exchanges_read old.tables run.exchanged now.tables run.exchanges;
       written_are = is_written;
       ends = is_end;
     }

@@ -12,7 +12,8 @@ use Rattle.api_wire.specs.Call.{operation_of, IsAsked}
 use Rattle.router_core.specs.Steps.{EndsSo, record_of, claiming, giving_back}
 use Rattle.bus_server.specs.History.{asked, claims, records, puts_back, Turn, after_written}
 
--- the reading of the clock when the message was whole, those of its delivery steps, the turns that it made, and its reply
+-- the reading of the clock when the message was whole, those of its delivery steps and of the look behind them that made none, the
+-- turns that it made, and its reply
 pub record Exchange : Type 0 where
   pub message : Message
   pub reading : ℕ
@@ -50,10 +51,9 @@ AreSteps t (reading ∷ readings) turns counts new =
     × IsStep t reading first outcome mid × AreSteps mid readings later rest new
     × (turns ≡ first ++ later) × (counts ≡ and_one outcome rest)
 
--- how a run of steps ended: none was due or the budget was used, a duty was due but no further batch is numbered, or memory
--- was refused
+-- how a run of steps ended: none was due or the budget was used; or a duty was due but no further batch is numbered
 pub data Stop : Type 0 where
-  done limited refused : Stop
+  done limited : Stop
 
 -- what comes behind so many steps
 abbrev pub IsStop : ℕ → ℕ → Tables → List ℕ → List Turn → Stop → Tables → Type 0
@@ -66,7 +66,6 @@ IsStop budget made t last turns limited new =
     × IsNext t.duties (moment_at t (moment_of reading)) duty × (is_full t ≡ true)
     × (turns ≡ record { ask = claims duty (moment_of reading); batch = None } ∷ record { ask = puts_back duty; batch = None } ∷ [])
     × (new ≡ giving_back duty (claiming duty t)))
-IsStop budget made t last turns refused new = (made ≡ 0) × (last ≡ []) × (turns ≡ []) × (new ≡ t)
 
 -- the steps of one DeliverDue, at most so many
 pub record IsDelivery (budget : ℕ) (t : Tables) (readings : List ℕ) (turns : List Turn) (counts : Counts) (stop : Stop) (new : Tables) : Type 0 where
@@ -88,7 +87,6 @@ default_budget = 100
 abbrev pub delivery_reply : Counts → Stop → Reply
 delivery_reply counts done = counted counts
 delivery_reply counts limited = number_limit
-delivery_reply counts refused = no_memory
 
 -- an exchange that makes no turn
 pub record IsWithoutTurn (t : Tables) (e : Exchange) (reply : Reply) (new : Tables) : Type 0 where

@@ -1,11 +1,11 @@
 -- The history: the turns of the router, oldest first, from the tables that it began with.
-use Rattle.std.specs.Prelude.{◌≡◌, ℕ, false, ◌==◌, List, [], ◌∷◌, Option, Some, None, Contains, filter, not}
+use Rattle.std.specs.Prelude.{◌≡◌, ℕ, false, ◌==◌, ◌⊎◌, List, [], ◌∷◌, Option, Some, None, All, Contains, filter, flat_map, not}
 use Rattle.delivery_duties.specs.declared.fate.Outcome.{Outcome}
 use Rattle.delivery_duties.specs.Duties.{IsNext}
 use Rattle.router_core.specs.Request.{Request}
 use Rattle.router_core.specs.Reply.{Reply}
 use Rattle.router_core.specs.Batch.{Batch}
-use Rattle.router_core.specs.Tables.{Tables, after_batch, is_full}
+use Rattle.router_core.specs.Tables.{Tables, after_batch, tables_after, is_full}
 use Rattle.router_core.specs.Steps.{EndsSo, record_of, claiming, giving_back}
 use Rattle.router_calls.specs.Answer.{IsAnswer, moment_at}
 
@@ -73,3 +73,35 @@ with_written (Some b) batches = b ∷ batches
 abbrev pub batches_of : List Turn → List Batch
 batches_of [] = []
 batches_of (turn ∷ turns) = with_written turn.batch (batches_of turns)
+
+-- the reading that an ask brings: a request's, or a claim's, which its record has again
+abbrev pub readings_at : Ask → List ℕ
+readings_at (asked request) = request.reading ∷ []
+readings_at (claims duty reading) = reading ∷ []
+readings_at (records duty reading outcome) = []
+readings_at (puts_back duty) = []
+
+-- the readings of turns, that of a claim and its record once
+abbrev pub asked_readings : List Turn → List ℕ
+asked_readings = flat_map (λ turn. readings_at turn.ask)
+
+-- the numbers are some of the others, in their order
+abbrev pub IsSublist : List ℕ → List ℕ → Type 0
+IsSublist [] ys = Unit {0}
+IsSublist (x ∷ xs) [] = ⊥
+IsSublist (x ∷ xs) (y ∷ ys) = ((x ≡ y) × IsSublist xs ys) ⊎ IsSublist (x ∷ xs) ys
+
+-- the state of tables with no claim open
+abbrev pub begun : Tables → State
+begun t = record { tables = t; open_claims = [] }
+
+-- no pending duty is claimed
+abbrev pub NoneClaimed : Tables → Type 0
+NoneClaimed t = All (λ row. row.claimed ≡ false) t.duties.pending
+
+-- The turns are a legal history from the old tables to the new ones, and leave no claim open. Where no duty was claimed before,
+-- none is after them, and the new tables are the fold of the turns' batches.
+pub record Leads (old : Tables) (turns : List Turn) (new : Tables) : Type 0 where
+  pub legal : IsLegal (begun old) turns
+  pub reaches : state_after turns (begun old) ≡ begun new
+  pub folds : NoneClaimed old → (new ≡ tables_after (batches_of turns) old) × NoneClaimed new

@@ -1,10 +1,11 @@
 -- What reading the next message answers.
-use Rattle.std.specs.Prelude.{◌≡◌, ℕ, ◌⊎◌, true, false, List, [], ◌++◌, Option}
+use Rattle.std.specs.Prelude.{◌≡◌, ℕ, ◌⊎◌, true, false, ◌<◌, List, [], ◌++◌, length, Option, Some, None, unwrap_or}
 use Rattle.std.specs.Io.KnownBytes.{Appends, Consumes, IsAtEnd}
 use Rattle.router_disk.specs.Sink.{AppendsPart}
 use Rattle.router_core.specs.Reply.{no_memory, bad_head}
 use Rattle.api_wire.specs.Messages.{HoldsMessage, IsAwaited, IsRefused}
 use Rattle.api_wire.specs.Written.{reply_text, AreEmptyLines, HasHead}
+use Rattle.bus_server.specs.Session.{IsLastRead, IsWholeNow, piece_size}
 use Rattle.bus_server.specs.declared.incoming.Incoming.{Incoming}
 use Rattle.bus_server.specs.declared.incoming.Incoming.TheVariants as incoming
 use Rattle.bus_server.specs.declared.incoming.Lack.{Lack}
@@ -16,24 +17,25 @@ use Rattle.bus_server.specs.declared.session.SessionEnd.TheVariants as ends
 abbrev pub LackOf : List ℕ → Option (List ℕ) → Lack → Type 0
 LackOf bytes left lacks.Closed = IsAtEnd left × AreEmptyLines bytes × IsAwaited bytes
 LackOf bytes left lacks.Cut = IsAtEnd left × IsAwaited bytes × (¬ AreEmptyLines bytes)
-LackOf bytes left lacks.Refused = IsRefused bytes
+LackOf bytes left lacks.Refused = IsRefused bytes × IsLastRead bytes
 LackOf bytes left lacks.ReadFault = IsAwaited bytes
-LackOf bytes left (lacks.NoMemory head) = (kept lost : List ℕ) × (bytes ≡ kept ++ lost)
-    × (((head ≡ true) × HasHead kept) ⊎ ((head ≡ false) × (¬ HasHead kept)))
+LackOf bytes left (lacks.NoMemory head) = (IsAwaited bytes ⊎ IsWholeNow bytes)
+    × (((head ≡ true) × HasHead bytes) ⊎ ((head ≡ false) × (¬ HasHead bytes)))
 
 -- the bytes at hand and those taken in are the message and the rest, or give none
 abbrev pub NextOf : Option (List ℕ) → Option (List ℕ) → List ℕ → List ℕ → Incoming → Type 0
 NextOf left left_new rest rest_new (incoming.Message m) = (taken : List ℕ) × Consumes left left_new taken × HoldsMessage (rest ++ taken) m rest_new
+    × (length rest_new < piece_size)
 NextOf left left_new rest rest_new (incoming.Lack lack) = (taken : List ℕ) × Consumes left left_new taken × LackOf (rest ++ taken) left_new lack
 
--- what is written where no message comes
-abbrev pub closing_of : Lack → List ℕ
-closing_of lacks.Closed = []
-closing_of lacks.Cut = []
-closing_of lacks.Refused = reply_text bad_head true
-closing_of lacks.ReadFault = []
-closing_of (lacks.NoMemory true) = reply_text no_memory true
-closing_of (lacks.NoMemory false) = []
+-- what is written where no message comes, if anything is
+abbrev pub closing_of : Lack → Option (List ℕ)
+closing_of lacks.Closed = None
+closing_of lacks.Cut = None
+closing_of lacks.Refused = Some (reply_text bad_head true)
+closing_of lacks.ReadFault = None
+closing_of (lacks.NoMemory true) = Some (reply_text no_memory true)
+closing_of (lacks.NoMemory false) = None
 
 abbrev pub end_of : Lack → SessionEnd
 end_of lacks.Closed = ends.Closed
@@ -45,5 +47,5 @@ end_of (lacks.NoMemory head) = ends.NoMemory
 -- the end that the lack asks for, once the closing is written, or a write that failed
 abbrev pub IsFinish : Lack → Option (List ℕ) → Option (List ℕ) → SessionEnd → Type 0
 IsFinish lack written written_new end =
-    ((end ≡ end_of lack) × Appends written written_new (closing_of lack))
-    ⊎ ((end ≡ ends.WriteFault) × ((lack ≡ lacks.Refused) ⊎ (lack ≡ lacks.NoMemory true)) × AppendsPart written written_new (closing_of lack))
+    ((end ≡ end_of lack) × Appends written written_new (unwrap_or (closing_of lack) []))
+    ⊎ ((end ≡ ends.WriteFault) × ((text : List ℕ) × (closing_of lack ≡ Some text) × AppendsPart written written_new text))

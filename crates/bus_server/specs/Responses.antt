@@ -1,5 +1,5 @@
 -- What is written for one message.
-use Rattle.std.specs.Prelude.{◌≡◌, ℕ, Bool, List, ◌++◌, Option, Result, Ok, Err}
+use Rattle.std.specs.Prelude.{◌≡◌, ℕ, Bool, List, [], ◌++◌, Option, Result, Ok, Err}
 use Rattle.json_text.specs.declared.base.NoMemory.{NoMemory}
 use Rattle.router_disk.specs.Clock.{Gives}
 use Rattle.router_disk.specs.Sink.{WritesAll}
@@ -22,6 +22,11 @@ abbrev pub IsFaultText : CallFault → Bool → List ℕ → Type 0
 IsFaultText faults.UnknownOperation close bytes = bytes ≡ reply_text unknown_operation close
 IsFaultText faults.NotBuilt close bytes = bytes ≡ reply_text not_built close
 IsFaultText faults.NoMemory close bytes = ⊥
+
+-- memory was refused before the first step
+abbrev pub IsUndelivered : Bool → BookState → BookState → Option (ℕ → ℕ) → Option (ℕ → ℕ) → Option (List ℕ) → Option (List ℕ) → Result (Unit {0}) Failed → Type 0
+IsUndelivered close old new ahead ahead_new written written_new result =
+    (new ≡ old) × Gives ahead ahead_new [] × WritesAll written written_new result (reply_text no_memory close)
 
 -- the steps of a DeliverDue, and its reply
 pub record DeliveredOf (close : Bool) (old new : BookState) (ahead ahead_new : Option (ℕ → ℕ)) (written written_new : Option (List ℕ)) (result : Result (Unit {0}) Failed) : Type 0 where

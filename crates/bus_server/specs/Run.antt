@@ -5,11 +5,12 @@ use Rattle.router_disk.specs.Clock.{repeating}
 use Rattle.router_disk.specs.Faults.{CountsFaults}
 use Rattle.router_disk.specs.Sink.{WritesAll}
 use Rattle.router_disk.specs.declared.fault.Failed.{Failed}
-use Rattle.router_core.specs.Tables.{first_tables}
+use Rattle.router_core.specs.Tables.{first_tables, tables_after}
 use Rattle.bus_server.specs.declared.session.SessionEnd.{SessionEnd}
 use Rattle.bus_server.specs.declared.session.SessionEnd.TheVariants as ends
 use Rattle.bus_server.specs.declared.program.Status.{Status}
 use Rattle.bus_server.specs.declared.program.Status.TheVariants as statuses
+use Rattle.bus_server.specs.History.{IsLegal, state_after, batches_of, begun}
 use Rattle.bus_server.specs.Book.{BookState}
 use Rattle.bus_server.specs.Session.{IsSession}
 
@@ -59,6 +60,10 @@ pub record RunsOnce (left left_new written written_new : Option (List ℕ)) (ahe
   pub end : SessionEnd
   pub session : IsSession first_book book left left_new written written_new ahead ahead_new end
   pub ends : status ≡ status_of end
+  -- all turns are a legal history from the first tables, which leaves no claim open; the tables are the fold of its batches
+  pub legal : IsLegal (begun first_tables) book.turns
+  pub none_open : state_after book.turns (begun first_tables) ≡ begun book.tables
+  pub tables : book.tables ≡ tables_after (batches_of book.turns) first_tables
 
 -- nothing was read and nothing written
 abbrev pub IsUnbegun : Option (List ℕ) → Option (List ℕ) → Option (List ℕ) → Option (List ℕ) → Type 0

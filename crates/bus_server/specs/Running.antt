@@ -1,5 +1,5 @@
 -- A session under way.
-use Rattle.std.specs.Prelude.{◌≡◌, ℕ, Bool, List, ◌∷◌, ◌++◌, length, Option, Result}
+use Rattle.std.specs.Prelude.{◌≡◌, ℕ, ◌≤◌, Bool, List, ◌∷◌, ◌++◌, length, Option, Result}
 use Rattle.std.specs.Io.KnownBytes.{Appends, Consumes}
 use Rattle.router_disk.specs.Clock.{Gives}
 use Rattle.router_disk.specs.Sink.{WritesAll}
@@ -9,7 +9,7 @@ use Rattle.api_wire.specs.Messages.{IsStream}
 use Rattle.api_wire.specs.Written.{reply_text}
 use Rattle.bus_server.specs.Book.{BookState}
 use Rattle.bus_server.specs.Exchange.{Exchange, IsExchange, AreExchanges, turns_of, readings_of, messages_of}
-use Rattle.bus_server.specs.Session.{texts_of, NoneCloses}
+use Rattle.bus_server.specs.Session.{texts_of, NoneCloses, piece_size}
 
 -- what was exchanged so far: so many requests, none of which asked to close
 pub record IsRunning (old now : BookState) (left left_now written written_now : Option (List ℕ)) (ahead ahead_now : Option (ℕ → ℕ)) (rest : List ℕ) (served : ℕ) : Type 0 where
@@ -19,6 +19,8 @@ pub record IsRunning (old now : BookState) (left left_now written written_now : 
   pub taken : List ℕ
   pub takes : Consumes left left_now taken
   pub stream : IsStream taken (messages_of exchanged) rest
+  -- of the last piece that was read
+  pub few : length rest ≤ piece_size
   pub exchanges : AreExchanges old.tables exchanged now.tables
   pub turns : now.turns ≡ old.turns ++ turns_of exchanged
   pub readings : Gives ahead ahead_now (readings_of exchanged)

@@ -1,14 +1,19 @@
 -- A session whose last exchange was just made.
-use Rattle.std.specs.Prelude.{◌≡◌, ℕ, List, [], ◌∷◌, ◌++◌, length, Option, Result}
-use Rattle.std.specs.Io.KnownBytes.{Consumes}
+use Rattle.std.specs.Prelude.{◌≡◌, ℕ, ◌<◌, List, [], ◌∷◌, ◌++◌, length, Option, Result, Ok, Err}
+use Rattle.std.specs.Io.KnownBytes.{Appends, Consumes}
 use Rattle.router_disk.specs.Clock.{Gives}
-use Rattle.router_disk.specs.Sink.{WritesAll}
 use Rattle.router_disk.specs.declared.fault.Failed.{Failed}
 use Rattle.api_wire.specs.declared.message.Message.{Message}
 use Rattle.api_wire.specs.Messages.{IsStream}
+use Rattle.api_wire.specs.Written.{reply_text}
 use Rattle.bus_server.specs.Book.{BookState}
 use Rattle.bus_server.specs.Exchange.{Exchange, AreExchanges, turns_of, readings_of, messages_of}
-use Rattle.bus_server.specs.Session.{texts_of, NoneCloses}
+use Rattle.bus_server.specs.Session.{texts_of, closes, NoneCloses, WritesPart, piece_size}
+
+-- these bytes were written, and the text behind them, or at `Err` a first part of it
+abbrev pub WritesBehind : List ℕ → List ℕ → Option (List ℕ) → Option (List ℕ) → Result (Unit {0}) Failed → Type 0
+WritesBehind bytes text old new (Ok u) = Appends old new (bytes ++ text)
+WritesBehind bytes text old new (Err e) = WritesPart bytes text old new
 
 -- so many requests before, none of which asked to close, and then the exchange of this message
 pub record IsServed (message : Message) (old now : BookState) (left left_now written written_now : Option (List ℕ)) (ahead ahead_now : Option (ℕ → ℕ)) (rest : List ℕ) (served : ℕ) (result : Result (Unit {0}) Failed) : Type 0 where
@@ -20,7 +25,9 @@ pub record IsServed (message : Message) (old now : BookState) (left left_now wri
   pub taken : List ℕ
   pub takes : Consumes left left_now taken
   pub stream : IsStream taken (messages_of (before ++ last ∷ [])) rest
+  -- of the last piece that was read
+  pub few : length rest < piece_size
   pub exchanges : AreExchanges old.tables (before ++ last ∷ []) now.tables
   pub turns : now.turns ≡ old.turns ++ turns_of (before ++ last ∷ [])
   pub readings : Gives ahead ahead_now (readings_of (before ++ last ∷ []))
-  pub written_are : WritesAll written written_now result (texts_of (before ++ last ∷ []))
+  pub written_are : WritesBehind (texts_of before) (reply_text last.reply (closes (length before) last)) written written_now result

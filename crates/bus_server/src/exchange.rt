@@ -1,5 +1,5 @@
 //! One message and its reply.
-ghost use Rattle.std.specs.Prelude.{◌≡◌, ◌↔◌, IsTrue, IfOk};
+ghost use Rattle.std.specs.Prelude.{◌≡◌, ◌↔◌, ◌⊎◌, IsTrue, IfOk};
 ghost use Rattle.router_core.specs.Reply as told;
 ghost use Rattle.router_core.specs.Request.{deliver_due};
 ghost use Rattle.router_core.specs.Seen.{action_of};
@@ -9,7 +9,7 @@ ghost use Rattle.api_wire.specs.Written.{reply_text};
 ghost use Rattle.bus_server.specs.Book.{book_of};
 ghost use Rattle.bus_server.specs.Exchange.{delivery_reply};
 ghost use Rattle.bus_server.specs.Steps.{counts_of, stop_of};
-ghost use Rattle.bus_server.specs.Responses.{text_or, IsFaultText, DeliveredOf};
+ghost use Rattle.bus_server.specs.Responses.{text_or, IsFaultText, IsUndelivered, DeliveredOf};
 ghost use Rattle.bus_server.specs.Running.{ExchangeOf};
 
 use crate::book::Book;
@@ -107,7 +107,8 @@ fn answer_delivery<K: Sink, C: Clock>(
     output: &mut K,
     clock: &mut C,
 ) -> Result<(), Failed>
-    ensures delivered { DeliveredOf close (book_of book.old) (book_of book.new) (C.ahead clock.old) (C.ahead clock.new) (K.written output.old) (K.written output.new) result }
+    ensures delivered { DeliveredOf close (book_of book.old) (book_of book.new) (C.ahead clock.old) (C.ahead clock.new) (K.written output.old) (K.written output.new) result
+        ⊎ IsUndelivered close (book_of book.old) (book_of book.new) (C.ahead clock.old) (C.ahead clock.new) (K.written output.old) (K.written output.new) result }
     ensures count { CountsFaults (K.faults output.old) (K.faults output.new) result }
 {
     match delivery_room(alloc, close) {

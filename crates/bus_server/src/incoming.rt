@@ -1,9 +1,10 @@
 //! The next message of an input.
-ghost use Rattle.std.specs.Prelude.{◌≡◌, ◌≢◌, ◌<◌, false, length};
+ghost use Rattle.std.specs.Prelude.{◌≡◌, ◌≢◌, ◌<◌, ◌≤◌, false, length};
 ghost use Rattle.router_disk.specs.Faults.{Rose};
 ghost use Rattle.std.specs.Prelude.{ℕ, List, Option};
 ghost use Rattle.std.specs.Io.KnownBytes.{IsAtEnd};
 ghost use Rattle.api_wire.specs.Messages.{IsAwaited};
+ghost use Rattle.bus_server.specs.Session.{piece_size};
 ghost use Rattle.bus_server.specs.Incoming.{LackOf, NextOf};
 
 use api_wire::{Message, WireFault, WireIn, awaited_is_short};
@@ -37,6 +38,8 @@ pub(crate) fn next_message<S: Source>(
     piece: &mut [u8],
 ) -> Incoming
     requires room { 0 < length piece.old }
+    requires one_piece { length piece.old ≤ piece_size }
+    requires few { length wire.old.rest ≤ piece_size }
     requires open { wire.old.refused ≡ false }
     ensures next { NextOf (S.left input.old) (S.left input.new) wire.old.rest wire.new.rest result }
     ensures open { result ≢ Incoming.Lack Lack.Refused → wire.new.refused ≡ false }
@@ -51,15 +54,20 @@ pub(crate) fn next_message<S: Source>(
             Err(WireFault::BadHead) => return Incoming::Lack(Lack::Refused),
             Err(WireFault::NoMemory) => return Incoming::Lack(Lack::NoMemory { head: true }),
         }
+        // The room is made before the bytes are taken, so that no byte is lost.
+        match wire.reserve(piece.len()) {
+            Ok(()) => {}
+            Err(NoMemory) => {
+                return Incoming::Lack(Lack::NoMemory {
+                    head: wire.has_head(),
+                });
+            }
+        }
         match input.read(piece) {
             Ok(0) => return Incoming::Lack(lack_at_end(wire)),
             Ok(count) => match wire.feed(&piece[..count]) {
                 Ok(()) => {}
-                Err(NoMemory) => {
-                    return Incoming::Lack(Lack::NoMemory {
-                        head: wire.has_head(),
-                    });
-                }
+                Err(NoMemory) => unreachable!(),
             },
             Err(Failed) => return Incoming::Lack(Lack::ReadFault),
         }

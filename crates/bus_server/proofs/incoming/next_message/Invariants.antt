@@ -1,5 +1,6 @@
-use Rattle.std.proofs.Common.{◌≡◌, ℕ, ◌-◌, ◌<◌, false, List, ◌++◌, length}
+use Rattle.std.proofs.Common.{◌≡◌, ℕ, ◌-◌, ◌<◌, ◌≤◌, false, List, ◌++◌, length}
 use Rattle.std.specs.Io.KnownBytes.{Consumes}
+use Rattle.bus_server.specs.Session.{piece_size, IsLastRead}
 use Rattle.bus_server.proofs.incoming.next_message.Given as goal
 
 -- the bytes at hand are those that were there and those taken in
@@ -9,6 +10,8 @@ invariant-loop-message g l = record {
   unrefused : l.wire.refused ≡ false;
   faultless : g.S.Source.faults l.input ≡ g.S.Source.faults l.initial.input;
   room : 0 < length l.piece;
+  one_piece : length l.piece ≤ piece_size;
+  read : IsLastRead l.wire.rest;
 }
 
 -- what is awaited is shorter than this

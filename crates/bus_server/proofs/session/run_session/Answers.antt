@@ -1,8 +1,17 @@
 use Rattle.std.proofs.Common.{◌≡◌, ◌+◌, ◌<◌, arith, rules}
 use Rattle.bus_server.specs.Session.{request_limit}
 use Rattle.std.proofs.lemmas.Bool.Decides.{nat_tests}
-use Rattle.bus_server.proofs.RunningLemmas.{served_next, running_on, long_end, closed_end, write_end, lack_end}
+use Rattle.bus_server.proofs.RunningLemmas.{running_at_start, served_next, running_on, long_end, closed_end, write_end, lack_end}
 use Rattle.bus_server.proofs.session.run_session.Goals as goal
+
+pub loop-message-init : goal.loop-message-init
+loop-message-init g c = record {
+  running = running_at_start _ _ _ _ _ c.new-wire.ensures.rest;
+  unrefused = search rules;
+  below = omega arith;
+  input_faultless = search rules;
+  output_faultless = search rules;
+}
 
 pub returns-in-Lack-clause-session : goal.returns-in-Lack-clause-session
 returns-in-Lack-clause-session g c =
