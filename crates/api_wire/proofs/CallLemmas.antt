@@ -17,7 +17,7 @@ use Rattle.api_wire.specs.CallAnswers.{IsFault, pattern_fault}
 use Rattle.event_shape.specs.Entry.{Entry}
 use Rattle.rule_table.specs.declared.control.Target.{Target}
 use Rattle.router_core.specs.Request.{Action, create_queue, put_rule, put_targets, put_events, peek_messages, deliver_due, Request}
-use Rattle.api_wire.specs.declared.message.Message.{Message}
+use Rattle.api_messages.specs.declared.message.Message.{Message}
 use Rattle.api_wire.specs.declared.call.operation.Operation.{Operation}
 use Rattle.api_wire.specs.declared.call.operation.Operation.TheVariants.{CreateQueue, PutRule, PutTargets, PutEvents, PeekMessages, DeliverDue}
 use Rattle.api_wire.specs.Call.{value_at, HasText, IsOptionalText, IsTarget, IsTargetTree, AreTargets, AreEach, IsEntry, IsEntryTree, AreEntries, IsCreateQueue, IsPutRule, IsPutTargets, IsPutEvents, IsPeekMessages, IsAction, IsBody, IsAsked, operation_of}

@@ -12,7 +12,7 @@ use Rattle.rule_table.specs.declared.control.Target.{Target}
 use Rattle.router_core.specs.Request.{Action, create_queue, put_rule, put_targets, put_events, peek_messages, deliver_due, Request}
 use Rattle.api_wire.specs.declared.call.operation.Operation.{Operation}
 use Rattle.api_wire.specs.declared.call.operation.Operation.TheVariants.{CreateQueue, PutRule, PutTargets, PutEvents, PeekMessages, DeliverDue}
-use Rattle.api_wire.specs.declared.message.Message.{Message}
+use Rattle.api_messages.specs.declared.message.Message.{Message}
 
 -- the operation of an X-Amz-Target, which is compared exactly
 abbrev pub named_operation : List ℕ → Option Operation

@@ -1,7 +1,6 @@
--- The bytes of a reply (RFC 9112, section 4), and what stands between messages.
+-- The bytes of a reply (RFC 9112, section 4).
 use Rattle.std.specs.Prelude.{◌≡◌, ◌⊎◌, ℕ, Bool, true, false, List, [], ◌∷◌, ◌++◌, length, codes, decimal, unwrap_or}
 use Rattle.http.specs.StatusCode.{reason_phrase}
-use Rattle.httparse.specs.Grammar.{RequestHead, ReadsRequest}
 use Rattle.json_text.specs.Compact.{compact_text}
 use Rattle.router_core.specs.Reply.{Reply}
 
@@ -28,13 +27,3 @@ reply_text reply close = message_text reply.status (compact_text reply.body) clo
 -- the statuses that replies have
 abbrev pub IsServedStatus : ℕ → Type 0
 IsServedStatus status = (status ≡ 200) ⊎ ((status ≡ 400) ⊎ (status ≡ 503))
-
--- pairs of carriage return and line feed, which belong to the message behind them (RFC 9112, section 2.2)
-abbrev pub AreEmptyLines : List ℕ → Type 0
-AreEmptyLines [] = Unit {0}
-AreEmptyLines (a ∷ []) = ⊥
-AreEmptyLines (a ∷ b ∷ bytes) = (a ≡ 13) × (b ≡ 10) × AreEmptyLines bytes
-
--- a whole head is at the front
-abbrev pub HasHead : List ℕ → Type 0
-HasHead bytes = (head : RequestHead) × (rest : List ℕ) × ReadsRequest bytes head rest

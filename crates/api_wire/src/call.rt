@@ -18,7 +18,7 @@ mod put_events;
 mod put_rule;
 mod put_targets;
 
-use crate::message::Message;
+use api_messages::Message;
 use body::read_body;
 use create_queue::create_queue;
 use deliver_due::deliver_due;

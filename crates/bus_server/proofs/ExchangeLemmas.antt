@@ -10,7 +10,7 @@ use Rattle.router_disk.proofs.ClockLemmas.{Gives-append}
 use Rattle.router_core.specs.Request.{Action, create_queue, put_rule, put_targets, put_events, peek_messages, deliver_due, Request}
 use Rattle.router_core.specs.Reply.{no_memory, not_built, unknown_operation}
 use Rattle.router_calls.specs.Decided.{IsBounded}
-use Rattle.api_wire.specs.declared.message.Message.{Message}
+use Rattle.api_messages.specs.declared.message.Message.{Message}
 use Rattle.api_wire.specs.declared.call.fault.CallFault.{CallFault}
 use Rattle.api_wire.specs.declared.call.fault.CallFault.TheVariants as faults
 use Rattle.api_wire.specs.declared.call.operation.Operation.{Operation}

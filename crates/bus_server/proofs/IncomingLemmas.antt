@@ -6,10 +6,10 @@ use Rattle.std.proofs.lemmas.Bool.{cases_lt}
 use Rattle.std.specs.Io.KnownBytes.{Consumes, IsAtEnd}
 use Rattle.router_disk.proofs.StreamLemmas.{Consumes-append}
 use Rattle.httparse.specs.Grammar.{HasNoRequest, print_request}
-use Rattle.api_wire.specs.declared.message.Message.{Message}
-use Rattle.api_wire.specs.Messages.{HoldsMessage, IsAwaited}
-use Rattle.api_wire.specs.Written.{HasHead}
-use Rattle.api_wire.proofs.MessageLemmas.{not_awaited, nothing_is_awaited}
+use Rattle.api_messages.specs.declared.message.Message.{Message}
+use Rattle.api_messages.specs.Messages.{HoldsMessage, IsAwaited}
+use Rattle.api_messages.specs.Between.{HasHead}
+use Rattle.api_messages.proofs.MessageLemmas.{not_awaited, nothing_is_awaited}
 use Rattle.bus_server.specs.Session.{piece_size, IsLastRead}
 use Rattle.bus_server.specs.declared.incoming.Lack.{Lack}
 use Rattle.bus_server.specs.declared.incoming.Lack.TheVariants as lacks

@@ -11,9 +11,10 @@ use Rattle.router_disk.specs.declared.fault.Failed.{Failed}
 use Rattle.router_disk.proofs.StreamLemmas.{Consumes-append, Appends-append, Appends-none}
 use Rattle.router_disk.proofs.ClockLemmas.{Gives-none, Gives-append}
 use Rattle.router_core.specs.Tables.{Tables}
-use Rattle.api_wire.specs.declared.message.Message.{Message}
-use Rattle.api_wire.specs.Messages.{HoldsMessage, IsAwaited, IsStream}
-use Rattle.api_wire.specs.Written.{reply_text, HasHead}
+use Rattle.api_messages.specs.declared.message.Message.{Message}
+use Rattle.api_messages.specs.Messages.{HoldsMessage, IsAwaited, IsStream}
+use Rattle.api_messages.specs.Between.{HasHead}
+use Rattle.api_wire.specs.Written.{reply_text}
 use Rattle.bus_server.specs.Book.{BookState}
 use Rattle.bus_server.specs.Exchange.{Exchange, IsExchange, AreExchanges, turns_of, readings_of, messages_of}
 use Rattle.bus_server.specs.Session.{request_limit, closes, texts_from, texts_of, NoneCloses, OpenBefore, Course, piece_size, IsWholeNow, IsStarvedAt, EndsWith, WritesWhole, WritesNotLast, IsWritten, IsSession}

@@ -7,7 +7,7 @@ use Rattle.router_core.specs.Request.{deliver_due, Request}
 use Rattle.router_core.specs.Reply.{Reply, Counts, counted, unknown_operation, not_built, number_limit, no_memory}
 use Rattle.router_core.specs.Tables.{Tables, is_full, after_batch}
 use Rattle.router_calls.specs.Answer.{Answer, IsAnswer, moment_at}
-use Rattle.api_wire.specs.declared.message.Message.{Message}
+use Rattle.api_messages.specs.declared.message.Message.{Message}
 use Rattle.api_wire.specs.Call.{operation_of, IsAsked}
 use Rattle.router_core.specs.Steps.{EndsSo, record_of, claiming, giving_back}
 use Rattle.bus_server.specs.History.{asked, claims, records, puts_back, Turn, after_written}

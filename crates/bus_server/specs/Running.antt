@@ -4,8 +4,8 @@ use Rattle.std.specs.Io.KnownBytes.{Appends, Consumes}
 use Rattle.router_disk.specs.Clock.{Gives}
 use Rattle.router_disk.specs.Sink.{WritesAll}
 use Rattle.router_disk.specs.declared.fault.Failed.{Failed}
-use Rattle.api_wire.specs.declared.message.Message.{Message}
-use Rattle.api_wire.specs.Messages.{IsStream}
+use Rattle.api_messages.specs.declared.message.Message.{Message}
+use Rattle.api_messages.specs.Messages.{IsStream}
 use Rattle.api_wire.specs.Written.{reply_text}
 use Rattle.bus_server.specs.Book.{BookState}
 use Rattle.bus_server.specs.Exchange.{Exchange, IsExchange, AreExchanges, turns_of, readings_of, messages_of}

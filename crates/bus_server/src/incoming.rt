@@ -3,7 +3,7 @@ ghost use Rattle.std.specs.Prelude.{◌≡◌, ◌≢◌, ◌<◌, ◌≤◌, fa
 ghost use Rattle.router_disk.specs.Faults.{Rose};
 ghost use Rattle.std.specs.Prelude.{ℕ, List, Option};
 ghost use Rattle.std.specs.Io.KnownBytes.{IsAtEnd};
-ghost use Rattle.api_wire.specs.Messages.{IsAwaited};
+ghost use Rattle.api_messages.specs.Messages.{IsAwaited};
 ghost use Rattle.bus_server.specs.Session.{piece_size};
 ghost use Rattle.bus_server.specs.Incoming.{LackOf, NextOf};
 

@@ -1,8 +1,8 @@
 use Rattle.std.proofs.Common.{◌≡◌, ℕ, ◌<◌, ◌≤◌, ◌-◌, List, ◌++◌, false, ap, sym, subst, ◌∙◌, arith, rules, length, take, length-append}
 use Rattle.std.proofs.lemmas.List.{length-take}
-use Rattle.api_wire.specs.declared.message.Message.{Message}
-use Rattle.api_wire.specs.Messages.{HoldsMessage, IsAwaited}
-use Rattle.api_wire.specs.Reading.{Incoming}
+use Rattle.api_messages.specs.declared.message.Message.{Message}
+use Rattle.api_messages.specs.Messages.{HoldsMessage, IsAwaited}
+use Rattle.api_messages.specs.Reading.{Incoming}
 use Rattle.bus_server.proofs.IncomingLemmas.{at_end, starved, whole_lacks, left_over, read_behind}
 use Rattle.bus_server.proofs.incoming.next_message.Goals as goal
 

@@ -1,0 +1,10 @@
+use Rattle.std.proofs.Common.{◌↔◌, length}
+use Rattle.api_messages.specs.Between.{AreEmptyLines}
+use Rattle.api_messages.proofs.front.are_empty_lines.Given as goal
+
+-- the bytes are empty lines where those that are left are
+abbrev pub invariant-loop-rest : goal.invariant-loop-rest
+invariant-loop-rest l = AreEmptyLines l.rest ↔ AreEmptyLines l.bytes
+
+abbrev pub decreases-loop-rest : goal.decreases-loop-rest
+decreases-loop-rest l = length l.rest

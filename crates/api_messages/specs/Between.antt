@@ -1,0 +1,13 @@
+-- What stands between messages, and a head whose body may still be awaited.
+use Rattle.std.specs.Prelude.{◌≡◌, ℕ, List, [], ◌∷◌}
+use Rattle.httparse.specs.Grammar.{RequestHead, ReadsRequest}
+
+-- pairs of carriage return and line feed, which belong to the message behind them (RFC 9112, section 2.2)
+abbrev pub AreEmptyLines : List ℕ → Type 0
+AreEmptyLines [] = Unit {0}
+AreEmptyLines (a ∷ []) = ⊥
+AreEmptyLines (a ∷ b ∷ bytes) = (a ≡ 13) × (b ≡ 10) × AreEmptyLines bytes
+
+-- a whole head is at the front
+abbrev pub HasHead : List ℕ → Type 0
+HasHead bytes = (head : RequestHead) × (rest : List ℕ) × ReadsRequest bytes head rest

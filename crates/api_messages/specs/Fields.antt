@@ -1,0 +1,135 @@
+-- What the fields of a request head say, and the length of the body that a head announces.
+use Rattle.std.specs.Prelude.{ℕ, Bool, true, false, not, ◌&&◌, ◌||◌, List, [], ◌∷◌, length, map, filter, Option, Some, None, if◌then◌else◌, ◌==◌, nat_le, codes, bytes_eq}
+use Rattle.std.specs.List.{list_all, list_any}
+use Rattle.std.specs.Char.{is_ascii_digit, to_ascii_lowercase}
+use Rattle.std.specs.Str.{is_utf8}
+use Rattle.std.specs.Str.Parse.{digits_value}
+use Rattle.httparse.specs.Grammar.{RequestHead}
+use Rattle.httparse.specs.Spans.{name_and_value}
+use Rattle.api_messages.specs.declared.method.Method.{Method}
+use Rattle.api_messages.specs.declared.method.Method.TheVariants.{Post, Head, Other}
+
+-- the method that the bytes name; its case counts (RFC 9110, section 9.1)
+unfoldable pub method_of : List ℕ → Method
+method_of bytes = if bytes_eq bytes (codes "POST") then Post else (if bytes_eq bytes (codes "HEAD") then Head else Other)
+
+-- POST, the only method that is served
+abbrev pub is_post : Method → Bool
+is_post Post = true
+is_post Head = false
+is_post Other = false
+
+-- a field's name, and its value without the white space around it (RFC 9112, section 5)
+abbrev pub Pair : Type 0
+Pair = List ℕ × List ℕ
+
+-- the fields of a head, in order
+abbrev pub pairs_of : RequestHead → List Pair
+pairs_of h = map name_and_value h.fields
+
+-- the two are the same but for the case of their letters: so names of fields and options of a connection are compared
+-- (RFC 9110, sections 5.1 and 7.6.1)
+unfoldable pub is_named : List ℕ → List ℕ → Bool
+is_named name field = bytes_eq (map to_ascii_lowercase field) (map to_ascii_lowercase name)
+
+-- the values of the fields of that name, in order
+abbrev pub values_of : List ℕ → List Pair → List (List ℕ)
+values_of name pairs = map (λ p. p.1) (filter (λ p. is_named name p.0) pairs)
+
+-- how often a field stands in a head, and its value where it stands once
+pub data Occurrence : Type 0 where
+  absent repeated : Occurrence
+  once : List ℕ → Occurrence
+
+-- so often and with that value, from all the values
+abbrev pub occurs : List (List ℕ) → Occurrence
+occurs [] = absent
+occurs (value ∷ []) = once value
+occurs (value ∷ other ∷ others) = repeated
+
+-- the same, of the fields of a name
+abbrev pub occurrence_of : List ℕ → List Pair → Occurrence
+occurrence_of name pairs = occurs (values_of name pairs)
+
+-- a Connection value that asks to close: this option alone (RFC 9112, section 9.6); a list of options is not read (this
+-- project's own rule)
+abbrev pub is_close : List ℕ → Bool
+is_close value = is_named (codes "close") value
+
+-- what is read of the fields; every other field is ignored
+pub record Known : Type 0 where
+  pub host : Occurrence
+  pub length : Occurrence
+  pub coding : Occurrence
+  pub target : Occurrence
+  pub caller : Occurrence
+  pub close : Bool
+
+-- the names are ASCII, in lower case
+abbrev pub known_of : List Pair → Known
+known_of pairs = record {
+  host = occurrence_of (codes "host") pairs;
+  length = occurrence_of (codes "content-length") pairs;
+  coding = occurrence_of (codes "transfer-encoding") pairs;
+  target = occurrence_of (codes "x-amz-target") pairs;
+  caller = occurrence_of (codes "x-caller-account") pairs;
+  close = list_any is_close (values_of (codes "connection") pairs);
+}
+
+-- one Host field, or none in version 1.0 (RFC 9112, section 3.2); its value is not looked at
+abbrev pub is_host_sound : ℕ → Occurrence → Bool
+is_host_sound minor absent = minor == 0
+is_host_sound minor (once value) = true
+is_host_sound minor repeated = false
+
+-- no such field
+abbrev pub is_absent : Occurrence → Bool
+is_absent absent = true
+is_absent (once value) = false
+is_absent repeated = false
+
+-- two such fields or more
+abbrev pub is_repeated : Occurrence → Bool
+is_repeated absent = false
+is_repeated (once value) = false
+is_repeated repeated = true
+
+-- the number that a Content-Length writes in decimal digits (RFC 9110, section 8.6), 1 to 10 of them, leading zeros too; it
+-- is at most 1,048,576 (both bounds are this project's own)
+unfoldable pub length_of : List ℕ → Option ℕ
+length_of value =
+    if (nat_le 1 (length value) && nat_le (length value) 10) && (list_all is_ascii_digit value && nat_le (digits_value 10 value) 1048576)
+    then Some (digits_value 10 value) else None
+
+-- the number of the only Content-Length
+abbrev pub length_at : Occurrence → Option ℕ
+length_at absent = None
+length_at (once value) = length_of value
+length_at repeated = None
+
+-- the value of a field as a text; one that is not UTF-8 is no text, and stands as the empty one
+unfoldable pub text_of : List ℕ → List ℕ
+text_of value = if is_utf8 value then value else []
+
+-- the text of a field that stands once
+abbrev pub text_at : Occurrence → Option (List ℕ)
+text_at absent = None
+text_at (once value) = Some (text_of value)
+text_at repeated = None
+
+-- POST, a sound Host, no Transfer-Encoding (this project takes no coding; RFC 9112, section 6.1), and neither of the two
+-- fields of the API twice
+abbrev pub is_sound : Method → ℕ → Known → Bool
+is_sound method minor k = is_post method && (is_host_sound minor k.host && (is_absent k.coding && (not (is_repeated k.target) && not (is_repeated k.caller))))
+
+-- the length of the body behind a head with that method, version and fields; none where the head is refused
+abbrev pub body_length_by : Method → ℕ → Known → Option ℕ
+body_length_by method minor k = if is_sound method minor k then length_at k.length else None
+
+-- the same, of a head (RFC 9112, section 6.3)
+abbrev pub body_length : RequestHead → Option ℕ
+body_length h = body_length_by (method_of h.method) h.minor (known_of (pairs_of h))
+
+-- version 1.0, or a Connection field that asks to close (RFC 9112, section 9.3)
+abbrev pub asks_to_close : RequestHead → Bool
+asks_to_close h = (h.minor == 0) || (known_of (pairs_of h)).close

@@ -1,0 +1,80 @@
+-- What the calls that read a message answer.
+use Rattle.std.specs.Prelude.{◌≡◌, ℕ, ◌≤◌, Bool, true, false, List, length, take, drop, Option, Some, None, Result, Ok, Err}
+use Rattle.httparse.specs.Grammar.{RequestHead, print_request, ReadsRequest, HasNoRequest}
+use Rattle.api_messages.specs.declared.message.Message.{Message}
+use Rattle.api_messages.specs.declared.message.WireFault.{WireFault}
+use Rattle.api_messages.specs.declared.message.WireFault.TheVariants.{BadHead, NoMemory}
+use Rattle.api_messages.specs.declared.fields.Found.{Found}
+use Rattle.api_messages.specs.declared.fields.Found.TheVariants.{Absent, Once, Repeated}
+use Rattle.api_messages.specs.declared.fields.Fields.{Fields}
+use Rattle.api_messages.specs.declared.front.Front.{Front}
+use Rattle.api_messages.specs.declared.front.Front.TheVariants.{Whole, Awaited, Refused}
+use Rattle.api_messages.specs.declared.front.Head.{Head}
+use Rattle.api_messages.specs.declared.front.InPlace.{InPlace}
+use Rattle.api_messages.specs.Fields.{Occurrence, absent, once, repeated, Known, method_of, pairs_of, known_of, text_at}
+use Rattle.api_messages.specs.Messages.{IsMessage, IsRefused, IsAwaited, HoldsMessage}
+
+-- what the code notes of a field
+abbrev pub seen : Found → Occurrence
+seen Absent = absent
+seen (Once value) = once value.now
+seen Repeated = repeated
+
+-- one more field of the name, with that value
+abbrev pub and_also : Occurrence → List ℕ → Occurrence
+and_also absent value = once value
+and_also (once first) value = repeated
+and_also repeated value = repeated
+
+-- what the code notes of all of them
+abbrev pub known : Fields → Known
+known f = record { host = seen f.host; length = seen f.length; coding = seen f.coding; target = seen f.target; caller = seen f.caller; close = f.close }
+
+-- the head h is at the front of the bytes, within the limits, and these are its parts
+pub record IsHeadAt (bytes : List ℕ) (head : Head) (h : RequestHead) : Type 0 where
+  pub reads : ReadsRequest bytes h (drop head.len bytes)
+  pub len : head.len ≡ length (print_request h)
+  pub within : head.len ≤ length bytes
+  pub short : head.len ≤ 16384
+  pub few : length h.fields ≤ 64
+  pub method : head.method ≡ method_of h.method
+  pub minor : head.minor ≡ h.minor
+  pub fields : known head.fields ≡ known_of (pairs_of h)
+
+-- the same, of some head
+abbrev pub IsSomeHeadAt : List ℕ → Head → Type 0
+IsSomeHeadAt bytes head = (h : RequestHead) × IsHeadAt bytes head h
+
+-- the message that still lies in the bytes
+abbrev pub message_at : InPlace → Message
+message_at p = record { method = p.method; target = text_at (seen p.target); caller = text_at (seen p.caller); body = p.body.now; close = p.close }
+
+-- the first p.len bytes are that message
+pub record IsMessageAt (bytes : List ℕ) (p : InPlace) : Type 0 where
+  pub within : p.len ≤ length bytes
+  pub message : IsMessage (take p.len bytes) (message_at p)
+
+-- what stands at the front of the bytes: such a whole thing, less than that, or what is refused
+abbrev pub FrontIs : {A : Type 0} → List ℕ → (A → Type 0) → Front A → Type 0
+FrontIs bytes P (Whole a) = P a
+FrontIs bytes P Awaited = IsAwaited bytes
+FrontIs bytes P Refused = IsRefused bytes
+
+-- where less than a head stands at the front, no head does
+abbrev pub HeadIsAwaited : {A : Type 0} → List ℕ → Front A → Type 0
+HeadIsAwaited bytes (Whole a) = Unit {0}
+HeadIsAwaited bytes Awaited = HasNoRequest bytes
+HeadIsAwaited bytes Refused = Unit {0}
+
+-- the bytes fed and not yet taken, whether they were refused, and how many bytes more need no memory
+pub record Incoming : Type 0 where
+  pub rest : List ℕ
+  pub refused : Bool
+  pub room : ℕ
+
+-- what `next` answers, and what it leaves
+abbrev pub Answers : Incoming → Incoming → Result (Option Message) WireFault → Type 0
+Answers old new (Ok (Some m)) = HoldsMessage old.rest m new.rest × (new.refused ≡ false)
+Answers old new (Ok None) = IsAwaited old.rest × (new ≡ old)
+Answers old new (Err BadHead) = IsRefused old.rest × (new ≡ record old { refused = true })
+Answers old new (Err NoMemory) = ((m : Message) × (rest : List ℕ) × HoldsMessage old.rest m rest) × (new ≡ old)

@@ -1,0 +1,180 @@
+//! The fields of a head that are read, each with its rule.
+ghost use Rattle.std.specs.Prelude.{◌≡◌, List, [], ◌∷◌, ◌++◌, ◌&&◌, codes, length, map, All, if◌then◌else◌};
+ghost use Rattle.httparse.specs.Spans.{IsHeaderWithin, header_bytes};
+ghost use Rattle.api_messages.specs.Fields.{Pair, known_of, is_named, is_close, is_host_sound, is_absent, is_repeated, is_sound, length_of, length_at, body_length_by};
+ghost use Rattle.api_messages.specs.Reading.{seen, and_also, known};
+
+use crate::method::Method;
+use httparse::spans::HeaderSpan;
+
+const DIGITS_LIMIT: usize = 10;
+
+const BODY_LIMIT: usize = 1_048_576;
+
+/// How often a field stands in a head, and its value where it stands once.
+#[derive(Clone, Copy, Debug)]
+pub(crate) enum Found<'b> {
+    Absent,
+    Once(&'b [u8]),
+    Repeated,
+}
+
+impl<'b> Found<'b> {
+    /// One more field, if it is there.
+    fn and(self, is_there: bool, value: &'b [u8]) -> Found<'b>
+        ensures { seen result ≡ (if is_there then and_also (seen self.entry) value.now else seen self.entry) }
+    {
+        if !is_there {
+            return self;
+        }
+        match self {
+            Found::Absent => Found::Once(value),
+            Found::Once(_) | Found::Repeated => Found::Repeated,
+        }
+    }
+
+    fn is_host_sound(self, minor: u8) -> bool
+        ensures { result ≡ is_host_sound minor (seen self.entry) }
+    {
+        match self {
+            Found::Absent => minor == 0,
+            Found::Once(_) => true,
+            Found::Repeated => false,
+        }
+    }
+
+    fn is_absent(self) -> bool
+        ensures { result ≡ is_absent (seen self.entry) }
+    {
+        match self {
+            Found::Absent => true,
+            Found::Once(_) | Found::Repeated => false,
+        }
+    }
+
+    fn is_repeated(self) -> bool
+        ensures { result ≡ is_repeated (seen self.entry) }
+    {
+        match self {
+            Found::Absent | Found::Once(_) => false,
+            Found::Repeated => true,
+        }
+    }
+
+    fn length(self) -> Option<usize>
+        ensures { result ≡ length_at (seen self.entry) }
+    {
+        match self {
+            Found::Once(value) => length_of(value),
+            Found::Absent | Found::Repeated => None,
+        }
+    }
+}
+
+/// The number of a Content-Length value, within the bounds.
+fn length_of(value: &[u8]) -> Option<usize>
+    ensures { result ≡ length_of value.now }
+{
+    if value.is_empty() || value.len() > DIGITS_LIMIT {
+        return None;
+    }
+    let mut number: usize = 0;
+    for digit in value {
+        if !digit.is_ascii_digit() {
+            return None;
+        }
+        number = number * 10 + (*digit - b'0') as usize;
+        if number > BODY_LIMIT {
+            return None;
+        }
+    }
+    Some(number)
+}
+
+fn is_named(name: &[u8], field: &[u8]) -> bool
+    ensures { result ≡ is_named name.now field.now }
+{
+    field.eq_ignore_ascii_case(name)
+}
+
+/// Whether a field is `Connection: close`.
+fn is_close(name: &[u8], value: &[u8]) -> bool
+    ensures { result ≡ (is_named (codes "connection") name.now && is_close value.now) }
+{
+    is_named(b"connection", name) && is_named(b"close", value)
+}
+
+/// The fields of a head that are read.
+#[derive(Clone, Copy, Debug)]
+pub(crate) struct Fields<'b> {
+    pub host: Found<'b>,
+    pub length: Found<'b>,
+    pub coding: Found<'b>,
+    pub target: Found<'b>,
+    pub caller: Found<'b>,
+    /// A field `Connection: close` is there.
+    pub close: bool,
+}
+
+impl<'b> Fields<'b> {
+    /// No field yet. The bytes are not read: they say for how long the fields to come may be kept.
+    fn none(_bytes: &'b [u8]) -> Fields<'b>
+        ensures { known result ≡ known_of [] }
+    {
+        Fields {
+            host: Found::Absent,
+            length: Found::Absent,
+            coding: Found::Absent,
+            target: Found::Absent,
+            caller: Found::Absent,
+            close: false,
+        }
+    }
+
+    /// These fields and one more.
+    fn and(self, name: &[u8], value: &'b [u8]) -> Fields<'b>
+        ensures { (pairs : List Pair) → known self.entry ≡ known_of pairs
+            → known result ≡ known_of (pairs ++ (name.now, value.now) ∷ []) }
+    {
+        Fields {
+            host: self.host.and(is_named(b"host", name), value),
+            length: self.length.and(is_named(b"content-length", name), value),
+            coding: self.coding.and(is_named(b"transfer-encoding", name), value),
+            target: self.target.and(is_named(b"x-amz-target", name), value),
+            caller: self.caller.and(is_named(b"x-caller-account", name), value),
+            close: self.close || is_close(name, value),
+        }
+    }
+
+    pub(crate) fn of(bytes: &'b [u8], headers: &[HeaderSpan]) -> Fields<'b>
+        requires { All (IsHeaderWithin (length bytes.now)) headers.now }
+        ensures { known result ≡ known_of (map (header_bytes bytes.now) headers.now) }
+    {
+        let mut fields = Fields::none(bytes);
+        for header in headers {
+            fields = fields.and(header.name.of(bytes), header.value.of(bytes));
+        }
+        fields
+    }
+
+    fn is_sound(&self, method: Method, minor: u8) -> bool
+        ensures { result ≡ is_sound method minor (known self.now) }
+    {
+        method.is_post()
+            && self.host.is_host_sound(minor)
+            && self.coding.is_absent()
+            && !self.target.is_repeated()
+            && !self.caller.is_repeated()
+    }
+
+    /// The length of the body behind the head, where nothing in the head is refused.
+    pub(crate) fn body_length(&self, method: Method, minor: u8) -> Option<usize>
+        ensures { result ≡ body_length_by method minor (known self.now) }
+    {
+        if self.is_sound(method, minor) {
+            self.length.length()
+        } else {
+            None
+        }
+    }
+}

@@ -1,0 +1,17 @@
+//! Bytes that come in any pieces are read to the request messages that they are.
+#![tactic(auto)]
+
+mod fields;
+mod front;
+mod laws;
+mod message;
+mod method;
+mod wire;
+
+pub use laws::{awaited_is_short, no_message_is_empty, one_reading};
+pub use message::{Message, WireFault};
+pub use method::Method;
+pub use wire::WireIn;
+
+#[cfg(test)]
+mod tests;

@@ -1,0 +1,38 @@
+//! A request message, and why none comes.
+use crate::method::Method;
+use json_text::{Bytes, Text};
+use thiserror::Error;
+
+/// A request message.
+#[derive(Debug, Drop)]
+pub struct Message {
+    pub method: Method,
+    /// The value of the field `X-Amz-Target`. One that is not UTF-8 stands as the empty text.
+    pub target: Option<Text>,
+    /// The value of the field `x-caller-account`, in the same way.
+    pub caller: Option<Text>,
+    pub body: Bytes,
+    /// The sender asks to close after this message: version 1.0, or a field `Connection` whose whole value is `close`.
+    pub close: bool,
+}
+
+/// Why no message is given.
+#[derive(Debug, Drop, Error)]
+pub enum WireFault {
+    /// No message begins with these bytes, whatever follows.
+    #[error("the head is not a request head that is served")]
+    BadHead,
+    #[error("out of memory")]
+    NoMemory,
+}
+
+impl From<json_text::NoMemory> for WireFault {
+    ghost use Rattle.std.specs.Prelude.{◌≡◌};
+    ghost use Rattle.api_messages.specs.declared.message.WireFault.TheVariants as Fault;
+
+    ghost from_gives = { λ _ e. e ≡ Fault.NoMemory };
+
+    fn from(_refused: json_text::NoMemory) -> WireFault {
+        WireFault::NoMemory
+    }
+}

@@ -1,0 +1,134 @@
+//! Bytes in, messages out.
+ghost use Rattle.std.specs.Prelude.{◌≡◌, ◌↔◌, ◌≤◌, [], ◌++◌, true, false, length, drop, OnOk, OnErr, IsOk, IsErrOf, IsTrue, IsFalse};
+ghost use Rattle.httparse.specs.Grammar.{HasNoRequest};
+ghost use Rattle.api_messages.specs.Messages.{IsAwaited};
+ghost use Rattle.api_messages.specs.Reading.{Answers};
+ghost use Rattle.api_messages.specs.Between.{AreEmptyLines, HasHead};
+
+use crate::front::{Front, are_empty_lines, has_head, read_front};
+use crate::message::{Message, WireFault};
+use json_text::NoMemory;
+use std::alloc::Global;
+use std::marker::Model;
+
+/// The incoming half of a connection.
+#[derive(Debug, Drop)]
+pub struct WireIn {
+    alloc: Global,
+    buffer: Vec<u8>,
+    /// Where the bytes begin that no message has taken.
+    start: usize,
+    refused: bool,
+}
+
+impl Model for WireIn {
+    ghost use Rattle.std.specs.Prelude.{◌≡◌, ◌≤◌, ◌-◌, true, length, drop, vec_len, vec_capacity};
+    ghost use Rattle.api_messages.specs.Messages.{IsRefused};
+    ghost use Rattle.api_messages.specs.Reading.{Incoming};
+
+    ghost Value = { Incoming };
+
+    ghost view = { λ w. record {
+      rest = drop w.start w.buffer.items;
+      refused = w.refused;
+      room = vec_capacity w.buffer - vec_len w.buffer;
+    } };
+
+    ghost invariant = { λ w. (w.start ≤ length w.buffer.items)
+        × (w.refused ≡ true → IsRefused (drop w.start w.buffer.items)) };
+}
+
+impl WireIn {
+    pub fn new(alloc: Global) -> WireIn
+        ensures rest { result.rest ≡ [] }
+        ensures refused { result.refused ≡ false }
+    {
+        WireIn {
+            alloc,
+            buffer: Vec::new(alloc),
+            start: 0,
+            refused: false,
+        }
+    }
+
+    /// Makes room for so many bytes more, so that feeding them needs no memory.
+    pub fn reserve(&mut self, len: usize) -> Result<(), NoMemory>
+        ensures room { OnOk result (len ≤ self.new.room) }
+        ensures err { OnErr result (self.new ≡ self.old) }
+        ensures rest { self.new.rest ≡ self.old.rest }
+        ensures refused { self.new.refused ≡ self.old.refused }
+    {
+        self.buffer.try_reserve(len)?;
+        Ok(())
+    }
+
+    /// Takes the next bytes, as many as came.
+    pub fn feed(&mut self, piece: &[u8]) -> Result<(), NoMemory>
+        ensures ok { OnOk result (self.new.rest ≡ self.old.rest ++ piece.now) }
+        ensures err { OnErr result (self.new.rest ≡ self.old.rest) }
+        ensures refused { self.new.refused ≡ self.old.refused }
+        ensures succeeds { length piece.now ≤ self.old.room → IsOk result }
+    {
+        self.buffer.extend_from_slice(piece)?;
+        Ok(())
+    }
+
+    /// The next message, if a whole one is there.
+    ///
+    /// Only the message under way is read anew at the next call. Within the buffer no more bytes are moved, over all
+    /// calls, than messages took, however many messages one piece holds.
+    pub fn next(&mut self) -> Result<Option<Message>, WireFault>
+        ensures answers { Answers self.old self.new result }
+        ensures for_good { self.old.refused ≡ true → IsErrOf result WireFault.BadHead }
+    {
+        if self.refused {
+            return Err(WireFault::BadHead);
+        }
+        let (message, len) = match read_front(self.rest()) {
+            Front::Whole(found) => (found.message(self.alloc)?, found.len),
+            Front::Awaited => return Ok(None),
+            Front::Refused => {
+                self.refused = true;
+                return Err(WireFault::BadHead);
+            }
+        };
+        self.take(len);
+        Ok(Some(message))
+    }
+
+    /// The bytes fed that no message has taken.
+    pub fn rest(&self) -> &[u8]
+        ensures { result.now ≡ self.now.rest }
+    {
+        &self.buffer[self.start..]
+    }
+
+    /// Whether a whole head is at the front of the rest.
+    pub fn has_head(&self) -> bool
+        ensures whole { IsTrue result → HasHead self.now.rest }
+        ensures none { IsFalse result → IsAwaited self.now.rest → HasNoRequest self.now.rest }
+    {
+        has_head(self.rest())
+    }
+
+    /// Whether only empty lines are left, so that an input that ends here ends between messages.
+    pub fn is_between(&self) -> bool
+        ensures { IsTrue result ↔ AreEmptyLines self.now.rest }
+    {
+        are_empty_lines(self.rest())
+    }
+
+    fn take(&mut self, len: usize)
+        requires in_range { len ≤ length self.old.rest }
+        requires served { self.old.refused ≡ false }
+        ensures rest { self.new.rest ≡ drop len self.old.rest }
+        ensures refused { self.new.refused ≡ self.old.refused }
+    {
+        self.start += len;
+        // A front is given up once it is the longer half, so fewer bytes are moved than are given up.
+        if self.start > self.buffer.len() / 2 {
+            self.buffer.drain(..self.start);
+            self.start = 0;
+        }
+    }
+}

@@ -1,8 +1,0 @@
-use Rattle.api_wire.proofs.MessageLemmas.{awaited_refused}
-use Rattle.api_wire.proofs.front.has_head.Goals as goal
-
-pub returns-in-Awaited-clause-none : goal.returns-in-Awaited-clause-none
-returns-in-Awaited-clause-none c = λ _ _. c.in-Awaited.ensures.awaited
-
-pub returns-in-Refused-clause-none : goal.returns-in-Refused-clause-none
-returns-in-Refused-clause-none c = λ _. awaited_refused c.args.bytes.now c.in-Refused.ensures.front

@@ -1,5 +1,0 @@
-use Rattle.api_wire.proofs.MessageLemmas as lemmas
-use Rattle.api_wire.proofs.laws.awaited_is_short.Goals as goal
-
-pub returns : goal.returns
-returns c = lemmas.awaited_is_short
