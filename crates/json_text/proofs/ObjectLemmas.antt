@@ -1,7 +1,8 @@
--- The index of an object's members: `slot_from-set`, `slot_from-push`, `with_value-set`, `slot_from-pairs`, `slot_from-below`.
-use Rattle.std.proofs.Common.{◌≡◌, ◌<◌, ℕ, zero, suc, ◌+◌, List, [], ◌∷◌, ◌++◌, length, Bool, true, false, Some, None, refl, sym, ap, ◌∙◌, arith, cond, if◌then◌else◌, get_or, ◌⊎◌, inl, inr}
+-- The index of an object's members: `slot_from-set`, `slot_from-push`, `with_value-set`, `slot_from-pairs`, `slot_from-below`, `slot_from-drop`.
+use Rattle.std.proofs.Common.{◌≡◌, ◌<◌, ℕ, zero, suc, ◌+◌, List, [], ◌∷◌, ◌++◌, length, Bool, true, false, Some, None, refl, sym, ap, ◌∙◌, arith, cond, if◌then◌else◌, get_or, drop, ◌⊎◌, inl, inr}
 use Rattle.std.proofs.lemmas.Slice.Eq.{bytes_eq-Decides}
 use Rattle.std.proofs.Math.ListN.{set}
+use Rattle.std.proofs.lemmas.List.{at_drop_more}
 use Rattle.std.specs.Prelude.{unwrap_or, IsOk, is_ok, Result, Ok, Err}
 use Rattle.std.specs.Str.{bytes_eq}
 use Rattle.json_text.specs.View.{tree_of, pairs_of}
@@ -85,6 +86,13 @@ slot_from-push at key k v (m ∷ ms) h =
           ap (λ b. cond (bytes_eq key m.0) (Some at) (cond b (Some (at + 1 + length ms)) (slot_from (at + 1) key ms))) other
           ∙ sym (ap (λ b. cond b (Some (at + suc (length ms))) (cond (bytes_eq key m.0) (Some at) (slot_from (at + 1) key ms))) other)
     ]
+
+-- the members from a place on begin with the member there
+pub slot_from-drop : (at : ℕ) (key : List ℕ) (n : ℕ) (ms : List (List ℕ × Json)) (d : List ℕ × Json) → n < length ms → d ≡ get_or ms n d
+    → (if bytes_eq d.0 key then Some at else slot_from (at + 1) key (drop (n + 1) ms)) ≡ slot_from at key (drop n ms)
+slot_from-drop at key n ms d h e =
+    ap (λ b. cond b (Some at) (slot_from (at + 1) key (drop (n + 1) ms))) (bytes_eq-comm d.0 key ∙ ap (λ p. bytes_eq key p.0) e)
+    ∙ sym (at_drop_more (slot_from at key) ms n d h)
 
 -- what a list is after a push that has its room
 pub pushed : {A T E : Type 0} (r : Result T E) (more same new : List A) → IsOk r → new ≡ (if is_ok r then more else same) → new ≡ more

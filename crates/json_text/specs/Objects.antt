@@ -1,5 +1,5 @@
 -- For private clauses alone: the members of an object while it is read.
-use Rattle.std.specs.Prelude.{◌≡◌, ℕ, zero, suc, ◌+◌, Bool, true, false, List, [], ◌∷◌, ◌++◌, Option, Some, None, String, length, if◌then◌else◌}
+use Rattle.std.specs.Prelude.{◌≡◌, ◌<◌, ℕ, zero, suc, ◌+◌, Bool, true, false, List, [], ◌∷◌, ◌++◌, Option, Some, None, String, length, if◌then◌else◌}
 use Rattle.std.specs.Global.{Global}
 use Rattle.std.specs.Str.{bytes_eq}
 use Rattle.std.specs.BTreeMap.{BTreeMap, get_by_text}
@@ -10,9 +10,9 @@ abbrev pub slot_from : {V : Type 0} → ℕ → List ℕ → List (List ℕ × V
 slot_from at key [] = None
 slot_from at key (m ∷ ms) = if bytes_eq key m.0 then Some at else slot_from (at + 1) key ms
 
--- the map has each key's place
+-- the map has each key's place, once there are more than sixteen members
 abbrev pub IsIndex : {V : Type 0} → BTreeMap (String Global) ℕ → List (List ℕ × V) → Type 0
-IsIndex slots ms = (key : List ℕ) → get_by_text slots key ≡ slot_from 0 key ms
+IsIndex slots ms = 16 < length ms → (key : List ℕ) → get_by_text slots key ≡ slot_from 0 key ms
 
 -- the member at the place has the key: it was there, or was put at the end with no value yet
 abbrev pub Reserves : List (List ℕ × Tree) → List (List ℕ × Tree) → List ℕ → ℕ → Bool → Type 0

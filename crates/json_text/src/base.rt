@@ -62,10 +62,8 @@ impl Text {
         requires { IsUtf8 bytes.now }
         ensures { IfOk result (λ t. t ≡ bytes.now) }
     {
-        match str::from_utf8(bytes) {
-            Ok(text) => Text::from_str(alloc, text),
-            Err(_) => unreachable!(),
-        }
+        // SAFETY: the bytes are UTF-8, by `requires`.
+        Text::from_str(alloc, unsafe { str::from_utf8_unchecked(bytes) })
     }
 
     pub fn as_str(&self) -> &str

@@ -109,14 +109,10 @@ fn push_escape(byte: u8, out: &mut Bytes) -> Result<(), NoMemory>
         b'\n' => out.extend(b"\\n"),
         b'\r' => out.extend(b"\\r"),
         b'\t' => out.extend(b"\\t"),
-        0..32 => out.extend(&[
-            b'\\',
-            b'u',
-            b'0',
-            b'0',
-            hex_digit(byte / 16),
-            hex_digit(byte % 16),
-        ]),
+        0..32 => {
+            let (high, low) = (hex_digit(byte / 16), hex_digit(byte % 16));
+            out.extend(&[b'\\', b'u', b'0', b'0', high, low])
+        }
         _ => out.extend(&[byte]),
     }
 }

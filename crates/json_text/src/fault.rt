@@ -59,14 +59,3 @@ impl From<AllocError> for TokenFault {
         TokenFault::NoMemory
     }
 }
-
-impl<T: Drop> From<AllocFailed<T>> for TokenFault {
-    ghost use Rattle.std.specs.Prelude.{◌≡◌};
-    ghost use Rattle.json_text.specs.declared.fault.TokenFault.TheVariants.{NoMemory as refused};
-
-    ghost from_gives = { λ _ e. e ≡ refused };
-
-    fn from(_refused: AllocFailed<T>) -> TokenFault {
-        TokenFault::NoMemory
-    }
-}

@@ -44,6 +44,13 @@ impl Part {
             _ => None,
         }
     }
+
+    fn end(self, n: usize) -> Result<usize, usize>
+        ensures ended { result ≡ number_end (part_of self) n }
+        ensures count { MatchResult result (λ m. m ≡ n) (λ m. m ≡ n) }
+    {
+        if self.may_end() { Ok(n) } else { Err(n) }
+    }
 }
 
 /// How many bytes of the number stand behind its first one, or how many before the first that can't go on.
@@ -60,13 +67,4 @@ pub(crate) fn number_len(first: Part, bytes: &[u8]) -> Result<usize, usize>
         }
     }
     part.end(bytes.len())
-}
-
-impl Part {
-    fn end(self, n: usize) -> Result<usize, usize>
-        ensures ended { result ≡ number_end (part_of self) n }
-        ensures count { MatchResult result (λ m. m ≡ n) (λ m. m ≡ n) }
-    {
-        if self.may_end() { Ok(n) } else { Err(n) }
-    }
 }

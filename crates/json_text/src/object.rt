@@ -1,5 +1,7 @@
 //! The members of an object while it is read: each key once, at its first place.
-ghost use Rattle.std.specs.Prelude.{◌≡◌, ◌<◌, ◌+◌, ℕ, List, [], ◌∷◌, ◌++◌, None, length, IfOk, OnOk};
+ghost use Rattle.std.specs.Prelude.{◌≡◌, ◌<◌, ◌+◌, ℕ, List, [], ◌∷◌, ◌++◌, Some, None, length, IfOk, OnOk, OnErr, if◌then◌else◌};
+ghost use Rattle.std.specs.Str.{bytes_eq};
+ghost use Rattle.std.specs.BTreeMap.{get_by_text};
 ghost use Rattle.json_text.specs.View.{pairs_of, tree_of};
 ghost use Rattle.json_text.specs.Objects.{IsIndex, Reserves, slot_from, with_value};
 ghost use Rattle.json_text.specs.Tree.{null};
@@ -8,7 +10,10 @@ use super::{Json, Members, NoMemory, Text};
 use std::alloc::Global;
 use std::collections::BTreeMap;
 
-/// Members in the order of their keys' first places, and where each key stands among them.
+/// The most members whose keys are compared one by one.
+const FEW: usize = 16;
+
+/// Members in the order of their keys' first places, and where each key stands among them once they are more than a few.
 #[derive(Drop)]
 pub(crate) struct ObjectBuilder {
     pub(crate) members: Members,
@@ -32,13 +37,19 @@ impl ObjectBuilder {
             (λ r. Reserves (pairs_of self.old.members.items) (pairs_of self.new.members.items) key r.0 r.1) }
         ensures within { IfOk result (λ r. r.0 < length self.new.members.items) }
     {
-        match self.slots.get(key.as_str()).copied() {
+        match self.slot_of(key.as_str()) {
             Some(slot) => Ok((slot, true)),
-            None => {
-                let slot = self.push(alloc, key)?;
-                Ok((slot, false))
-            }
+            None => Ok((self.push(alloc, key)?, false)),
         }
+    }
+
+    fn slot_of(&self, key: &str) -> Option<usize>
+        ensures { result ≡ slot_from 0 key.now self.now.members.items }
+    {
+        if self.members.len() <= FEW {
+            return slot_among(&self.members, key);
+        }
+        self.slots.get(key).copied()
     }
 
     /// Puts a member with a new key at the end, with no value yet.
@@ -49,9 +60,8 @@ impl ObjectBuilder {
         ensures len { OnOk result (length self.new.members.items ≡ length self.old.members.items + 1) }
     {
         let slot = self.members.len();
-        let name = String::from_str(alloc, key.as_str())?;
         self.members.try_reserve(1)?;
-        self.slots.insert(name, slot)?;
+        index_next(alloc, &mut self.slots, &self.members, key.as_str())?;
         match self.members.push((key, Json::Null)) {
             Ok(()) => Ok(slot),
             Err(_) => unreachable!(),
@@ -72,4 +82,65 @@ impl ObjectBuilder {
         let ObjectBuilder { members, slots: _ } = self;
         members
     }
+}
+
+fn slot_among(members: &[(Text, Json)], key: &str) -> Option<usize>
+    ensures { result ≡ slot_from 0 key.now members.now }
+{
+    for (n, (name, _)) in members.iter().enumerate() {
+        if key == name.as_str() {
+            return Some(n);
+        }
+    }
+    None
+}
+
+/// Readies the map for a member with a new key behind these.
+fn index_next(
+    alloc: Global,
+    slots: &mut BTreeMap<String, usize>,
+    members: &[(Text, Json)],
+    key: &str,
+) -> Result<(), NoMemory>
+    requires indexed { IsIndex slots.old members.now }
+    requires new { slot_from 0 key.now members.now ≡ None }
+    ensures ok { OnOk result ((json : Json) → IsIndex slots.new (members.now ++ (key.now, json) ∷ [])) }
+    ensures err { OnErr result (IsIndex slots.new members.now) }
+{
+    let slot = members.len();
+    if slot < FEW {
+        return Ok(());
+    }
+    if slot == FEW {
+        *slots = index_of(alloc, members)?;
+    }
+    insert_key(alloc, slots, key, slot)
+}
+
+/// The place of each member's key.
+fn index_of(alloc: Global, members: &[(Text, Json)]) -> Result<BTreeMap<String, usize>, NoMemory>
+    ensures { IfOk result (λ slots. (key : List ℕ) → get_by_text slots key ≡ slot_from 0 key members.now) }
+{
+    let mut slots = BTreeMap::new(alloc);
+    let mut n = members.len();
+    while n > 0 {
+        n -= 1;
+        insert_key(alloc, &mut slots, members[n].0.as_str(), n)?;
+    }
+    Ok(slots)
+}
+
+fn insert_key(
+    alloc: Global,
+    slots: &mut BTreeMap<String, usize>,
+    key: &str,
+    slot: usize,
+) -> Result<(), NoMemory>
+    ensures ok { OnOk result ((other : List ℕ)
+        → get_by_text slots.new other ≡ (if bytes_eq key.now other then Some slot else get_by_text slots.old other)) }
+    ensures err { OnErr result ((other : List ℕ) → get_by_text slots.new other ≡ get_by_text slots.old other) }
+{
+    let name = String::from_str(alloc, key)?;
+    slots.insert(name, slot)?;
+    Ok(())
 }

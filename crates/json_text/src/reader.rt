@@ -64,6 +64,9 @@ pub(crate) fn read_all(alloc: Global, bytes: &[u8], levels: u32) -> Result<Read,
     }
 }
 
+/// What comes next and where, or the fault.
+type Gone<'a> = Result<(Next, Place<'a>), JsonFault>;
+
 impl<'a> Place<'a> {
     fn first(self) -> Option<u8>
         ensures { MatchOption result (self.entry.rest.now ≡ [])
@@ -108,12 +111,7 @@ impl<'a> Place<'a> {
 
 impl Reader {
     /// Takes what stands at the place, of which the first byte is given, and tells what comes then.
-    fn turn<'a>(
-        &mut self,
-        next: Next,
-        byte: u8,
-        place: Place<'a>,
-    ) -> Result<(Next, Place<'a>), JsonFault>
+    fn turn<'a>(&mut self, next: Next, byte: u8, place: Place<'a>) -> Gone<'a>
         requires first { StartsWith byte place.rest.now }
         requires no_space { is_space byte ≡ false }
         ensures goes { (s : State) → IsState next self.old.waiting.items self.old.repeat s
@@ -131,7 +129,7 @@ impl Reader {
         }
     }
 
-    fn value<'a>(&mut self, byte: u8, place: Place<'a>) -> Result<(Next, Place<'a>), JsonFault>
+    fn value<'a>(&mut self, byte: u8, place: Place<'a>) -> Gone<'a>
         requires first { StartsWith byte place.rest.now }
         requires no_space { is_space byte ≡ false }
         ensures goes { GoesOn value self.old.levels place.entry result self.old.waiting.items self.old.repeat self.new.waiting.items self.new.repeat }
@@ -152,7 +150,7 @@ impl Reader {
     }
 
     /// What comes behind a bracket that opens.
-    fn opened<'a>(&self, next: Next, place: Place<'a>) -> Result<(Next, Place<'a>), JsonFault>
+    fn opened<'a>(&self, next: Next, place: Place<'a>) -> Gone<'a>
         requires { Opens next place.rest.now }
         ensures { GoesOn value self.now.levels place.entry result self.now.waiting.items self.now.repeat self.now.waiting.items self.now.repeat }
     {
@@ -162,7 +160,7 @@ impl Reader {
         Ok((next, place.behind(1)))
     }
 
-    fn first_item<'a>(&mut self, byte: u8, place: Place<'a>) -> Result<(Next, Place<'a>), JsonFault>
+    fn first_item<'a>(&mut self, byte: u8, place: Place<'a>) -> Gone<'a>
         requires first { StartsWith byte place.rest.now }
         requires no_space { is_space byte ≡ false }
         ensures goes { GoesOn first_item self.old.levels place.entry result self.old.waiting.items self.old.repeat self.new.waiting.items self.new.repeat }
@@ -176,12 +174,7 @@ impl Reader {
         self.value(byte, place)
     }
 
-    fn after_item<'a>(
-        &mut self,
-        items: Items,
-        byte: u8,
-        place: Place<'a>,
-    ) -> Result<(Next, Place<'a>), JsonFault>
+    fn after_item<'a>(&mut self, items: Items, byte: u8, place: Place<'a>) -> Gone<'a>
         requires first { StartsWith byte place.rest.now }
         requires no_space { is_space byte ≡ false }
         ensures goes { (s : State)
@@ -202,7 +195,7 @@ impl Reader {
         }
     }
 
-    fn first_key<'a>(&mut self, byte: u8, place: Place<'a>) -> Result<(Next, Place<'a>), JsonFault>
+    fn first_key<'a>(&mut self, byte: u8, place: Place<'a>) -> Gone<'a>
         requires first { StartsWith byte place.rest.now }
         requires no_space { is_space byte ≡ false }
         ensures goes { GoesOn first_key self.old.levels place.entry result self.old.waiting.items self.old.repeat self.new.waiting.items self.new.repeat }
@@ -218,12 +211,7 @@ impl Reader {
         }
     }
 
-    fn next_key<'a>(
-        &mut self,
-        object: ObjectBuilder,
-        byte: u8,
-        place: Place<'a>,
-    ) -> Result<(Next, Place<'a>), JsonFault>
+    fn next_key<'a>(&mut self, object: ObjectBuilder, byte: u8, place: Place<'a>) -> Gone<'a>
         requires first { StartsWith byte place.rest.now }
         requires no_space { is_space byte ≡ false }
         ensures goes { (s : State)
@@ -238,11 +226,7 @@ impl Reader {
     }
 
     /// Takes a member's key, whose quotation mark stands at the place, and its colon.
-    fn key<'a>(
-        &mut self,
-        mut object: ObjectBuilder,
-        place: Place<'a>,
-    ) -> Result<(Next, Place<'a>), JsonFault>
+    fn key<'a>(&mut self, mut object: ObjectBuilder, place: Place<'a>) -> Gone<'a>
         requires { StartsWith 34 place.rest.now }
         ensures goes { (ms : List Member) (outer : List Waiting)
             → KeepsAll (reverse self.old.waiting.items) outer
@@ -266,12 +250,7 @@ impl Reader {
         Ok((Next::Value, there.behind(1)))
     }
 
-    fn after_member<'a>(
-        &mut self,
-        object: ObjectBuilder,
-        byte: u8,
-        place: Place<'a>,
-    ) -> Result<(Next, Place<'a>), JsonFault>
+    fn after_member<'a>(&mut self, object: ObjectBuilder, byte: u8, place: Place<'a>) -> Gone<'a>
         requires first { StartsWith byte place.rest.now }
         requires no_space { is_space byte ≡ false }
         ensures goes { (s : State)
@@ -311,7 +290,7 @@ impl Reader {
         }
     }
 
-    fn string<'a>(&mut self, place: Place<'a>) -> Result<(Next, Place<'a>), JsonFault>
+    fn string<'a>(&mut self, place: Place<'a>) -> Gone<'a>
         requires { StartsWith 34 place.rest.now }
         ensures goes { GoesOn value self.old.levels place.entry result self.old.waiting.items self.old.repeat self.new.waiting.items self.new.repeat }
         ensures levels { self.new.levels ≡ self.old.levels }
@@ -325,7 +304,7 @@ impl Reader {
         }
     }
 
-    fn number<'a>(&mut self, first: Part, place: Place<'a>) -> Result<(Next, Place<'a>), JsonFault>
+    fn number<'a>(&mut self, first: Part, place: Place<'a>) -> Gone<'a>
         requires { BeginsNumber (part_of first) place.rest.now }
         ensures goes { GoesOn value self.old.levels place.entry result self.old.waiting.items self.old.repeat self.new.waiting.items self.new.repeat }
         ensures levels { self.new.levels ≡ self.old.levels }
@@ -341,12 +320,7 @@ impl Reader {
         }
     }
 
-    fn word<'a>(
-        &mut self,
-        word: &[u8],
-        json: Json,
-        place: Place<'a>,
-    ) -> Result<(Next, Place<'a>), JsonFault>
+    fn word<'a>(&mut self, word: &[u8], json: Json, place: Place<'a>) -> Gone<'a>
         requires { (n : Node) × (tree_of json ≡ value_of n) × (first_repeat n ≡ None)
             × BeginsWord word.now n place.rest.now }
         ensures goes { GoesOn value self.old.levels place.entry result self.old.waiting.items self.old.repeat self.new.waiting.items self.new.repeat }

@@ -19,19 +19,14 @@ pub(crate) fn string(alloc: Global, bytes: &[u8]) -> Result<(Text, usize), Token
     let mut text = Vec::new(alloc);
     let mut at = 0;
     while at < bytes.len() && bytes[at] != b'"' {
-        match push_characters(&mut text, &bytes[at..]) {
-            Ok(taken) => at += taken,
-            Err(TokenFault::Stop(n)) => return Err(TokenFault::Stop(at + n)),
-            Err(TokenFault::NoMemory) => return Err(TokenFault::NoMemory),
-        }
+        at = behind(at, push_characters(&mut text, &bytes[at..]))?;
     }
     if at == bytes.len() {
         return Err(TokenFault::Stop(at));
     }
-    match String::from_utf8(text) {
-        Ok(text) => Ok((Text::from(text), at + 1)),
-        Err(_) => unreachable!(),
-    }
+    // SAFETY: only whole characters were put, so the bytes are UTF-8.
+    let text = unsafe { String::from_utf8_unchecked(text) };
+    Ok((Text::from(text), at + 1))
 }
 
 /// Puts the characters at the front, of which the first is no quotation mark, and answers how many bytes they take.
@@ -81,10 +76,10 @@ fn push_escaped(text: &mut Vec<u8>, bytes: &[u8]) -> Result<usize, TokenFault>
     match bytes {
         [b'u', digits @ ..] => behind(1, push_unicode(text, digits)),
         [byte, ..] => match unescaped(*byte) {
-            Some(character) => {
-                text.push(character)?;
-                Ok(1)
-            }
+            Some(character) => match text.push(character) {
+                Ok(()) => Ok(1),
+                Err(_) => Err(TokenFault::NoMemory),
+            },
             None => Err(TokenFault::Stop(0)),
         },
         [] => Err(TokenFault::Stop(0)),

@@ -45,10 +45,7 @@ fn values_are_written_compactly(rt: HostRuntime) -> Result<(), Fail> {
         ("{\"a\" : [ { } , 1 ] }", "{\"a\":[{},1]}"),
         ("\"\\u0041\\u00e9\\u20AC\"", "\"A\u{e9}\u{20ac}\""),
         ("\"\\ud83d\\uDE00\"", "\"\u{1f600}\""),
-        (
-            "\"\\/\\b\\f\\n\\r\\t\\\"\\\\\"",
-            "\"/\\b\\f\\n\\r\\t\\\"\\\\\"",
-        ),
+        (r#""\/\b\f\n\r\t\"\\""#, r#""/\b\f\n\r\t\"\\""#),
         ("\"\\u0000\\u001f\"", "\"\\u0000\\u001f\""),
         (
             "\"\u{7f}\u{e9}\u{20ac}\u{1f600}\"",
@@ -56,10 +53,7 @@ fn values_are_written_compactly(rt: HostRuntime) -> Result<(), Fail> {
         ),
         ("[[[1]],[2.50]]", "[[[1]],[2.50]]"),
         ("{\"a\":1, \"b\":2,\"a\":3}", "{\"a\":3,\"b\":2}"),
-        (
-            "{\"\\u0061\":1,\"a\":{\"b\":1,\"b\":2}}",
-            "{\"a\":{\"b\":2}}",
-        ),
+        (r#"{"\u0061":1,"a":{"b":1,"b":2}}"#, r#"{"a":{"b":2}}"#),
     ];
     for (text, want) in rows {
         let out = compacted(rt.alloc(), text.as_bytes())?;
@@ -105,61 +99,41 @@ fn faults_are_told_at_their_places(rt: HostRuntime) {
     ];
     for (text, levels, want) in rows {
         let got = answered(&read(rt.alloc(), text, levels));
+        let once = answered(&read_once(rt.alloc(), text, levels));
         assert_eq!(rt; got, want, "of {text:?}");
-        assert_eq!(rt;
-            answered(&read_once(rt.alloc(), text, levels)),
-            want,
-            "once, of {text:?}"
-        );
+        assert_eq!(rt; once, want, "once, of {text:?}");
     }
 }
 
 #[test]
 fn repeated_keys_are_told_at_the_first_of_them(rt: HostRuntime) {
-    let rows: [(&[u8], Answer); 8] = [
+    let rows: [(&[u8], Answer); 9] = [
         (b"{\"a\":1,\"b\":2,\"a\":3}", Answer::KeyTwice(13)),
         (b"{\"a\":{\"b\":1,\"b\":2},\"a\":3}", Answer::KeyTwice(12)),
-        (
-            b"{\"a\":1,\"\\u0061\":{\"b\":1,\"b\":2}}",
-            Answer::KeyTwice(7),
-        ),
+        (br#"{"a":1,"\u0061":{"b":1,"b":2}}"#, Answer::KeyTwice(7)),
         (b"[{\"a\":1},{\"a\":1}]", Answer::Value),
         (b"{\"a\":{\"a\":{\"a\":1}}}", Answer::Value),
         (b"{\"a\":1,\"a\":2", Answer::NotJson(12)),
         (b"{\"\":1, \"\" :2}", Answer::KeyTwice(7)),
         (b"{\"a\":1,\"A\":2,\"a \":3}", Answer::Value),
+        (
+            b"{\"a\":0,\"b\":0,\"c\":0,\"d\":0,\"e\":0,\"f\":0,\"g\":0,\"h\":0,\"i\":0,\
+            \"j\":0,\"k\":0,\"l\":0,\"m\":0,\"n\":0,\"o\":0,\"p\":0,\"q\":0,\"r\":0,\"q\":0}",
+            Answer::KeyTwice(109),
+        ),
     ];
     for (text, want) in rows {
-        assert_eq!(rt;
-            answered(&read_once(rt.alloc(), text, 100)),
-            want,
-            "of {text:?}"
-        );
+        let got = answered(&read_once(rt.alloc(), text, 100));
+        assert_eq!(rt; got, want, "of {text:?}");
     }
 }
 
 // In the manner of the public suites of JSON parsers: texts to accept, and texts to refuse.
 #[test]
 fn outside_cases_go_as_marked(rt: HostRuntime) {
-    let accepted: [&[u8]; 31] = [
-        b"[[]   ]",
-        b"[\"\"]",
-        b"[]",
-        b"[\"a\"]",
-        b"[false]",
+    let accepted: [&[u8]; 14] = [
         b"[null, 1, \"1\", {}]",
-        b"[null]",
-        b"[1\n]",
-        b" [1]",
         b"[1,null,null,null,2]",
-        b"[2] ",
-        b"[0e+1]",
-        b"[0e1]",
-        b"[ 4]",
-        b"[-0]",
-        b"[-123]",
-        b"[1E22]",
-        b"[1E-2]",
         b"[123e45]",
         b"[123.456e78]",
         b"[0.4e669999999999]",
@@ -170,57 +144,37 @@ fn outside_cases_go_as_marked(rt: HostRuntime) {
         b"[\"\\uDBFF\\uDFFF\"]",
         b"[\"\\u0012\"]",
         b"[\"\\uFFFF\"]",
-        b"\" \"",
         b"[\"\\u2028\"]",
         b"[\"\xe2\x80\xa8\"]",
     ];
-    let refused: [&[u8]; 37] = [
+    let short_accepted: [&[u8]; 17] = [
+        b"[[]   ]", b"[\"\"]", b"[]", b"[\"a\"]", b"[false]", b"[null]", b"[1\n]", b" [1]",
+        b"[2] ", b"[0e+1]", b"[0e1]", b"[ 4]", b"[-0]", b"[-123]", b"[1E22]", b"[1E-2]", b"\" \"",
+    ];
+    let refused: [&[u8]; 12] = [
         b"[1 true]",
-        b"[a\xe5]",
         b"[\"\": 1]",
-        b"[\"\"],",
-        b"[,1]",
-        b"[1,,2]",
         b"[\"x\"]]",
-        b"[3[4]]",
-        b"[,]",
-        b"[-]",
-        b"[,\"\"]",
         b"[\"a\",\n4\n,1,",
-        b"[1,}",
         b"[\"a\\f\"\x0c]",
-        b"[*]",
-        b"[1,",
-        b"[fals]",
-        b"[nul]",
-        b"[tru]",
         b"[++1234]",
-        b"[-01]",
-        b"[-2.]",
-        b"[.-1]",
-        b"[0.1.2]",
-        b"[0.3e+]",
-        b"[0E]",
-        b"[1.0e]",
-        b"[1eE2]",
-        b"[0x1]",
         b"[Infinity]",
-        b"[NaN]",
         b"{\"a\":\"b\"}/**/",
-        b"{'a':0}",
         b"{\"a\" b}",
         b"[\"\\uD800\\\"]",
         b"[\"\\uqqqq\"]",
         b"[\"\t\"]",
     ];
-    for text in accepted {
-        assert_eq!(rt;
-            answered(&read(rt.alloc(), text, 100)),
-            Answer::Value,
-            "of {text:?}"
-        );
+    let short_refused: [&[u8]; 25] = [
+        b"[a\xe5]", b"[\"\"],", b"[,1]", b"[1,,2]", b"[3[4]]", b"[,]", b"[-]", b"[,\"\"]", b"[1,}",
+        b"[*]", b"[1,", b"[fals]", b"[nul]", b"[tru]", b"[-01]", b"[-2.]", b"[.-1]", b"[0.1.2]",
+        b"[0.3e+]", b"[0E]", b"[1.0e]", b"[1eE2]", b"[0x1]", b"[NaN]", b"{'a':0}",
+    ];
+    for text in short_accepted.into_iter().chain(accepted) {
+        let got = answered(&read(rt.alloc(), text, 100));
+        assert_eq!(rt; got, Answer::Value, "of {text:?}");
     }
-    for text in refused {
+    for text in short_refused.into_iter().chain(refused) {
         let got = answered(&read(rt.alloc(), text, 100));
         assert!(rt; matches!(got, Answer::NotJson(_)), "of {text:?}");
     }
@@ -236,11 +190,8 @@ fn a_hundred_levels_are_read_and_one_more_is_not(rt: HostRuntime) -> Result<(), 
         for _ in 0..levels {
             text.extend(b"]")?;
         }
-        assert_eq!(rt;
-            answered(&read(rt.alloc(), text.as_slice(), 100)),
-            want,
-            "at {levels}"
-        );
+        let got = answered(&read(rt.alloc(), text.as_slice(), 100));
+        assert_eq!(rt; got, want, "at {levels}");
     }
     Ok(())
 }

@@ -13,8 +13,8 @@ returns-in-117 c = rw c.behind.ensures
     (take (length c.args.bytes.now - 1) (drop 1 c.args.bytes.now)) between c.push_unicode.new.text.items c.push_unicode.result
     (unicode_passes c.args.text.now.items c.args.bytes.now (omega arith) (omega arith)) (rest_is 1 c.args.bytes.now) c.push_unicode.ensures)
 
-pub returns-in_ok-push-in-Some : goal.returns-in_ok-push-in-Some
-returns-in_ok-push-in-Some c = subst (λ (t : List ℕ). Passes backslash c.args.text.now.items c.args.bytes.now between t 1) (sym c.in_ok-push-in-Some.ensures.items)
+pub returns-in-Ok : goal.returns-in-Ok
+returns-in-Ok c = subst (λ (t : List ℕ). Passes backslash c.args.text.now.items c.args.bytes.now between t 1) (sym c.in-Ok.ensures.items)
     (escape_passes c.args.text.now.items c.args.bytes.now (omega arith) c.in-Some.character (omega arith) c.in-Some.ensures)
 
 pub returns-in-None : goal.returns-in-None

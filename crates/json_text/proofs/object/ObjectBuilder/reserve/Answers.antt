@@ -1,6 +1,6 @@
 use Rattle.std.proofs.Common.{◌∙◌, sym, ap, refl, arith}
-use Rattle.std.specs.BTreeMap.{get_by_text}
 use Rattle.std.proofs.lemmas.List.{length-map}
+use Rattle.json_text.specs.Objects.{slot_from}
 use Rattle.json_text.specs.View.{tree_of}
 use Rattle.json_text.proofs.ObjectLemmas.{slot_from-pairs, slot_from-below}
 use Rattle.json_text.proofs.object.ObjectBuilder.reserve.Goals as goal
@@ -8,8 +8,8 @@ use Rattle.json_text.proofs.object.ObjectBuilder.reserve.Goals as goal
 pub returns-in-Some-clause-place : goal.returns-in-Some-clause-place
 returns-in-Some-clause-place c = (
   refl,
-  slot_from-pairs 0 c.args.key c.args.self.now.members.items ∙ sym (c.args.self.now.indexed c.args.key)
-      ∙ ap (get_by_text c.args.self.now.slots) (sym c.as_str.ensures) ∙ sym c.get.ensures.value ∙ sym c.copied.ensures ∙ c.in-Some.is,
+  slot_from-pairs 0 c.args.key c.args.self.now.members.items ∙ ap (λ k. slot_from 0 k c.args.self.now.members.items) (sym c.as_str.ensures)
+      ∙ sym c.slot_of.ensures ∙ c.in-Some.is,
 )
 
 pub returns-in-Some-clause-within : goal.returns-in-Some-clause-within
@@ -17,13 +17,13 @@ returns-in-Some-clause-within c =
     omega (
       arith,
       slot_from-below 0 c.in-Some.slot c.args.key c.args.self.now.members.items
-          (sym (c.args.self.now.indexed c.args.key) ∙ ap (get_by_text c.args.self.now.slots) (sym c.as_str.ensures) ∙ sym c.get.ensures.value ∙ sym c.copied.ensures ∙ c.in-Some.is),
+          (ap (λ k. slot_from 0 k c.args.self.now.members.items) (sym c.as_str.ensures) ∙ sym c.slot_of.ensures ∙ c.in-Some.is),
     )
 
-pub returns-in_ok-slot-in-None-clause-place : goal.returns-in_ok-slot-in-None-clause-place
-returns-in_ok-slot-in-None-clause-place c = (
-  c.in_ok-slot-in-None.ensures.pushed,
-  slot_from-pairs 0 c.args.key c.args.self.now.members.items ∙ sym (c.args.self.now.indexed c.args.key)
-      ∙ ap (get_by_text c.args.self.now.slots) (sym c.as_str.ensures) ∙ sym c.get.ensures.value ∙ sym c.copied.ensures ∙ c.in-None.is,
-  c.in_ok-slot-in-None.ensures.place ∙ sym (length-map c.args.self.now.members.items (λ m. (m.0, tree_of m.1))),
+pub returns-in_ok-push-in-None-clause-place : goal.returns-in_ok-push-in-None-clause-place
+returns-in_ok-push-in-None-clause-place c = (
+  c.in_ok-push-in-None.ensures.pushed,
+  slot_from-pairs 0 c.args.key c.args.self.now.members.items ∙ ap (λ k. slot_from 0 k c.args.self.now.members.items) (sym c.as_str.ensures)
+      ∙ sym c.slot_of.ensures ∙ c.in-None.is,
+  c.in_ok-push-in-None.ensures.place ∙ sym (length-map c.args.self.now.members.items (λ m. (m.0, tree_of m.1))),
 )
