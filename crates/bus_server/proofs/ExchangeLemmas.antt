@@ -98,7 +98,7 @@ delivery_exchange m close old new ahead ahead_mid ahead_new written written_new 
 delivery_exchange m close old new ahead ahead_mid ahead_new written written_new result reading r is_asked due gave (inr (same, none, writes)) =
     refused_exchange m close old new ahead ahead_new written written_new result reading same (Gives-append gave none) writes
 
--- a request that was asked for publishes ten entries at most
+-- a request that was asked for publishes one entry to ten
 pub asked_bounded : (m : Message) (reading : ℕ) (r : Request) → IsAsked m reading r → IsBounded r.action
 asked_bounded m reading r is_asked = of_action is_asked.operation r.action is_asked.action
   where
@@ -109,7 +109,7 @@ asked_bounded m reading r is_asked = of_action is_asked.operation r.action is_as
     of_action CreateQueue (put_events entries) is = absurd is
     of_action PutRule (put_events entries) is = absurd is
     of_action PutTargets (put_events entries) is = absurd is
-    of_action PutEvents (put_events entries) is = is.few
+    of_action PutEvents (put_events entries) is = (is.some, is.few)
     of_action PeekMessages (put_events entries) is = absurd is
     of_action DeliverDue (put_events entries) is = absurd is
     of_action o (peek_messages queue) is = tt

@@ -12,11 +12,11 @@ use Rattle.router_calls.specs.Answer.{Answer}
 abbrev pub answer_of : Option Ready × Reply → Answer
 answer_of p = record { batch = option_map batch_of p.0; reply = reply_of p.1 }
 
--- a request publishes ten entries at most, as the public API has it
+-- a request publishes one entry to ten, as the public API has it
 abbrev pub IsBounded : Action → Type 0
 IsBounded (create_queue name) = Unit {0}
 IsBounded (put_rule name pattern) = Unit {0}
 IsBounded (put_targets rule targets) = Unit {0}
-IsBounded (put_events entries) = length entries ≤ 10
+IsBounded (put_events entries) = (1 ≤ length entries) × (length entries ≤ 10)
 IsBounded (peek_messages queue) = Unit {0}
 IsBounded deliver_due = Unit {0}

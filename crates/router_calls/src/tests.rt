@@ -113,14 +113,14 @@ fn entry(alloc: Global, source: &str) -> Result<EventEntry, NoMemory> {
 }
 
 fn entries(alloc: Global, sources: &[&str]) -> Result<Vec<EventEntry>, Fail>
-    ensures { IfOk result (λ v. length v.items ≤ 10) }
+    ensures { IfOk result (λ v. (1 ≤ length v.items) × (length v.items ≤ 10)) }
 {
     let mut entries = Vec::new(alloc);
     for source in sources {
         entries.push(entry(alloc, source)?)?;
     }
-    if entries.len() > 10 {
-        return Err(Fail::from("too many entries"));
+    if entries.is_empty() || entries.len() > 10 {
+        return Err(Fail::from("no entry, or too many"));
     }
     Ok(entries)
 }
