@@ -15,7 +15,7 @@ text_pushed items pushed texts i t r lt before is same at =
     ∙ ap (λ x. map text (take i texts) ++ x ∷ []) (tree_of_text t ∙ ap text (same ∙ at))
     ∙ sym (ap (map text) (take_more texts i r lt) ∙ map-append text (take i texts) (get_or texts i r ∷ []))
 
-pub nine_pushed : {X : Type 0} {m0 m1 m2 m3 m4 m5 m6 m7 m8 m9 : List X} {p1 p2 p3 p4 p5 p6 p7 p8 p9 : X} → m0 ≡ []
+pub eight_pushed : {X : Type 0} {m0 m1 m2 m3 m4 m5 m6 m7 m8 : List X} {p1 p2 p3 p4 p5 p6 p7 p8 : X} → m0 ≡ []
     → m1 ≡ m0 ++ p1 ∷ [] → m2 ≡ m1 ++ p2 ∷ [] → m3 ≡ m2 ++ p3 ∷ [] → m4 ≡ m3 ++ p4 ∷ [] → m5 ≡ m4 ++ p5 ∷ [] → m6 ≡ m5 ++ p6 ∷ []
-    → m7 ≡ m6 ++ p7 ∷ [] → m8 ≡ m7 ++ p8 ∷ [] → m9 ≡ m8 ++ p9 ∷ [] → m9 ≡ p1 ∷ p2 ∷ p3 ∷ p4 ∷ p5 ∷ p6 ∷ p7 ∷ p8 ∷ p9 ∷ []
-nine_pushed e0 e1 e2 e3 e4 e5 e6 e7 e8 e9 = rw (e9, e8, e7, e6, e5, e4, e3, e2, e1, e0) refl
+    → m7 ≡ m6 ++ p7 ∷ [] → m8 ≡ m7 ++ p8 ∷ [] → m8 ≡ p1 ∷ p2 ∷ p3 ∷ p4 ∷ p5 ∷ p6 ∷ p7 ∷ p8 ∷ []
+eight_pushed e0 e1 e2 e3 e4 e5 e6 e7 e8 = rw (e8, e7, e6, e5, e4, e3, e2, e1, e0) refl

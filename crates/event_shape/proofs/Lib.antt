@@ -7,3 +7,7 @@ pub mod CheckLemmas
 pub mod MakeLemmas
 pub mod EventLemmas
 pub mod ValidLemmas
+pub mod OnceLemmas
+pub mod HasParts
+pub mod PartLemmas
+pub mod WrittenLemmas

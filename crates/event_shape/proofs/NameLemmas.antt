@@ -1,5 +1,5 @@
--- Which bus a text names: as an ARN `bus_by_arn`, and else `bus_by_name`.
-use Rattle.std.proofs.Common.{Option, Some, None, MatchOption, Bor, ◌≡◌, ℕ, List, ◌++◌, codes, inl, inr, sym, ◌∙◌, subst, refl}
+-- Which bus a text names: as an ARN `bus_by_arn`, and else `bus_by_name`; what stands behind the front of a bus's ARN: `bus_resource`.
+use Rattle.std.proofs.Common.{Option, Some, None, MatchOption, Bor, ◌≡◌, ℕ, List, ◌++◌, codes, inl, inr, sym, ap, ◌∙◌, subst, refl}
 use Rattle.std.proofs.lemmas.Bool.{false≢true}
 use Rattle.std.proofs.lemmas.List.{append_cancel_left}
 use Rattle.event_shape.specs.Names.{IsBusName, IsBusGiven, bus_arn}
@@ -26,3 +26,12 @@ pub named_alone : (t : List ℕ) (r : Option (Bor (List ℕ))) → ((rest : List
     → MatchOption r (¬ IsBusName t) (λ bus. IsBusName t × (bus.now ≡ t)) → MatchOption r ((bus : List ℕ) → ¬ IsBusGiven t bus) (λ bus. IsBusGiven t bus.now)
 named_alone t None none h = λ bus given. h (subst IsBusName (bus_by_name t none bus given) given.0)
 named_alone t (Some bus) none h = (subst IsBusName (sym h.1) h.0, inl (sym h.1))
+
+abbrev events_prefix : List ℕ
+events_prefix = codes "arn:aws:events:us-east-1:111122223333:"
+
+pub bus_resource : (t resource : List ℕ) (r : Option (Bor (List ℕ))) → t ≡ events_prefix ++ resource
+    → MatchOption r ((rest : List ℕ) → ¬ (resource ≡ codes "event-bus/" ++ rest)) (λ rest. resource ≡ codes "event-bus/" ++ rest.now)
+    → MatchOption r ((rest : List ℕ) → ¬ (t ≡ bus_arn rest)) (λ rest. t ≡ bus_arn rest.now)
+bus_resource t resource None e h = λ rest arn. h rest (append_cancel_left events_prefix resource (codes "event-bus/" ++ rest) (sym e ∙ arn))
+bus_resource t resource (Some rest) e h = e ∙ ap (λ r. events_prefix ++ r) h

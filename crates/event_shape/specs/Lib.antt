@@ -5,3 +5,4 @@ pub mod Id
 pub mod Entry
 pub mod Fault
 pub mod Event
+pub mod Parts

@@ -70,7 +70,8 @@ impl Checked {
 }
 
 /// The entry's members as they were read, if it has none of the faults; else the first one, in the order of
-/// `EntryFault`. Whether the bus is there, and whether its policy allows the entry, is not asked here.
+/// `EntryFault`. Whether the bus is there, and whether its policy allows the entry, is not asked here. After a fault the
+/// entry is gone.
 pub fn check(alloc: Global, entry: EventEntry) -> Result<Checked, CheckFault>
     ensures checked { IfOk result (λ c. IsCheckedOf (entry_of entry) c) }
     ensures fault { (f : EntryFault) → result ≡ Err (CheckFault.Entry f) → IsFirstFault (entry_of entry) f }
@@ -175,7 +176,7 @@ fn detail_given(alloc: Global, detail: Text) -> Result<Json, CheckFault>
     }
 }
 
-fn is_object(json: &Json) -> bool
+pub(crate) fn is_object(json: &Json) -> bool
     ensures { IsTrue result ↔ IsObject (tree_of json.now) }
 {
     match json {
@@ -188,7 +189,7 @@ fn is_object(json: &Json) -> bool
     }
 }
 
-fn is_reserved(source: &Text) -> bool
+pub(crate) fn is_reserved(source: &Text) -> bool
     ensures { IsTrue result ↔ IsReserved (Some source.now) }
 {
     match behind(source.as_str(), RESERVED) {
@@ -198,7 +199,7 @@ fn is_reserved(source: &Text) -> bool
 }
 
 /// A contract knows that a text's bytes are UTF-8 only where the text is read.
-fn read_each(texts: &[Text])
+pub(crate) fn read_each(texts: &[Text])
     ensures { All IsUtf8 texts.now }
 {
     for text in texts {

@@ -1,32 +1,37 @@
 //! Events.
-ghost use Rattle.std.specs.Prelude.{◌≡◌, ◌++◌, ◌∷◌, [], map, IfOk, OnOk};
+ghost use Rattle.std.specs.Prelude.{◌≡◌, take, Some, None, IfOk, MatchOption};
 ghost use Rattle.std.specs.Option.{option_copied};
 ghost use Rattle.std.specs.Str.{IsUtf8};
 ghost use Rattle.json_text.specs.Moment.{IsMoment};
-ghost use Rattle.json_text.specs.Tree.{text};
-ghost use Rattle.json_text.specs.View.{tree_of, trees_of, pairs_of};
+ghost use Rattle.json_text.specs.View.{tree_of, pairs_of};
 ghost use Rattle.json_text.specs.Compact.{compact_text, IsValue};
 ghost use Rattle.event_shape.specs.Time.{IsIso};
+ghost use Rattle.event_shape.specs.Event.{IsEventText};
 
 use crate::checking::Checked;
 use crate::id::event_id;
 use crate::names::REGION;
+use crate::reading::{event_of, if_written_so, none_unless_short};
 use crate::time::iso;
-use json_text::{Bytes, Items, Json, Members, NoMemory, Text, copy, write};
+use crate::writing::{push_member, push_replay, push_text, text_items, text_of_bytes, write_open};
+use json_text::{Bytes, Json, Members, NoMemory, Text, copy, read, write};
 use std::alloc::Global;
 use std::marker::Model;
+
+/// How many levels of lists and objects an event's text may have: its own and those of its detail.
+const LEVELS: u32 = 100;
 
 /// An event, as it is matched, sent and kept. Its bus is no member of it.
 #[derive(Debug, Drop)]
 pub struct Event {
-    number: u64,
-    detail_type: Text,
-    source: Text,
-    account: Text,
-    moment: u64,
-    time: Text,
-    resources: Vec<Text>,
-    detail: Json,
+    pub(crate) number: u64,
+    pub(crate) detail_type: Text,
+    pub(crate) source: Text,
+    pub(crate) account: Text,
+    pub(crate) moment: u64,
+    pub(crate) time: Text,
+    pub(crate) resources: Vec<Text>,
+    pub(crate) detail: Json,
 }
 
 impl Model for Event {
@@ -95,6 +100,22 @@ impl Event {
         })
     }
 
+    /// The event whose text, without a replay's name, the bytes are, if they are one's.
+    pub fn read(alloc: Global, text: &[u8]) -> Result<Option<Event>, NoMemory>
+        ensures found { IfOk result (λ o. MatchOption o
+            ((e : Seen) → ¬ IsEventText text.now e)
+            (λ e. IsEventText text.now e)) }
+        ensures only { (e : Seen) → IsEventText text.now e → IfOk result (λ o. o ≡ Some e) }
+    {
+        match read(alloc, text, LEVELS) {
+            Ok(json) => match event_of(alloc, json)? {
+                Some(event) => if_written_so(alloc, event, text),
+                None => Ok(None),
+            },
+            Err(fault) => none_unless_short(fault),
+        }
+    }
+
     /// The event as a JSON object; a replayed one has the replay's name as its last member.
     pub fn tree(&self, alloc: Global, replay: Option<&str>) -> Result<Json, NoMemory>
         ensures tree { IfOk result (λ json. tree_of json ≡ event_tree self.now (option_copied replay.entry)) }
@@ -115,14 +136,40 @@ impl Event {
     pub fn text(&self, alloc: Global, replay: Option<&str>) -> Result<Text, NoMemory>
         ensures text { IfOk result (λ t. t ≡ compact_text (event_tree self.now (option_copied replay.entry))) }
         ensures event { IsEvent self.now }
+        ensures own { option_copied replay.entry ≡ None → IfOk result (λ t. IsEventText t self.now) }
+    {
+        let written = self.written(alloc, replay)?;
+        text_of_bytes(alloc, &written)
+    }
+
+    /// The text's bytes. The detail is written as it stands, with no copy.
+    pub(crate) fn written(&self, alloc: Global, replay: Option<&str>) -> Result<Bytes, NoMemory>
+        ensures bytes { IfOk result (λ out. out ≡ compact_text (event_tree self.now (option_copied replay.entry))) }
+        ensures event { IsEvent self.now }
+        ensures utf8 { IfOk result (λ out. IsUtf8 out) }
     {
         let _number = self.number;
-        let tree = self.tree(alloc, replay)?;
-        compact(alloc, &tree)
+        let mut out = Bytes::new(alloc);
+        write_open(self.front_members(alloc)?, &mut out)?;
+        out.extend(b",\"detail\":")?;
+        write(&self.detail, &mut out)?;
+        push_replay(alloc, replay, &mut out)?;
+        out.extend(b"}")?;
+        Ok(out)
     }
 
     fn own_members(&self, alloc: Global) -> Result<Members, NoMemory>
         ensures { IfOk result (λ members. pairs_of members.items ≡ event_members self.now) }
+    {
+        let mut members = self.front_members(alloc)?;
+        let detail = copy(alloc, &self.detail)?;
+        push_member(alloc, &mut members, "detail", detail)?;
+        Ok(members)
+    }
+
+    /// The members before the detail.
+    fn front_members(&self, alloc: Global) -> Result<Members, NoMemory>
+        ensures { IfOk result (λ members. pairs_of members.items ≡ take 8 (event_members self.now)) }
     {
         let id = event_id(alloc, self.number)?;
         let mut members = Vec::with_capacity(alloc, 10)?;
@@ -140,8 +187,6 @@ impl Event {
         push_text(alloc, &mut members, "region", REGION)?;
         let resources = text_items(alloc, &self.resources)?;
         push_member(alloc, &mut members, "resources", Json::List(resources))?;
-        let detail = copy(alloc, &self.detail)?;
-        push_member(alloc, &mut members, "detail", detail)?;
         Ok(members)
     }
 
@@ -176,43 +221,4 @@ impl Event {
     {
         self.account.as_str()
     }
-}
-
-/// The value's compact text.
-fn compact(alloc: Global, json: &Json) -> Result<Text, NoMemory>
-    requires { IsValue (tree_of json.now) }
-    ensures { IfOk result (λ t. t ≡ compact_text (tree_of json.now)) }
-{
-    let mut out = Bytes::new(alloc);
-    write(json, &mut out)?;
-    match str::from_utf8(out.as_slice()) {
-        Ok(text) => Text::from_str(alloc, text),
-        Err(_) => unreachable!(),
-    }
-}
-
-fn push_text(alloc: Global, members: &mut Members, key: &str, value: &str) -> Result<(), NoMemory>
-    ensures utf8 { IsUtf8 value.now }
-    ensures pushed { OnOk result (pairs_of members.new.items ≡ pairs_of members.old.items ++ (key.now, text value.now) ∷ []) }
-{
-    let value = Text::from_str(alloc, value)?;
-    push_member(alloc, members, key, Json::Str(value))
-}
-
-fn push_member(alloc: Global, members: &mut Members, key: &str, value: Json) -> Result<(), NoMemory>
-    ensures { OnOk result (pairs_of members.new.items ≡ pairs_of members.old.items ++ (key.now, tree_of value) ∷ []) }
-{
-    let key = Text::from_str(alloc, key)?;
-    members.push((key, value))?;
-    Ok(())
-}
-
-fn text_items(alloc: Global, texts: &[Text]) -> Result<Items, NoMemory>
-    ensures { IfOk result (λ items. trees_of items.items ≡ map text texts.now) }
-{
-    let mut items = Vec::with_capacity(alloc, texts.len())?;
-    for text in texts {
-        items.push(Json::Str(text.copy(alloc)?))?;
-    }
-    Ok(items)
 }

@@ -1,5 +1,5 @@
 //! Ids of events.
-ghost use Rattle.std.specs.Prelude.{◌≡◌, IfOk};
+ghost use Rattle.std.specs.Prelude.{◌≡◌, ◌<◌, ◌+◌, ◌^◌, ℕ, Some, IfOk, IfSome};
 ghost use Rattle.event_shape.specs.Id as spec;
 
 use json_text::{NoMemory, Text};
@@ -8,11 +8,33 @@ use uuid::Uuid;
 
 const ID_BASE: u128 = 0x0000_0000_0000_8000_8000_0000_0000_0000;
 
-/// The id of the event of this number: a UUID of version 8 (RFC 9562, section 5.8), in lower case with hyphens.
+/// The id of the event of this number, in lower case with hyphens: below 2 ^ 62 a UUID of version 8 (RFC 9562, section
+/// 5.8), above the sum runs into the variant.
 pub fn event_id(alloc: Global, number: u64) -> Result<Text, NoMemory>
     ensures { IfOk result (λ id. id ≡ spec.event_id number) }
 {
     let id = Uuid::from_u128(ID_BASE + number as u128);
     let mut buffer = Uuid::encode_buffer();
     Text::from_str(alloc, id.hyphenated().encode_lower(&mut buffer))
+}
+
+/// The number of the event whose id the text is. Other texts may be taken for an id, too.
+pub(crate) fn number_of(id: &str) -> Option<u64>
+    ensures found { (n : ℕ) → n < 2 ^ 64 → id.now ≡ spec.event_id n → result ≡ Some n }
+    ensures fits { IfSome result (λ n. n < 2 ^ 64) }
+{
+    match Uuid::try_parse(id) {
+        Ok(id) => number_above_base(id.as_u128()),
+        Err(_) => None,
+    }
+}
+
+fn number_above_base(value: u128) -> Option<u64>
+    ensures found { (n : ℕ) → n < 2 ^ 64 → value ≡ spec.id_base + n → result ≡ Some n }
+    ensures fits { IfSome result (λ n. n < 2 ^ 64) }
+{
+    if value < ID_BASE || value - ID_BASE > u64::MAX as u128 {
+        return None;
+    }
+    Some((value - ID_BASE) as u64)
 }

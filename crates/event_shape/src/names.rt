@@ -1,6 +1,7 @@
 //! Names and ARNs.
 ghost use Rattle.std.specs.Prelude.{◌≡◌, ◌↔◌, ◌++◌, ℕ, List, ◌≤◌, ◌==◌, ◌&&◌, ◌||◌, nat_le, length, codes, IsTrue, IfOk, MatchOption};
 ghost use Rattle.std.specs.List.{list_all};
+ghost use Rattle.std.specs.Str.{bytes_eq};
 ghost use Rattle.event_shape.specs.Names as spec;
 
 use crate::digits::all_digits;
@@ -16,7 +17,7 @@ pub const REGION: &str = "us-east-1";
 /// The name of the bus that is always there.
 pub const DEFAULT_BUS: &str = "default";
 
-const BUS_PREFIX: &str = "arn:aws:events:us-east-1:111122223333:event-bus/";
+const EVENTS_PREFIX: &str = "arn:aws:events:us-east-1:111122223333:";
 
 const QUEUE_PREFIX: &str = "arn:aws:sqs:us-east-1:111122223333:";
 
@@ -65,6 +66,20 @@ pub fn is_target_id(id: &str) -> bool
     is_short_name(id)
 }
 
+/// A replay's name has 1 to 64 bytes of `A-Z a-z 0-9 . - _`.
+pub fn is_replay_name(name: &str) -> bool
+    ensures { IsTrue result ↔ spec.IsShortName name.now }
+{
+    is_short_name(name)
+}
+
+/// An archive's name has 1 to 48 bytes of `A-Z a-z 0-9 . - _`.
+pub fn is_archive_name(name: &str) -> bool
+    ensures { IsTrue result ↔ spec.IsArchiveName name.now }
+{
+    !name.is_empty() && name.len() <= 48 && are_name_bytes(name)
+}
+
 /// A queue's name has 1 to 80 bytes of `A-Z a-z 0-9 - _`.
 pub fn is_queue_name(name: &str) -> bool
     ensures { IsTrue result ↔ spec.IsQueueName name.now }
@@ -72,7 +87,8 @@ pub fn is_queue_name(name: &str) -> bool
     !name.is_empty() && name.len() <= 80 && are_queue_bytes(name)
 }
 
-fn is_bus_name(name: &str) -> bool
+/// A bus's name has 1 to 256 bytes of `A-Z a-z 0-9 . - _`.
+pub fn is_bus_name(name: &str) -> bool
     ensures { IsTrue result ↔ spec.IsBusName name.now }
 {
     !name.is_empty() && name.len() <= 256 && are_name_bytes(name)
@@ -94,6 +110,18 @@ pub(crate) fn behind<'a>(text: &'a str, front: &str) -> Option<&'a str>
     text.strip_prefix(front)
 }
 
+/// What stands where the ARN of a bus has the name.
+fn bus_behind(text: &str) -> Option<&str>
+    ensures { MatchOption result
+        ((rest : List ℕ) → ¬ (text.now ≡ spec.bus_arn rest))
+        (λ rest. text.now ≡ spec.bus_arn rest.now) }
+{
+    match behind(text, EVENTS_PREFIX) {
+        Some(resource) => behind(resource, "event-bus/"),
+        None => None,
+    }
+}
+
 fn bus_named(name: &str) -> Option<&str>
     ensures { MatchOption result
         (¬ spec.IsBusName name.now)
@@ -108,7 +136,7 @@ pub fn bus_of(text: &str) -> Option<&str>
         ((bus : List ℕ) → ¬ spec.IsBusGiven text.now bus)
         (λ bus. spec.IsBusGiven text.now bus.now) }
 {
-    match behind(text, BUS_PREFIX) {
+    match bus_behind(text) {
         Some(name) => bus_named(name),
         None => bus_named(text),
     }
@@ -132,11 +160,52 @@ pub fn queue_of(arn: &str) -> Option<&str>
     }
 }
 
+/// Whether the text is the ARN of this queue. Whether a queue may have the name is not asked.
+pub fn is_queue_arn(arn: &str, queue: &str) -> bool
+    ensures { result ≡ bytes_eq arn.now (spec.queue_arn queue.now) }
+{
+    match behind(arn, QUEUE_PREFIX) {
+        Some(name) => name == queue,
+        None => false,
+    }
+}
+
+/// Whether the text is the ARN of this bus. Whether a bus may have the name is not asked.
+pub fn is_bus_arn(arn: &str, bus: &str) -> bool
+    ensures { result ≡ bytes_eq arn.now (spec.bus_arn bus.now) }
+{
+    match bus_behind(arn) {
+        Some(name) => name == bus,
+        None => false,
+    }
+}
+
 /// The ARN of the queue.
 pub fn queue_arn(alloc: Global, queue: &str) -> Result<Text, NoMemory>
     ensures { IfOk result (λ arn. arn ≡ spec.queue_arn queue.now) }
 {
-    Ok(Text::from(format!(in alloc; "arn:aws:sqs:us-east-1:111122223333:{queue}")?))
+    Ok(Text::from(format!(in alloc; "{QUEUE_PREFIX}{queue}")?))
+}
+
+/// The ARN of the bus.
+pub fn bus_arn(alloc: Global, bus: &str) -> Result<Text, NoMemory>
+    ensures { IfOk result (λ arn. arn ≡ spec.bus_arn bus.now) }
+{
+    Ok(Text::from(format!(in alloc; "{EVENTS_PREFIX}event-bus/{bus}")?))
+}
+
+/// The ARN of the archive.
+pub fn archive_arn(alloc: Global, archive: &str) -> Result<Text, NoMemory>
+    ensures { IfOk result (λ arn. arn ≡ spec.archive_arn archive.now) }
+{
+    Ok(Text::from(format!(in alloc; "{EVENTS_PREFIX}archive/{archive}")?))
+}
+
+/// The ARN of the replay.
+pub fn replay_arn(alloc: Global, replay: &str) -> Result<Text, NoMemory>
+    ensures { IfOk result (λ arn. arn ≡ spec.replay_arn replay.now) }
+{
+    Ok(Text::from(format!(in alloc; "{EVENTS_PREFIX}replay/{replay}")?))
 }
 
 /// The ARN of the rule on the bus.
@@ -144,9 +213,9 @@ pub fn rule_arn(alloc: Global, bus: &str, rule: &str) -> Result<Text, NoMemory>
     ensures { IfOk result (λ arn. arn ≡ spec.rule_arn bus.now rule.now) }
 {
     let arn = if bus == DEFAULT_BUS {
-        format!(in alloc; "arn:aws:events:us-east-1:111122223333:rule/{rule}")?
+        format!(in alloc; "{EVENTS_PREFIX}rule/{rule}")?
     } else {
-        format!(in alloc; "arn:aws:events:us-east-1:111122223333:rule/{bus}/{rule}")?
+        format!(in alloc; "{EVENTS_PREFIX}rule/{bus}/{rule}")?
     };
     Ok(Text::from(arn))
 }

@@ -1,6 +1,8 @@
 use crate::{
-    CheckFault, EntryFault, Event, EventEntry, bus_of, check, event_id, iso, queue_arn, queue_of,
-    read_time, rule_arn, size,
+    CheckFault, EntryFault, Event, EventEntry, OWNER, REGION, archive_arn, bus_arn, bus_of, check,
+    event_id, is_account, is_archive_name, is_bus_arn, is_bus_name, is_queue_arn, is_queue_name,
+    is_replay_name, is_rule_name, is_target_id, iso, queue_arn, queue_of, read_time, replay_arn,
+    rule_arn, size,
 };
 use json_text::{Json, LAST_MOMENT, Text};
 use std::alloc::Global;
@@ -127,10 +129,63 @@ fn names_arns_and_ids_are_as_they_are_spelled(rt: HostRuntime) -> Result<(), Fai
     assert_eq!(rt; bus_of("b"), Some("b"));
     assert_eq!(rt; bus_of("a/b"), None);
     assert_eq!(rt; bus_of(""), None);
+    assert!(rt; is_queue_arn(queue.as_str(), "q"));
+    assert!(rt; !is_queue_arn(queue.as_str(), "qq"));
+    let bus = bus_arn(alloc, "b")?;
+    assert_eq!(rt; bus.as_str(), arn);
+    assert!(rt; is_bus_arn(arn, "b"));
+    assert!(rt; !is_bus_arn("arn:aws:events:us-east-1:111122223333:archive/b", "b"));
+    let archive = archive_arn(alloc, "a")?;
+    assert_eq!(rt;
+        archive.as_str(),
+        "arn:aws:events:us-east-1:111122223333:archive/a"
+    );
+    let replay = replay_arn(alloc, "p")?;
+    assert_eq!(rt;
+        replay.as_str(),
+        "arn:aws:events:us-east-1:111122223333:replay/p"
+    );
     let id = event_id(alloc, 1)?;
     assert_eq!(rt; id.as_str(), "00000000-0000-8000-8000-000000000001");
     let id = event_id(alloc, 0xAB)?;
     assert_eq!(rt; id.as_str(), "00000000-0000-8000-8000-0000000000ab");
+    let id = event_id(alloc, 1 << 62)?;
+    assert_eq!(rt; id.as_str(), "00000000-0000-8000-c000-000000000000");
+    let id = event_id(alloc, u64::MAX)?;
+    assert_eq!(rt; id.as_str(), "00000000-0000-8001-7fff-ffffffffffff");
+    Ok(())
+}
+
+/// So many letters: whether they are a bus's name, one of a rule, a target or a replay, an archive's and a queue's.
+const LENGTHS: [(usize, [bool; 4]); 9] = [
+    (0, [false, false, false, false]),
+    (1, [true, true, true, true]),
+    (48, [true, true, true, true]),
+    (49, [true, true, false, true]),
+    (64, [true, true, false, true]),
+    (65, [true, false, false, true]),
+    (80, [true, false, false, true]),
+    (81, [true, false, false, false]),
+    (257, [false, false, false, false]),
+];
+
+#[test]
+fn a_name_has_its_length_and_its_letters(rt: HostRuntime) -> Result<(), Fail> {
+    for (count, [bus, short, archive, queue]) in LENGTHS {
+        let name = letters_of(rt.alloc(), count)?;
+        let name = name.as_str();
+        assert_eq!(rt; is_bus_name(name), bus, "{count}");
+        assert_eq!(rt; is_rule_name(name), short, "{count}");
+        assert_eq!(rt; is_target_id(name), short, "{count}");
+        assert_eq!(rt; is_replay_name(name), short, "{count}");
+        assert_eq!(rt; is_archive_name(name), archive, "{count}");
+        assert_eq!(rt; is_queue_name(name), queue, "{count}");
+    }
+    assert!(rt; is_rule_name("a.B-0_") && is_queue_name("aB-0_"));
+    assert!(rt; !is_rule_name("a/b") && !is_rule_name("é") && !is_queue_name("q.r"));
+    assert_eq!(rt; OWNER, "111122223333");
+    assert_eq!(rt; REGION, "us-east-1");
+    assert!(rt; is_account(OWNER) && !is_account("11112222333") && !is_account("11112222333a"));
     Ok(())
 }
 
@@ -146,13 +201,14 @@ fn entry(alloc: Global, source: &str, detail_type: &str, detail: &str) -> Result
 }
 
 /// Source, detail type and detail, and the fault that is told.
-const FAULTS: [(&str, &str, &str, Option<EntryFault>); 8] = [
+const FAULTS: [(&str, &str, &str, Option<EntryFault>); 9] = [
     ("", "", "", Some(EntryFault::Source)),
     ("a", "", "", Some(EntryFault::DetailType)),
     ("a", "b", "", Some(EntryFault::Malformed)),
     ("a", "b", "[1]", Some(EntryFault::Malformed)),
     ("aws.x", "b", "[1]", Some(EntryFault::Malformed)),
     ("aws.x", "b", "{}", Some(EntryFault::NotAuthorized)),
+    ("aws.", "b", "{}", Some(EntryFault::NotAuthorized)),
     ("aws", "b", "{}", None),
     ("a", "b", "{\"total\":12.50}", None),
 ];
@@ -197,15 +253,73 @@ fn an_event_has_its_exact_text(rt: HostRuntime) -> Result<(), Fail> {
     let event = Event::make(alloc, checked, 1, 1_700_000_000, "111122223333")?;
     assert_eq!(rt; event.moment(), 1_700_000_000);
     let text = event.text(alloc, None)?;
-    assert_eq!(rt;
-        text.as_str(),
-        "{\"version\":\"0\",\"id\":\"00000000-0000-8000-8000-000000000001\",\"detail-type\":\"Order\",\"source\":\"shop.orders\",\"account\":\"111122223333\",\"time\":\"2023-11-14T22:13:20Z\",\"region\":\"us-east-1\",\"resources\":[],\"detail\":{\"total\":12.50}}"
-    );
+    assert_eq!(rt; text.as_str(), FIRST);
     let replayed = event.text(alloc, Some("nightly"))?;
     assert!(rt;
         replayed.as_str().ends_with("\"detail\":{\"total\":12.50},\"replay-name\":\"nightly\"}")
     );
+    assert!(rt; !is_read(alloc, replayed.as_str())?);
     Ok(())
+}
+
+/// The text of the first run's event.
+const FIRST: &str =
+    "{\"version\":\"0\",\"id\":\"00000000-0000-8000-8000-000000000001\",\"detail-type\":\"Order\",\"source\":\"shop.orders\",\"account\":\"111122223333\",\"time\":\"2023-11-14T22:13:20Z\",\"region\":\"us-east-1\",\"resources\":[],\"detail\":{\"total\":12.50}}";
+
+/// A part of that text, what stands in its place, and whether that is an event's text too.
+const CHANGES: [(&str, &str, bool); 22] = [
+    ("Order", "Ordér \\\"", true),
+    ("[]", "[\"a\\\"b\",\"c\"]", true),
+    ("111122223333", "", true),
+    ("000000000001", "0000000000ab", true),
+    ("8000-000000000001", "c000-000000000000", true),
+    ("8000-8000-000000000001", "8001-7fff-ffffffffffff", true),
+    ("8000-8000-000000000001", "8001-8000-000000000000", false),
+    ("000000000001", "0000000000AB", false),
+    ("00000000-0000-8000-8000-000000000001", "-0", false),
+    ("\"version\":", "\"version\": ", false),
+    (
+        "\"detail-type\":\"Order\",\"source\":\"shop.orders\"",
+        "\"source\":\"shop.orders\",\"detail-type\":\"Order\"",
+        false,
+    ),
+    (":20Z", ":60Z", false),
+    (":20Z", ":20.5Z", false),
+    ("us-east-1", "us-east-2", false),
+    ("shop.orders", "", false),
+    ("shop.orders", "aws.orders", false),
+    ("shop.orders", "shop\\u002eorders", false),
+    ("Order\"", "\"", false),
+    ("[]", "[1]", false),
+    ("{\"total\":12.50}", "[12.50]", false),
+    ("\"total\":12.50", "\"total\":1,\"total\":12.50", false),
+    ("12.50", "12.", false),
+];
+
+#[test]
+fn an_event_is_read_from_its_text_alone(rt: HostRuntime) -> Result<(), Fail> {
+    let alloc = rt.alloc();
+    assert!(rt; is_read(alloc, FIRST)?);
+    for (part, other, read) in CHANGES {
+        let text = FIRST.replacen(alloc, part, other, 1)?;
+        assert_eq!(rt; is_read(alloc, text.as_str())?, read, "{text}");
+    }
+    for (levels, read) in [(99, true), (100, false)] {
+        let detail = nested(alloc, levels)?;
+        let text = FIRST.replacen(alloc, "{\"total\":12.50}", detail.as_str(), 1)?;
+        assert_eq!(rt; is_read(alloc, text.as_str())?, read, "{levels}");
+    }
+    Ok(())
+}
+
+fn is_read(alloc: Global, text: &str) -> Result<bool, Fail> {
+    match Event::read(alloc, text.as_bytes())? {
+        Some(event) => {
+            let again = event.text(alloc, None)?;
+            Ok(again.as_str() == text)
+        }
+        None => Ok(false),
+    }
 }
 
 fn letters_of(alloc: Global, count: usize) -> Result<String, Fail> {
@@ -249,9 +363,11 @@ fn a_size_is_the_sum_of_its_bytes(rt: HostRuntime) -> Result<(), Fail> {
     entry.bus = Some(Text::from_str(alloc, "shop")?);
     assert_eq!(rt; size(&entry), 18);
     for (letters, sum) in [(262_134, 262_144), (262_135, 262_145)] {
-        let detail = letters_of(alloc, letters)?;
-        let long = self::entry(alloc, "shop", "Orders", detail.as_str())?;
+        let letters = letters_of(alloc, letters)?;
+        let detail = format!(in alloc; "{{\"p\":\"{letters}\"}}")?;
+        let long = self::entry(alloc, "a", "b", detail.as_str())?;
         assert_eq!(rt; size(&long), sum);
+        assert_eq!(rt; fault_of(alloc, long)?, None);
     }
     Ok(())
 }

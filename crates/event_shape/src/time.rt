@@ -39,7 +39,8 @@ fn civil_of(moment: u64) -> DateTime
 }
 
 /// The moment that the value gives: a number of seconds, whose fraction is dropped, or a text as
-/// `2023-11-14T22:13:20.75Z` (RFC 3339, section 5.6, in upper case and UTC), whose fraction is dropped too.
+/// `2023-11-14T22:13:20.75Z` (RFC 3339, section 5.6, with `T` and `Z` and no second 60 by this project's own rule), whose
+/// fraction is dropped too.
 pub fn read_time(json: &Json) -> Option<u64>
     ensures { (moment : ℕ) → (result ≡ Some moment) ↔ IsTime (tree_of json.now) moment }
 {
@@ -115,7 +116,7 @@ fn are_digits(bytes: &[u8]) -> bool
     !bytes.is_empty() && all_digits(bytes)
 }
 
-fn text_moment(text: &[u8]) -> Option<u64>
+pub(crate) fn text_moment(text: &[u8]) -> Option<u64>
     ensures { (n : ℕ) → (result ≡ Some n) ↔ (IsMoment n × IsTimeText text.now n) }
 {
     match digits_of(text) {

@@ -1,8 +1,8 @@
 use Rattle.std.proofs.Common.{ap}
 use Rattle.json_text.specs.View.{pairs_of}
 use Rattle.json_text.proofs.ViewLemmas.{tree_of_list}
-use Rattle.event_shape.proofs.EventLemmas.{nine_pushed}
-use Rattle.event_shape.proofs.event.Event.own_members.Goals as goal
+use Rattle.event_shape.proofs.EventLemmas.{eight_pushed}
+use Rattle.event_shape.proofs.event.Event.front_members.Goals as goal
 
 pub returns : goal.returns
 returns c =
@@ -12,5 +12,4 @@ returns c =
     let account = rw c.as_str-4.ensures at c.in_ok-push_text-5.ensures.pushed in
     let time = rw c.as_str-5.ensures at c.in_ok-push_text-6.ensures.pushed in
     let resources = rw (tree_of_list c.in_ok-resources.resources, c.in_ok-resources.ensures, c.deref.ensures.value) at c.in_ok-push_member.ensures in
-    let detail = rw c.in_ok-detail.ensures at c.in_ok-push_member-2.ensures in
-    rw (← c.self.view_is) (nine_pushed (ap pairs_of c.in_ok-members.ensures.items) c.in_ok-push_text.ensures.pushed id detail_type source account time c.in_ok-push_text-7.ensures.pushed resources detail)
+    rw (← c.self.view_is) (eight_pushed (ap pairs_of c.in_ok-members.ensures.items) c.in_ok-push_text.ensures.pushed id detail_type source account time c.in_ok-push_text-7.ensures.pushed resources)

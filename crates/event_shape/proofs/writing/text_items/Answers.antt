@@ -1,5 +1,5 @@
 use Rattle.event_shape.proofs.EventLemmas.{text_pushed}
-use Rattle.event_shape.proofs.event.text_items.Goals as goal
+use Rattle.event_shape.proofs.writing.text_items.Goals as goal
 
 pub loop-text-preserved : goal.loop-text-preserved
 loop-text-preserved c =

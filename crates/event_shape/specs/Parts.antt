@@ -1,0 +1,28 @@
+-- For private clauses alone: the members of an event's text, taken apart.
+use Rattle.std.specs.Prelude.{◌≡◌, ℕ, List, ◌∷◌, map}
+use Rattle.json_text.specs.Tree.{Tree, text, list, items_of}
+use Rattle.json_text.specs.View.{tree_of, trees_of, pairs_of}
+use Rattle.json_text.specs.declared.value.Json.{Json}
+use Rattle.event_shape.specs.declared.parts.Parts.{Parts}
+use Rattle.event_shape.specs.Id.{event_id}
+use Rattle.event_shape.specs.Event.{Event}
+
+-- the values of members, without their keys
+abbrev pub values_in : List (List ℕ × Json) → List Tree
+values_in members = map (λ m. m.1) (pairs_of members)
+
+-- the values begin with these parts, in the order of an event's members; `version` and `region` are some texts
+abbrev pub BeginsWith : List Tree → Parts → Type 0
+BeginsWith values p = (version region : List ℕ) × (rest : List Tree)
+    × (values ≡ text version ∷ text p.id ∷ text p.detail_type ∷ text p.source ∷ text p.account ∷ text p.time ∷ text region
+    ∷ list (items_of (trees_of p.resources.items)) ∷ tree_of p.detail ∷ rest)
+
+-- each part is the event's
+pub record ArePartsOf (p : Parts) (e : Event) : Type 0 where
+  pub id : p.id ≡ event_id e.number
+  pub detail_type : p.detail_type ≡ e.detail_type
+  pub source : p.source ≡ e.source
+  pub account : p.account ≡ e.account
+  pub time : p.time ≡ e.time
+  pub resources : trees_of p.resources.items ≡ map text e.resources
+  pub detail : tree_of p.detail ≡ e.detail
