@@ -8,21 +8,11 @@ ghost use Rattle.delivery_duties.specs.Duties.{HasMailbox, taken_in, with_next};
 use crate::lists::{cut, join};
 use crate::message::{QueueMessage, first_copies};
 use crate::owed::Owed;
+use event_shape::is_queue_arn;
 use json_text::{NoMemory, Text};
 use std::alloc::Global;
 use std::collections::LinkedList;
 use std::marker::Model;
-
-const QUEUE_PREFIX: &str = "arn:aws:sqs:us-east-1:111122223333:";
-
-/// What stands behind the front, where the text begins with it.
-fn behind<'a>(text: &'a str, front: &str) -> Option<&'a str>
-    ensures { MatchOption result
-        ((rest : List ℕ) → ¬ (text.now ≡ front.now ++ rest))
-        (λ rest. text.now ≡ front.now ++ rest.now) }
-{
-    text.strip_prefix(front)
-}
 
 /// A queue with its messages, oldest first.
 #[derive(Debug, Drop)]
@@ -52,10 +42,7 @@ impl Mailbox {
     pub(crate) fn has_arn(&self, arn: &str) -> bool
         ensures { result ≡ bytes_eq arn.now (queue_arn self.now.queue) }
     {
-        match behind(arn, QUEUE_PREFIX) {
-            Some(name) => self.is_named(name),
-            None => false,
-        }
+        is_queue_arn(arn, self.queue.as_str())
     }
 
     /// Takes the duty's text as the next message.
