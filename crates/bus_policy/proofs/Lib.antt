@@ -1,0 +1,9 @@
+pub mod AccountLemmas
+pub mod NameLemmas
+pub mod KeptLemmas
+pub mod ReadLemmas
+pub mod GrammarLemmas
+pub mod ItemLemmas
+pub mod ChangeLemmas
+pub mod LevelLemmas
+pub mod Laws

@@ -1,0 +1,9 @@
+use Rattle.std.proofs.Common.{◌≡◌, drop}
+use Rattle.json_text.specs.Tree.{items_of}
+use Rattle.json_text.specs.View.{trees_of}
+use Rattle.bus_policy.specs.Parts.{text_passes}
+use Rattle.bus_policy.specs.Grammar as spec
+use Rattle.bus_policy.proofs.words.each_principal_word.Given as goal
+
+abbrev pub invariant-loop-item : goal.invariant-loop-item
+invariant-loop-item l = spec.each_item (text_passes spec.is_principal_word) (items_of (trees_of (drop l.item-index l.items))) ≡ spec.each_item (text_passes spec.is_principal_word) (items_of (trees_of l.items))

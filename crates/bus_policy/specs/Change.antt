@@ -1,0 +1,58 @@
+-- Statements that are added to a policy, and that are removed.
+use Rattle.std.specs.Prelude.{ℕ, ◌+◌, Bool, false, ◌||◌, List, [], ◌∷◌, Option, Some, None, codes, if◌then◌else◌, unwrap_or}
+use Rattle.json_text.specs.Tree.{Tree, text, object, Items, no_items, item, members_of}
+use Rattle.event_shape.specs.Names.{IsAccount, bus_arn}
+use Rattle.bus_policy.specs.Parts.{member_of, statements_of, has_sid, root_arn}
+use Rattle.bus_policy.specs.Kept.{default_version, policy_with}
+
+-- everyone, or one account
+abbrev pub principal_for : Option (List ℕ) → Tree
+principal_for None = text (codes "*")
+principal_for (Some account) = object (members_of ((codes "AWS", text (root_arn account)) ∷ []))
+
+-- an account that is given is one
+abbrev pub IsAccountGiven : Option (List ℕ) → Type 0
+IsAccountGiven None = Unit {0}
+IsAccountGiven (Some account) = IsAccount account
+
+-- the Allow to put events on the bus
+abbrev pub allow_for : List ℕ → Option (List ℕ) → List ℕ → Tree
+allow_for sid account bus = object (members_of (
+    (codes "Sid", text sid)
+    ∷ (codes "Effect", text (codes "Allow"))
+    ∷ (codes "Principal", principal_for account)
+    ∷ (codes "Action", text (codes "events:PutEvents"))
+    ∷ (codes "Resource", text (bus_arn bus))
+    ∷ []
+    ))
+
+abbrev pub with_last : Items → Tree → Items
+with_last no_items t = item t no_items
+with_last (item s items) t = item s (with_last items t)
+
+-- the policy of one statement
+abbrev pub first_policy : Tree → Tree
+first_policy statement = policy_with default_version (item statement no_items)
+
+-- the policy with the statement as its last
+abbrev pub with_statement : Tree → Tree → Tree
+with_statement policy statement =
+    policy_with (unwrap_or (member_of (codes "Version") policy) default_version) (with_last (statements_of policy) statement)
+
+abbrev pub without_sid : List ℕ → Items → Items
+without_sid sid no_items = no_items
+without_sid sid (item s items) = if has_sid sid s then without_sid sid items else item s (without_sid sid items)
+
+-- the policy without the statement of this Sid
+abbrev pub without_statement : Tree → List ℕ → Tree
+without_statement policy sid =
+    policy_with (unwrap_or (member_of (codes "Version") policy) default_version) (without_sid sid (statements_of policy))
+
+-- some statement has the Sid
+abbrev pub some_has_sid : List ℕ → Items → Bool
+some_has_sid sid no_items = false
+some_has_sid sid (item s items) = has_sid sid s || some_has_sid sid items
+
+abbrev pub statement_count : Items → ℕ
+statement_count no_items = 0
+statement_count (item s items) = statement_count items + 1

@@ -1,0 +1,27 @@
+-- What the code's faults say.
+use Rattle.std.specs.Prelude.{◌≡◌, ℕ, List, Some}
+use Rattle.json_text.specs.Tree.{Tree}
+use Rattle.json_text.specs.declared.fault.JsonFault.{JsonFault}
+use Rattle.json_text.specs.declared.fault.JsonFault.TheVariants as json
+use Rattle.bus_policy.specs.declared.fault.PolicyCause.TheVariants.{NotJson, TooDeep, KeyTwice}
+use Rattle.bus_policy.specs.declared.fault.PolicyFault.{PolicyFault}
+use Rattle.bus_policy.specs.declared.fault.PolicyFault.TheVariants.{Bad, NoMemory}
+use Rattle.bus_policy.specs.Grammar.{fault_of}
+use Rattle.bus_policy.specs.Text.{IsTextFault}
+
+-- the text's first fault, or memory was refused
+abbrev pub IsFirstFault : List ℕ → PolicyFault → Type 0
+IsFirstFault bytes (Bad cause place) = IsTextFault bytes cause place
+IsFirstFault bytes NoMemory = Unit {0}
+
+-- the value's first fault, or memory was refused (no public clause names this)
+abbrev pub IsValueFault : Tree → PolicyFault → Type 0
+IsValueFault value (Bad cause place) = fault_of value ≡ Some (cause, place)
+IsValueFault value NoMemory = Unit {0}
+
+-- what a fault of the JSON is for the policy (no public clause names this)
+abbrev pub Tells : JsonFault → PolicyFault → Type 0
+Tells (json.NotJson at) e = e ≡ Bad NotJson 0
+Tells (json.TooDeep at) e = e ≡ Bad TooDeep 0
+Tells (json.KeyTwice at) e = e ≡ Bad KeyTwice 0
+Tells json.NoMemory e = e ≡ NoMemory

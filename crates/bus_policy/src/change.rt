@@ -1,0 +1,153 @@
+//! Statements that are added to a policy, and that are removed.
+ghost use Rattle.std.specs.Prelude.{◌≡◌, ◌++◌, ◌∷◌, [], false, IfOk, codes};
+ghost use Rattle.json_text.specs.Tree.{items_of, members_of, text, object};
+ghost use Rattle.json_text.specs.View.{tree_of, trees_of, pairs_of};
+ghost use Rattle.bus_policy.specs.Change as spec;
+ghost use Rattle.bus_policy.specs.Grantee.{account_given, IsRemoved};
+ghost use Rattle.bus_policy.specs.Parts.{root_arn, statements_of as statements_seen};
+
+use crate::keeping::{default_version, policy_with, push_member, statements_of, version_of};
+use crate::parts::has_sid;
+use crate::policy::Policy;
+use crate::statement::some_has_sid;
+use event_shape::bus_arn;
+use json_text::{Items, Json, Members, NoMemory, Text, copy};
+use std::alloc::Global;
+
+/// Whom a statement allows.
+#[derive(Clone, Copy, Debug)]
+pub enum Grantee<'a> {
+    Everyone,
+    /// The account of these twelve digits.
+    Account(&'a str),
+}
+
+/// What is left of a policy without a statement.
+#[derive(Debug, Drop)]
+pub enum Removed {
+    /// No statement has the Sid.
+    NotThere,
+    /// The statement was the last one: no policy is left.
+    Last,
+    Rest(Policy),
+}
+
+impl Policy {
+    /// The policy of one statement, an Allow to put events on the bus of this name.
+    pub fn new(alloc: Global, sid: &str, to: Grantee, bus: &str) -> Result<Policy, NoMemory>
+        requires { spec.IsAccountGiven (account_given to) }
+        ensures { IfOk result (λ p. p ≡ spec.first_policy (spec.allow_for sid.now (account_given to.entry) bus.now)) }
+    {
+        let version = default_version(alloc)?;
+        let mut statements = Vec::with_capacity(alloc, 1)?;
+        let statement = allow_for(alloc, sid, to, bus)?;
+        statements.push(statement)?;
+        let value = policy_with(alloc, version, statements)?;
+        Policy::of(alloc, value)
+    }
+
+    /// The policy with such a statement as its last.
+    pub fn with_statement(
+        &self,
+        alloc: Global,
+        sid: &str,
+        to: Grantee,
+        bus: &str,
+    ) -> Result<Policy, NoMemory>
+        requires new_sid { spec.some_has_sid sid.now (statements_seen self.now) ≡ false }
+        requires account { spec.IsAccountGiven (account_given to) }
+        ensures { IfOk result (λ p. p ≡ spec.with_statement self.now (spec.allow_for sid.now (account_given to.entry) bus.now)) }
+    {
+        let old = self.value();
+        let version = version_of(alloc, old)?;
+        let mut statements = statements_of(alloc, old)?;
+        let statement = allow_for(alloc, sid, to, bus)?;
+        statements.push(statement)?;
+        let value = policy_with(alloc, version, statements)?;
+        Policy::of(alloc, value)
+    }
+
+    /// What is left without the statement of the Sid.
+    pub fn without_statement(&self, alloc: Global, sid: &str) -> Result<Removed, NoMemory>
+        ensures removed { IfOk result (IsRemoved self.now sid.now) }
+        ensures not_there { spec.some_has_sid sid.now (statements_seen self.now) ≡ false → result ≡ Ok Removed.NotThere }
+    {
+        if !self.has_sid(sid) {
+            return Ok(Removed::NotThere);
+        }
+        let statements = without_sid(alloc, self.statements(), sid)?;
+        if statements.is_empty() {
+            return Ok(Removed::Last);
+        }
+        let version = version_of(alloc, self.value())?;
+        let value = policy_with(alloc, version, statements)?;
+        Ok(Removed::Rest(Policy::of(alloc, value)?))
+    }
+
+    /// Whether a statement has the Sid.
+    pub fn has_sid(&self, sid: &str) -> bool
+        ensures { result ≡ spec.some_has_sid sid.now (statements_seen self.now) }
+    {
+        some_has_sid(self.statements(), sid)
+    }
+
+    /// How many statements there are.
+    pub fn statement_count(&self) -> usize
+        ensures { result ≡ spec.statement_count (statements_seen self.now) }
+    {
+        self.statements().len()
+    }
+}
+
+/// Copies of the statements that don't have the Sid.
+fn without_sid(alloc: Global, statements: &[Json], sid: &str) -> Result<Items, NoMemory>
+    ensures { IfOk result (λ items. items_of (trees_of items.items)
+        ≡ spec.without_sid sid.now (items_of (trees_of statements.now))) }
+{
+    let mut copies = Vec::with_capacity(alloc, statements.len())?;
+    for statement in statements {
+        if !has_sid(statement, sid) {
+            copies.push(copy(alloc, statement)?)?;
+        }
+    }
+    Ok(copies)
+}
+
+fn allow_for(alloc: Global, sid: &str, to: Grantee, bus: &str) -> Result<Json, NoMemory>
+    ensures { IfOk result (λ json. tree_of json ≡ spec.allow_for sid.now (account_given to.entry) bus.now) }
+{
+    let principal = principal_for(alloc, to)?;
+    let bus = bus_arn(alloc, bus)?;
+    let mut members = Vec::with_capacity(alloc, 5)?;
+    push_text(alloc, &mut members, "Sid", sid)?;
+    push_text(alloc, &mut members, "Effect", "Allow")?;
+    push_member(alloc, &mut members, "Principal", principal)?;
+    push_text(alloc, &mut members, "Action", "events:PutEvents")?;
+    push_member(alloc, &mut members, "Resource", Json::Str(bus))?;
+    Ok(Json::Obj(members))
+}
+
+fn push_text(alloc: Global, members: &mut Members, key: &str, value: &str) -> Result<(), NoMemory>
+    ensures { IfOk result (λ _. pairs_of members.new.items ≡ pairs_of members.old.items ++ (key.now, text value.now) ∷ []) }
+{
+    let value = Text::from_str(alloc, value)?;
+    push_member(alloc, members, key, Json::Str(value))
+}
+
+fn principal_for(alloc: Global, to: Grantee) -> Result<Json, NoMemory>
+    ensures { IfOk result (λ json. tree_of json ≡ spec.principal_for (account_given to.entry)) }
+{
+    match to {
+        Grantee::Everyone => Ok(Json::Str(Text::from_str(alloc, "*")?)),
+        Grantee::Account(account) => root_principal(alloc, account),
+    }
+}
+
+fn root_principal(alloc: Global, account: &str) -> Result<Json, NoMemory>
+    ensures { IfOk result (λ json. tree_of json ≡ object (members_of ((codes "AWS", text (root_arn account.now)) ∷ []))) }
+{
+    let root = Text::from(format!(in alloc; "arn:aws:iam::{account}:root")?);
+    let mut members = Vec::with_capacity(alloc, 1)?;
+    push_member(alloc, &mut members, "AWS", Json::Str(root))?;
+    Ok(Json::Obj(members))
+}

@@ -1,0 +1,30 @@
+//! Who may put events on a bus: a policy's text is read, and gives its verdict for each asker.
+#![tactic(auto)]
+
+mod account;
+mod applying;
+mod asker;
+mod change;
+mod condition;
+mod deciding;
+mod fault;
+mod grammar;
+mod judging;
+mod keeping;
+mod naming;
+mod parts;
+mod policy;
+mod reading;
+mod statement;
+#[cfg(test)]
+mod tests;
+mod text_test;
+mod verdict;
+mod words;
+
+pub use asker::Asker;
+pub use change::{Grantee, Removed};
+pub use fault::{PolicyCause, PolicyFault};
+pub use judging::{Judgement, bus_verdict, judge};
+pub use policy::Policy;
+pub use verdict::Verdict;

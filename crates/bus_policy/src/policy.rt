@@ -1,0 +1,114 @@
+//! Policies as they are kept.
+ghost use Rattle.std.specs.Prelude.{◌≡◌, ◌≤◌, length, IfOk};
+ghost use Rattle.json_text.specs.Tree.{items_of};
+ghost use Rattle.json_text.specs.View.{tree_of, trees_of};
+
+use crate::asker::Asker;
+use crate::deciding::verdict;
+use crate::keeping::compact;
+use crate::naming::names_of;
+use crate::parts::member;
+use crate::verdict::Verdict;
+use json_text::{Json, NoMemory, Text, copy};
+use std::alloc::Global;
+use std::marker::Model;
+
+/// A bus's policy: who may put events on it. Contracts see its JSON value, an object of `Version` and of `Statement`, which is a
+/// list of the statements as they were given.
+#[derive(Debug, Drop)]
+pub struct Policy {
+    value: Json,
+    names: Vec<Text>,
+    text: Text,
+}
+
+impl Model for Policy {
+    ghost use Rattle.json_text.specs.Tree.{Tree};
+    ghost use Rattle.json_text.specs.Code.{tree_code};
+    ghost use Rattle.json_text.specs.View.{tree_of};
+    ghost use Rattle.bus_policy.specs.Kept.{IsWhole};
+
+    ghost Value = { Tree };
+
+    ghost coded = { tree_code };
+
+    ghost view = { λ p. tree_of p.value };
+
+    ghost invariant = { λ p. IsWhole (tree_of p.value) p.names.items p.text };
+}
+
+ghost use Rattle.bus_policy.specs.Kept.{IsKept};
+ghost use Rattle.bus_policy.specs.Parts.{statements_of};
+
+impl Policy {
+    ghost use Rattle.json_text.specs.Compact.{compact_text};
+    ghost use Rattle.bus_policy.specs.Kept.{IsKept};
+    ghost use Rattle.bus_policy.specs.Parts.{statements_of};
+    ghost use Rattle.bus_policy.specs.Seen.{asker_of, verdict_of};
+    ghost use Rattle.bus_policy.specs.Text.{IsPolicyText};
+    ghost use Rattle.bus_policy.specs.Verdict.{IsVerdict};
+
+    /// The policy that is kept so, with its statements' names and its text.
+    pub(crate) fn of(alloc: Global, value: Json) -> Result<Policy, NoMemory>
+        requires { IsKept (tree_of value) }
+        ensures { IfOk result (λ p. p ≡ tree_of value) }
+    {
+        let names = names_of(alloc, statements_in(&value))?;
+        let text = compact(alloc, &value)?;
+        Ok(Policy { value, names, text })
+    }
+
+    /// A copy of the policy, in memory of its own.
+    pub fn copy(&self, alloc: Global) -> Result<Policy, NoMemory>
+        ensures { IfOk result (λ p. p ≡ self.now) }
+    {
+        Policy::of(alloc, copy(alloc, &self.value)?)
+    }
+
+    /// Whether the asker may put its event on its bus. Takes no memory.
+    pub fn decide<'a>(&'a self, asker: &Asker) -> Verdict<'a>
+        ensures { IsVerdict self.now (asker_of asker.now) (verdict_of result) }
+    {
+        verdict(self.statements(), &self.names, asker)
+    }
+
+    pub(crate) fn statements(&self) -> &[Json]
+        ensures { items_of (trees_of result.now) ≡ statements_of self.now }
+    {
+        statements_in(&self.value)
+    }
+
+    pub(crate) fn value(&self) -> &Json
+        ensures seen { tree_of result.now ≡ self.now }
+        ensures kept { IsKept self.now }
+    {
+        &self.value
+    }
+
+    /// The policy's text, which is compact. It is read back as this policy where it is not too long.
+    pub fn text(&self) -> &str
+        ensures text { result.now ≡ compact_text self.now }
+        ensures reads_back { length (compact_text self.now) ≤ 10240 → IsPolicyText (compact_text self.now) self.now }
+        ensures kept { IsKept self.now }
+    {
+        self.text.as_str()
+    }
+
+    /// How many bytes the text has; `read` takes at most 10,240.
+    pub fn text_len(&self) -> usize
+        ensures { result ≡ length (compact_text self.now) }
+    {
+        self.text.as_str().len()
+    }
+}
+
+/// The statements of a policy as it is kept.
+pub(crate) fn statements_in(value: &Json) -> &[Json]
+    requires { IsKept (tree_of value.now) }
+    ensures { items_of (trees_of result.now) ≡ statements_of (tree_of value.now) }
+{
+    match member(value, "Statement") {
+        Some(Json::List(items)) => items,
+        _ => unreachable!(),
+    }
+}

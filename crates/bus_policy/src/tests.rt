@@ -1,0 +1,580 @@
+ghost use Rattle.bus_policy.specs.Change.{IsAccountGiven};
+ghost use Rattle.bus_policy.specs.Grantee.{account_given};
+
+use crate::{Asker, Grantee, Judgement, Policy, PolicyFault, Removed, Verdict, bus_verdict, judge};
+use event_shape::is_account;
+use std::alloc::Global;
+use std::test::Fail;
+
+/// One account is allowed, and is denied one source.
+const TWO: &str =
+    r#"{"Version":"2012-10-17","Statement":[{"Sid":"ok","Effect":"Allow","Principal":{"AWS":"444455556666"},"Action":"events:PutEvents","Resource":"arn:aws:events:us-east-1:111122223333:event-bus/default"},{"Sid":"no","Effect":"Deny","Principal":{"AWS":"444455556666"},"Action":"events:PutEvents","Resource":"arn:aws:events:us-east-1:111122223333:event-bus/default","Condition":{"StringEquals":{"events:source":"shop.secret"}}}]}"#;
+
+/// Everyone is denied one source on every bus, by a statement without a Sid.
+const DENY: &str =
+    r#"{"Statement":{"Effect":"Deny","Principal":"*","Action":"events:*","Resource":"*","Condition":{"StringEquals":{"events:source":"a"}}}}"#;
+
+/// Lists of accounts, actions and buses, and an Id.
+const LISTS: &str =
+    r#"{"Id":"lists","Version":"2008-10-17","Statement":[{"Effect":"Allow","Principal":{"AWS":["arn:aws:iam::444455556666:root","777788889999"]},"Action":["events:PutRule","events:PutEvents"],"Resource":["arn:aws:events:us-east-1:111122223333:event-bus/a","arn:aws:events:us-east-1:111122223333:event-bus/b"]}]}"#;
+
+/// Everyone, where source and detail type fit.
+const CONDITIONS: &str =
+    r#"{"Statement":[{"Effect":"Allow","Principal":{"AWS":"*"},"Action":"*","Resource":"*","Condition":{"StringLike":{"events:source":["shop.*","bank.?"]},"StringEquals":{"events:detail-type":["Order Placed","Paid"]}}}]}"#;
+
+/// Two keys of one operator, a pattern on the detail type, letters that are no wildcards, and a condition that asks for nothing.
+const KEYS: &str =
+    r#"{"Statement":[{"Effect":"Allow","Principal":"*","Action":"*","Resource":"*","Condition":{"StringEquals":{"events:source":"s","events:detail-type":"d"}}},{"Effect":"Allow","Principal":"*","Action":"*","Resource":"*","Condition":{"StringEquals":{"events:source":"shop.*"},"StringLike":{"events:detail-type":"Order *"}}},{"Effect":"Allow","Principal":{"AWS":"777788889999"},"Action":"*","Resource":"*","Condition":{}}]}"#;
+
+/// Two Denies that apply, the second with the empty Sid alone where the source is `b`.
+const DENIES: &str =
+    r#"{"Statement":[{"Sid":"first","Effect":"Deny","Principal":"*","Action":"*","Resource":"*","Condition":{"StringEquals":{"events:source":"a"}}},{"Sid":"","Effect":"Deny","Principal":"*","Action":"*","Resource":"*"}]}"#;
+
+/// Statements about nothing that is decided here: another action, wildcards inside action and resource, no action at all.
+const NOTHING: &str =
+    r#"{"Statement":[{"Effect":"Deny","Principal":"*","Action":"events:PutRule","Resource":"*"},{"Effect":"Deny","Principal":"*","Action":"events:Put*","Resource":"*"},{"Effect":"Deny","Principal":"*","Action":"*","Resource":"arn:aws:events:us-east-1:111122223333:event-bus/*"},{"Effect":"Deny","Principal":"*","Action":["events:putevents","sqs:SendMessage"],"Resource":"*"},{"Effect":"Deny","Principal":"*","Action":"*","Resource":["arn:aws:events:us-east-1:444455556666:event-bus/default","arn:aws:events:eu-west-1:111122223333:event-bus/default"]},{"Effect":"Deny","Principal":"*","Action":"*","Resource":[]},{"Effect":"Deny","Principal":"*","Action":[],"Resource":"*"},{"Effect":"Deny","Principal":{"AWS":[]},"Action":"*","Resource":"*"},{"Effect":"Deny","Principal":"*","Action":"*","Resource":"*","Condition":{"StringEquals":{"events:source":[]}}},{"Effect":"Allow","Principal":"*","Action":"events:PutEvents","Resource":"*","Condition":{"StringEquals":{}}}]}"#;
+
+const OWNER: &str = "111122223333";
+
+const FOUR: &str = "444455556666";
+
+const SEVEN: &str = "777788889999";
+
+/// A policy; who asks, by account, bus, source and detail type; and what is told.
+const VERDICTS: [(&str, [&str; 4], &str); 45] = [
+    (TWO, [FOUR, "default", "shop.orders", "x"], "allowed"),
+    (TWO, [FOUR, "default", "shop.secret", "x"], "denied by no"),
+    (TWO, [SEVEN, "default", "shop.orders", "x"], "no allow"),
+    (TWO, [OWNER, "default", "shop.orders", "x"], "allowed"),
+    (TWO, [OWNER, "default", "shop.secret", "x"], "allowed"),
+    (TWO, [FOUR, "other", "shop.orders", "x"], "no allow"),
+    (TWO, [FOUR, "default", "Shop.secret", "x"], "allowed"),
+    (TWO, ["44445555666", "default", "s", "x"], "no allow"),
+    (TWO, ["4444555566667", "default", "s", "x"], "no allow"),
+    (TWO, ["", "default", "s", "x"], "no allow"),
+    (DENY, [OWNER, "default", "a", "x"], "denied by #1"),
+    (DENY, [OWNER, "default", "b", "x"], "allowed"),
+    (DENY, [FOUR, "default", "a", "x"], "denied by #1"),
+    (DENY, [FOUR, "default", "b", "x"], "no allow"),
+    (LISTS, [FOUR, "a", "s", "x"], "allowed"),
+    (LISTS, [FOUR, "b", "s", "x"], "allowed"),
+    (LISTS, [SEVEN, "b", "s", "x"], "allowed"),
+    (LISTS, [FOUR, "c", "s", "x"], "no allow"),
+    (LISTS, [FOUR, "A", "s", "x"], "no allow"),
+    (LISTS, ["555566667777", "a", "s", "x"], "no allow"),
+    (
+        LISTS,
+        ["arn:aws:iam::444455556666:root", "a", "s", "x"],
+        "no allow",
+    ),
+    (LISTS, [OWNER, "c", "s", "x"], "allowed"),
+    (CONDITIONS, [FOUR, "a", "shop.", "Paid"], "allowed"),
+    (
+        CONDITIONS,
+        [FOUR, "a", "shop.orders.new", "Order Placed"],
+        "allowed",
+    ),
+    (CONDITIONS, [SEVEN, "b", "bank.1", "Paid"], "allowed"),
+    (CONDITIONS, [SEVEN, "b", "bank.é", "Paid"], "allowed"),
+    (CONDITIONS, [SEVEN, "b", "bank.12", "Paid"], "no allow"),
+    (CONDITIONS, [SEVEN, "b", "bank.", "Paid"], "no allow"),
+    (CONDITIONS, [FOUR, "a", "shop", "Paid"], "no allow"),
+    (CONDITIONS, [FOUR, "a", "shop.orders", "paid"], "no allow"),
+    (CONDITIONS, [FOUR, "a", "shop.orders", "Order"], "no allow"),
+    (
+        CONDITIONS,
+        [FOUR, "a", "my.shop.orders", "Paid"],
+        "no allow",
+    ),
+    (CONDITIONS, ["no account", "a", "shop.x", "Paid"], "allowed"),
+    (CONDITIONS, [OWNER, "a", "other", "x"], "allowed"),
+    (KEYS, [FOUR, "a", "s", "d"], "allowed"),
+    (KEYS, [FOUR, "a", "s", "e"], "no allow"),
+    (KEYS, [FOUR, "a", "t", "d"], "no allow"),
+    (KEYS, [FOUR, "a", "shop.x", "Order Placed"], "no allow"),
+    (KEYS, [FOUR, "a", "shop.*", "Order Placed"], "allowed"),
+    (KEYS, [FOUR, "a", "shop.*", "Order"], "no allow"),
+    (KEYS, [SEVEN, "a", "x", "x"], "allowed"),
+    (DENIES, [FOUR, "a", "a", "x"], "denied by first"),
+    (DENIES, [FOUR, "a", "b", "x"], "denied by "),
+    (NOTHING, [OWNER, "default", "s", "x"], "allowed"),
+    (NOTHING, [FOUR, "default", "s", "x"], "allowed"),
+];
+
+/// The rest of a statement without a Sid, behind its first member.
+const REST: &str = r#""Effect":"Allow","Principal":"*","Action":"*","Resource":"*""#;
+
+/// A text that is no policy, `@` standing for the rest of a statement, and its first fault.
+const FAULTS: [(&str, &str); 69] = [
+    ("", "NotJson at 0"),
+    (r#"{"Statement":[]"#, "NotJson at 0"),
+    (r#"{"Statement":[],"Statement":[]}"#, "KeyTwice at 0"),
+    (r#"{"Id":{"a":1,"a":1},"Statement":[{}]}"#, "KeyTwice at 0"),
+    ("[]", "NotObject at 0"),
+    ("null", "NotObject at 0"),
+    ("{}", "NotObject at 0"),
+    (r#"{"Version":"2020-01-01"}"#, "NotObject at 0"),
+    (r#"{"Statement":null}"#, "NotObject at 0"),
+    (r#"{"Statement":"x"}"#, "NotObject at 0"),
+    (r#"{"Statement":[{@},[]]}"#, "NotObject at 0"),
+    (r#"{"Statement":[{},null]}"#, "NotObject at 0"),
+    (r#"{"statement":[]}"#, "NotObject at 0"),
+    (
+        r#"{"Version":"2020-01-01","Statement":[{"Sid":1}]}"#,
+        "BadVersion at 0",
+    ),
+    (r#"{"Version":null,"Statement":[]}"#, "BadVersion at 0"),
+    (r#"{"Version":2012,"Statement":[]}"#, "BadVersion at 0"),
+    (r#"{"Statement":[{"Sid":null,@}]}"#, "BadSid at 1"),
+    (
+        r#"{"Statement":[{"Sid":1,"Effect":"Maybe"}]}"#,
+        "BadSid at 1",
+    ),
+    (
+        r#"{"Statement":[{"Sid":"a",@},{"Sid":"a",@}]}"#,
+        "BadSid at 2",
+    ),
+    (
+        r#"{"Statement":[{"Sid":"",@},{@},{"Sid":"",@}]}"#,
+        "BadSid at 3",
+    ),
+    (
+        r#"{"Statement":[{"Sid":"a",@},{"Sid":"a"},{"Sid":1}]}"#,
+        "BadSid at 2",
+    ),
+    (r#"{"Statement":{"Effect":"Maybe"}}"#, "BadEffect at 1"),
+    (r#"{"Statement":{"Effect":"allow"}}"#, "BadEffect at 1"),
+    (r#"{"Statement":{"Effect":null}}"#, "BadEffect at 1"),
+    (r#"{"Statement":[{@},{}]}"#, "BadEffect at 2"),
+    (
+        r#"{"Statement":[{@},{"Effect":"Deny"},{}]}"#,
+        "BadPrincipal at 2",
+    ),
+    (
+        r#"{"Statement":{"Effect":"Deny","Principal":"444455556666"}}"#,
+        "BadPrincipal at 1",
+    ),
+    (
+        r#"{"Statement":{"Effect":"Deny","Principal":null}}"#,
+        "BadPrincipal at 1",
+    ),
+    (
+        r#"{"Statement":{"Effect":"Deny","Principal":[]}}"#,
+        "BadPrincipal at 1",
+    ),
+    (
+        r#"{"Statement":{"Effect":"Deny","Principal":{}}}"#,
+        "BadPrincipal at 1",
+    ),
+    (
+        r#"{"Statement":{"Effect":"Deny","Principal":{"AWS":null}}}"#,
+        "BadPrincipal at 1",
+    ),
+    (
+        r#"{"Statement":{"Effect":"Deny","Principal":{"Service":"*"}}}"#,
+        "BadPrincipal at 1",
+    ),
+    (
+        r#"{"Statement":{"Effect":"Deny","Principal":{"AWS":"*","Service":"*"}}}"#,
+        "BadPrincipal at 1",
+    ),
+    (
+        r#"{"Statement":{"Effect":"Deny","Principal":{"AWS":["*",1]}}}"#,
+        "BadPrincipal at 1",
+    ),
+    (
+        r#"{"Statement":{"Effect":"Deny","Principal":{"AWS":["*",["*"]]}}}"#,
+        "BadPrincipal at 1",
+    ),
+    (
+        r#"{"Statement":{"Effect":"Deny","Principal":{"AWS":"11112222333"}}}"#,
+        "BadPrincipal at 1",
+    ),
+    (
+        r#"{"Statement":{"Effect":"Deny","Principal":{"AWS":"arn:aws:iam::11112222333:root"}}}"#,
+        "BadPrincipal at 1",
+    ),
+    (
+        r#"{"Statement":{"Effect":"Deny","Principal":{"AWS":"arn:aws:iam::111122223333:user/x"}}}"#,
+        "BadPrincipal at 1",
+    ),
+    (
+        r#"{"Statement":{"Effect":"Deny","Principal":{"AWS":"11112222333a"}}}"#,
+        "BadPrincipal at 1",
+    ),
+    (
+        r#"{"Statement":{"Effect":"Deny","Principal":{"AWS":"1111222233334"}}}"#,
+        "BadPrincipal at 1",
+    ),
+    (
+        r#"{"Statement":{"Effect":"Deny","Principal":{"AWS":"arn:aws-cn:iam::111122223333:root"}}}"#,
+        "BadPrincipal at 1",
+    ),
+    (
+        r#"{"Statement":{@,"Condition":{"StringEquals":{},"StringEqual\u0073":{}}}}"#,
+        "KeyTwice at 0",
+    ),
+    (r#"{"Statement":[],"Statement":[]"#, "NotJson at 0"),
+    ("\u{feff}{}", "NotJson at 0"),
+    (
+        r#"{"Statement":{"Effect":"Deny","Principal":"*","Action":"x","Resource":null,"Condition":null}}"#,
+        "BadResource at 1",
+    ),
+    (
+        r#"{"Statement":{"Effect":"Deny","Principal":"*"}}"#,
+        "BadAction at 1",
+    ),
+    (
+        r#"{"Statement":{"Effect":"Deny","Principal":"*","NotAction":"x"}}"#,
+        "BadAction at 1",
+    ),
+    (
+        r#"{"Statement":{"Effect":"Deny","Principal":"*","Action":null}}"#,
+        "BadAction at 1",
+    ),
+    (
+        r#"{"Statement":{"Effect":"Deny","Principal":"*","Action":["x",null]}}"#,
+        "BadAction at 1",
+    ),
+    (
+        r#"{"Statement":{"Effect":"Deny","Principal":"*","Action":{}}}"#,
+        "BadAction at 1",
+    ),
+    (
+        r#"{"Statement":{"Effect":"Deny","Principal":"*","Action":[]}}"#,
+        "BadResource at 1",
+    ),
+    (
+        r#"{"Statement":{"Effect":"Deny","Principal":"*","Action":"x","Resource":["x",1]}}"#,
+        "BadResource at 1",
+    ),
+    (
+        r#"{"Statement":{"Effect":"Deny","Principal":"*","Action":"x","Resource":null}}"#,
+        "BadResource at 1",
+    ),
+    (r#"{"Statement":{@,"Condition":null}}"#, "BadCondition at 1"),
+    (r#"{"Statement":{@,"Condition":[]}}"#, "BadCondition at 1"),
+    (
+        r#"{"Statement":{@,"Condition":{"StringEquals":null}}}"#,
+        "BadCondition at 1",
+    ),
+    (
+        r#"{"Statement":{@,"Condition":{"StringEquals":{"events:source":null}}}}"#,
+        "BadCondition at 1",
+    ),
+    (
+        r#"{"Statement":{@,"Condition":{"StringEquals":{"events:source":["a",null]}}}}"#,
+        "BadCondition at 1",
+    ),
+    (
+        r#"{"Statement":{@,"Condition":{"StringEquals":{"events:source":{}}}}}"#,
+        "BadCondition at 1",
+    ),
+    (
+        r#"{"Statement":{@,"Condition":{"StringEquals":{"aws:PrincipalOrgID":"o"}}}}"#,
+        "BadCondition at 1",
+    ),
+    (
+        r#"{"Statement":{@,"Condition":{"StringNotEquals":{}}}}"#,
+        "BadCondition at 1",
+    ),
+    (
+        r#"{"Statement":{@,"Condition":{"stringequals":{"events:source":"a"}}}}"#,
+        "BadCondition at 1",
+    ),
+    (
+        r#"{"Statement":{@,"Condition":{"StringLike":{"events:source":"a"},"Bool":{}}}}"#,
+        "BadCondition at 1",
+    ),
+    (r#"{"Statement":{@,"NotAction":"x"}}"#, "UnknownMember at 1"),
+    (r#"{"Statement":{@,"sid":"x"}}"#, "UnknownMember at 1"),
+    (r#"{"Statement":{@,"Other":null}}"#, "UnknownMember at 1"),
+    (
+        r#"{"Statement":{@,"Other":null,"Condition":1}}"#,
+        "BadCondition at 1",
+    ),
+    (
+        r#"{"Statement":[{@},{@,"NotResource":"x"},{"Sid":null}]}"#,
+        "UnknownMember at 2",
+    ),
+    (
+        r#"{"Statement":[{"Other":1,@},{"Sid":null}]}"#,
+        "UnknownMember at 1",
+    ),
+];
+
+/// A policy, `@` as above, and its kept text.
+const KEPT: [(&str, &str); 7] = [
+    (
+        r#"{"Statement":[]}"#,
+        r#"{"Version":"2012-10-17","Statement":[]}"#,
+    ),
+    (
+        r#"{"Statement":[],"Version":"2008-10-17","Id":null}"#,
+        r#"{"Version":"2008-10-17","Statement":[]}"#,
+    ),
+    (
+        r#"{"Id":{"a":[1e5]},"Statement":{@},"Other":2}"#,
+        r#"{"Version":"2012-10-17","Statement":[{@}]}"#,
+    ),
+    (
+        r#" { "Statement" : { @ } } "#,
+        r#"{"Version":"2012-10-17","Statement":[{@}]}"#,
+    ),
+    (
+        r#"{"Statement":[{@,"Condition":{}},{"Sid":"\u0061",@}]}"#,
+        r#"{"Version":"2012-10-17","Statement":[{@,"Condition":{}},{"Sid":"a",@}]}"#,
+    ),
+    (
+        r#"{"Statement":{"Resource":[],"Sid":"","Action":[],"Principal":{"AWS":[]},"Effect":"Deny"}}"#,
+        r#"{"Version":"2012-10-17","Statement":[{"Resource":[],"Sid":"","Action":[],"Principal":{"AWS":[]},"Effect":"Deny"}]}"#,
+    ),
+    (
+        r#"{"Statement":{@,"Condition":{"StringLike":{"events:source":"a","events:detail-type":[]},"StringEquals":{}}}}"#,
+        r#"{"Version":"2012-10-17","Statement":[{@,"Condition":{"StringLike":{"events:source":"a","events:detail-type":[]},"StringEquals":{}}}]}"#,
+    ),
+];
+
+fn asker<'a>(parts: [&'a str; 4]) -> Asker<'a> {
+    let [account, bus, source, detail_type] = parts;
+    Asker {
+        account,
+        bus,
+        source,
+        detail_type,
+    }
+}
+
+fn with_rest(alloc: Global, text: &str) -> Result<String, Fail> {
+    let mut whole = String::new(alloc);
+    for c in text.chars() {
+        if c == '@' {
+            whole.push_str(REST)?;
+        } else {
+            whole.push(c)?;
+        }
+    }
+    Ok(whole)
+}
+
+fn told(alloc: Global, policy: &str, asker: &Asker) -> Result<String, Fail> {
+    let text = match judge(alloc, policy.as_bytes(), asker) {
+        Ok(Judgement::Allowed) => String::from_str(alloc, "allowed")?,
+        Ok(Judgement::DeniedBy(name)) => {
+            let name = name.as_str();
+            format!(in alloc; "denied by {name}")?
+        }
+        Ok(Judgement::NoAllow) => String::from_str(alloc, "no allow")?,
+        Err(PolicyFault::Bad { cause, place }) => format!(in alloc; "{cause:?} at {place}")?,
+        Err(PolicyFault::NoMemory) => String::from_str(alloc, "no memory")?,
+    };
+    Ok(text)
+}
+
+fn kept_text(alloc: Global, policy: &str) -> Result<String, Fail> {
+    let policy = Policy::read(alloc, policy.as_bytes())?;
+    Ok(String::from_str(alloc, policy.text())?)
+}
+
+#[test]
+fn each_asker_gets_its_verdict(rt: HostRuntime) -> Result<(), Fail> {
+    for (policy, parts, want) in VERDICTS {
+        let got = told(rt.alloc(), policy, &asker(parts))?;
+        assert!(rt; got.as_str() == want, "{got} for {parts:?} of {policy}");
+    }
+    Ok(())
+}
+
+#[test]
+fn the_first_fault_is_told_at_its_place(rt: HostRuntime) -> Result<(), Fail> {
+    for (text, want) in FAULTS {
+        let policy = with_rest(rt.alloc(), text)?;
+        let got = told(rt.alloc(), policy.as_str(), &asker([FOUR, "b", "s", "x"]))?;
+        assert!(rt; got.as_str() == want, "{got} of {text}");
+    }
+    Ok(())
+}
+
+#[test]
+fn version_and_statements_are_kept_and_read_back(rt: HostRuntime) -> Result<(), Fail> {
+    for (text, want) in KEPT {
+        let policy = with_rest(rt.alloc(), text)?;
+        let want = with_rest(rt.alloc(), want)?;
+        let got = kept_text(rt.alloc(), policy.as_str())?;
+        assert!(rt; got.as_str() == want.as_str(), "{got} of {text}");
+        let again = kept_text(rt.alloc(), got.as_str())?;
+        assert!(rt; again.as_str() == want.as_str(), "{again} of {text}");
+    }
+    Ok(())
+}
+
+/// A policy whose Sid makes the text so many bytes long.
+fn long_policy(alloc: Global, len: usize) -> Result<String, Fail> {
+    let front = r#"{"Statement":{"Sid":""#;
+    let back = r#"","Effect":"Allow","Principal":"*","Action":"*","Resource":"*"}}"#;
+    let mut text = String::from_str(alloc, front)?;
+    for _ in front.len() + back.len()..len {
+        text.push('a')?;
+    }
+    text.push_str(back)?;
+    Ok(text)
+}
+
+/// A policy whose Id has so many levels of lists.
+fn deep_policy(alloc: Global, levels: usize) -> Result<String, Fail> {
+    let mut text = String::from_str(alloc, r#"{"Statement":[],"Id":"#)?;
+    for _ in 0..levels {
+        text.push('[')?;
+    }
+    for _ in 0..levels {
+        text.push(']')?;
+    }
+    text.push('}')?;
+    Ok(text)
+}
+
+/// How many bytes a policy's kept text has.
+fn kept_len(alloc: Global, policy: &str) -> Result<usize, Fail> {
+    let policy = Policy::read(alloc, policy.as_bytes())?;
+    Ok(policy.text_len())
+}
+
+#[test]
+fn at_most_10240_bytes_are_read_and_more_may_be_kept(rt: HostRuntime) -> Result<(), Fail> {
+    let long = long_policy(rt.alloc(), 10_240)?;
+    let kept = kept_len(rt.alloc(), long.as_str())?;
+    assert_eq!(rt; kept, 10_240 + 23 + 2);
+    let over = long_policy(rt.alloc(), 10_241)?;
+    let got = told(rt.alloc(), over.as_str(), &asker([FOUR, "b", "s", "x"]))?;
+    assert!(rt; got.as_str() == "TooLong at 0", "{got}");
+    Ok(())
+}
+
+#[test]
+fn at_most_100_levels_are_read(rt: HostRuntime) -> Result<(), Fail> {
+    for (levels, want) in [(99, "no allow"), (100, "TooDeep at 0")] {
+        let policy = deep_policy(rt.alloc(), levels)?;
+        let got = told(rt.alloc(), policy.as_str(), &asker([FOUR, "b", "s", "x"]))?;
+        assert!(rt; got.as_str() == want, "{got} at {levels}");
+    }
+    Ok(())
+}
+
+#[test]
+fn a_bus_without_a_policy_is_the_owners(rt: HostRuntime) {
+    let owner = bus_verdict(None, &asker([OWNER, "b", "s", "x"]));
+    assert_eq!(rt; owner, Verdict::Allowed);
+    let other = bus_verdict(None, &asker([FOUR, "b", "s", "x"]));
+    assert_eq!(rt; other, Verdict::NoAllow);
+}
+
+/// A policy, or none; the Sid and the account of an Allow on the bus `b` that is added; and the text that is kept.
+const ADDED: [(&str, &str, &str, &str); 6] = [
+    ("", "a", FOUR, ONE),
+    (ONE, "b", "*", BOTH),
+    (ONE, "a", "*", "there"),
+    (ONE, "b", "44445555666", "no account"),
+    (
+        "",
+        "A-1_",
+        "*",
+        r#"{"Version":"2012-10-17","Statement":[{"Sid":"A-1_","Effect":"Allow","Principal":"*","Action":"events:PutEvents","Resource":"arn:aws:events:us-east-1:111122223333:event-bus/b"}]}"#,
+    ),
+    (
+        r#"{"Version":"2008-10-17","Statement":[]}"#,
+        "a",
+        FOUR,
+        r#"{"Version":"2008-10-17","Statement":[{"Sid":"a","Effect":"Allow","Principal":{"AWS":"arn:aws:iam::444455556666:root"},"Action":"events:PutEvents","Resource":"arn:aws:events:us-east-1:111122223333:event-bus/b"}]}"#,
+    ),
+];
+
+const ONE: &str =
+    r#"{"Version":"2012-10-17","Statement":[{"Sid":"a","Effect":"Allow","Principal":{"AWS":"arn:aws:iam::444455556666:root"},"Action":"events:PutEvents","Resource":"arn:aws:events:us-east-1:111122223333:event-bus/b"}]}"#;
+
+const BOTH: &str =
+    r#"{"Version":"2012-10-17","Statement":[{"Sid":"a","Effect":"Allow","Principal":{"AWS":"arn:aws:iam::444455556666:root"},"Action":"events:PutEvents","Resource":"arn:aws:events:us-east-1:111122223333:event-bus/b"},{"Sid":"b","Effect":"Allow","Principal":"*","Action":"events:PutEvents","Resource":"arn:aws:events:us-east-1:111122223333:event-bus/b"}]}"#;
+
+fn added(alloc: Global, policy: &str, sid: &str, account: &str) -> Result<String, Fail> {
+    if account == "*" {
+        return added_to(alloc, policy, sid, Grantee::Everyone);
+    }
+    if is_account(account) {
+        return added_to(alloc, policy, sid, Grantee::Account(account));
+    }
+    Ok(String::from_str(alloc, "no account")?)
+}
+
+fn added_to(alloc: Global, policy: &str, sid: &str, to: Grantee) -> Result<String, Fail>
+    requires { IsAccountGiven (account_given to) }
+{
+    if policy.is_empty() {
+        let first = Policy::new(alloc, sid, to, "b")?;
+        return Ok(String::from_str(alloc, first.text())?);
+    }
+    let policy = Policy::read(alloc, policy.as_bytes())?;
+    if policy.has_sid(sid) {
+        return Ok(String::from_str(alloc, "there")?);
+    }
+    let more = policy.with_statement(alloc, sid, to, "b")?;
+    Ok(String::from_str(alloc, more.text())?)
+}
+
+#[test]
+fn a_statement_is_added_at_the_end(rt: HostRuntime) -> Result<(), Fail> {
+    for (policy, sid, account, want) in ADDED {
+        let got = added(rt.alloc(), policy, sid, account)?;
+        assert!(rt; got.as_str() == want, "{got} for {sid} and {account}");
+    }
+    Ok(())
+}
+
+/// Two statements without a Sid, of which the second denies, and one with a Sid before and between them.
+const NAMED: &str =
+    r#"{"Version":"2008-10-17","Statement":[{"Sid":"x","Effect":"Allow","Principal":"*","Action":"*","Resource":"*"},{"Effect":"Allow","Principal":"*","Action":"*","Resource":"*"},{"Sid":"y","Effect":"Allow","Principal":"*","Action":"*","Resource":"*"},{"Effect":"Deny","Principal":"*","Action":"*","Resource":"*"}]}"#;
+
+/// A policy, a Sid, and what is left without it: how many statements, and who denies a stranger.
+const REMOVED: [(&str, &str, &str); 7] = [
+    (NAMED, "x", "3, denied by #3"),
+    (NAMED, "y", "3, denied by #3"),
+    (NAMED, "z", "not there"),
+    (NAMED, "#4", "not there"),
+    (BOTH, "b", "1, no deny"),
+    (ONE, "A", "not there"),
+    (ONE, "a", "last"),
+];
+
+fn removed(alloc: Global, policy: &str, sid: &str) -> Result<String, Fail> {
+    let policy = Policy::read(alloc, policy.as_bytes())?;
+    let text = match policy.without_statement(alloc, sid)? {
+        Removed::NotThere => String::from_str(alloc, "not there")?,
+        Removed::Last => String::from_str(alloc, "last")?,
+        Removed::Rest(rest) => denial(alloc, &rest)?,
+    };
+    Ok(text)
+}
+
+fn denial(alloc: Global, policy: &Policy) -> Result<String, Fail> {
+    let count = policy.statement_count();
+    let text = match policy.decide(&asker([SEVEN, "b", "s", "x"])) {
+        Verdict::DeniedBy(name) => format!(in alloc; "{count}, denied by {name}")?,
+        _ => format!(in alloc; "{count}, no deny")?,
+    };
+    Ok(text)
+}
+
+#[test]
+fn names_follow_the_places_after_a_removal(rt: HostRuntime) -> Result<(), Fail> {
+    for (policy, sid, want) in REMOVED {
+        let got = removed(rt.alloc(), policy, sid)?;
+        assert!(rt; got.as_str() == want, "{got} without {sid}");
+    }
+    Ok(())
+}
+
+#[test]
+fn a_copy_has_the_same_text(rt: HostRuntime) -> Result<(), Fail> {
+    let policy = Policy::read(rt.alloc(), BOTH.as_bytes())?;
+    let copy = policy.copy(rt.alloc())?;
+    assert!(rt; copy.text() == BOTH);
+    Ok(())
+}
