@@ -6,4 +6,4 @@ pub mod GrammarLemmas
 pub mod ItemLemmas
 pub mod ChangeLemmas
 pub mod LevelLemmas
-pub mod Laws
+pub mod LawLemmas

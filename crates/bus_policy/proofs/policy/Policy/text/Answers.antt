@@ -1,6 +1,6 @@
 use Rattle.std.proofs.Common.{subst}
 use Rattle.bus_policy.specs.Kept.{IsKept}
-use Rattle.bus_policy.proofs.Laws.{text_reads_back}
+use Rattle.bus_policy.proofs.LawLemmas.{text_reads_back}
 use Rattle.bus_policy.proofs.policy.Policy.text.Goals as goal
 
 pub returns-clause-reads_back : goal.returns-clause-reads_back

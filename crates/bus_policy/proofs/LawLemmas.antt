@@ -1,4 +1,4 @@
--- Laws for callers: a policy's verdict is that of what is kept of it, `verdict_kept`; there is one verdict, `verdict_once`; a kept policy's text is read
+-- The laws: a policy's verdict is that of what is kept of it, `verdict_kept`; there is one verdict, `verdict_once`; a kept policy's text is read
 -- back, `text_reads_back`.
 use Rattle.std.proofs.Common.{◌≡◌, ℕ, ◌+◌, List, refl, sym, ap, ◌∙◌, inl, inr}
 use Rattle.std.proofs.Common.{◌≤◌, length, arith}

@@ -1,0 +1,6 @@
+use Rattle.bus_policy.specs.Parts.{statements_of}
+use Rattle.bus_policy.proofs.LawLemmas as laws
+use Rattle.bus_policy.proofs.laws.one_verdict.Goals as goal
+
+pub returns : goal.returns
+returns c = record { kept = laws.verdict_kept; once = λ policy. laws.verdict_once (statements_of policy) }
