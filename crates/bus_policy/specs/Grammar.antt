@@ -85,7 +85,7 @@ is_principal_word word = bytes_eq word (codes "*") || (is_account word || is_roo
 abbrev pub is_one_principal : Members → Bool
 is_one_principal (member key t no_members) = bytes_eq key (codes "AWS") && are_texts is_principal_word t
 is_one_principal no_members = false
-is_one_principal (member key t (member other u members)) = false
+is_one_principal (member key t (member _ _ _)) = false
 
 -- `"*"`, or an object whose one member `AWS` has words for accounts
 abbrev pub is_principal : Tree → Bool

@@ -40,65 +40,76 @@ const FOUR: &str = "444455556666";
 
 const SEVEN: &str = "777788889999";
 
-/// A policy; who asks, by account, bus, source and detail type; and what is told.
-const VERDICTS: [(&str, [&str; 4], &str); 45] = [
-    (TWO, [FOUR, "default", "shop.orders", "x"], "allowed"),
-    (TWO, [FOUR, "default", "shop.secret", "x"], "denied by no"),
-    (TWO, [SEVEN, "default", "shop.orders", "x"], "no allow"),
-    (TWO, [OWNER, "default", "shop.orders", "x"], "allowed"),
-    (TWO, [OWNER, "default", "shop.secret", "x"], "allowed"),
-    (TWO, [FOUR, "other", "shop.orders", "x"], "no allow"),
-    (TWO, [FOUR, "default", "Shop.secret", "x"], "allowed"),
-    (TWO, ["44445555666", "default", "s", "x"], "no allow"),
-    (TWO, ["4444555566667", "default", "s", "x"], "no allow"),
-    (TWO, ["", "default", "s", "x"], "no allow"),
-    (DENY, [OWNER, "default", "a", "x"], "denied by #1"),
-    (DENY, [OWNER, "default", "b", "x"], "allowed"),
-    (DENY, [FOUR, "default", "a", "x"], "denied by #1"),
-    (DENY, [FOUR, "default", "b", "x"], "no allow"),
-    (LISTS, [FOUR, "a", "s", "x"], "allowed"),
-    (LISTS, [FOUR, "b", "s", "x"], "allowed"),
-    (LISTS, [SEVEN, "b", "s", "x"], "allowed"),
-    (LISTS, [FOUR, "c", "s", "x"], "no allow"),
-    (LISTS, [FOUR, "A", "s", "x"], "no allow"),
-    (LISTS, ["555566667777", "a", "s", "x"], "no allow"),
+/// Who asks, by account, bus, source and detail type, and what is told, by the policy of the table's name.
+type Row = ([&'static str; 4], &'static str);
+
+const OF_TWO: [Row; 10] = [
+    ([FOUR, "default", "shop.orders", "x"], "allowed"),
+    ([FOUR, "default", "shop.secret", "x"], "denied by no"),
+    ([SEVEN, "default", "shop.orders", "x"], "no allow"),
+    ([OWNER, "default", "shop.orders", "x"], "allowed"),
+    ([OWNER, "default", "shop.secret", "x"], "allowed"),
+    ([FOUR, "other", "shop.orders", "x"], "no allow"),
+    ([FOUR, "default", "Shop.secret", "x"], "allowed"),
+    (["44445555666", "default", "s", "x"], "no allow"),
+    (["4444555566667", "default", "s", "x"], "no allow"),
+    (["", "default", "s", "x"], "no allow"),
+];
+
+const OF_DENY: [Row; 4] = [
+    ([OWNER, "default", "a", "x"], "denied by #1"),
+    ([OWNER, "default", "b", "x"], "allowed"),
+    ([FOUR, "default", "a", "x"], "denied by #1"),
+    ([FOUR, "default", "b", "x"], "no allow"),
+];
+
+const OF_LISTS: [Row; 8] = [
+    ([FOUR, "a", "s", "x"], "allowed"),
+    ([FOUR, "b", "s", "x"], "allowed"),
+    ([SEVEN, "b", "s", "x"], "allowed"),
+    ([FOUR, "c", "s", "x"], "no allow"),
+    ([FOUR, "A", "s", "x"], "no allow"),
+    (["555566667777", "a", "s", "x"], "no allow"),
     (
-        LISTS,
         ["arn:aws:iam::444455556666:root", "a", "s", "x"],
         "no allow",
     ),
-    (LISTS, [OWNER, "c", "s", "x"], "allowed"),
-    (CONDITIONS, [FOUR, "a", "shop.", "Paid"], "allowed"),
-    (
-        CONDITIONS,
-        [FOUR, "a", "shop.orders.new", "Order Placed"],
-        "allowed",
-    ),
-    (CONDITIONS, [SEVEN, "b", "bank.1", "Paid"], "allowed"),
-    (CONDITIONS, [SEVEN, "b", "bank.é", "Paid"], "allowed"),
-    (CONDITIONS, [SEVEN, "b", "bank.12", "Paid"], "no allow"),
-    (CONDITIONS, [SEVEN, "b", "bank.", "Paid"], "no allow"),
-    (CONDITIONS, [FOUR, "a", "shop", "Paid"], "no allow"),
-    (CONDITIONS, [FOUR, "a", "shop.orders", "paid"], "no allow"),
-    (CONDITIONS, [FOUR, "a", "shop.orders", "Order"], "no allow"),
-    (
-        CONDITIONS,
-        [FOUR, "a", "my.shop.orders", "Paid"],
-        "no allow",
-    ),
-    (CONDITIONS, ["no account", "a", "shop.x", "Paid"], "allowed"),
-    (CONDITIONS, [OWNER, "a", "other", "x"], "allowed"),
-    (KEYS, [FOUR, "a", "s", "d"], "allowed"),
-    (KEYS, [FOUR, "a", "s", "e"], "no allow"),
-    (KEYS, [FOUR, "a", "t", "d"], "no allow"),
-    (KEYS, [FOUR, "a", "shop.x", "Order Placed"], "no allow"),
-    (KEYS, [FOUR, "a", "shop.*", "Order Placed"], "allowed"),
-    (KEYS, [FOUR, "a", "shop.*", "Order"], "no allow"),
-    (KEYS, [SEVEN, "a", "x", "x"], "allowed"),
-    (DENIES, [FOUR, "a", "a", "x"], "denied by first"),
-    (DENIES, [FOUR, "a", "b", "x"], "denied by "),
-    (NOTHING, [OWNER, "default", "s", "x"], "allowed"),
-    (NOTHING, [FOUR, "default", "s", "x"], "allowed"),
+    ([OWNER, "c", "s", "x"], "allowed"),
+];
+
+const OF_CONDITIONS: [Row; 12] = [
+    ([FOUR, "a", "shop.", "Paid"], "allowed"),
+    ([FOUR, "a", "shop.orders.new", "Order Placed"], "allowed"),
+    ([SEVEN, "b", "bank.1", "Paid"], "allowed"),
+    ([SEVEN, "b", "bank.é", "Paid"], "allowed"),
+    ([SEVEN, "b", "bank.12", "Paid"], "no allow"),
+    ([SEVEN, "b", "bank.", "Paid"], "no allow"),
+    ([FOUR, "a", "shop", "Paid"], "no allow"),
+    ([FOUR, "a", "shop.orders", "paid"], "no allow"),
+    ([FOUR, "a", "shop.orders", "Order"], "no allow"),
+    ([FOUR, "a", "my.shop.orders", "Paid"], "no allow"),
+    (["no account", "a", "shop.x", "Paid"], "allowed"),
+    ([OWNER, "a", "other", "x"], "allowed"),
+];
+
+const OF_KEYS: [Row; 7] = [
+    ([FOUR, "a", "s", "d"], "allowed"),
+    ([FOUR, "a", "s", "e"], "no allow"),
+    ([FOUR, "a", "t", "d"], "no allow"),
+    ([FOUR, "a", "shop.x", "Order Placed"], "no allow"),
+    ([FOUR, "a", "shop.*", "Order Placed"], "allowed"),
+    ([FOUR, "a", "shop.*", "Order"], "no allow"),
+    ([SEVEN, "a", "x", "x"], "allowed"),
+];
+
+const OF_DENIES: [Row; 2] = [
+    ([FOUR, "a", "a", "x"], "denied by first"),
+    ([FOUR, "a", "b", "x"], "denied by "),
+];
+
+const OF_NOTHING: [Row; 2] = [
+    ([OWNER, "default", "s", "x"], "allowed"),
+    ([FOUR, "default", "s", "x"], "allowed"),
 ];
 
 /// The rest of a statement without a Sid, behind its first member.
@@ -377,10 +388,64 @@ fn kept_text(alloc: Global, policy: &str) -> Result<String, Fail> {
 }
 
 #[test]
-fn each_asker_gets_its_verdict(rt: HostRuntime) -> Result<(), Fail> {
-    for (policy, parts, want) in VERDICTS {
-        let got = told(rt.alloc(), policy, &asker(parts))?;
-        assert!(rt; got.as_str() == want, "{got} for {parts:?} of {policy}");
+fn one_account_is_allowed_but_for_one_source(rt: HostRuntime) -> Result<(), Fail> {
+    for (parts, want) in OF_TWO {
+        let got = told(rt.alloc(), TWO, &asker(parts))?;
+        assert!(rt; got.as_str() == want, "{got} for {parts:?}");
+    }
+    Ok(())
+}
+
+#[test]
+fn a_deny_binds_the_owner_too(rt: HostRuntime) -> Result<(), Fail> {
+    for (parts, want) in OF_DENY {
+        let got = told(rt.alloc(), DENY, &asker(parts))?;
+        assert!(rt; got.as_str() == want, "{got} for {parts:?}");
+    }
+    Ok(())
+}
+
+#[test]
+fn one_of_a_list_is_enough(rt: HostRuntime) -> Result<(), Fail> {
+    for (parts, want) in OF_LISTS {
+        let got = told(rt.alloc(), LISTS, &asker(parts))?;
+        assert!(rt; got.as_str() == want, "{got} for {parts:?}");
+    }
+    Ok(())
+}
+
+#[test]
+fn source_and_detail_type_have_to_fit(rt: HostRuntime) -> Result<(), Fail> {
+    for (parts, want) in OF_CONDITIONS {
+        let got = told(rt.alloc(), CONDITIONS, &asker(parts))?;
+        assert!(rt; got.as_str() == want, "{got} for {parts:?}");
+    }
+    Ok(())
+}
+
+#[test]
+fn each_key_of_an_operator_has_to_hold(rt: HostRuntime) -> Result<(), Fail> {
+    for (parts, want) in OF_KEYS {
+        let got = told(rt.alloc(), KEYS, &asker(parts))?;
+        assert!(rt; got.as_str() == want, "{got} for {parts:?}");
+    }
+    Ok(())
+}
+
+#[test]
+fn the_first_deny_is_told(rt: HostRuntime) -> Result<(), Fail> {
+    for (parts, want) in OF_DENIES {
+        let got = told(rt.alloc(), DENIES, &asker(parts))?;
+        assert!(rt; got.as_str() == want, "{got} for {parts:?}");
+    }
+    Ok(())
+}
+
+#[test]
+fn what_is_not_known_applies_to_nothing(rt: HostRuntime) -> Result<(), Fail> {
+    for (parts, want) in OF_NOTHING {
+        let got = told(rt.alloc(), NOTHING, &asker(parts))?;
+        assert!(rt; got.as_str() == want, "{got} for {parts:?}");
     }
     Ok(())
 }
