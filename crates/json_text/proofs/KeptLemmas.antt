@@ -179,7 +179,7 @@ put_in_list ks all v pushed json n outer repeat last more is kept r =
 
 -- the same for an object
 object_takes : (o : _) (w : Waiting) (rest : List Waiting) (set : List (List ℕ × Json)) (json : Json) (n : Node) (repeat : Option ℕ)
-    → Keeps (kept_object o) w → pairs_of set ≡ with_value o.slot (tree_of json) (pairs_of o.object.members.items) → tree_of json ≡ value_of n → repeat ≡ first_of (repeat_of (w ∷ rest)) (first_repeat n)
+    → Keeps (kept_object o) w → pairs_of set ≡ with_value o.slot (tree_of json) (pairs_of o.object.value.members.items) → tree_of json ≡ value_of n → repeat ≡ first_of (repeat_of (w ∷ rest)) (first_repeat n)
     → (x : List Member) × (put n (w ∷ rest) ≡ after_member x rest) × (repeat ≡ first_of (repeat_of rest) (first_repeat_behind [] (fields_of x))) × HoldsMembers set x
 object_takes o (in_list ns) rest set json n repeat k more is r = absurd k
 object_takes o (in_object ms place key) rest set json n repeat k more is r =
@@ -192,7 +192,7 @@ object_takes o (in_object ms place key) rest set json n repeat k more is r =
     )
 
 pub put_in_object : (ks all : List Kept) (o : _) (set : List (List ℕ × Json)) (json : Json) (n : Node) (outer : List Waiting) (repeat : Option ℕ)
-    → all ≡ ks ++ kept_object o ∷ [] → pairs_of set ≡ with_value o.slot (tree_of json) (pairs_of o.object.members.items) → tree_of json ≡ value_of n → KeepsAll (reverse all) outer → repeat ≡ first_of (repeat_of outer) (first_repeat n)
+    → all ≡ ks ++ kept_object o ∷ [] → pairs_of set ≡ with_value o.slot (tree_of json) (pairs_of o.object.value.members.items) → tree_of json ≡ value_of n → KeepsAll (reverse all) outer → repeat ≡ first_of (repeat_of outer) (first_repeat n)
     → (x : List Member) × (x' : List Waiting) × (put n outer ≡ after_member x x') × KeepsAll (reverse ks) x' × (repeat ≡ first_of (repeat_of x') (first_repeat_behind [] (fields_of x))) × HoldsMembers set x
 put_in_object ks all o set json n outer repeat last more is kept r =
     let cut = keeps_last ks (kept_object o) outer (subst (λ xs. KeepsAll (reverse xs) outer) last kept) in

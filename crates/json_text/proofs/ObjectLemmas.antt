@@ -1,13 +1,21 @@
--- The index of an object's members: `slot_from-set`, `slot_from-push`, `with_value-set`, `slot_from-pairs`, `slot_from-below`, `slot_from-drop`.
-use Rattle.std.proofs.Common.{◌≡◌, ◌<◌, ℕ, zero, suc, ◌+◌, List, [], ◌∷◌, ◌++◌, length, Bool, true, false, Some, None, refl, sym, ap, ◌∙◌, arith, cond, if◌then◌else◌, get_or, drop, ◌⊎◌, inl, inr}
+-- The index of an object's members: `slot_from-set`, `slot_from-push`, `with_value-set`, `slot_from-pairs`, `slot_from-below`, `slot_from-drop`, `pairs_of-push`, `HasHashes-push`, `HasHashes-set`, `IsIndex-set`.
+use Rattle.std.proofs.Common.{◌≡◌, ◌<◌, ℕ, zero, suc, ◌+◌, List, [], ◌∷◌, ◌++◌, length, Bool, true, false, Some, None, refl, sym, ap, ◌∙◌, arith, cond, if◌then◌else◌, get_or, drop, ◌⊎◌, inl, inr, ◌≢◌, ◌*◌, ◌%◌, ◌^◌, String, bit_or}
 use Rattle.std.proofs.lemmas.Slice.Eq.{bytes_eq-Decides}
 use Rattle.std.proofs.Math.ListN.{set}
 use Rattle.std.proofs.lemmas.List.{at_drop_more}
+use Rattle.std.proofs.lemmas.Bool.{cases_eq}
+use Rattle.std.proofs.lemmas.Nat.Bits.{bit_at_set_same, bit_at_set_other}
 use Rattle.std.specs.Prelude.{unwrap_or, IsOk, is_ok, Result, Ok, Err}
 use Rattle.std.specs.Str.{bytes_eq}
+use Rattle.std.specs.Global.{Global}
+use Rattle.std.specs.Int.{bit_at, w128}
+use Rattle.std.specs.BTreeMap.{BTreeMap}
 use Rattle.json_text.specs.View.{tree_of, pairs_of}
-use Rattle.json_text.specs.Objects.{slot_from, with_value}
+use Rattle.json_text.specs.Objects.{HasHashes, IsIndex, hash_of, slot_from, with_value}
+use Rattle.json_text.specs.Tree.{null}
 use Rattle.json_text.specs.declared.value.Json.{Json}
+use Rattle.json_text.specs.declared.value.Json.TheVariants.{Null}
+use Rattle.json_text.proofs.ViewLemmas.{tree_of_null}
 
 either : (b : Bool) → (b ≡ true) ⊎ (b ≡ false)
 either true = inl refl
@@ -93,6 +101,40 @@ pub slot_from-drop : (at : ℕ) (key : List ℕ) (n : ℕ) (ms : List (List ℕ 
 slot_from-drop at key n ms d h e =
     ap (λ b. cond b (Some at) (slot_from (at + 1) key (drop (n + 1) ms))) (bytes_eq-comm d.0 key ∙ ap (λ p. bytes_eq key p.0) e)
     ∙ sym (at_drop_more (slot_from at key) ms n d h)
+
+pub pairs_of-push : (k : List ℕ) (ms : List (List ℕ × Json)) → pairs_of (ms ++ (k, Null) ∷ []) ≡ pairs_of ms ++ (k, null) ∷ []
+pairs_of-push k [] = ap (λ t. (k, t) ∷ []) tree_of_null
+pairs_of-push k (m ∷ ms) = ap (λ rest. (m.0, tree_of m.1) ∷ rest) (pairs_of-push k ms)
+
+-- a number with one bit more
+abbrev with_bit : ℕ → ℕ → ℕ
+with_bit n k = bit_or n (1 * 2 ^ k % 2 ^ 128)
+
+-- the key at the end has its hash's bit
+pub HasHashes-push : {V : Type 0} (hashes hash : ℕ) (k : List ℕ) (v : V) (ms : List (List ℕ × V)) → hash ≡ hash_of k → hash < 128 → slot_from 0 k ms ≡ None → HasHashes hashes ms
+    → HasHashes (with_bit hashes hash) (ms ++ (k, v) ∷ [])
+HasHashes-push hashes hash k v ms is small new has q unset =
+    elim (cases_eq (hash_of q) hash) [
+      | inl same ↦ absurd (omega (arith, sym (bit_at_set_same w128 hashes hash small) ∙ ap (λ h. bit_at (with_bit hashes hash) h) (sym same) ∙ unset))
+      | inr other ↦
+          slot_from-push 0 q k v ms new
+          ∙ ap (λ b. cond b (Some (0 + length ms)) (slot_from 0 q ms)) (apart k q (λ e. other (e ∙ sym is)))
+          ∙ has q (sym (bit_at_set_other w128 hashes hash small (hash_of q) other) ∙ unset)
+    ]
+  where
+    apart : (a b : List ℕ) → hash_of b ≢ hash_of a → bytes_eq a b ≡ false
+    apart a b other = elim (either (bytes_eq a b)) [
+      | inl same ↦ absurd (other (ap hash_of (sym ((bytes_eq-Decides a b).0 same))))
+      | inr differ ↦ differ
+    ]
+
+-- a member's value changes neither the hashes nor the map
+pub HasHashes-set : (hashes : ℕ) (v : Json) (slot : ℕ) (ms : List (List ℕ × Json)) (d : List ℕ × Json) → slot < length ms → d ≡ get_or ms slot d → HasHashes hashes ms → HasHashes hashes (set ms slot (d.0, v))
+HasHashes-set hashes v slot ms d h e has q unset = slot_from-set 0 q v slot ms d h e ∙ has q unset
+
+pub IsIndex-set : (slots : BTreeMap (String Global) ℕ) (v : Json) (slot : ℕ) (ms : List (List ℕ × Json)) (d : List ℕ × Json) → slot < length ms → d ≡ get_or ms slot d
+    → IsIndex slots ms → IsIndex slots (set ms slot (d.0, v))
+IsIndex-set slots v slot ms d h e index made q = index made q ∙ sym (slot_from-set 0 q v slot ms d h e)
 
 -- what a list is after a push that has its room
 pub pushed : {A T E : Type 0} (r : Result T E) (more same new : List A) → IsOk r → new ≡ (if is_ok r then more else same) → new ≡ more

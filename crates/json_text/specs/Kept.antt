@@ -42,7 +42,7 @@ Keeps (kept_list items) (in_list ns) = trees_of items.items ≡ map value_of ns
 Keeps (kept_list items) (in_object ms place key) = ⊥
 Keeps (kept_object o) (in_list ns) = ⊥
 Keeps (kept_object o) (in_object ms place key) =
-    (t : Tree) → with_value o.slot t (pairs_of o.object.members.items) ≡ with_member key t (members_after [] (fields_of ms))
+    (t : Tree) → with_value o.slot t (pairs_of o.object.value.members.items) ≡ with_member key t (members_after [] (fields_of ms))
 
 -- the innermost first
 abbrev pub KeepsAll : List Kept → List Waiting → Type 0
@@ -63,9 +63,9 @@ IsState (AfterItem items) waiting repeat s = (ns : List Node) × (outer : List W
     × (repeat ≡ first_of (repeat_of outer) (first_repeat_in (nodes_of ns))) × (trees_of items.items ≡ map value_of ns)
 IsState FirstKey waiting repeat s = (outer : List Waiting) × (s ≡ first_key outer) × KeepsAll (reverse waiting) outer × (repeat ≡ repeat_of outer)
 IsState (NextKey object) waiting repeat s = (ms : List Member) × (outer : List Waiting) × (s ≡ next_key ms outer) × KeepsAll (reverse waiting) outer
-    × (repeat ≡ first_of (repeat_of outer) (first_repeat_behind [] (fields_of ms))) × HoldsMembers object.members.items ms
+    × (repeat ≡ first_of (repeat_of outer) (first_repeat_behind [] (fields_of ms))) × HoldsMembers object.value.members.items ms
 IsState (AfterMember object) waiting repeat s = (ms : List Member) × (outer : List Waiting) × (s ≡ after_member ms outer) × KeepsAll (reverse waiting) outer
-    × (repeat ≡ first_of (repeat_of outer) (first_repeat_behind [] (fields_of ms))) × HoldsMembers object.members.items ms
+    × (repeat ≡ first_of (repeat_of outer) (first_repeat_behind [] (fields_of ms))) × HoldsMembers object.value.members.items ms
 IsState (End json) waiting repeat s = (n : Node) × (s ≡ whole n) × (tree_of json ≡ value_of n) × (repeat ≡ first_repeat n)
 
 -- Bytes give this fault.

@@ -1,8 +1,9 @@
 -- For private clauses alone: the members of an object while it is read.
-use Rattle.std.specs.Prelude.{◌≡◌, ◌<◌, ℕ, zero, suc, ◌+◌, Bool, true, false, List, [], ◌∷◌, ◌++◌, Option, Some, None, String, length, if◌then◌else◌}
+use Rattle.std.specs.Prelude.{◌≡◌, ◌≢◌, ℕ, zero, suc, ◌+◌, ◌*◌, ◌%◌, Bool, true, false, List, [], ◌∷◌, ◌++◌, Option, Some, None, String, length, if◌then◌else◌}
 use Rattle.std.specs.Global.{Global}
+use Rattle.std.specs.Int.{bit_at}
 use Rattle.std.specs.Str.{bytes_eq}
-use Rattle.std.specs.BTreeMap.{BTreeMap, get_by_text}
+use Rattle.std.specs.BTreeMap.{BTreeMap, btree_map_len, get_by_text}
 use Rattle.json_text.specs.Tree.{Tree, null}
 
 -- the place of the member with the key, counted from a number on, if there is one
@@ -10,9 +11,21 @@ abbrev pub slot_from : {V : Type 0} → ℕ → List ℕ → List (List ℕ × V
 slot_from at key [] = None
 slot_from at key (m ∷ ms) = if bytes_eq key m.0 then Some at else slot_from (at + 1) key ms
 
--- the map has each key's place, once there are more than sixteen members
+-- one of 128 numbers for each key
+abbrev pub hash_from : ℕ → List ℕ → ℕ
+hash_from hash [] = hash
+hash_from hash (b ∷ bs) = hash_from ((hash * 29 + b) % 128) bs
+
+abbrev pub hash_of : List ℕ → ℕ
+hash_of key = hash_from 0 key
+
+-- a key whose hash has no bit is no member's
+abbrev pub HasHashes : {V : Type 0} → ℕ → List (List ℕ × V) → Type 0
+HasHashes hashes ms = (key : List ℕ) → bit_at hashes (hash_of key) ≡ 0 → slot_from 0 key ms ≡ None
+
+-- the map, where it is not empty, has each key's place
 abbrev pub IsIndex : {V : Type 0} → BTreeMap (String Global) ℕ → List (List ℕ × V) → Type 0
-IsIndex slots ms = 16 < length ms → (key : List ℕ) → get_by_text slots key ≡ slot_from 0 key ms
+IsIndex slots ms = btree_map_len slots ≢ 0 → (key : List ℕ) → get_by_text slots key ≡ slot_from 0 key ms
 
 -- the member at the place has the key: it was there, or was put at the end with no value yet
 abbrev pub Reserves : List (List ℕ × Tree) → List (List ℕ × Tree) → List ℕ → ℕ → Bool → Type 0

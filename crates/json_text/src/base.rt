@@ -1,5 +1,5 @@
 //! Texts and bytes as the crates above keep them: contracts see a list of bytes.
-ghost use Rattle.std.specs.Prelude.{◌≡◌, ℕ, List, [], ◌++◌, length, take, IfOk, IsTrue, ◌↔◌, OnOk, OnErr, min};
+ghost use Rattle.std.specs.Prelude.{◌≡◌, ℕ, List, [], ◌++◌, length, take, IfOk, OnOk, OnErr, min};
 ghost use Rattle.std.specs.Str.{IsUtf8};
 
 use std::alloc::{AllocError, AllocFailed, Global};
@@ -113,6 +113,15 @@ impl Bytes {
         }
     }
 
+    /// No bytes, whose memory would come from where that of these comes.
+    pub fn new_beside(&self) -> Bytes
+        ensures { result ≡ [] }
+    {
+        Bytes {
+            inner: Vec::new(*self.inner.allocator()),
+        }
+    }
+
     pub fn as_slice(&self) -> &[u8]
         ensures { result.now ≡ self.now }
     {
@@ -123,12 +132,6 @@ impl Bytes {
         ensures { result ≡ length self.now }
     {
         self.inner.len()
-    }
-
-    pub fn is_empty(&self) -> bool
-        ensures { IsTrue result ↔ (self.now ≡ []) }
-    {
-        self.inner.is_empty()
     }
 
     /// Puts the bytes at the end.

@@ -3,21 +3,22 @@ ghost use Rattle.std.specs.Prelude.{◌≡◌, ◌<◌, ◌+◌, ℕ, List, [], 
 ghost use Rattle.std.specs.Str.{bytes_eq};
 ghost use Rattle.std.specs.BTreeMap.{get_by_text};
 ghost use Rattle.json_text.specs.View.{pairs_of, tree_of};
-ghost use Rattle.json_text.specs.Objects.{IsIndex, Reserves, slot_from, with_value};
+ghost use Rattle.json_text.specs.Objects.{HasHashes, IsIndex, Reserves, hash_of, slot_from, with_value};
 ghost use Rattle.json_text.specs.Tree.{null};
 
 use super::{Json, Members, NoMemory, Text};
 use std::alloc::Global;
 use std::collections::BTreeMap;
 
-/// The most members whose keys are compared one by one.
-const FEW: usize = 16;
-
-/// Members in the order of their keys' first places, and where each key stands among them once they are more than a few.
+/// Members in the order of their keys' first places, and where each key stands among them. A key whose hash no other had is
+/// new; only where one had it the map is asked, which is made then.
 #[derive(Drop)]
 pub(crate) struct ObjectBuilder {
     pub(crate) members: Members,
+    /// A bit for each hash, set where a key has it.
+    hashes: u128,
     slots: BTreeMap<String, usize>,
+    ghost hashed: { HasHashes hashes members.items },
     ghost indexed: { IsIndex slots members.items },
 }
 
@@ -27,6 +28,7 @@ impl ObjectBuilder {
     {
         ObjectBuilder {
             members: Vec::new(alloc),
+            hashes: 0,
             slots: BTreeMap::new(alloc),
         }
     }
@@ -37,24 +39,33 @@ impl ObjectBuilder {
             (λ r. Reserves (pairs_of self.old.members.items) (pairs_of self.new.members.items) key r.0 r.1) }
         ensures within { IfOk result (λ r. r.0 < length self.new.members.items) }
     {
-        match self.slot_of(key.as_str()) {
+        let hash = hash_of(key.as_str());
+        match self.slot_of(alloc, key.as_str(), hash)? {
             Some(slot) => Ok((slot, true)),
-            None => Ok((self.push(alloc, key)?, false)),
+            None => Ok((self.push(alloc, key, hash)?, false)),
         }
     }
 
-    fn slot_of(&self, key: &str) -> Option<usize>
-        ensures { result ≡ slot_from 0 key.now self.now.members.items }
+    fn slot_of(&mut self, alloc: Global, key: &str, hash: u32) -> Result<Option<usize>, NoMemory>
+        requires hash { hash ≡ hash_of key.now }
+        requires small { hash < 128 }
+        ensures slot { IfOk result (λ slot. slot ≡ slot_from 0 key.now self.old.members.items) }
+        ensures same { self.new.members ≡ self.old.members }
     {
-        if self.members.len() <= FEW {
-            return slot_among(&self.members, key);
+        if self.hashes >> hash & 1 == 0 {
+            return Ok(None);
         }
-        self.slots.get(key).copied()
+        if self.slots.is_empty() {
+            self.slots = index_of(alloc, &self.members)?;
+        }
+        Ok(self.slots.get(key).copied())
     }
 
     /// Puts a member with a new key at the end, with no value yet.
-    fn push(&mut self, alloc: Global, key: Text) -> Result<usize, NoMemory>
-        requires { slot_from 0 key self.old.members.items ≡ None }
+    fn push(&mut self, alloc: Global, key: Text, hash: u32) -> Result<usize, NoMemory>
+        requires hash { hash ≡ hash_of key }
+        requires small { hash < 128 }
+        requires new { slot_from 0 key self.old.members.items ≡ None }
         ensures place { IfOk result (λ slot. slot ≡ length self.old.members.items) }
         ensures pushed { OnOk result (pairs_of self.new.members.items ≡ pairs_of self.old.members.items ++ (key, null) ∷ []) }
         ensures len { OnOk result (length self.new.members.items ≡ length self.old.members.items + 1) }
@@ -62,6 +73,7 @@ impl ObjectBuilder {
         let slot = self.members.len();
         self.members.try_reserve(1)?;
         index_next(alloc, &mut self.slots, &self.members, key.as_str())?;
+        self.hashes |= 1 << hash;
         match self.members.push((key, Json::Null)) {
             Ok(()) => Ok(slot),
             Err(_) => unreachable!(),
@@ -75,27 +87,20 @@ impl ObjectBuilder {
     {
         self.members[slot].1 = value;
     }
-
-    pub(crate) fn into_members(self) -> Members
-        ensures { result ≡ self.members }
-    {
-        let ObjectBuilder { members, slots: _ } = self;
-        members
-    }
 }
 
-fn slot_among(members: &[(Text, Json)], key: &str) -> Option<usize>
-    ensures { result ≡ slot_from 0 key.now members.now }
+fn hash_of(key: &str) -> u32
+    ensures hash { result ≡ hash_of key.now }
+    ensures small { result < 128 }
 {
-    for (n, (name, _)) in members.iter().enumerate() {
-        if key == name.as_str() {
-            return Some(n);
-        }
+    let mut hash = 0;
+    for byte in key.as_bytes() {
+        hash = (hash * 29 + u32::from(*byte)) % 128;
     }
-    None
+    hash
 }
 
-/// Readies the map for a member with a new key behind these.
+/// Readies the map, where it has been made, for a member with a new key behind these.
 fn index_next(
     alloc: Global,
     slots: &mut BTreeMap<String, usize>,
@@ -107,14 +112,10 @@ fn index_next(
     ensures ok { OnOk result ((json : Json) → IsIndex slots.new (members.now ++ (key.now, json) ∷ [])) }
     ensures err { OnErr result (IsIndex slots.new members.now) }
 {
-    let slot = members.len();
-    if slot < FEW {
+    if slots.is_empty() {
         return Ok(());
     }
-    if slot == FEW {
-        *slots = index_of(alloc, members)?;
-    }
-    insert_key(alloc, slots, key, slot)
+    insert_key(alloc, slots, key, members.len())
 }
 
 /// The place of each member's key.

@@ -11,7 +11,7 @@ ghost use Rattle.json_text.specs.Parts.{part_of};
 use super::fault::TokenFault;
 use super::number::{Part, number_len};
 use super::object::ObjectBuilder;
-use super::state::{Kept, KeptObject, Next, Place};
+use super::state::{Kept, KeptObject, Next, Open, Place};
 use super::string::string;
 use super::word::word_len;
 use super::{Items, Json, JsonFault, Text};
@@ -202,7 +202,10 @@ impl Reader {
         ensures levels { self.new.levels ≡ self.old.levels }
     {
         match byte {
-            b'"' => self.key(ObjectBuilder::new(self.alloc), place),
+            b'"' => {
+                let object = Box::new(self.alloc, ObjectBuilder::new(self.alloc))?;
+                self.key(object, place)
+            }
             b'}' => {
                 let next = self.put(Json::Obj(Vec::new(self.alloc)))?;
                 Ok((next, place.behind(1)))
@@ -211,7 +214,7 @@ impl Reader {
         }
     }
 
-    fn next_key<'a>(&mut self, object: ObjectBuilder, byte: u8, place: Place<'a>) -> Gone<'a>
+    fn next_key<'a>(&mut self, object: Open, byte: u8, place: Place<'a>) -> Gone<'a>
         requires first { StartsWith byte place.rest.now }
         requires no_space { is_space byte ≡ false }
         ensures goes { (s : State)
@@ -226,12 +229,12 @@ impl Reader {
     }
 
     /// Takes a member's key, whose quotation mark stands at the place, and its colon.
-    fn key<'a>(&mut self, mut object: ObjectBuilder, place: Place<'a>) -> Gone<'a>
+    fn key<'a>(&mut self, mut object: Open, place: Place<'a>) -> Gone<'a>
         requires { StartsWith 34 place.rest.now }
         ensures goes { (ms : List Member) (outer : List Waiting)
             → KeepsAll (reverse self.old.waiting.items) outer
             → self.old.repeat ≡ first_of (repeat_of outer) (first_repeat_behind [] (fields_of ms))
-            → HoldsMembers object.members.items ms
+            → HoldsMembers object.value.members.items ms
             → Goes self.old.levels (next_key ms outer) place.entry result self.new.waiting.items self.new.repeat }
         ensures levels { self.new.levels ≡ self.old.levels }
     {
@@ -250,7 +253,7 @@ impl Reader {
         Ok((Next::Value, there.behind(1)))
     }
 
-    fn after_member<'a>(&mut self, object: ObjectBuilder, byte: u8, place: Place<'a>) -> Gone<'a>
+    fn after_member<'a>(&mut self, object: Open, byte: u8, place: Place<'a>) -> Gone<'a>
         requires first { StartsWith byte place.rest.now }
         requires no_space { is_space byte ≡ false }
         ensures goes { (s : State)
@@ -261,7 +264,8 @@ impl Reader {
         match byte {
             b',' => Ok((Next::NextKey(object), place.behind(1))),
             b'}' => {
-                let next = self.put(Json::Obj(object.into_members()))?;
+                let ObjectBuilder { members, .. } = Box::into_inner(object);
+                let next = self.put(Json::Obj(members))?;
                 Ok((next, place.behind(1)))
             }
             _ => Err(place.not_json()),

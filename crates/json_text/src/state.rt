@@ -19,12 +19,15 @@ pub(crate) enum Kept {
     Object(KeptObject),
 }
 
+/// An object that is not closed.
+pub(crate) type Open = Box<ObjectBuilder>;
+
 /// An object, and the place of its member whose value comes.
 #[derive(Drop)]
 pub(crate) struct KeptObject {
-    pub(crate) object: ObjectBuilder,
+    pub(crate) object: Open,
     pub(crate) slot: usize,
-    ghost within: { slot < length object.members.items },
+    ghost within: { slot < length object.value.members.items },
 }
 
 /// What comes next.
@@ -34,8 +37,8 @@ pub(crate) enum Next {
     FirstItem,
     AfterItem(Items),
     FirstKey,
-    NextKey(ObjectBuilder),
-    AfterMember(ObjectBuilder),
+    NextKey(Open),
+    AfterMember(Open),
     /// White space alone, behind the text's own value.
     End(Json),
 }

@@ -116,11 +116,7 @@ fn repeated_keys_are_told_at_the_first_of_them(rt: HostRuntime) {
         (b"{\"a\":1,\"a\":2", Answer::NotJson(12)),
         (b"{\"\":1, \"\" :2}", Answer::KeyTwice(7)),
         (b"{\"a\":1,\"A\":2,\"a \":3}", Answer::Value),
-        (
-            b"{\"a\":0,\"b\":0,\"c\":0,\"d\":0,\"e\":0,\"f\":0,\"g\":0,\"h\":0,\"i\":0,\
-            \"j\":0,\"k\":0,\"l\":0,\"m\":0,\"n\":0,\"o\":0,\"p\":0,\"q\":0,\"r\":0,\"q\":0}",
-            Answer::KeyTwice(109),
-        ),
+        (br#"{"ja":1,"af":2,"b":3,"af":4}"#, Answer::KeyTwice(21)), // of one hash
     ];
     for (text, want) in rows {
         let got = answered(&read_once(rt.alloc(), text, 100));
@@ -183,14 +179,9 @@ fn outside_cases_go_as_marked(rt: HostRuntime) {
 #[test]
 fn a_hundred_levels_are_read_and_one_more_is_not(rt: HostRuntime) -> Result<(), Fail> {
     for (levels, want) in [(100usize, Answer::Value), (101, Answer::TooDeep(100))] {
-        let mut text = Bytes::new(rt.alloc());
-        for _ in 0..levels {
-            text.extend(b"[")?;
-        }
-        for _ in 0..levels {
-            text.extend(b"]")?;
-        }
-        let got = answered(&read(rt.alloc(), text.as_slice(), 100));
+        let mut text = vec![in rt.alloc(); b'['; levels]?;
+        text.resize(2 * levels, b']')?;
+        let got = answered(&read(rt.alloc(), &text, 100));
         assert_eq!(rt; got, want, "at {levels}");
     }
     Ok(())
@@ -202,7 +193,6 @@ fn texts_and_bytes_keep_what_they_are_given(rt: HostRuntime) -> Result<(), Fail>
     assert_eq!(rt; text.copy(rt.alloc())?.as_str(), "\u{e9}");
     assert_eq!(rt; Text::new(rt.alloc()).as_str(), "");
     let mut bytes = Bytes::new(rt.alloc());
-    assert!(rt; bytes.is_empty());
     bytes.extend(b"abc")?;
     bytes.truncate(2);
     assert_eq!(rt; bytes.as_slice(), b"ab".as_slice());

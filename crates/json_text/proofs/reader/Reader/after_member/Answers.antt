@@ -22,7 +22,8 @@ pub returns-in_ok-next-in-125-clause-goes : goal.returns-in_ok-next-in-125-claus
 returns-in_ok-next-in-125-clause-goes c s st =
     let n = object_node (fields_of st.0) in (
       put n st.1,
-      c.in_ok-next-in-125.ensures.ok n st.1 (tree_of_object c.into_members.result ∙ ap (λ v. object (members_of (pairs_of v.items))) c.into_members.ensures ∙ ap (λ ms. object (members_of ms)) st.5) st.3 st.4,
+      c.in_ok-next-in-125.ensures.ok n st.1 (tree_of_object c.into_inner-members.result.members
+          ∙ ap (λ o. object (members_of (pairs_of o.members.items))) c.into_inner-members.ensures ∙ ap (λ ms. object (members_of ms)) st.5) st.3 st.4,
       ap (read_at c.args.self.now.levels c.args.place) st.2 ∙ led c.args.self.now.levels (after_member st.0 st.1) (put n st.1) c.args.byte c.args.place c.behind-in-125.result c.requires.first
           (member_closes c.args.self.now.levels c.args.place.at st.0 st.1 c.args.byte c.in-125.is) c.behind-in-125.ensures.at c.behind-in-125.ensures.rest,
       less c.args.byte c.args.place.rest.now c.behind-in-125.result.rest.now c.requires.first c.behind-in-125.ensures.rest,

@@ -10,11 +10,11 @@ use Rattle.json_text.proofs.StepLemmas.{alike, less, first_key_is, first_key_clo
 use Rattle.json_text.proofs.GoesLemmas.{goes_same, led, barred}
 use Rattle.json_text.proofs.reader.Reader.first_key.Goals as goal
 
-pub returns-in-34-clause-goes : goal.returns-in-34-clause-goes
-returns-in-34-clause-goes c outer kept r =
+pub returns-in_ok-object-in-34-clause-goes : goal.returns-in_ok-object-in-34-clause-goes
+returns-in_ok-object-in-34-clause-goes c outer kept r =
     goes_same c.args.self.now.levels (first_key outer) (next_key [] outer) c.args.place c.key.result c.key.new.self.waiting.items c.key.new.self.repeat
     (alike c.args.self.now.levels c.args.place.at (first_key outer) (next_key [] outer) c.args.byte c.args.place.rest.now c.requires.first (first_key_is c.args.self.now.levels c.args.place.at outer c.args.byte c.in-34.is))
-    (c.key.ensures.goes [] outer kept (r ∙ sym (first_of-none (repeat_of outer))) c.new.ensures)
+    (c.key.ensures.goes [] outer kept (r ∙ sym (first_of-none (repeat_of outer))) (ap (λ o. pairs_of o.members.items) c.in_ok-object-in-34.ensures.ok ∙ c.new.ensures))
 
 pub returns-in_ok-next-in-125-clause-goes : goal.returns-in_ok-next-in-125-clause-goes
 returns-in_ok-next-in-125-clause-goes c outer kept r =

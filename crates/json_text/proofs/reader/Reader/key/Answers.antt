@@ -32,6 +32,7 @@ returns-then-not-starts_with-clause-goes c ms outer kept r holds =
 pub returns-clause-goes : goal.returns-clause-goes
 returns-clause-goes c ms outer kept r holds =
     let read = c.in-Ok.ensures.ok in
+    let same = ap (λ o. pairs_of o.members.items) c.deref_mut.ensures.value ∙ holds in
     let place = c.args.place.at in
     let key = c.in-Ok.read.0 in
     let after = colon ms place key outer in
@@ -42,9 +43,9 @@ returns-clause-goes c ms outer kept r holds =
         refl,
         subst (λ ks. KeepsAll (reverse ks) (in_object ms place key ∷ outer)) (sym c.in_ok-push.ensures.items)
             (keeps_more c.args.self.now.waiting.items (kept_object _) outer (in_object ms place key) kept
-            (key_waits (pairs_of c.args.object.members.items) (pairs_of c.reserve.new.self.members.items) key c.in_ok-slot.slot c.in_ok-slot.is_repeated ms c.in_ok-slot.ensures.place holds)),
+            (key_waits (pairs_of c.deref_mut.result.now.members.items) (pairs_of c.reserve.new.self.members.items) key c.in_ok-slot.slot c.in_ok-slot.is_repeated ms c.in_ok-slot.ensures.place same)),
         c.first_repeat_of-self.ensures ∙ ap (λ o. first_of o (if c.in_ok-slot.is_repeated then Some place else None)) r
-            ∙ ap (first_of (first_of (repeat_of outer) (first_repeat_behind [] (fields_of ms)))) (sym (key_repeats (pairs_of c.args.object.members.items) (pairs_of c.reserve.new.self.members.items) key c.in_ok-slot.slot place c.in_ok-slot.is_repeated ms c.in_ok-slot.ensures.place holds))
+            ∙ ap (first_of (first_of (repeat_of outer) (first_repeat_behind [] (fields_of ms)))) (sym (key_repeats (pairs_of c.deref_mut.result.now.members.items) (pairs_of c.reserve.new.self.members.items) key c.in_ok-slot.slot place c.in_ok-slot.is_repeated ms c.in_ok-slot.ensures.place same))
             ∙ first_of-assoc (repeat_of outer) (first_repeat_behind [] (fields_of ms)) (repeat_at (keys_behind [] ms) place key),
       ),
       key_takes c.args.self.now.levels place outer ms c.args.place.rest.now key read.0 c.in-Ok.read.1.at c.in-Ok.read.1.rest.now c.requires read.1 read.2 read.3
