@@ -35,8 +35,8 @@ abbrev pub IsQueueName : List ℕ → Type 0
 IsQueueName name = IsNameOf is_queue_byte 80 name
 
 -- twelve digits
-abbrev pub IsAccount : List ℕ → Type 0
-IsAccount account = (length account ≡ 12) × IsTrue (list_all is_ascii_digit account)
+abbrev pub is_account : List ℕ → Bool
+is_account account = (length account == 12) && list_all is_ascii_digit account
 
 -- the account that owns every bus
 abbrev pub owner : List ℕ

@@ -19,7 +19,7 @@ pub use id::event_id;
 pub use names::{
     DEFAULT_BUS, OWNER, REGION, archive_arn, bus_arn, bus_of, is_account, is_archive_name,
     is_bus_arn, is_bus_name, is_queue_arn, is_queue_name, is_replay_name, is_rule_name,
-    is_target_id, queue_arn, queue_of, replay_arn, rule_arn,
+    is_target_id, queue_arn, queue_behind, queue_of, replay_arn, rule_arn,
 };
 pub use time::{iso, read_time};
 

@@ -96,7 +96,7 @@ pub fn is_bus_name(name: &str) -> bool
 
 /// An account has 12 digits.
 pub fn is_account(account: &str) -> bool
-    ensures { IsTrue result ↔ spec.IsAccount account.now }
+    ensures { result ≡ spec.is_account account.now }
 {
     account.len() == 12 && all_digits(account.as_bytes())
 }
@@ -142,13 +142,22 @@ pub fn bus_of(text: &str) -> Option<&str>
     }
 }
 
+/// What stands where the ARN of a queue has the name. Whether a queue may have the name is not asked.
+pub fn queue_behind(arn: &str) -> Option<&str>
+    ensures { MatchOption result
+        ((queue : List ℕ) → ¬ (arn.now ≡ spec.queue_arn queue))
+        (λ queue. arn.now ≡ spec.queue_arn queue.now) }
+{
+    behind(arn, QUEUE_PREFIX)
+}
+
 /// The queue that the text is the ARN of.
 pub fn queue_of(arn: &str) -> Option<&str>
     ensures { MatchOption result
         ((queue : List ℕ) → ¬ spec.IsQueueArn arn.now queue)
         (λ queue. spec.IsQueueArn arn.now queue.now) }
 {
-    match behind(arn, QUEUE_PREFIX) {
+    match queue_behind(arn) {
         Some(name) => {
             if is_queue_name(name) {
                 Some(name)
@@ -164,7 +173,7 @@ pub fn queue_of(arn: &str) -> Option<&str>
 pub fn is_queue_arn(arn: &str, queue: &str) -> bool
     ensures { result ≡ bytes_eq arn.now (spec.queue_arn queue.now) }
 {
-    match behind(arn, QUEUE_PREFIX) {
+    match queue_behind(arn) {
         Some(name) => name == queue,
         None => false,
     }

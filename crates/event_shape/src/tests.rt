@@ -1,7 +1,7 @@
 use crate::{
     CheckFault, EntryFault, Event, EventEntry, OWNER, REGION, archive_arn, bus_arn, bus_of, check,
     event_id, is_account, is_archive_name, is_bus_arn, is_bus_name, is_queue_arn, is_queue_name,
-    is_replay_name, is_rule_name, is_target_id, iso, queue_arn, queue_of, read_time, replay_arn,
+    is_replay_name, is_rule_name, is_target_id, iso, queue_arn, queue_behind, queue_of, read_time, replay_arn,
     rule_arn, size,
 };
 use json_text::{Json, LAST_MOMENT, Text};
@@ -113,7 +113,10 @@ fn names_arns_and_ids_are_as_they_are_spelled(rt: HostRuntime) -> Result<(), Fai
     let queue = queue_arn(alloc, "q")?;
     assert_eq!(rt; queue.as_str(), "arn:aws:sqs:us-east-1:111122223333:q");
     assert_eq!(rt; queue_of(queue.as_str()), Some("q"));
-    assert_eq!(rt; queue_of("arn:aws:sqs:us-east-1:111122223333:q.r"), None);
+    let dotted = "arn:aws:sqs:us-east-1:111122223333:q.r";
+    assert_eq!(rt; queue_of(dotted), None);
+    assert_eq!(rt; queue_behind(dotted), Some("q.r"));
+    assert_eq!(rt; queue_behind("arn:aws:sqs:us-east-1:111122223334:q"), None);
     let rule = rule_arn(alloc, "default", "r")?;
     assert_eq!(rt;
         rule.as_str(),
