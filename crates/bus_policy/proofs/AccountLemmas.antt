@@ -9,7 +9,8 @@ use Rattle.std.proofs.lemmas.Bool.{cases_Bool, both_ways}
 use Rattle.std.proofs.lemmas.Slice.Eq.{bytes_eq-Decides}
 use Rattle.std.proofs.lemmas.List.{append_cancel_left, append_cancel_right}
 use Rattle.bus_policy.specs.Parts.{root_arn}
-use Rattle.bus_policy.specs.Grammar.{is_account, is_root}
+use Rattle.event_shape.specs.Names.{is_account}
+use Rattle.bus_policy.specs.Grammar.{is_root}
 
 abbrev front : List ℕ
 front = codes "arn:aws:iam::"

@@ -1,19 +1,19 @@
 -- Policies that are changed stay policies: `allowed_first`, `allowed_more`, `without_kept`.
 use Rattle.std.proofs.Common.{◌≡◌, ℕ, Bool, true, false, not, ◌||◌, ◌&&◌, List, [], ◌∷◌, ◌++◌, length, Option, Some, None, codes, refl, ap, ◌∙◌, arith, nat_eq}
-use Rattle.std.specs.Prelude.{unwrap_or, nat_lt}
+use Rattle.std.specs.Prelude.{unwrap_or, nat_lt, IsTrue}
 use Rattle.std.specs.List.{list_any, list_all}
 use Rattle.std.specs.Char.{is_ascii_digit}
 use Rattle.std.specs.Str.{IsUtf8, bytes_eq}
-use Rattle.std.proofs.lemmas.Bool.{cond_both, both_ways, eq-eqb}
+use Rattle.std.proofs.lemmas.Bool.{cond_both, both_ways}
 use Rattle.std.proofs.lemmas.Slice.Eq.{bytes_eq-Decides}
 use Rattle.std.proofs.lemmas.Bool.Decides.{nat_tests}
 use Rattle.std.proofs.lemmas.Str.{IsUtf8-append}
 use Rattle.json_text.specs.Tree.{Tree, Items, no_items, item}
 use Rattle.json_text.specs.Compact.{IsValue, AreItems}
 use Rattle.json_text.proofs.WrittenUtf8.{small_utf8}
-use Rattle.event_shape.specs.Names.{IsAccount, bus_arn}
+use Rattle.event_shape.specs.Names.{is_account, bus_arn}
 use Rattle.bus_policy.specs.Parts.{member_of, statements_of, has_sid, root_arn}
-use Rattle.bus_policy.specs.Grammar.{each_item, is_object, is_account, is_principal, statement_fault, first_fault}
+use Rattle.bus_policy.specs.Grammar.{each_item, is_object, is_principal, statement_fault, first_fault}
 use Rattle.bus_policy.specs.Kept.{default_version, policy_with, IsKept}
 use Rattle.bus_policy.specs.Change.{IsAccountGiven, principal_for, allow_for, with_last, first_policy, with_statement, without_sid, without_statement, some_has_sid}
 use Rattle.bus_policy.proofs.AccountLemmas.{is_root_of}
@@ -78,16 +78,13 @@ first_kept s right o v =
     kept_with default_version (item s no_items) refl (both_true (is_object s) true o refl) (right_first [] s no_items right refl)
     (small_utf8 (codes "2012-10-17") refl) (v, tt)
 
-account_right : (account : List ℕ) → IsAccount account → is_account account ≡ true
-account_right account h = both_true (nat_eq (length account) 12) (list_all is_ascii_digit account) (eq-eqb (length account) 12 h.0) h.1
-
 or_right : (a b : Bool) → b ≡ true → a || b ≡ true
 or_right true b h = refl
 or_right false b h = h
 
 principal_right : (account : Option (List ℕ)) → IsAccountGiven account → is_principal (principal_for account) ≡ true
 principal_right None h = refl
-principal_right (Some account) h = or_right (is_account (root_arn account)) _ (is_root_of (root_arn account) account refl ∙ account_right account h)
+principal_right (Some account) h = or_right (is_account (root_arn account)) _ (is_root_of (root_arn account) account refl ∙ h)
 
 -- the Sids of a list of statements
 sids_in : (sid : List ℕ) (ss : Items) → list_any (has_sid sid) (trees_in ss) ≡ some_has_sid sid ss
@@ -107,10 +104,10 @@ digits_small : (a : List ℕ) → list_all is_ascii_digit a ≡ true → list_al
 digits_small [] h = refl
 digits_small (b ∷ bs) h = let p = parts_true (is_ascii_digit b) (list_all is_ascii_digit bs) h in both_true (nat_lt b 128) (list_all (λ c. nat_lt c 128) bs) (digit_small b p.0) (digits_small bs p.1)
 
-root_utf8 : (account : List ℕ) → IsAccount account → IsUtf8 (root_arn account)
+root_utf8 : (account : List ℕ) → IsTrue (is_account account) → IsUtf8 (root_arn account)
 root_utf8 account h =
     IsUtf8-append (codes "arn:aws:iam::") (account ++ codes ":root") (small_utf8 (codes "arn:aws:iam::") refl)
-    (IsUtf8-append account (codes ":root") (small_utf8 account (digits_small account h.1)) (small_utf8 (codes ":root") refl))
+    (IsUtf8-append account (codes ":root") (small_utf8 account (digits_small account (parts_true (nat_eq (length account) 12) (list_all is_ascii_digit account) h).1)) (small_utf8 (codes ":root") refl))
 
 principal_value : (account : Option (List ℕ)) → IsAccountGiven account → IsValue (principal_for account)
 principal_value None h = small_utf8 (codes "*") refl

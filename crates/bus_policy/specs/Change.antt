@@ -1,7 +1,7 @@
 -- Statements that are added to a policy, and that are removed.
-use Rattle.std.specs.Prelude.{ℕ, ◌+◌, Bool, false, ◌||◌, List, [], ◌∷◌, Option, Some, None, codes, if◌then◌else◌, unwrap_or}
+use Rattle.std.specs.Prelude.{ℕ, ◌+◌, Bool, false, ◌||◌, List, [], ◌∷◌, Option, Some, None, codes, if◌then◌else◌, unwrap_or, IsTrue}
 use Rattle.json_text.specs.Tree.{Tree, text, object, Items, no_items, item, members_of}
-use Rattle.event_shape.specs.Names.{IsAccount, bus_arn}
+use Rattle.event_shape.specs.Names.{is_account, bus_arn}
 use Rattle.bus_policy.specs.Parts.{member_of, statements_of, has_sid, root_arn}
 use Rattle.bus_policy.specs.Kept.{default_version, policy_with}
 
@@ -13,7 +13,7 @@ principal_for (Some account) = object (members_of ((codes "AWS", text (root_arn 
 -- an account that is given is one
 abbrev pub IsAccountGiven : Option (List ℕ) → Type 0
 IsAccountGiven None = Unit {0}
-IsAccountGiven (Some account) = IsAccount account
+IsAccountGiven (Some account) = IsTrue (is_account account)
 
 -- the Allow to put events on the bus
 abbrev pub allow_for : List ℕ → Option (List ℕ) → List ℕ → Tree

@@ -1,9 +1,9 @@
 -- Which JSON values are policies, and the first fault of any other.
-use Rattle.std.specs.Prelude.{◌≡◌, ℕ, ◌+◌, Bool, true, false, not, ◌&&◌, ◌||◌, ◌==◌, List, [], ◌∷◌, ◌++◌, length, take, drop, find, Option, Some, None, codes, if◌then◌else◌}
-use Rattle.std.specs.List.{list_any, list_all}
-use Rattle.std.specs.Char.{is_ascii_digit}
+use Rattle.std.specs.Prelude.{◌≡◌, ℕ, ◌+◌, Bool, true, false, not, ◌&&◌, ◌||◌, List, [], ◌∷◌, ◌++◌, length, take, drop, find, Option, Some, None, codes, if◌then◌else◌}
+use Rattle.std.specs.List.{list_any}
 use Rattle.std.specs.Str.{bytes_eq}
 use Rattle.json_text.specs.Tree.{Tree, null, truth, number, text, list, object, Items, no_items, item, Members, no_members, member}
+use Rattle.event_shape.specs.Names.{is_account}
 use Rattle.bus_policy.specs.declared.fault.PolicyCause.{PolicyCause}
 use Rattle.bus_policy.specs.declared.fault.PolicyCause.TheVariants.{TooLong, NotJson, TooDeep, KeyTwice, NotObject, BadVersion, BadSid, BadEffect, BadPrincipal, BadAction, BadResource, BadCondition, UnknownMember}
 use Rattle.bus_policy.specs.Parts.{member_of, statements_of, text_passes, has_sid, root_arn}
@@ -69,10 +69,6 @@ is_new_sid earlier sid = not (list_any (has_sid sid) earlier)
 
 abbrev pub is_effect : List ℕ → Bool
 is_effect effect = bytes_eq effect (codes "Allow") || bytes_eq effect (codes "Deny")
-
--- twelve digits
-abbrev pub is_account : List ℕ → Bool
-is_account word = (length word == 12) && list_all is_ascii_digit word
 
 -- the root's ARN of the twelve digits that stand behind its front
 abbrev pub is_root : List ℕ → Bool

@@ -5,7 +5,7 @@ use Rattle.std.specs.Str.{bytes_eq}
 use Rattle.json_text.specs.Tree.{Tree, null, truth, number, text, list, object, Items, no_items, item, Members, no_members, member}
 use Rattle.leaf_match.specs.Piece.{Fits}
 use Rattle.leaf_match.specs.Like.{like_pieces}
-use Rattle.event_shape.specs.Names.{IsAccount, owner, bus_arn}
+use Rattle.event_shape.specs.Names.{is_account, owner, bus_arn}
 use Rattle.bus_policy.specs.Parts.{member_of, has_effect, root_arn, statements_of}
 
 -- who asks to put which event on which bus, each by its text; the bus is its name
@@ -49,7 +49,7 @@ HasText P (Some t) = SomeText P t
 
 -- an account by its twelve digits or by its root's ARN; `*` names everyone
 abbrev pub Names : List ℕ → List ℕ → Type 0
-Names account word = (word ≡ codes "*") ⊎ (IsAccount account × ((word ≡ account) ⊎ (word ≡ root_arn account)))
+Names account word = (word ≡ codes "*") ⊎ (IsTrue (is_account account) × ((word ≡ account) ⊎ (word ≡ root_arn account)))
 
 -- the Principal is `"*"`, or names the account in its member `AWS`
 abbrev pub IsPrincipal : List ℕ → Option Tree → Type 0

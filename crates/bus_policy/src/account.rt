@@ -15,20 +15,14 @@ const ROOT_END: &str = ":root";
 pub(crate) fn is_principal_word(word: &str) -> bool
     ensures { result ≡ spec.is_principal_word word.now }
 {
-    word == EVERYONE || is_account_word(word) || is_root(word)
-}
-
-fn is_account_word(word: &str) -> bool
-    ensures { result ≡ spec.is_account word.now }
-{
-    is_account(word)
+    word == EVERYONE || is_account(word) || is_root(word)
 }
 
 fn is_root(word: &str) -> bool
     ensures { result ≡ spec.is_root word.now }
 {
     match account_of_root(word) {
-        Some(account) => is_account_word(account),
+        Some(account) => is_account(account),
         None => false,
     }
 }
