@@ -13,7 +13,7 @@ use crate::bus::Bus;
 use crate::control::{Control, ControlFault, Target};
 use crate::rows::{Place, find, inserted, place_of, replaced, row_at};
 use crate::rule::RulePattern;
-use event_shape::{DEFAULT_BUS, is_target_id};
+use event_shape::{DEFAULT_BUS, is_target_id, queue_behind};
 use json_text::{NoMemory, Text};
 use std::alloc::Global;
 use std::marker::Model;
@@ -21,9 +21,6 @@ use std::sync::Arc;
 
 /// How many queues there can be.
 const MOST_QUEUES: usize = 1000;
-
-/// What the ARN of a queue begins with.
-const QUEUE_PREFIX: &str = "arn:aws:sqs:us-east-1:111122223333:";
 
 /// Buses with their rules, and queues. A change makes a new one, which shares with the old one what does not change.
 #[derive(Debug, Drop)]
@@ -256,7 +253,7 @@ impl RuleSet {
     fn is_queue_there(&self, arn: &str) -> bool
         ensures { IsTrue result ↔ spec.IsQueueThere self.now arn.now }
     {
-        match arn.strip_prefix(QUEUE_PREFIX) {
+        match queue_behind(arn) {
             Some(queue) => self.queue(queue),
             None => false,
         }
