@@ -11,7 +11,7 @@ use Rattle.json_text.proofs.ValueLemmas.{text_within}
 use Rattle.event_shape.specs.declared.entry.EntryFault.{EntryFault}
 use Rattle.event_shape.specs.declared.entry.EntryFault.TheVariants.{Source, DetailType, Detail, Time, Bus, Malformed, NotAuthorized}
 use Rattle.event_shape.specs.Names.{default_bus}
-use Rattle.event_shape.specs.Time.{IsIso}
+use Rattle.event_time.specs.Time.{IsIso}
 use Rattle.event_shape.specs.Entry.{Entry}
 use Rattle.event_shape.specs.Fault.{IsDetail, IsObject, HasFault, LacksText, IsReserved}
 use Rattle.event_shape.specs.Event.{Event, Checked, event_tree, IsEventText, IsEventAt}

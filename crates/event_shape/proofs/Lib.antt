@@ -1,7 +1,6 @@
 pub mod Found
 pub mod NameLemmas
 pub mod NumberLemmas
-pub mod ClockLemmas
 pub mod EntryLemmas
 pub mod CheckLemmas
 pub mod MakeLemmas

@@ -3,7 +3,8 @@ use Rattle.std.proofs.Common.{◌≡◌, ℕ, ◌<◌, ◌^◌, List, Option, So
 use Rattle.std.specs.Str.{IsUtf8}
 use Rattle.json_text.specs.Moment.{IsMoment}
 use Rattle.json_text.specs.Tree.{Tree, null, truth, number, text, list, object}
-use Rattle.event_shape.specs.Time.{IsTime, IsIso}
+use Rattle.event_time.specs.Time.{IsIso}
+use Rattle.event_shape.specs.Time.{IsTime}
 use Rattle.event_shape.specs.Event.{Checked, IsTimeOf, IsChecked, IsMade, IsEventAt}
 
 time_is_moment : (tree : Tree) (n : ℕ) → IsTime tree n → IsMoment n

@@ -11,7 +11,7 @@ use Rattle.std.proofs.lemmas.List.{append_cancel_left}
 use Rattle.json_text.specs.Moment.{IsMoment}
 use Rattle.json_text.specs.Number.{AreDigits, IsDigits}
 use Rattle.event_shape.specs.Time.{IsTimeNumber}
-use Rattle.event_shape.specs.Clock.{HasWhole, BeginsPlainly}
+use Rattle.event_shape.specs.Whole.{HasWhole, BeginsPlainly}
 
 own : IsNumeralModel (AllDigits 10) (digits_value 10)
 own = numerals_by_value (AllDigits 10) tells_digits

@@ -1,25 +1,22 @@
 -- The tree of an event is a JSON value: `event_value`.
-use Rattle.std.proofs.Common.{◌≡◌, ◌≢◌, ℕ, suc, ◌+◌, ◌/◌, ◌%◌, ◌<◌, Bool, true, false, not, if◌then◌else◌, ◌&&◌, ◌==◌, nat_lt, List, [], ◌∷◌, ◌++◌, Option, Some, None, All, map, refl, sym, subst, arith, codes}
+use Rattle.std.proofs.Common.{◌≡◌, ◌≢◌, ℕ, suc, ◌+◌, ◌<◌, Bool, true, false, not, if◌then◌else◌, ◌&&◌, ◌==◌, nat_lt, List, [], ◌∷◌, ◌++◌, Option, Some, None, All, map, refl, sym, subst, arith, codes}
 use Rattle.std.specs.List.{list_all}
 use Rattle.std.specs.Str.{IsUtf8, bytes_eq}
 use Rattle.std.specs.Int.{w128, to_be_bytes}
 use Rattle.std.proofs.lemmas.Bool.{and_parts, false≢true}
 use Rattle.std.proofs.lemmas.Bool.Decides.{nat_tests}
-use Rattle.std.proofs.lemmas.Str.{IsUtf8-append, IsUtf8-from_ascii}
+use Rattle.std.proofs.lemmas.Str.{IsUtf8-from_ascii}
 use Rattle.uuid.specs.Text.{hex_digit, nibble, lower, is_hyphen_place, digit_place}
 use Rattle.uuid.proofs.TextLemmas.{by_index_ascii, nibble_small}
-use Rattle.jiff_fmt.specs.Text.{pad2}
 use Rattle.json_text.specs.Tree.{Tree, text, items_of, members_of}
 use Rattle.json_text.specs.Compact.{LacksKey, IsValue, AreItems, AreMembers}
 use Rattle.json_text.proofs.ValueLemmas.{text_is_value}
-use Rattle.json_text.proofs.WrittenUtf8.{ascii_cons, small_utf8, fraction_utf8}
-use Rattle.event_shape.specs.declared.time.Digits.{Digits}
+use Rattle.json_text.proofs.WrittenUtf8.{small_utf8}
 use Rattle.event_shape.specs.Names.{region}
-use Rattle.event_shape.specs.Time.{IsIso}
+use Rattle.event_time.specs.Time.{IsIso}
 use Rattle.event_shape.specs.Id.{event_id, id_base}
-use Rattle.event_shape.specs.Clock.{AreSmall, IsTail, digits_text}
 use Rattle.event_shape.specs.Event.{Event, Checked, IsChecked, IsEventAt, event_members, event_tree, replay_member, IsReplayText}
-use Rattle.event_shape.proofs.ClockLemmas.{text_shows, iso_is_time}
+use Rattle.event_time.proofs.Utf8Lemmas.{iso_utf8}
 
 abbrev AreValues : List (List ℕ × Tree) → Type 0
 AreValues [] = Unit {0}
@@ -72,26 +69,6 @@ id_utf8 n =
     let xs = to_be_bytes w128 (id_base + n) in
     IsUtf8-from_ascii (event_id n) (by_index_ascii 36 (λ k. if is_hyphen_place k then 45 else hex_digit lower (nibble xs (digit_place k)))
     (λ k below. by_test (is_hyphen_place k) (hex_digit lower (nibble xs (digit_place k))) (hex_small (nibble xs (digit_place k)) (nibble_small xs (digit_place k)))))
-
-pad2_utf8 : (n : ℕ) (rest : List ℕ) → n < 100 → IsUtf8 rest → IsUtf8 (pad2 n ++ rest)
-pad2_utf8 n rest h u = ascii_cons (48 + n / 10) _ (omega arith) (ascii_cons (48 + n % 10) rest (omega arith) u)
-
-marked_utf8 : (mark n : ℕ) (rest : List ℕ) → mark < 128 → n < 100 → IsUtf8 rest → IsUtf8 (mark ∷ (pad2 n ++ rest))
-marked_utf8 mark n rest h k u = ascii_cons mark _ h (pad2_utf8 n rest k u)
-
-digits_utf8 : (d : Digits) (rest : List ℕ) → AreSmall d → IsUtf8 rest → IsUtf8 (digits_text d rest)
-digits_utf8 d rest s u =
-    pad2_utf8 (d.year / 100) _ (omega (arith, s.year)) (pad2_utf8 (d.year % 100) _ (omega arith)
-    (marked_utf8 45 d.month _ (omega arith) s.month (marked_utf8 45 d.day _ (omega arith) s.day
-    (marked_utf8 84 d.hour _ (omega arith) s.hour (marked_utf8 58 d.minute _ (omega arith) s.minute (marked_utf8 58 d.second rest (omega arith) s.second u))))))
-
-tail_utf8 : (rest : List ℕ) → IsTail rest → IsUtf8 rest
-tail_utf8 rest tail = subst IsUtf8 (sym tail.2) (IsUtf8-append tail.0 (codes "Z") (fraction_utf8 tail.0 tail.1) (small_utf8 (codes "Z") refl))
-
-pub iso_utf8 : (m : ℕ) (t : List ℕ) → IsIso m t → IsUtf8 t
-iso_utf8 m t is =
-    let s = text_shows t m (iso_is_time t m is) in
-    subst IsUtf8 (sym s.2.written) (digits_utf8 s.0 s.1 s.2.small (tail_utf8 s.1 s.3))
 
 pub detail_value : (c : Checked) → IsChecked c → IsValue c.detail
 detail_value c is =

@@ -9,7 +9,8 @@ use Rattle.json_text.specs.Tree.{Tree, text, list, object, items_of, members_of}
 use Rattle.json_text.specs.Compact.{compact_text}
 use Rattle.event_shape.specs.declared.entry.EntryFault.{EntryFault}
 use Rattle.event_shape.specs.Names.{default_bus, region, IsBusGiven}
-use Rattle.event_shape.specs.Time.{IsIso, IsTime}
+use Rattle.event_time.specs.Time.{IsIso}
+use Rattle.event_shape.specs.Time.{IsTime}
 use Rattle.event_shape.specs.Id.{event_id}
 use Rattle.event_shape.specs.Entry.{Entry}
 use Rattle.event_shape.specs.Fault.{HasFault, IsDetail}

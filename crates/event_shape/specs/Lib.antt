@@ -1,6 +1,6 @@
 pub mod Names
 pub mod Time
-pub mod Clock
+pub mod Whole
 pub mod Id
 pub mod Entry
 pub mod Fault

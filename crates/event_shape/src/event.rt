@@ -5,7 +5,7 @@ ghost use Rattle.std.specs.Str.{IsUtf8};
 ghost use Rattle.json_text.specs.Moment.{IsMoment};
 ghost use Rattle.json_text.specs.View.{tree_of, pairs_of};
 ghost use Rattle.json_text.specs.Compact.{compact_text, IsValue};
-ghost use Rattle.event_shape.specs.Time.{IsIso};
+ghost use Rattle.event_time.specs.Time.{IsIso};
 ghost use Rattle.event_shape.specs.Event.{IsEventText};
 
 use crate::checking::Checked;

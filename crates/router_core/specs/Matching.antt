@@ -6,7 +6,7 @@ use Rattle.event_shape.specs.Names.{owner, rule_arn}
 use Rattle.event_shape.specs.Entry.{Entry, size_of}
 use Rattle.event_shape.specs.declared.entry.EntryFault.{EntryFault}
 use Rattle.event_shape.specs.Fault.{HasFault}
-use Rattle.event_shape.specs.Time.{IsIso}
+use Rattle.event_time.specs.Time.{IsIso}
 use Rattle.event_shape.specs.Event.{Event, Checked, IsCheckedOf, IsMade, IsEvent, event_tree}
 use Rattle.pattern_meaning.specs.Pattern.{Pattern}
 use Rattle.pattern_meaning.specs.Holds.{PatternHolds}

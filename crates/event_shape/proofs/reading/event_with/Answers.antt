@@ -2,8 +2,8 @@ use Rattle.std.proofs.Common.{◌≡◌, ◌∙◌, Some, sym, subst}
 use Rattle.std.specs.Str.{IsUtf8}
 use Rattle.std.proofs.lemmas.Bool.{false≢true}
 use Rattle.json_text.specs.View.{tree_of}
-use Rattle.event_shape.specs.Time.{IsTimeText, IsIso}
-use Rattle.event_shape.proofs.ClockLemmas.{iso_is_time, iso_once}
+use Rattle.event_time.specs.Time.{IsTimeText, IsIso}
+use Rattle.event_time.proofs.ClockLemmas.{iso_is_time, iso_once}
 use Rattle.event_shape.proofs.HasParts.{event_of_parts, parts_of_event}
 use Rattle.event_shape.proofs.OnceLemmas.{event_from}
 use Rattle.event_shape.proofs.PartLemmas.{may_stand_so, made_so}

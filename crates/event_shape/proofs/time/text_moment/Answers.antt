@@ -1,17 +1,22 @@
-use Rattle.std.proofs.Common.{refl, None}
+use Rattle.std.proofs.Common.{◌≡◌, ◌∙◌, refl, sym, None, arith}
 use Rattle.event_shape.proofs.Found.{not_found}
-use Rattle.event_shape.proofs.ClockLemmas.{shows_text, text_shows, writes_once, digits_moved}
 use Rattle.event_shape.proofs.time.text_moment.Goals as goal
 
-pub returns-else-not-is_tail : goal.returns-else-not-is_tail
-returns-else-not-is_tail c = λ n.
-    let digits = c.in-Some.digits in (
-      λ e. let p = (c.moment_of.ensures n).0 e in (p.0, shows_text c.args.text.now digits c.in-Some.rest.now n c.in-Some.ensures (c.if-not-is_tail.ensures.0 refl) p.1),
-      λ p. let s = text_shows c.args.text.now n p.1 in
-          let once = writes_once c.args.text.now digits s.0 c.in-Some.rest.now s.1 c.in-Some.ensures s.2 in
-          (c.moment_of.ensures n).1 (p.0, (s.4.0, s.4.1, digits_moved s.4.0 digits s.0 once.0 s.4.2)),
-    )
+pub returns-then-second-le-LAST_MOMENT : goal.returns-then-second-le-LAST_MOMENT
+returns-then-second-le-LAST_MOMENT c = λ n. (
+  λ e. let same : c.in-Some.second ≡ n = cc in (omega (arith, same), (c.text_moment.ensures n).0 (c.in-Some.is ∙ e)),
+  λ p. sym c.in-Some.is ∙ (c.text_moment.ensures n).1 p.1,
+)
+
+pub returns-else-second-le-LAST_MOMENT : goal.returns-else-second-le-LAST_MOMENT
+returns-else-second-le-LAST_MOMENT c =
+    not_found None refl (λ n p.
+    let found = sym c.in-Some.is ∙ (c.text_moment.ensures n).1 p.1 in
+    let same : c.in-Some.second ≡ n = cc in
+    omega (arith, same, p.0))
 
 pub returns-in-None : goal.returns-in-None
-returns-in-None c = not_found None refl (λ n p.
-    let s = text_shows c.args.text.now n p.1 in c.in-None.ensures s.0 s.1 s.2)
+returns-in-None c =
+    not_found None refl (λ n p.
+    let found = sym c.in-None.is ∙ (c.text_moment.ensures n).1 p.1 in
+    cc)

@@ -1,5 +1,5 @@
 use Rattle.std.proofs.Common.{subst, sym, ap}
-use Rattle.event_shape.specs.Time.{IsIso}
+use Rattle.event_time.specs.Time.{IsIso}
 use Rattle.event_shape.proofs.event.Event.moment.Goals as goal
 
 pub returns-clause-shown : goal.returns-clause-shown

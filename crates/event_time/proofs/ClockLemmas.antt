@@ -11,11 +11,9 @@ use Rattle.jiff_core.proofs.CalendarLemmas.{days_in_month_bounds}
 use Rattle.jiff_core.proofs.DateLemmas.{epoch_day-lt, epoch_day_injective}
 use Rattle.jiff.specs.Words.{iso_datetime_text}
 use Rattle.jiff_fmt.specs.Text.{pad2, pad4}
-use Rattle.event_shape.specs.declared.time.Digits.{Digits}
-use Rattle.json_text.specs.Moment.{IsMoment}
-use Rattle.json_text.specs.Tree.{text}
-use Rattle.event_shape.specs.Time.{Shows, IsTimeText, IsIso, IsTime}
-use Rattle.event_shape.specs.Clock.{AreSmall, Writes, IsTail, HasDigits, ShowsDigits, digits_text}
+use Rattle.event_time.specs.declared.time.Digits.{Digits}
+use Rattle.event_time.specs.Time.{Shows, IsTimeText, IsIso}
+use Rattle.event_time.specs.Clock.{AreSmall, Writes, IsTail, HasDigits, ShowsDigits, digits_text}
 
 pub pad2_cut : (n m : ℕ) (xs ys : List ℕ) → n < 100 → m < 100 → pad2 n ++ xs ≡ pad2 m ++ ys → (n ≡ m) × (xs ≡ ys)
 pad2_cut n m xs ys a b e =
@@ -133,10 +131,10 @@ iso_once n t u p q =
     let texts : iso_datetime_text p.0 ≡ iso_datetime_text q.0 = rw (date.0, date.1, date.2, time.0, time.1, time.2, time.3) refl in
     p.2 ∙ ap (λ x. x ++ codes "Z") texts ∙ sym q.2
 
-pub iso_inverse : (t : List ℕ) (m : ℕ) → IsMoment m → IsIso m t → (n : ℕ) → IsTime (text t) n ↔ (n ≡ m)
-iso_inverse t m is_moment is n = (
-  λ p. time_once t n m p.1 (iso_is_time t m is),
-  λ e. (subst IsMoment (sym e) is_moment, subst (IsTimeText t) (sym e) (iso_is_time t m is)),
+pub iso_inverse : (t : List ℕ) (m : ℕ) → IsIso m t → (n : ℕ) → IsTimeText t n ↔ (n ≡ m)
+iso_inverse t m is n = (
+  λ p. time_once t n m p (iso_is_time t m is),
+  λ e. subst (IsTimeText t) (sym e) (iso_is_time t m is),
 )
 
 -- the clock of a moment

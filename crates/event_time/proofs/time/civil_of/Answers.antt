@@ -1,8 +1,8 @@
 use Rattle.std.proofs.Common.{arith}
 use Rattle.std.proofs.lemmas.Int.{ints}
 use Rattle.jiff_core.proofs.SignedLemmas.{signed_arith}
-use Rattle.event_shape.proofs.ClockLemmas.{clock_shows}
-use Rattle.event_shape.proofs.time.civil_of.Goals as goal
+use Rattle.event_time.proofs.ClockLemmas.{clock_shows}
+use Rattle.event_time.proofs.time.civil_of.Goals as goal
 
 pub returns : goal.returns
 returns c =

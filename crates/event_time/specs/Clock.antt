@@ -1,20 +1,9 @@
 -- What the reader of a time sees on its way. No public clause names these.
-use Rattle.std.specs.Prelude.{◌≡◌, ◌<◌, ◌≤◌, ℕ, pos, List, ◌∷◌, ◌++◌, codes, decimal, length, slice_index}
+use Rattle.std.specs.Prelude.{◌≡◌, ◌<◌, ℕ, pos, List, ◌∷◌, ◌++◌, codes}
 use Rattle.jiff_core.specs.declared.civil.datetime.DateTime.{DateTime}
 use Rattle.jiff_fmt.specs.Text.{pad2, pad4}
-use Rattle.json_text.specs.Number.{IsFraction}
-use Rattle.event_shape.specs.declared.time.Digits.{Digits}
-use Rattle.event_shape.specs.Time.{Shows}
-
--- the spelling is a whole part and a fraction at choice
-abbrev pub HasWhole : List ℕ → ℕ → Type 0
-HasWhole spelling n = (fraction : List ℕ) × IsFraction fraction × (spelling ≡ decimal n ++ fraction)
-
--- a decimal digit comes first, and `0` only where nothing follows
-abbrev pub BeginsPlainly : List ℕ → Type 0
-BeginsPlainly digits =
-    (0 < length digits) × (48 ≤ slice_index digits 0) × (slice_index digits 0 ≤ 57)
-    × (slice_index digits 0 ≡ 48 → length digits ≡ 1)
+use Rattle.event_time.specs.declared.time.Digits.{Digits}
+use Rattle.event_time.specs.Time.{Shows, IsTimeSecfrac}
 
 -- `YYYY-MM-DDTHH:MM:SS`
 abbrev pub digits_text : Digits → List ℕ → List ℕ
@@ -37,7 +26,7 @@ pub record Writes (t : List ℕ) (d : Digits) (rest : List ℕ) : Type 0 where
 
 -- a fraction at choice and `Z`
 abbrev pub IsTail : List ℕ → Type 0
-IsTail rest = (fraction : List ℕ) × IsFraction fraction × (rest ≡ fraction ++ codes "Z")
+IsTail rest = (fraction : List ℕ) × IsTimeSecfrac fraction × (rest ≡ fraction ++ codes "Z")
 
 -- the date and the clock have these digits
 pub record HasDigits (civil : DateTime) (d : Digits) : Type 0 where

@@ -1,0 +1,3 @@
+pub mod Found
+pub mod ClockLemmas
+pub mod Utf8Lemmas

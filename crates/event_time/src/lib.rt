@@ -1,0 +1,9 @@
+//! A second since 1970 has one text; a text shows one second or none.
+#![tactic(auto)]
+
+mod time;
+
+pub use time::{iso, text_moment};
+
+#[cfg(test)]
+mod tests;
