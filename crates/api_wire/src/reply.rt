@@ -1,7 +1,5 @@
 //! Replies to bytes.
 ghost use Rattle.std.specs.Prelude.{◌≡◌, ◌≤◌, ◌++◌, true, length, take, IfOk, OnOk, OnErr};
-ghost use Rattle.json_text.specs.View.{tree_of};
-ghost use Rattle.json_text.specs.Compact.{compact_text};
 ghost use Rattle.router_core.specs.Reply.{no_memory, bad_head};
 ghost use Rattle.router_core.specs.Seen.{reply_of};
 ghost use Rattle.api_wire.specs.Written.{IsServedStatus, reply_text};
@@ -33,22 +31,11 @@ fn push_reply(reply: &Reply, close: bool, out: &mut Bytes) -> Result<(), NoMemor
     ensures ok { OnOk result (out.new ≡ out.old ++ reply_text (reply_of reply.now) close) }
     ensures kept { take (length out.old) out.new ≡ out.old }
 {
-    let len = text_len(&reply.body, out)?;
-    push_head(reply.status, len, close, out)?;
-    write(&reply.body, out)?;
+    let mut body = out.new_beside();
+    write(&reply.body, &mut body)?;
+    push_head(reply.status, body.len(), close, out)?;
+    out.extend(body.as_slice())?;
     Ok(())
-}
-
-/// How many bytes the value's text has. It is written at the end, and taken away again.
-fn text_len(json: &Json, out: &mut Bytes) -> Result<usize, NoMemory>
-    ensures len { IfOk result (λ n. n ≡ length (compact_text (tree_of json.now))) }
-    ensures same { out.new ≡ out.old }
-{
-    let before = out.len();
-    write(json, out)?;
-    let len = out.len() - before;
-    out.truncate(before);
-    Ok(len)
 }
 
 /// What stands before a body of `len` bytes.
