@@ -1,5 +1,5 @@
 -- Turns lead from tables to tables. Callers cite `exchanges_lead` and `run_leads`.
-use Rattle.std.proofs.Common.{◌≡◌, ℕ, ◌+◌, ◌<◌, ◌⊎◌, inl, inr, Bool, true, false, cond, List, [], ◌∷◌, ◌++◌, map, Option, Some, None, sym, refl, ap, ◌∙◌, subst, append-nil, arith, rules}
+use Rattle.std.proofs.Common.{◌≡◌, ℕ, ◌+◌, Bool, true, false, cond, List, [], ◌∷◌, ◌++◌, Option, Some, None, sym, refl, ap, ◌∙◌, subst, arith, rules}
 use Rattle.std.proofs.lemmas.Bool.Decides.{nat_tests}
 use Rattle.std.specs.Prelude.{◌==◌, All, Contains, filter, find, not}
 use Rattle.std.proofs.lemmas.List.Elements.{All-nil, All-cons, All-head, All-tail, All-append}
@@ -7,7 +7,7 @@ use Rattle.delivery_duties.specs.declared.duty.NewDuty.{NewDuty}
 use Rattle.delivery_duties.specs.declared.duty.DutyRow.{DutyRow}
 use Rattle.delivery_duties.specs.declared.fate.Outcome.{Outcome}
 use Rattle.delivery_duties.specs.declared.fate.Outcome.TheVariants.{Accepted, TooOld}
-use Rattle.delivery_duties.specs.Duties.{Duties, Mailbox, added, added_one, begun as begun_row, marked, marked_row, claimed, unclaimed, settled, taken_of, IsNext}
+use Rattle.delivery_duties.specs.Duties.{Duties, Mailbox, added, added_one, begun as begun_row, marked, marked_row, claimed, settled, taken_of, IsNext}
 use Rattle.rule_table.specs.Control.{Control, rule_put, targets_put, queue_made}
 use Rattle.router_core.specs.Request.{Request}
 use Rattle.router_core.specs.Reply.{Counts, Reply}
@@ -15,8 +15,8 @@ use Rattle.router_core.specs.Batch.{Entry, control, accepted, attempt, Batch}
 use Rattle.router_core.specs.Tables.{Tables, first_tables, opened_by, after_entry, after_entries, after_batch, tables_after, is_full}
 use Rattle.router_core.specs.Steps.{EndsSo, record_of, claiming, giving_back}
 use Rattle.router_calls.specs.Answer.{Answer, IsAnswer, moment_at}
-use Rattle.bus_server.specs.History.{Turn, State, asked, claims, records, puts_back, IsTurnOf, closed_claims, after_turn, after_written, IsLegal, state_after, with_written, batches_of, begun, NoneClaimed, Leads}
-use Rattle.bus_server.specs.Exchange.{Exchange, moment_of, IsStep, AreSteps, Stop, done, limited, IsStop, IsDelivery, IsExchange, unknown, unbuilt, answered, delivered, out_of_memory, IsWithoutTurn, AreExchanges, turns_of}
+use Rattle.bus_server.specs.History.{Turn, State, asked, claims, records, puts_back, closed_claims, after_turn, after_written, IsLegal, state_after, with_written, batches_of, begun, NoneClaimed, Leads}
+use Rattle.bus_server.specs.Exchange.{Exchange, moment_of, AreSteps, Stop, done, limited, IsStop, IsExchange, unknown, unbuilt, answered, delivered, out_of_memory, IsWithoutTurn, AreExchanges, turns_of}
 
 -- lists of turns, one behind the other
 
