@@ -1,9 +1,10 @@
 -- The words of the program.
-use Rattle.std.specs.Prelude.{◌≡◌, ℕ, ◌≤◌, List, [], ◌∷◌, Option, Some, None, codes, decimal}
+use Rattle.std.specs.Prelude.{◌≡◌, ℕ, List, [], ◌∷◌, Option, Some, None, codes, decimal}
+use Rattle.json_text.specs.Moment.{IsMoment}
 
 -- a number of seconds that is in range, in plain digits
 abbrev pub IsMomentWord : List ℕ → ℕ → Type 0
-IsMomentWord word moment = (moment ≤ 250000000000) × (word ≡ decimal moment)
+IsMomentWord word moment = IsMoment moment × (word ≡ decimal moment)
 
 -- `once`, or `once --now S`, behind the program's name; with S where it is given
 abbrev pub IsLine : List (List ℕ) → Option ℕ → Type 0
