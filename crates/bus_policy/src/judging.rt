@@ -1,5 +1,5 @@
 //! From a policy's text to the verdict.
-ghost use Rattle.std.specs.Prelude.{◌≡◌, IfOk, IfErr, MatchResult};
+ghost use Rattle.std.specs.Prelude.{◌≡◌, ◌<◌, length, IfOk, IfErr, MatchResult};
 ghost use Rattle.std.specs.Option.{option_copied};
 ghost use Rattle.json_text.specs.Tree.{Tree};
 ghost use Rattle.bus_policy.specs.Fault.{IsFirstFault};
@@ -9,7 +9,7 @@ ghost use Rattle.bus_policy.specs.Verdict.{IsVerdict, IsBusVerdict};
 
 use crate::asker::Asker;
 use crate::deciding::verdict;
-use crate::fault::PolicyFault;
+use crate::fault::{PolicyCause, PolicyFault};
 use crate::policy::Policy;
 use crate::verdict::Verdict;
 use json_text::{NoMemory, Text};
@@ -41,6 +41,7 @@ pub fn judge(alloc: Global, text: &[u8], asker: &Asker) -> Result<Judgement, Pol
     ensures only { (value : Tree) → SpellsPolicy text.now value → MatchResult result
         (λ j. IsVerdict value (asker_of asker.now) (judgement_of j)) (λ e. e ≡ PolicyFault.NoMemory) }
     ensures fault { IfErr result (IsFirstFault text.now) }
+    ensures too_long { 10240 < length text.now → result ≡ Err (PolicyFault.Bad PolicyCause.TooLong 0) }
 {
     match Policy::read(alloc, text) {
         Ok(policy) => Ok(owned(alloc, policy.decide(asker))?),
