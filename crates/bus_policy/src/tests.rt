@@ -34,11 +34,20 @@ const DENIES: &str =
 const NOTHING: &str =
     r#"{"Statement":[{"Effect":"Deny","Principal":"*","Action":"events:PutRule","Resource":"*"},{"Effect":"Deny","Principal":"*","Action":"events:Put*","Resource":"*"},{"Effect":"Deny","Principal":"*","Action":"*","Resource":"arn:aws:events:us-east-1:111122223333:event-bus/*"},{"Effect":"Deny","Principal":"*","Action":["events:putevents","sqs:SendMessage"],"Resource":"*"},{"Effect":"Deny","Principal":"*","Action":"*","Resource":["arn:aws:events:us-east-1:444455556666:event-bus/default","arn:aws:events:eu-west-1:111122223333:event-bus/default"]},{"Effect":"Deny","Principal":"*","Action":"*","Resource":[]},{"Effect":"Deny","Principal":"*","Action":[],"Resource":"*"},{"Effect":"Deny","Principal":{"AWS":[]},"Action":"*","Resource":"*"},{"Effect":"Deny","Principal":"*","Action":"*","Resource":"*","Condition":{"StringEquals":{"events:source":[]}}},{"Effect":"Allow","Principal":"*","Action":"events:PutEvents","Resource":"*","Condition":{"StringEquals":{}}}]}"#;
 
+/// As the public guide writes policies: a root's ARN, a list of accounts, everyone in both forms, another service's action,
+/// another account's bus, and both operators.
+const GUIDE: &str =
+    r#"{"Version":"2012-10-17","Statement":[{"Sid":"AllowAccount","Effect":"Allow","Principal":{"AWS":"arn:aws:iam::444455556666:root"},"Action":"events:PutEvents","Resource":"arn:aws:events:us-east-1:111122223333:event-bus/orders"},{"Sid":"AllowAccountsTheirSources","Effect":"Allow","Principal":{"AWS":["777788889999","arn:aws:iam::333344445555:root"]},"Action":["events:PutRule","events:PutEvents"],"Resource":["arn:aws:events:us-east-1:111122223333:event-bus/orders","arn:aws:events:us-east-1:111122223333:event-bus/audit"],"Condition":{"StringEquals":{"events:source":["com.example.orders","com.example.billing"]}}},{"Sid":"AllowEveryoneOrders","Effect":"Allow","Principal":"*","Action":"events:PutEvents","Resource":"arn:aws:events:us-east-1:111122223333:event-bus/public","Condition":{"StringLike":{"events:detail-type":"Order *"}}},{"Sid":"AllowQueues","Effect":"Allow","Principal":{"AWS":"*"},"Action":"sqs:SendMessage","Resource":"*"},{"Sid":"AllowAnotherBus","Effect":"Allow","Principal":{"AWS":"*"},"Action":"events:PutEvents","Resource":"arn:aws:events:us-east-1:444455556666:event-bus/default"},{"Sid":"DenyTests","Effect":"Deny","Principal":{"AWS":"*"},"Action":["events:PutEvents","events:PutRule"],"Resource":["arn:aws:events:us-east-1:111122223333:event-bus/orders","arn:aws:events:us-east-1:111122223333:event-bus/public"],"Condition":{"StringLike":{"events:source":"test.*"}}}]}"#;
+
 const OWNER: &str = "111122223333";
 
 const FOUR: &str = "444455556666";
 
 const SEVEN: &str = "777788889999";
+
+const THREE: &str = "333344445555";
+
+const FIVE: &str = "555566667777";
 
 /// Who asks, by account, bus, source and detail type, and what is told, by the policy of the table's name.
 type Row = ([&'static str; 4], &'static str);
@@ -69,7 +78,7 @@ const OF_LISTS: [Row; 8] = [
     ([SEVEN, "b", "s", "x"], "allowed"),
     ([FOUR, "c", "s", "x"], "no allow"),
     ([FOUR, "A", "s", "x"], "no allow"),
-    (["555566667777", "a", "s", "x"], "no allow"),
+    ([FIVE, "a", "s", "x"], "no allow"),
     (
         ["arn:aws:iam::444455556666:root", "a", "s", "x"],
         "no allow",
@@ -110,6 +119,44 @@ const OF_DENIES: [Row; 2] = [
 const OF_NOTHING: [Row; 2] = [
     ([OWNER, "default", "s", "x"], "allowed"),
     ([FOUR, "default", "s", "x"], "allowed"),
+];
+
+const OF_GUIDE: [Row; 20] = [
+    ([FOUR, "orders", "com.example.orders", "Paid"], "allowed"),
+    (
+        [FOUR, "orders", "test.orders", "Paid"],
+        "denied by DenyTests",
+    ),
+    ([FOUR, "audit", "com.example.orders", "Paid"], "no allow"),
+    ([FOUR, "default", "com.example.orders", "Paid"], "no allow"),
+    ([SEVEN, "orders", "com.example.billing", "Paid"], "allowed"),
+    ([SEVEN, "audit", "com.example.shipping", "Paid"], "no allow"),
+    ([SEVEN, "audit", "Com.example.orders", "Paid"], "no allow"),
+    ([SEVEN, "audit", "test.orders", "Paid"], "no allow"),
+    ([THREE, "audit", "com.example.orders", "Paid"], "allowed"),
+    ([THREE, "public", "com.example.orders", "Paid"], "no allow"),
+    (
+        [THREE, "public", "com.example.orders", "Order Paid"],
+        "allowed",
+    ),
+    ([FIVE, "public", "a", "Order Placed"], "allowed"),
+    ([FIVE, "public", "a", "Order "], "allowed"),
+    ([FIVE, "public", "a", "Orders Placed"], "no allow"),
+    (
+        [FIVE, "public", "test.a", "Order Placed"],
+        "denied by DenyTests",
+    ),
+    (
+        [FIVE, "orders", "com.example.orders", "Order Placed"],
+        "no allow",
+    ),
+    ([FIVE, "default", "a", "Order Placed"], "no allow"),
+    ([OWNER, "default", "com.example.orders", "Paid"], "allowed"),
+    ([OWNER, "audit", "test.orders", "Paid"], "allowed"),
+    (
+        [OWNER, "orders", "test.orders", "Paid"],
+        "denied by DenyTests",
+    ),
 ];
 
 /// The rest of a statement without a Sid, behind its first member.
@@ -445,6 +492,17 @@ fn the_first_deny_is_told(rt: HostRuntime) -> Result<(), Fail> {
 fn what_is_not_known_applies_to_nothing(rt: HostRuntime) -> Result<(), Fail> {
     for (parts, want) in OF_NOTHING {
         let got = told(rt.alloc(), NOTHING, &asker(parts))?;
+        assert!(rt; got.as_str() == want, "{got} for {parts:?}");
+    }
+    Ok(())
+}
+
+#[test]
+fn a_policy_of_the_guides_form_is_judged_by_all_its_statements(
+    rt: HostRuntime,
+) -> Result<(), Fail> {
+    for (parts, want) in OF_GUIDE {
+        let got = told(rt.alloc(), GUIDE, &asker(parts))?;
         assert!(rt; got.as_str() == want, "{got} for {parts:?}");
     }
     Ok(())
