@@ -1,5 +1,5 @@
 -- Duties whose claim is out: which steps keep them so (`still_out_`), and that a new claim was not out.
-use Rattle.std.proofs.Common.{◌≡◌, ◌≢◌, ℕ, ◌+◌, ◌≤◌, ◌==◌, Bool, true, false, not, cond, List, [], ◌∷◌, ◌++◌, Some, None, map, refl, sym, subst, inl, inr, arith}
+use Rattle.std.proofs.Common.{◌≡◌, ◌≢◌, ℕ, ◌+◌, ◌≤◌, ◌==◌, Bool, true, false, not, cond, List, [], ◌∷◌, ◌++◌, Some, None, refl, sym, subst, inl, inr, arith}
 use Rattle.std.specs.Prelude.{Any, Contains, Option, filter, IfSome, IfNone}
 use Rattle.std.proofs.lemmas.List.Elements.{All-contains, Contains-append_cases}
 use Rattle.std.proofs.lemmas.Bool.Decides.{nat_tests}
@@ -10,25 +10,14 @@ use Rattle.delivery_duties.specs.Duties.{Duties, IsOut, marked, marked_row, begu
 use Rattle.delivery_duties.specs.Cuts.{IsFirstFree}
 use Rattle.delivery_duties.specs.Sound.{ComesBefore, IsOrdered}
 use Rattle.delivery_duties.proofs.RowLemmas.{ordered_split}
-use Rattle.delivery_duties.proofs.SoundLemmas.{any_here, any_there, any_cases, any_left, marked_kept}
+use Rattle.delivery_duties.specs.declared.fate.Fate.TheVariants.{Dropped}
+use Rattle.delivery_duties.proofs.AnyLemmas.{any_left, any_map, any_filter}
+use Rattle.delivery_duties.proofs.SoundLemmas.{marked_kept}
 use Rattle.delivery_duties.proofs.StepLemmas.{contains_cases}
 
 -- the row has the number, and is claimed
 abbrev pub Out : ℕ → DutyRow → Type 0
 Out n row = (row.number ≡ n) × (row.claimed ≡ true)
-
-any_map : {X : Type 0} (P : X → Type 0) (f : X → X) → ((x : X) → P x → P (f x)) → (xs : List X) → Any P xs → Any P (map f xs)
-any_map P f step [] h = h
-any_map P f step (x ∷ xs) h =
-    elim (any_cases P x xs h) [ inl p ↦ any_here P (f x) (map f xs) (step x p) | inr r ↦ any_there P (f x) (map f xs) (any_map P f step xs r) ]
-
-any_filter : {X : Type 0} (P : X → Type 0) (p : X → Bool) → ((x : X) → P x → p x ≡ true) → (xs : List X) → Any P xs → Any P (filter p xs)
-any_filter P p passes [] h = h
-any_filter P p passes (x ∷ xs) h =
-    elim (any_cases P x xs h) [
-      | inl q ↦ let e : p x ≡ true = passes x q in rw e (any_here P x (filter p xs) q)
-      | inr r ↦ let rest = any_filter P p passes xs r in elim (p x) as (λ b. Any P (cond b (x ∷ filter p xs) (filter p xs))) [ true ↦ any_there P x (filter p xs) rest | false ↦ rest ]
-    ]
 
 pub still_out_claimed : (number : ℕ) (rows : List DutyRow) (n : ℕ) → Any (Out n) rows → Any (Out n) (marked true number rows)
 still_out_claimed number rows n h = any_map (Out n) (marked_row true number) (λ row o. marked_kept (Out n) true number row o (o.0, refl)) rows h
@@ -53,7 +42,7 @@ still_out_settled number rows n ne h =
 
 still_out_one : (duty : NewDuty) (moment : ℕ) (s : Duties) (n : ℕ) → IsOut n s → IsOut n (added_one duty moment s)
 still_out_one duty moment s n h =
-    elim duty.too_long as (λ b. IsOut n (cond b (record s { created = s.created + 1; dropped = s.dropped + 1; latest = moment }) (record s {
+    elim duty.too_long as (λ b. IsOut n (cond b (record s { created = s.created + 1; ended = s.ended ++ record { number = s.created + 1; fate = Dropped } ∷ []; dropped = s.dropped + 1; latest = moment }) (record s {
       created = s.created + 1;
       pending = s.pending ++ begun (s.created + 1) moment duty ∷ [];
       latest = moment;

@@ -1,36 +1,22 @@
 -- Each step keeps what is true of all duties that are kept: the `sound_` lemmas.
 use Rattle.std.proofs.Common.{◌≡◌, ℕ, ◌+◌, ◌<◌, ◌≤◌, ◌^◌, ◌==◌, Bool, true, false, not, cond, List, [], ◌∷◌, ◌++◌, Some, None, length, refl, sym, ap, ◌∙◌, subst, inl, inr, arith, length-append}
-use Rattle.std.specs.Prelude.{All, Any, Option, filter, find, ◌⊎◌, zero, suc, IfSome, IfNone}
+use Rattle.std.specs.Prelude.{All, Any, Option, filter, find, IfSome, IfNone}
 use Rattle.std.specs.Str.{bytes_eq}
-use Rattle.std.proofs.lemmas.List.{get_or_append_left, length-map}
+use Rattle.std.proofs.lemmas.List.{length-map}
 use Rattle.std.proofs.lemmas.List.Elements.{All-nil, All-cons, All-head, All-tail, All-push, All-weaker, All-filter, All-map}
 use Rattle.std.proofs.lemmas.Bool.Decides.{nat_tests}
 use Rattle.event_shape.specs.Names.{queue_arn}
 use Rattle.delivery_duties.specs.declared.duty.NewDuty.{NewDuty}
 use Rattle.delivery_duties.specs.declared.duty.DutyRow.{DutyRow}
 use Rattle.delivery_duties.specs.declared.claim.Claim.{Claim}
-use Rattle.delivery_duties.specs.Duties.{Duties, Mailbox, HasMailbox, marked, marked_row, begun, with_next, taken_in}
+use Rattle.delivery_duties.specs.Duties.{Duties, Mailbox, HasMailbox, IsPending, marked, marked_row, begun, with_next, taken_in}
 use Rattle.delivery_duties.specs.Mailboxes.{empty_mailbox}
 use Rattle.delivery_duties.specs.Sound.{ComesBefore, IsOrdered, IsWithin, IsKept, IsSound}
+use Rattle.delivery_duties.specs.declared.fate.SettledDuty.{SettledDuty}
+use Rattle.delivery_duties.specs.declared.fate.Fate.TheVariants.{Delivered, Dropped}
 use Rattle.delivery_duties.proofs.RowLemmas.{All-middle, ordered_push, without_at}
-
-pub any_here : {X : Type 0} (P : X → Type 0) (x : X) (xs : List X) → P x → Any P (x ∷ xs)
-any_here P x xs p = (0, x, omega arith, refl, p)
-
-pub any_there : {X : Type 0} (P : X → Type 0) (x : X) (xs : List X) → Any P xs → Any P (x ∷ xs)
-any_there P x xs (k, y, l, e, p) = (suc k, y, omega arith, e, p)
-
-pub any_behind : {X : Type 0} (P : X → Type 0) (front : List X) (x : X) (xs : List X) → P x → Any P (front ++ x ∷ xs)
-any_behind P [] x xs p = any_here P x xs p
-any_behind P (y ∷ ys) x xs p = any_there P y (ys ++ x ∷ xs) (any_behind P ys x xs p)
-
-pub any_cases : {X : Type 0} (P : X → Type 0) (x : X) (xs : List X) → Any P (x ∷ xs) → P x ⊎ Any P xs
-any_cases P x xs (zero, y, l, e, p) = inl (subst P (sym e) p)
-any_cases P x xs (suc k, y, l, e, p) = inr (k, y, omega arith, e, p)
-
-pub any_left : {X : Type 0} (P : X → Type 0) (xs ys : List X) → Any P xs → Any P (xs ++ ys)
-any_left P xs ys (k, x, l, e, p) =
-    (k, x, omega (arith, length-append xs ys), get_or_append_left xs ys x k l ∙ e, p)
+use Rattle.delivery_duties.proofs.AnyLemmas.{any_here, any_there, any_cases, any_left, any_behind}
+use Rattle.delivery_duties.proofs.EndLemmas.{accounted_marked, accounted_begun, accounted_too_long, accounted_delivered, accounted_dropped, ended_length}
 
 -- a queue is made
 pub sound_opened : {s : Duties} (queue : List ℕ) (mailboxes : List Mailbox) → IsSound s → mailboxes ≡ s.mailboxes ++ empty_mailbox queue ∷ [] →
@@ -43,6 +29,7 @@ sound_opened {s} queue mailboxes h e =
       ordered = h.ordered;
       kept = All-weaker P Q (λ r k. (k.0, k.1, any_left (λ m. r.duty.endpoint ≡ queue_arn m.queue) s.mailboxes (empty_mailbox queue ∷ []) k.2)) s.pending h.kept;
       within = All-push (IsWithin s.delivered) s.mailboxes (empty_mailbox queue) h.within (omega arith, omega arith);
+      accounted = h.accounted;
       one_state = h.one_state;
       room = h.room;
     } in
@@ -73,24 +60,33 @@ sound_marked {s} mark number pending h e =
       ordered = ordered_marked mark number s.pending h.ordered;
       kept = All-map P f s.pending (All-weaker P (λ r. P (f r)) (λ r k. marked_kept P mark number r k k) s.pending h.kept);
       within = h.within;
+      accounted = accounted_marked mark number h.accounted;
       one_state = h.one_state ∙ ap (λ n. n + s.delivered + s.dropped) (sym (length-map s.pending f));
       room = h.room;
     } in
     subst F (sym e) changed
 
+-- the numbers of pending duties were given
+numbers_given : {s : Duties} → IsSound s → All (λ row. row.number ≤ s.created) s.pending
+numbers_given {s} h = All-weaker (IsKept s.created s.latest s.mailboxes) (λ row. row.number ≤ s.created) (λ row k. k.0) s.pending h.kept
+
 -- a duty whose text is too long is made
-pub sound_too_long : {s : Duties} (moment : ℕ) → IsSound s → s.latest ≤ moment → s.created + 1 < 2 ^ 63 →
-    IsSound (record s { created = s.created + 1; dropped = s.dropped + 1; latest = moment })
-sound_too_long {s} moment h later room =
+pub sound_too_long : {s : Duties} (moment : ℕ) (ended : List SettledDuty) → IsSound s → s.latest ≤ moment → s.created + 1 < 2 ^ 63 →
+    ended ≡ s.ended ++ record { number = s.created + 1; fate = Dropped } ∷ [] →
+    IsSound (record s { created = s.created + 1; ended = ended; dropped = s.dropped + 1; latest = moment })
+sound_too_long {s} moment ended h later room e =
     let P : DutyRow → Type 0 = IsKept s.created s.latest s.mailboxes in
     let Q : DutyRow → Type 0 = IsKept (s.created + 1) moment s.mailboxes in
-    record {
+    let F : List SettledDuty → Type 0 = λ ds. IsSound (record s { created = s.created + 1; ended = ds; dropped = s.dropped + 1; latest = moment }) in
+    let made : F (s.ended ++ record { number = s.created + 1; fate = Dropped } ∷ []) = record {
       ordered = h.ordered;
       kept = All-weaker P Q (λ r k. (omega (arith, k.0), omega (arith, k.1), k.2)) s.pending h.kept;
       within = h.within;
+      accounted = accounted_too_long h.accounted (numbers_given h);
       one_state = omega (arith, h.one_state);
       room = room;
-    }
+    } in
+    subst F (sym e) made
 
 -- another duty is made
 pub sound_begun : {s : Duties} (duty : NewDuty) (moment : ℕ) (pending : List DutyRow) → IsSound s → s.latest ≤ moment → s.created + 1 < 2 ^ 63 → HasMailbox duty.endpoint s.mailboxes →
@@ -104,6 +100,7 @@ sound_begun {s} duty moment pending h later room there e =
       ordered = ordered_push s.pending row h.ordered (All-weaker P (λ o. ComesBefore o row) (λ r k. (omega (arith, k.0), omega (arith, k.1))) s.pending h.kept);
       kept = All-push Q s.pending row (All-weaker P Q (λ r k. (omega (arith, k.0), omega (arith, k.1), k.2)) s.pending h.kept) (omega arith, omega arith, there);
       within = h.within;
+      accounted = accounted_begun moment duty h.accounted;
       one_state = omega (arith, h.one_state, length-append s.pending (row ∷ []));
       room = room;
     } in
@@ -152,6 +149,15 @@ within_taken delivered endpoint body (m ∷ ms) h =
 same_number : (n m : ℕ) → (n == m) ≡ true → n ≡ m
 same_number n m h = grind (arith, nat_tests)
 
+-- what is found has the number
+pub found_named : (number : ℕ) (rows : List DutyRow) (owed : DutyRow) → find (λ row. row.number == number) rows ≡ Some owed → owed.number ≡ number
+found_named number rows owed f = same_number owed.number number (found_split (λ (row : DutyRow). row.number == number) rows owed f).3
+
+found_pending : (number : ℕ) (rows : List DutyRow) (owed : DutyRow) → find (λ row. row.number == number) rows ≡ Some owed → IsPending number rows
+found_pending number rows owed f =
+    let k = found_split (λ (row : DutyRow). row.number == number) rows owed f in
+    subst (IsPending number) (sym k.2) (any_behind (λ (row : DutyRow). row.number ≡ number) k.0 owed k.1 (same_number owed.number number k.3))
+
 -- one fewer is pending
 pub length_without : (number : ℕ) (rows : List DutyRow) (owed : DutyRow) → IsOrdered rows → find (λ row. row.number == number) rows ≡ Some owed →
     length (filter (λ row. not (row.number == number)) rows) + 1 ≡ length rows
@@ -164,40 +170,47 @@ length_without number rows owed o f =
     subst F (sym k.2) (omega (arith, ap (length {A = DutyRow}) w, length-append k.0 k.1, length-append k.0 (owed ∷ k.1)))
 
 -- a duty is dropped
-pub sound_dropped : {s : Duties} (number : ℕ) (owed : DutyRow) (pending : List DutyRow) → IsSound s → find (λ row. row.number == number) s.pending ≡ Some owed →
-    pending ≡ filter (λ row. not (row.number == number)) s.pending → IsSound (record s { pending = pending; dropped = s.dropped + 1 })
-sound_dropped {s} number owed pending h f e =
+pub sound_dropped : {s : Duties} (number : ℕ) (owed : DutyRow) (pending : List DutyRow) (ended : List SettledDuty) → IsSound s →
+    find (λ row. row.number == number) s.pending ≡ Some owed → pending ≡ filter (λ row. not (row.number == number)) s.pending →
+    ended ≡ s.ended ++ record { number = number; fate = Dropped } ∷ [] →
+    IsSound (record s { pending = pending; ended = ended; dropped = s.dropped + 1 })
+sound_dropped {s} number owed pending ended h f e kept =
     let p : DutyRow → Bool = λ row. not (row.number == number) in
-    let F : List DutyRow → Type 0 = λ rows. IsSound (record s { pending = rows; dropped = s.dropped + 1 }) in
-    let left : F (filter p s.pending) = record {
+    let F : List DutyRow → Type 0 = λ rows. IsSound (record s { pending = rows; ended = ended; dropped = s.dropped + 1 }) in
+    let E : List SettledDuty → Type 0 = λ ds. IsSound (record s { pending = filter p s.pending; ended = ds; dropped = s.dropped + 1 }) in
+    let left : E (s.ended ++ record { number = number; fate = Dropped } ∷ []) = record {
       ordered = ordered_filter p s.pending h.ordered;
       kept = All-filter p (IsKept s.created s.latest s.mailboxes) s.pending h.kept;
       within = h.within;
+      accounted = accounted_dropped number h.accounted (numbers_given h) (found_pending number s.pending owed f);
       one_state = omega (arith, h.one_state, length_without number s.pending owed h.ordered f);
       room = h.room;
     } in
-    subst F (sym e) left
+    subst F (sym e) (subst E (sym kept) left)
 
 -- a duty is delivered
-pub sound_delivered : {s : Duties} (number : ℕ) (owed : DutyRow) (pending : List DutyRow) (mailboxes : List Mailbox) → IsSound s →
+pub sound_delivered : {s : Duties} (number : ℕ) (owed : DutyRow) (pending : List DutyRow) (mailboxes : List Mailbox) (ended : List SettledDuty) → IsSound s →
     find (λ row. row.number == number) s.pending ≡ Some owed → pending ≡ filter (λ row. not (row.number == number)) s.pending →
-    mailboxes ≡ taken_in owed.duty.endpoint owed.duty.text s.mailboxes →
-    IsSound (record s { pending = pending; mailboxes = mailboxes; delivered = s.delivered + 1 })
-sound_delivered {s} number owed pending mailboxes h f e t =
+    mailboxes ≡ taken_in owed.duty.endpoint owed.duty.text s.mailboxes → ended ≡ s.ended ++ record { number = number; fate = Delivered } ∷ [] →
+    IsSound (record s { pending = pending; ended = ended; mailboxes = mailboxes; delivered = s.delivered + 1 })
+sound_delivered {s} number owed pending mailboxes ended h f e t kept =
     let p : DutyRow → Bool = λ row. not (row.number == number) in
     let P : DutyRow → Type 0 = IsKept s.created s.latest s.mailboxes in
     let taken : List Mailbox = taken_in owed.duty.endpoint owed.duty.text s.mailboxes in
     let Q : DutyRow → Type 0 = IsKept s.created s.latest taken in
-    let F : List DutyRow → Type 0 = λ rows. IsSound (record s { pending = rows; mailboxes = taken; delivered = s.delivered + 1 }) in
-    let G : List Mailbox → Type 0 = λ ms. IsSound (record s { pending = pending; mailboxes = ms; delivered = s.delivered + 1 }) in
-    let left : F (filter p s.pending) = record {
+    let F : List DutyRow → Type 0 = λ rows. IsSound (record s { pending = rows; ended = ended; mailboxes = taken; delivered = s.delivered + 1 }) in
+    let G : List Mailbox → Type 0 = λ ms. IsSound (record s { pending = pending; ended = ended; mailboxes = ms; delivered = s.delivered + 1 }) in
+    let E : List SettledDuty → Type 0 =
+    λ ds. IsSound (record s { pending = filter p s.pending; ended = ds; mailboxes = taken; delivered = s.delivered + 1 }) in
+    let left : E (s.ended ++ record { number = number; fate = Delivered } ∷ []) = record {
       ordered = ordered_filter p s.pending h.ordered;
       kept = All-filter p Q s.pending (All-weaker P Q (λ r k. (k.0, k.1, has_mailbox_taken owed.duty.endpoint owed.duty.text r.duty.endpoint s.mailboxes k.2)) s.pending h.kept);
       within = within_taken s.delivered owed.duty.endpoint owed.duty.text s.mailboxes h.within;
+      accounted = accounted_delivered number h.accounted (numbers_given h) (found_pending number s.pending owed f);
       one_state = omega (arith, h.one_state, length_without number s.pending owed h.ordered f);
       room = h.room;
     } in
-    subst G (sym t) (subst F (sym e) left)
+    subst G (sym t) (subst F (sym e) (subst E (sym kept) left))
 
 -- a duty that is pending is kept
 pub kept_found : {s : Duties} (number : ℕ) (owed : DutyRow) → IsSound s → find (λ row. row.number == number) s.pending ≡ Some owed → IsKept s.created s.latest s.mailboxes owed
@@ -205,6 +218,15 @@ kept_found {s} number owed h f =
     let k = found_split (λ (row : DutyRow). row.number == number) s.pending owed f in
     let P : DutyRow → Type 0 = IsKept s.created s.latest s.mailboxes in
     All-middle P k.0 owed k.1 (subst (All P) k.2 h.kept)
+
+-- there is room for what is kept of one more
+pub ended_room : {s : Duties} (number : ℕ) (owed : DutyRow) (kept : List SettledDuty) → IsSound s → find (λ row. row.number == number) s.pending ≡ Some owed → length kept ≡ 1 →
+    length s.ended + length kept < 2 ^ 63
+ended_room {s} number owed kept h f one =
+    omega (arith, h.one_state, h.room, one, ended_length h.accounted, length_without number s.pending owed h.ordered f)
+
+pub ended_room_too : {s : Duties} (kept : List SettledDuty) → IsSound s → s.created + 1 < 2 ^ 63 → length kept ≡ 1 → length s.ended + length kept < 2 ^ 63
+ended_room_too {s} kept h room one = omega (arith, h.one_state, room, one, ended_length h.accounted)
 
 -- a claim is made, or none
 pub sound_claimed : {s : Duties} (r : Option Claim) (pending : List DutyRow) → IsSound s → IfSome r (λ c. pending ≡ marked true c.number s.pending) → IfNone r (pending ≡ s.pending) →

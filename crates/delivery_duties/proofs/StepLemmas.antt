@@ -1,6 +1,6 @@
 -- What the public calls say of the duties that were and that are.
 use Rattle.std.proofs.Common.{◌≡◌, ℕ, ◌+◌, ◌<◌, ◌≤◌, ◌^◌, ◌==◌, Bool, true, false, not, cond, List, [], ◌∷◌, ◌++◌, Some, None, length, take, drop, map, refl, sym, ap, ◌∙◌, subst, inl, inr, arith}
-use Rattle.std.specs.Prelude.{All, Any, Contains, Option, filter, find, ◌⊎◌, zero, suc, codes, IsTrue, ◌↔◌, is_some, option_map, IfSome, IfNone}
+use Rattle.std.specs.Prelude.{All, Any, Contains, Option, filter, find, ◌⊎◌, zero, suc, codes, IsTrue, ◌↔◌, is_some, option_map, IfSome, IfNone, MatchOption}
 use Rattle.std.specs.Str.{bytes_eq}
 use Rattle.std.proofs.lemmas.List.{length-map, append_cancel_left}
 use Rattle.std.proofs.lemmas.List.Elements.{All-nil, All-cons, All-head, All-tail, All-contains, Contains-append_right, Contains-append_cases}
@@ -10,12 +10,16 @@ use Rattle.delivery_duties.specs.declared.claim.Claim.{Claim}
 use Rattle.delivery_duties.specs.declared.duty.NewDuty.{NewDuty}
 use Rattle.delivery_duties.specs.declared.duty.DutyRow.{DutyRow}
 use Rattle.delivery_duties.specs.declared.fate.Outcome.{Outcome}
-use Rattle.delivery_duties.specs.declared.fate.Outcome.TheVariants.{Accepted}
-use Rattle.delivery_duties.specs.Duties.{Duties, Mailbox, HasMailbox, IsNoLater, IsNext, NoneDue, IsOut, has_queue, messages_of, marked, claimed, settled, begun, added, added_one, with_next, taken_in, taken_of}
+use Rattle.delivery_duties.specs.declared.fate.Outcome.TheVariants.{Accepted, TooOld}
+use Rattle.delivery_duties.specs.Duties.{Duties, Mailbox, HasMailbox, IsNoLater, IsNext, NoneDue, IsOut, IsInOneState, has_queue, messages_of, marked, claimed, settled, begun, added, added_one, with_next, taken_in, taken_of}
 use Rattle.delivery_duties.specs.Cuts.{IsFirstFree}
 use Rattle.delivery_duties.specs.Sound.{ComesBefore, IsOrdered, IsSound}
 use Rattle.delivery_duties.proofs.RowLemmas.{marked_at, ordered_split}
-use Rattle.delivery_duties.proofs.SoundLemmas.{any_here, any_there, any_cases, any_behind}
+use Rattle.delivery_duties.specs.declared.fate.SettledDuty.{SettledDuty}
+use Rattle.delivery_duties.specs.declared.fate.Fate.TheVariants.{Delivered, Dropped}
+use Rattle.delivery_duties.specs.declared.fate.Fate.{Fate}
+use Rattle.delivery_duties.proofs.AnyLemmas.{any_here, any_there, any_cases, any_behind}
+use Rattle.delivery_duties.proofs.SoundLemmas.{found_named}
 
 -- ---- queues by name
 
@@ -159,17 +163,58 @@ none_due {s} v moment None pending e h n u =
     let at_s : F s = (none, ap (λ rows. record s { pending = rows }) u) in
     subst F e at_s
 
+-- ---- numbers
+
+-- numbers rise, so each is that of one row
+ordered_once : (rows : List DutyRow) → IsOrdered rows → (row other : DutyRow) → Contains rows row → Contains rows other → other.number ≡ row.number → other ≡ row
+ordered_once [] o row other (k, l, e) t same = absurd (omega arith)
+ordered_once (x ∷ xs) o row other s t same =
+    elim (contains_cases x xs row s) [
+      | inl a ↦ elim (contains_cases x xs other t) [
+        | inl b ↦ sym b ∙ a
+        | inr b ↦ let c : ComesBefore x other = All-contains (ComesBefore x) xs other o.0 b in absurd (omega (arith, c.0, same, ap (λ (r : DutyRow). r.number) a))
+      ]
+      | inr a ↦ elim (contains_cases x xs other t) [
+        | inl b ↦ let c : ComesBefore x row = All-contains (ComesBefore x) xs row o.0 a in absurd (omega (arith, c.0, same, ap (λ (r : DutyRow). r.number) b))
+        | inr b ↦ ordered_once xs o.1 row other a b same
+      ]
+    ]
+
+pub only_row : {X : Type 0} {s : Duties} (v : Duties) (now : X → DutyRow) (number : ℕ) (r : Option X) → s ≡ v → IsSound s →
+    MatchOption r ((row : DutyRow) → Contains v.pending row → row.number ≡ number → ⊥) (λ x. Contains v.pending (now x) × ((now x).number ≡ number)) →
+    IfSome r (λ x. (other : DutyRow) → Contains v.pending other → other.number ≡ number → other ≡ now x)
+only_row v now number None e h f = tt
+only_row v now number (Some x) e h f = λ other t same.
+    let O : Duties → Type 0 = λ v. IsOrdered v.pending in
+    ordered_once v.pending (subst O e h.ordered) (now x) other f.0 t (same ∙ sym f.1)
+
+pub in_one_state : {s : Duties} (v : Duties) → s ≡ v → IsSound s → (n : ℕ) → 1 ≤ n → n ≤ v.created → IsInOneState n v
+in_one_state {s} v e h =
+    let F : Duties → Type 0 = λ v. (n : ℕ) → 1 ≤ n → n ≤ v.created → IsInOneState n v in
+    let at_s : F s = λ n l m. elim (h.accounted.each n l m) [
+      | inl p ↦ inl (p, λ d. h.accounted.apart n p d)
+      | inr d ↦ inr (λ p. h.accounted.apart n p d, (d.1, (d.0, d.2, d.3), d.4, λ other t q. h.accounted.once d.1 other (d.0, d.2, d.3) t (q ∙ sym d.4)))
+    ] in
+    subst F e at_s
+
 -- ---- fates
 
-pub settled_accepted : {s : Duties} (v : Duties) (number : ℕ) (outcome : Outcome) (owed : DutyRow) (pending : List DutyRow) (mailboxes : List Mailbox) → s ≡ v → outcome ≡ Accepted →
+pub settled_accepted : {s : Duties} (v : Duties) (number : ℕ) (outcome : Outcome) (owed : DutyRow) (pending : List DutyRow) (mailboxes : List Mailbox) (ended : List SettledDuty) → s ≡ v → outcome ≡ Accepted →
     find (λ row. row.number == number) s.pending ≡ Some owed → pending ≡ filter (λ row. not (row.number == number)) s.pending →
-    mailboxes ≡ taken_in owed.duty.endpoint owed.duty.text s.mailboxes →
-    record s { pending = pending; mailboxes = mailboxes; delivered = s.delivered + 1 } ≡ settled number outcome v
-settled_accepted {s} v number outcome owed pending mailboxes e o f p t =
-    let F : Duties → Type 0 = λ v. record s { pending = pending; mailboxes = mailboxes; delivered = s.delivered + 1 } ≡ settled number Accepted v in
+    mailboxes ≡ taken_in owed.duty.endpoint owed.duty.text s.mailboxes → ended ≡ s.ended ++ record { number = number; fate = Delivered } ∷ [] →
+    record s { pending = pending; ended = ended; mailboxes = mailboxes; delivered = s.delivered + 1 } ≡ settled number outcome v
+settled_accepted {s} v number outcome owed pending mailboxes ended e o f p t k =
+    let F : Duties → Type 0 =
+    λ v. record s { pending = pending; ended = ended; mailboxes = mailboxes; delivered = s.delivered + 1 } ≡ settled number Accepted v in
     let at_s : F s =
-    ap (λ rows. record s { pending = rows; mailboxes = mailboxes; delivered = s.delivered + 1 }) p
-    ∙ ap (λ ms. record s { pending = filter (λ row. not (row.number == number)) s.pending; mailboxes = ms; delivered = s.delivered + 1 })
+    ap (λ rows. record s { pending = rows; ended = ended; mailboxes = mailboxes; delivered = s.delivered + 1 }) p
+    ∙ ap (λ ds. record s { pending = filter (λ row. not (row.number == number)) s.pending; ended = ds; mailboxes = mailboxes; delivered = s.delivered + 1 }) k
+    ∙ ap (λ ms. record s {
+      pending = filter (λ row. not (row.number == number)) s.pending;
+      ended = s.ended ++ record { number = number; fate = Delivered } ∷ [];
+      mailboxes = ms;
+      delivered = s.delivered + 1;
+    })
     (t ∙ ap (λ found. taken_of found s.mailboxes) (sym f)) in
     subst F e at_s ∙ ap (λ out. settled number out v) (sym o)
 
@@ -196,7 +241,7 @@ pub record Counted (s : Duties) (moment : ℕ) (t : Duties) : Type 0 where
 
 pub one_counted : (duty : NewDuty) (moment : ℕ) (s : Duties) → Counted s moment (added_one duty moment s)
 one_counted duty moment s =
-    elim duty.too_long as (λ b. Counted s moment (cond b (record s { created = s.created + 1; dropped = s.dropped + 1; latest = moment }) (record s {
+    elim duty.too_long as (λ b. Counted s moment (cond b (record s { created = s.created + 1; ended = s.ended ++ record { number = s.created + 1; fate = Dropped } ∷ []; dropped = s.dropped + 1; latest = moment }) (record s {
       created = s.created + 1;
       pending = s.pending ++ begun (s.created + 1) moment duty ∷ [];
       latest = moment;
@@ -265,3 +310,24 @@ all_left duties moment s rows e order room there =
 pub none_left : {duties : List NewDuty} {moment : ℕ} {s : Duties} (rows : List DutyRow) (t : Duties) → IsLeft duties moment s rows t → length rows ≡ 0 → t ≡ added duties moment s
 none_left [] t h l = h.made
 none_left (row ∷ rows) t h l = absurd (omega arith)
+
+-- ---- what is kept of those that end
+
+pub settled_dropped : {s : Duties} (v : Duties) (number : ℕ) (outcome : Outcome) (pending : List DutyRow) (ended : List SettledDuty) → s ≡ v → outcome ≡ TooOld →
+    pending ≡ filter (λ row. not (row.number == number)) s.pending → ended ≡ s.ended ++ record { number = number; fate = Dropped } ∷ [] →
+    record s { pending = pending; ended = ended; dropped = s.dropped + 1 } ≡ settled number outcome v
+settled_dropped {s} v number outcome pending ended e o p k =
+    let F : Duties → Type 0 = λ v. record s { pending = pending; ended = ended; dropped = s.dropped + 1 } ≡ settled number TooOld v in
+    let at_s : F s =
+    ap (λ rows. record s { pending = rows; ended = ended; dropped = s.dropped + 1 }) p
+    ∙ ap (λ ds. record s { pending = filter (λ row. not (row.number == number)) s.pending; ended = ds; dropped = s.dropped + 1 }) k in
+    subst F e at_s ∙ ap (λ out. settled number out v) (sym o)
+
+pub delivered_text : (before now : List Mailbox) (duty ended : NewDuty) → ended ≡ duty → now ≡ taken_in ended.endpoint ended.text before → now ≡ taken_in duty.endpoint duty.text before
+delivered_text before now duty ended e t = t ∙ ap (λ (d : NewDuty). taken_in d.endpoint d.text before) e
+
+-- what is kept of the duty that was taken out has the number that was asked for
+pub kept_named : (number : ℕ) (rows : List DutyRow) (owed : DutyRow) (ended now kept : List SettledDuty) (fate : Fate) → find (λ row. row.number == number) rows ≡ Some owed →
+    kept ≡ record { number = owed.number; fate = fate } ∷ [] → now ≡ ended ++ kept → now ≡ ended ++ record { number = number; fate = fate } ∷ []
+kept_named number rows owed ended now kept fate f k j =
+    j ∙ ap (λ ds. ended ++ ds) k ∙ ap (λ n. ended ++ record { number = n; fate = fate } ∷ []) (found_named number rows owed f)

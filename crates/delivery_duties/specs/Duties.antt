@@ -1,5 +1,5 @@
 -- Duties (one event owed to one target each), their fates, and the messages of queues.
-use Rattle.std.specs.Prelude.{◌≡◌, ℕ, ◌+◌, ◌<◌, ◌≤◌, ◌⊎◌, Bool, true, false, not, ◌==◌, if◌then◌else◌, List, [], ◌∷◌, ◌++◌, Option, Some, None, Any, Contains, map, filter, find}
+use Rattle.std.specs.Prelude.{◌≡◌, ℕ, ◌+◌, ◌<◌, ◌≤◌, ◌⊎◌, Bool, true, false, not, ◌==◌, if◌then◌else◌, List, [], ◌∷◌, ◌++◌, length, Option, Some, None, Any, Contains, map, filter, find}
 use Rattle.std.specs.Str.{bytes_eq}
 use Rattle.event_shape.specs.Names.{queue_arn}
 use Rattle.delivery_duties.specs.declared.duty.NewDuty.{NewDuty}
@@ -9,6 +9,7 @@ use Rattle.delivery_duties.specs.declared.fate.Outcome.{Outcome}
 use Rattle.delivery_duties.specs.declared.fate.Outcome.TheVariants.{Accepted, TooOld}
 use Rattle.delivery_duties.specs.declared.fate.Fate.{Fate}
 use Rattle.delivery_duties.specs.declared.fate.Fate.TheVariants.{Delivered, Dropped}
+use Rattle.delivery_duties.specs.declared.fate.SettledDuty.{SettledDuty}
 
 -- a queue: its name, the number of its last message, and the messages that stand, oldest first
 pub record Mailbox : Type 0 where
@@ -16,10 +17,11 @@ pub record Mailbox : Type 0 where
   pub sent : ℕ
   pub messages : List QueueMessage
 
--- the pending duties in the order of their numbers, the queues in the order in which they were made, how many duties were
--- made, delivered and dropped so far, and the moment of the last that were made
+-- the pending duties in the order of their numbers, those that ended in the order in which they did, the queues in the order in
+-- which they were made, how many duties were made, delivered and dropped so far, and the moment of the last that were made
 pub record Duties : Type 0 where
   pub pending : List DutyRow
+  pub ended : List SettledDuty
   pub mailboxes : List Mailbox
   pub created : ℕ
   pub delivered : ℕ
@@ -28,7 +30,7 @@ pub record Duties : Type 0 where
 
 -- no duties and no queues
 abbrev pub no_duties : Duties
-no_duties = record { pending = []; mailboxes = []; created = 0; delivered = 0; dropped = 0; latest = 0 }
+no_duties = record { pending = []; ended = []; mailboxes = []; created = 0; delivered = 0; dropped = 0; latest = 0 }
 
 -- there is a queue of this name
 abbrev pub has_queue : List ℕ → List Mailbox → Bool
@@ -50,7 +52,12 @@ begun number moment duty = record { number = number; duty = duty; accepted = mom
 -- a duty is made: it gets the next number and is due at once; one whose text was too long is dropped at its making
 abbrev pub added_one : NewDuty → ℕ → Duties → Duties
 added_one duty moment s =
-    if duty.too_long then record s { created = s.created + 1; dropped = s.dropped + 1; latest = moment }
+    if duty.too_long then record s {
+      created = s.created + 1;
+      ended = s.ended ++ record { number = s.created + 1; fate = Dropped } ∷ [];
+      dropped = s.dropped + 1;
+      latest = moment;
+    }
     else record s {
       created = s.created + 1;
       pending = s.pending ++ begun (s.created + 1) moment duty ∷ [];
@@ -114,22 +121,57 @@ abbrev pub taken_of : Option DutyRow → List Mailbox → List Mailbox
 taken_of None mailboxes = mailboxes
 taken_of (Some row) mailboxes = taken_in row.duty.endpoint row.duty.text mailboxes
 
--- a duty ends: the queue takes its text, or it was too old and is dropped
+-- a duty ends: the queue takes its text, or it was too old and is dropped; its number and its fate are kept
 abbrev pub settled : ℕ → Outcome → Duties → Duties
 settled number Accepted s = record s {
   pending = filter (λ row. not (row.number == number)) s.pending;
+  ended = s.ended ++ record { number = number; fate = Delivered } ∷ [];
   mailboxes = taken_of (find (λ row. row.number == number) s.pending) s.mailboxes;
   delivered = s.delivered + 1;
 }
 settled number TooOld s = record s {
   pending = filter (λ row. not (row.number == number)) s.pending;
+  ended = s.ended ++ record { number = number; fate = Dropped } ∷ [];
   dropped = s.dropped + 1;
 }
+
+-- this fate is that of a delivered duty
+abbrev pub is_delivered : Fate → Bool
+is_delivered Delivered = true
+is_delivered Dropped = false
 
 -- how a duty ends whose attempt ended so
 abbrev pub fate_of : Outcome → Fate
 fate_of Accepted = Delivered
 fate_of TooOld = Dropped
+
+-- the duty was delivered
+abbrev pub was_delivered : SettledDuty → Bool
+was_delivered d = is_delivered d.fate
+
+-- how many of them were delivered
+abbrev pub delivered_of : List SettledDuty → ℕ
+delivered_of ended = length (filter was_delivered ended)
+
+-- how many of them were dropped
+abbrev pub dropped_of : List SettledDuty → ℕ
+dropped_of ended = length (filter (λ d. not (was_delivered d)) ended)
+
+-- one of the rows has this number
+abbrev pub IsPending : ℕ → List DutyRow → Type 0
+IsPending number rows = Any (λ row. row.number ≡ number) rows
+
+-- one of those that ended has this number
+abbrev pub HasEnded : ℕ → List SettledDuty → Type 0
+HasEnded number ended = Any (λ d. d.number ≡ number) ended
+
+-- the duty of this number is in exactly one state: it is pending and has not ended, or it has ended, with one fate alone, and is not
+-- pending
+abbrev pub IsInOneState : ℕ → Duties → Type 0
+IsInOneState number s =
+    (IsPending number s.pending × (HasEnded number s.ended → ⊥))
+    ⊎ ((IsPending number s.pending → ⊥) × ((d : SettledDuty) × Contains s.ended d × (d.number ≡ number)
+    × ((other : SettledDuty) → Contains s.ended other → other.number ≡ number → other ≡ d)))
 
 -- the messages of the queue of this name, none where there is no such queue
 abbrev pub messages_of : List ℕ → List Mailbox → List QueueMessage

@@ -7,22 +7,23 @@ ghost use Rattle.delivery_duties.specs.Duties as spec;
 use crate::claim::Claim;
 use crate::counts::Counts;
 use crate::duty::DutyRow;
-use crate::fate::{Fate, Outcome};
+use crate::fate::{Fate, Outcome, SettledDuty};
 use crate::lists::{cut, join};
 use crate::mailbox::{Mailbox, NewMailbox, deliver, named};
 use crate::message::QueueMessage;
 use crate::new_duties::NewDuties;
 use crate::owed::Owed;
-use crate::rows::{begin, claim_due, free, take_out};
+use crate::rows::{begin, claim_due, drop_one, free, take_out};
 use json_text::NoMemory;
 use std::alloc::Global;
 use std::collections::LinkedList;
 use std::marker::Model;
 
-/// The pending duties, the queues with their messages, and how many duties there were.
+/// The pending duties, the numbers and fates of those that ended, the queues with their messages, and how many duties there were.
 #[derive(Debug, Drop)]
 pub struct Duties {
     pending: LinkedList<Owed>,
+    ended: LinkedList<SettledDuty>,
     mailboxes: LinkedList<Mailbox>,
     created: u64,
     delivered: u64,
@@ -38,6 +39,7 @@ impl Model for Duties {
 
     ghost view = { λ d. record {
       pending = d.pending;
+      ended = d.ended;
       mailboxes = d.mailboxes;
       created = d.created;
       delivered = d.delivered;
@@ -47,6 +49,7 @@ impl Model for Duties {
 
     ghost invariant = { λ d. IsSound (record {
       pending = d.pending;
+      ended = d.ended;
       mailboxes = d.mailboxes;
       created = d.created;
       delivered = d.delivered;
@@ -62,6 +65,7 @@ impl Duties {
     {
         Duties {
             pending: LinkedList::new(alloc),
+            ended: LinkedList::new(alloc),
             mailboxes: LinkedList::new(alloc),
             created: 0,
             delivered: 0,
@@ -117,6 +121,7 @@ impl Duties {
         self.latest = moment;
         if begin(&mut one, self.created, moment) {
             self.dropped += 1;
+            join(&mut self.ended, drop_one(one));
         } else {
             join(&mut self.pending, one);
         }
@@ -148,13 +153,17 @@ impl Duties {
         let owed = take_out(&mut self.pending, number);
         match outcome {
             Outcome::Accepted => {
+                let (ended, kept) = owed.end(Fate::Delivered);
                 self.delivered += 1;
-                deliver(&mut self.mailboxes, owed);
+                deliver(&mut self.mailboxes, ended);
+                join(&mut self.ended, kept);
                 Fate::Delivered
             }
             Outcome::TooOld => {
-                drop(owed);
+                let (ended, kept) = owed.end(Fate::Dropped);
+                drop(ended);
                 self.dropped += 1;
+                join(&mut self.ended, kept);
                 Fate::Dropped
             }
         }
@@ -177,6 +186,9 @@ impl Duties {
         ensures delivered { result.delivered ≡ self.now.delivered }
         ensures dropped { result.dropped ≡ self.now.dropped }
         ensures one_state { result.created ≡ result.pending + result.delivered + result.dropped }
+        ensures each { (n : ℕ) → 1 ≤ n → n ≤ self.now.created → spec.IsInOneState n self.now }
+        ensures delivered_so { result.delivered ≡ spec.delivered_of self.now.ended }
+        ensures dropped_so { result.dropped ≡ spec.dropped_of self.now.ended }
     {
         Counts {
             created: self.created,
@@ -188,9 +200,10 @@ impl Duties {
 
     /// The pending duty of this number.
     pub fn pending(&self, number: u64) -> Option<&DutyRow>
-        ensures { MatchOption result
+        ensures found { MatchOption result
             ((row : DutyRow) → Contains self.now.pending row → ¬ (row.number ≡ number))
             (λ row. Contains self.now.pending row.now × (row.now.number ≡ number)) }
+        ensures only { IfSome result (λ row. (other : DutyRow) → Contains self.now.pending other → other.number ≡ number → other ≡ row.now) }
     {
         self.pending
             .iter()

@@ -15,3 +15,11 @@ pub enum Fate {
     Delivered,
     Dropped,
 }
+
+/// What is kept of a duty that ended.
+#[derive(Clone, Copy, Debug, PartialEq, Eq)]
+pub struct SettledDuty {
+    /// The place among all duties that were made, from 1.
+    pub number: u64,
+    pub fate: Fate,
+}

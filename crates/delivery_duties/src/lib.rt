@@ -19,7 +19,7 @@ pub use claim::Claim;
 pub use counts::Counts;
 pub use duties::Duties;
 pub use duty::{DutyRow, NewDuty};
-pub use fate::{Fate, Outcome};
+pub use fate::{Fate, Outcome, SettledDuty};
 pub use mailbox::NewMailbox;
 pub use message::QueueMessage;
 pub use new_duties::NewDuties;

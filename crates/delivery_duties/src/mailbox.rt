@@ -7,7 +7,7 @@ ghost use Rattle.delivery_duties.specs.Duties.{HasMailbox, taken_in, with_next};
 
 use crate::lists::{cut, join};
 use crate::message::{QueueMessage, first_copies};
-use crate::owed::Owed;
+use crate::owed::Ended;
 use event_shape::is_queue_arn;
 use json_text::{NoMemory, Text};
 use std::alloc::Global;
@@ -46,13 +46,13 @@ impl Mailbox {
     }
 
     /// Takes the duty's text as the next message.
-    pub(crate) fn take_in(&mut self, owed: Owed)
+    pub(crate) fn take_in(&mut self, ended: Ended)
         requires room { self.old.sent + 1 < 2 ^ 63 }
         requires fewer { length self.old.messages ≤ self.old.sent }
-        ensures { self.new ≡ with_next owed.duty.text self.old }
+        ensures { self.new ≡ with_next ended.text self.old }
     {
         self.sent += 1;
-        join(&mut self.messages, owed.into_letter(self.sent));
+        join(&mut self.messages, ended.into_letter(self.sent));
     }
 
     /// Copies of the oldest messages, as many as the limit at most.
@@ -122,16 +122,16 @@ fn place_of(mailboxes: &LinkedList<Mailbox>, arn: &str) -> Option<usize>
 }
 
 /// Puts the duty's text into the queue that its endpoint is the ARN of.
-pub(crate) fn deliver(mailboxes: &mut LinkedList<Mailbox>, owed: Owed)
-    requires there { HasMailbox owed.duty.endpoint mailboxes.old }
+pub(crate) fn deliver(mailboxes: &mut LinkedList<Mailbox>, ended: Ended)
+    requires there { HasMailbox ended.endpoint mailboxes.old }
     requires room { All (λ m. (length m.messages ≤ m.sent) × (m.sent + 1 < 2 ^ 63)) mailboxes.old }
-    ensures { mailboxes.new ≡ taken_in owed.duty.endpoint owed.duty.text mailboxes.old }
+    ensures { mailboxes.new ≡ taken_in ended.endpoint ended.text mailboxes.old }
 {
-    match place_of(mailboxes, owed.endpoint()) {
+    match place_of(mailboxes, ended.endpoint()) {
         Some(at) => {
             let mut back = cut(mailboxes, at);
             match back.front_mut() {
-                Some(mailbox) => mailbox.take_in(owed),
+                Some(mailbox) => mailbox.take_in(ended),
                 None => unreachable!(),
             }
             join(mailboxes, back);

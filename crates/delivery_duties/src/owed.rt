@@ -1,21 +1,24 @@
-//! Duties as they are kept: each with the room for the message that its delivery makes.
-ghost use Rattle.std.specs.Prelude.{◌≡◌, not, [], ◌∷◌, IfOk, length};
+//! Duties as they are kept: each with the room for the message that its delivery makes, and for what is kept when it ends.
+ghost use Rattle.std.specs.Prelude.{◌≡◌, not, [], ◌∷◌, IfOk};
 ghost use Rattle.delivery_duties.specs.declared.duty.DutyRow.{DutyRow};
 ghost use Rattle.delivery_duties.specs.Duties.{begun};
 ghost use Rattle.delivery_duties.specs.declared.message.QueueMessage.{QueueMessage};
+ghost use Rattle.delivery_duties.specs.declared.fate.SettledDuty.{SettledDuty};
 
 use crate::duty::{DutyRow, NewDuty};
+use crate::fate::{Fate, SettledDuty};
 use crate::message::QueueMessage;
 use json_text::{NoMemory, Text};
 use std::alloc::Global;
 use std::collections::LinkedList;
 use std::marker::Model;
 
-/// A duty, with one message that has its text only at its delivery.
+/// A duty, with one message that has its text only at its delivery, and one node that has its number and fate only at its end.
 #[derive(Debug, Drop)]
 pub(crate) struct Owed {
     row: DutyRow,
     letter: LinkedList<QueueMessage>,
+    ending: LinkedList<SettledDuty>,
 }
 
 impl Model for Owed {
@@ -26,7 +29,7 @@ impl Model for Owed {
 
     ghost view = { λ o. o.row };
 
-    ghost invariant = { λ o. length o.letter ≡ 1 };
+    ghost invariant = { λ o. (length o.letter ≡ 1) × (length o.ending ≡ 1) };
 }
 
 impl Owed {
@@ -39,6 +42,11 @@ impl Owed {
             number: 0,
             body: Text::new(alloc),
         })?;
+        let mut ending = LinkedList::new(alloc);
+        ending.push_back(SettledDuty {
+            number: 0,
+            fate: Fate::Dropped,
+        })?;
         Ok(Owed {
             row: DutyRow {
                 number: 0,
@@ -48,6 +56,7 @@ impl Owed {
                 claimed: false,
             },
             letter,
+            ending,
         })
     }
 
@@ -82,13 +91,6 @@ impl Owed {
         self.row.duty.too_long
     }
 
-    /// The ARN of the queue that takes the text.
-    pub(crate) fn endpoint(&self) -> &str
-        ensures { result.now ≡ self.now.duty.endpoint }
-    {
-        self.row.duty.endpoint.as_str()
-    }
-
     pub(crate) fn mark(&mut self, claimed: bool)
         ensures { self.new ≡ record self.old { claimed = claimed } }
     {
@@ -105,12 +107,59 @@ impl Owed {
         self.row.claimed = false;
     }
 
+    /// The duty that ends so, and what is kept of it.
+    pub(crate) fn end(self, fate: Fate) -> (Ended, LinkedList<SettledDuty>)
+        ensures duty { result.0 ≡ self.duty }
+        ensures kept { result.1 ≡ record { number = self.number; fate = fate } ∷ [] }
+    {
+        let Owed {
+            row,
+            letter,
+            mut ending,
+        } = self;
+        let DutyRow { number, duty, .. } = row;
+        match ending.front_mut() {
+            Some(settled) => {
+                settled.number = number;
+                settled.fate = fate;
+            }
+            None => unreachable!(),
+        }
+        (Ended { duty, letter }, ending)
+    }
+}
+
+/// A duty that ended, with the message that its delivery makes.
+#[derive(Debug, Drop)]
+pub(crate) struct Ended {
+    duty: NewDuty,
+    letter: LinkedList<QueueMessage>,
+}
+
+impl Model for Ended {
+    ghost use Rattle.std.specs.Prelude.{◌≡◌, length};
+    ghost use Rattle.delivery_duties.specs.declared.duty.NewDuty.{NewDuty};
+
+    ghost Value = { NewDuty };
+
+    ghost view = { λ e. e.duty };
+
+    ghost invariant = { λ e. length e.letter ≡ 1 };
+}
+
+impl Ended {
+    /// The ARN of the queue that takes the text.
+    pub(crate) fn endpoint(&self) -> &str
+        ensures { result.now ≡ self.now.endpoint }
+    {
+        self.duty.endpoint.as_str()
+    }
+
     /// The message of this number that the delivery makes.
     pub(crate) fn into_letter(self, number: u64) -> LinkedList<QueueMessage>
-        ensures { result ≡ record { number = number; body = self.duty.text } ∷ [] }
+        ensures { result ≡ record { number = number; body = self.text } ∷ [] }
     {
-        let Owed { row, mut letter } = self;
-        let DutyRow { duty, .. } = row;
+        let Ended { duty, mut letter } = self;
         let NewDuty { text, .. } = duty;
         match letter.front_mut() {
             Some(message) => {

@@ -2,10 +2,12 @@
 ghost use Rattle.std.specs.Prelude.{◌≡◌, ◌≢◌, ◌+◌, ◌^◌, ◌<◌, ◌≤◌, ◌==◌, ◌⊎◌, not, true, false, [], ◌∷◌, ◌++◌, List, Some, All, Any, IfSome, IfNone, MatchOption, length, map, filter, find, position};
 ghost use Rattle.delivery_duties.specs.declared.duty.DutyRow.{DutyRow};
 ghost use Rattle.delivery_duties.specs.Duties.{begun, marked};
+ghost use Rattle.delivery_duties.specs.declared.fate.Fate.TheVariants.{Dropped};
 ghost use Rattle.delivery_duties.specs.Cuts.{IsAt, IsFirstFree};
 ghost use Rattle.delivery_duties.specs.Sound.{IsOrdered};
 
 use crate::claim::Claim;
+use crate::fate::{Fate, SettledDuty};
 use crate::lists::{cut, join};
 use crate::owed::Owed;
 use std::collections::LinkedList;
@@ -19,6 +21,21 @@ pub(crate) fn begin(one: &mut LinkedList<Owed>, number: u64, moment: u64) -> boo
         Some(owed) => {
             owed.begin(number, moment);
             owed.is_too_long()
+        }
+        None => unreachable!(),
+    }
+}
+
+/// What is kept of the one duty, which is dropped.
+pub(crate) fn drop_one(mut one: LinkedList<Owed>) -> LinkedList<SettledDuty>
+    requires { length one ≡ 1 }
+    ensures { (row : DutyRow) → one ≡ row ∷ [] → result ≡ record { number = row.number; fate = Dropped } ∷ [] }
+{
+    match one.pop_front() {
+        Some(owed) => {
+            let (ended, kept) = owed.end(Fate::Dropped);
+            drop(ended);
+            kept
         }
         None => unreachable!(),
     }

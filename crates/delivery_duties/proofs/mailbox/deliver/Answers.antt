@@ -8,7 +8,7 @@ use Rattle.delivery_duties.proofs.mailbox.deliver.Goals as goal
 
 pub returns : goal.returns
 returns c =
-    delivered_to c.args.owed.duty.endpoint c.args.owed.duty.text c.args.mailboxes.now c.in-Some.at c.cut-back.new.list c.cut-back.result
+    delivered_to c.args.ended.endpoint c.args.ended.text c.args.mailboxes.now c.in-Some.at c.cut-back.new.list c.cut-back.result
     c.in-Some-front_mut.mailbox.now c.take_in.new.self c.join.new.list
     (ap (λ arn. position (λ (m : Mailbox). bytes_eq arn (queue_arn m.queue)) c.args.mailboxes.now) (sym c.endpoint.ensures) ∙ sym c.place_of.ensures.place ∙ c.in-Some.is)
     c.cut-back.ensures.front c.cut-back.ensures.back c.in-Some-front_mut.ensures.value c.take_in.ensures c.join.ensures

@@ -1,10 +1,13 @@
-use Rattle.std.proofs.Common.{◌≡◌, sym, subst, ap, ◌∙◌, map}
+use Rattle.std.proofs.Common.{◌≡◌, sym, subst, ap, ◌∙◌, map, length}
 use Rattle.delivery_duties.specs.Duties.{Mailbox, Duties}
-use Rattle.delivery_duties.proofs.SoundLemmas.{sound_delivered, sound_dropped, kept_found}
-use Rattle.delivery_duties.proofs.StepLemmas.{settled_accepted, queues_taken}
+use Rattle.delivery_duties.proofs.SoundLemmas.{sound_delivered, sound_dropped, kept_found, ended_room}
+use Rattle.delivery_duties.proofs.StepLemmas.{settled_accepted, settled_dropped, queues_taken, kept_named, delivered_text}
 use Rattle.std.specs.Prelude.{Any, Contains}
 use Rattle.std.proofs.lemmas.List.Elements.{All-contains}
 use Rattle.delivery_duties.specs.declared.duty.DutyRow.{DutyRow}
+use Rattle.delivery_duties.specs.declared.duty.NewDuty.{NewDuty}
+use Rattle.delivery_duties.specs.declared.fate.SettledDuty.{SettledDuty}
+use Rattle.delivery_duties.specs.declared.fate.Fate.TheVariants.{Delivered, Dropped}
 use Rattle.delivery_duties.specs.Duties.{IsOut, HasMailbox}
 use Rattle.delivery_duties.specs.Sound.{IsKept, IsSound}
 use Rattle.delivery_duties.proofs.OutLemmas.{Out, still_out_settled}
@@ -16,23 +19,49 @@ has_queue_of {s} v e h =
     let at_s : F s = λ row t. let k : IsKept s.created s.latest s.mailboxes row = All-contains (IsKept s.created s.latest s.mailboxes) s.pending row h.kept t in k.2 in
     subst F e at_s
 
+pub join-requires : goal.join-requires
+join-requires c = ended_room c.args.claim.number c.take_out-owed.result c.end-ended.result.1 c.self.invariant c.take_out-owed.ensures.found (ap (length {A = SettledDuty}) c.end-ended.ensures.kept)
+
+pub join-requires-in-TooOld : goal.join-requires-in-TooOld
+join-requires-in-TooOld c = ended_room c.args.claim.number c.take_out-owed.result c.end-ended-in-TooOld.result.1 c.self.invariant c.take_out-owed.ensures.found (ap (length {A = SettledDuty}) c.end-ended-in-TooOld.ensures.kept)
+
 pub deliver-requires-clause-there : goal.deliver-requires-clause-there
-deliver-requires-clause-there c = (kept_found c.args.claim.number c.take_out-owed.result c.self.invariant c.take_out-owed.ensures.found).2
+deliver-requires-clause-there c =
+    let F : NewDuty → Type 0 = λ duty. HasMailbox duty.endpoint c.self.inside.mailboxes in
+    subst F (sym c.end-ended.ensures.duty) (kept_found c.args.claim.number c.take_out-owed.result c.self.invariant c.take_out-owed.ensures.found).2
 
 pub invariant_of-self : goal.invariant_of-self
-invariant_of-self c = sound_delivered c.args.claim.number c.take_out-owed.result c.take_out-owed.new.rows c.deliver.new.mailboxes c.self.invariant
-    c.take_out-owed.ensures.found c.take_out-owed.ensures.rest c.deliver.ensures
+invariant_of-self c =
+    sound_delivered c.args.claim.number c.take_out-owed.result c.take_out-owed.new.rows c.deliver.new.mailboxes c.join.new.list c.self.invariant
+    c.take_out-owed.ensures.found c.take_out-owed.ensures.rest
+    (delivered_text c.self.inside.mailboxes c.deliver.new.mailboxes c.take_out-owed.result.duty c.end-ended.result.0 c.end-ended.ensures.duty c.deliver.ensures)
+    (kept_named c.args.claim.number c.self.inside.pending c.take_out-owed.result c.self.inside.ended c.join.new.list c.end-ended.result.1 Delivered
+    c.take_out-owed.ensures.found c.end-ended.ensures.kept c.join.ensures)
 
 pub invariant_of-self-in-TooOld : goal.invariant_of-self-in-TooOld
-invariant_of-self-in-TooOld c = sound_dropped c.args.claim.number c.take_out-owed.result c.take_out-owed.new.rows c.self.invariant c.take_out-owed.ensures.found c.take_out-owed.ensures.rest
+invariant_of-self-in-TooOld c =
+    sound_dropped c.args.claim.number c.take_out-owed.result c.take_out-owed.new.rows c.join-in-TooOld.new.list c.self.invariant
+    c.take_out-owed.ensures.found c.take_out-owed.ensures.rest
+    (kept_named c.args.claim.number c.self.inside.pending c.take_out-owed.result c.self.inside.ended c.join-in-TooOld.new.list c.end-ended-in-TooOld.result.1 Dropped
+    c.take_out-owed.ensures.found c.end-ended-in-TooOld.ensures.kept c.join-in-TooOld.ensures)
 
 pub returns-in-Accepted-clause-settled : goal.returns-in-Accepted-clause-settled
-returns-in-Accepted-clause-settled c = settled_accepted c.args.self.now c.args.claim.number c.args.outcome c.take_out-owed.result c.take_out-owed.new.rows c.deliver.new.mailboxes c.self.view_is c.in-Accepted.is
-    c.take_out-owed.ensures.found c.take_out-owed.ensures.rest c.deliver.ensures
+returns-in-Accepted-clause-settled c =
+    settled_accepted c.args.self.now c.args.claim.number c.args.outcome c.take_out-owed.result c.take_out-owed.new.rows c.deliver.new.mailboxes c.join.new.list
+    c.self.view_is c.in-Accepted.is c.take_out-owed.ensures.found c.take_out-owed.ensures.rest
+    (delivered_text c.self.inside.mailboxes c.deliver.new.mailboxes c.take_out-owed.result.duty c.end-ended.result.0 c.end-ended.ensures.duty c.deliver.ensures)
+    (kept_named c.args.claim.number c.self.inside.pending c.take_out-owed.result c.self.inside.ended c.join.new.list c.end-ended.result.1 Delivered
+    c.take_out-owed.ensures.found c.end-ended.ensures.kept c.join.ensures)
+
+pub returns-in-TooOld-clause-settled : goal.returns-in-TooOld-clause-settled
+returns-in-TooOld-clause-settled c =
+    settled_dropped c.args.self.now c.args.claim.number c.args.outcome c.take_out-owed.new.rows c.join-in-TooOld.new.list c.self.view_is c.in-TooOld.is c.take_out-owed.ensures.rest
+    (kept_named c.args.claim.number c.self.inside.pending c.take_out-owed.result c.self.inside.ended c.join-in-TooOld.new.list c.end-ended-in-TooOld.result.1 Dropped
+    c.take_out-owed.ensures.found c.end-ended-in-TooOld.ensures.kept c.join-in-TooOld.ensures)
 
 pub returns-in-Accepted-clause-queues : goal.returns-in-Accepted-clause-queues
 returns-in-Accepted-clause-queues c =
-    ap (map (λ (m : Mailbox). m.queue)) c.deliver.ensures ∙ queues_taken c.take_out-owed.result.duty.endpoint c.take_out-owed.result.duty.text c.self.inside.mailboxes
+    ap (map (λ (m : Mailbox). m.queue)) c.deliver.ensures ∙ queues_taken c.end-ended.result.0.endpoint c.end-ended.result.0.text c.self.inside.mailboxes
     ∙ ap (λ (s : Duties). map (λ (m : Mailbox). m.queue) s.mailboxes) c.self.view_is
 
 pub returns-in-Accepted-clause-still_out : goal.returns-in-Accepted-clause-still_out
