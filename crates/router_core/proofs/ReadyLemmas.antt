@@ -7,7 +7,7 @@ use Rattle.std.specs.Cmp.Lexicographic.{slice_cmp}
 use Rattle.std.specs.Ordering.{nat_cmp}
 use Rattle.std.proofs.lemmas.Bool.Decides.{nat_tests}
 use Rattle.std.proofs.lemmas.Slice.Eq.{bytes_eq-Decides}
-use Rattle.delivery_duties.proofs.SoundLemmas.{any_here, any_there, any_cases}
+use Rattle.delivery_duties.proofs.AnyLemmas.{any_here, any_there, any_cases}
 use Rattle.event_shape.specs.Names.{queue_arn}
 use Rattle.rule_table.specs.Control.{Control, rule_put, targets_put, queue_made}
 use Rattle.rule_table.specs.RuleSet.{RuleSet, by_order, put_queue, named, has_queue, applied}

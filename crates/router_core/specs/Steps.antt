@@ -11,12 +11,13 @@ use Rattle.router_core.specs.Tables.{Tables}
 abbrev pub outcome_of : ℕ → DutyRow → Outcome
 outcome_of moment row = if nat_lt (row.accepted + row.duty.age) moment then TooOld else Accepted
 
--- a pending duty has this number, and an attempt of it ends so at the moment
+-- a pending duty has this number, and an attempt of it ends so at the moment; so would that of any other with the number
 pub record EndsSo (t : Tables) (duty moment : ℕ) (outcome : Outcome) : Type 0 where
   pub row : DutyRow
   pub there : Contains t.duties.pending row
   pub named : row.number ≡ duty
   pub ends : outcome ≡ outcome_of moment row
+  pub only : (other : DutyRow) → Contains t.duties.pending other → other.number ≡ duty → outcome ≡ outcome_of moment other
 
 -- the batch that records how a duty's attempt ended
 abbrev pub record_of : ℕ → ℕ → Outcome → Batch

@@ -1,14 +1,15 @@
-use Rattle.std.proofs.Common.{◌≡◌, map, length, ap, sym, subst, arith}
+use Rattle.std.proofs.Common.{◌≡◌, map, length, ap, sym, ◌∙◌, subst, arith}
 use Rattle.std.proofs.lemmas.List.{length-map}
 use Rattle.delivery_duties.specs.Duties.{Mailbox, IsOut}
 use Rattle.router_core.specs.Tables.{Tables}
+use Rattle.router_core.specs.Steps.{EndsSo, outcome_of}
 use Rattle.router_core.proofs.ReadyLemmas.{mailbox_names, not_full}
 use Rattle.router_core.proofs.tables.Tables.record.Goals as goal
 
 pub unreachable-requires : goal.unreachable-requires
 unreachable-requires c =
     let out : IsOut c.args.claim.number c.self.inside.duties = subst (λ (t : Tables). IsOut c.args.claim.number t.duties) (sym c.self.view_is) c.requires.out in
-    c.in-None.ensures out.1 (out.0, out.2, out.3) out.4.0
+    c.in-None.ensures.found out.1 (out.0, out.2, out.3) out.4.0
 
 pub invariant_of-self : goal.invariant_of-self
 invariant_of-self c =
@@ -28,3 +29,15 @@ invariant_of-self c =
       created = omega (arith, was.created, c.settle.ensures.created);
       mailboxes = omega (arith, was.mailboxes, ap length names, length-map c.settle.new.self.mailboxes (λ (m : Mailbox). m.queue), length-map i.duties.mailboxes (λ (m : Mailbox). m.queue));
     }
+
+pub returns-clause-ends : goal.returns-clause-ends
+returns-clause-ends c =
+    let F : Tables → Type 0 = λ t. EndsSo t c.args.claim.number c.args.moment c.outcome_at-outcome.result in
+    let found = c.in-Some.ensures.found in
+    subst F c.self.view_is (record {
+      row = c.in-Some.row.now;
+      there = found.0;
+      named = found.1;
+      ends = c.outcome_at-outcome.ensures;
+      only = λ other t n. c.outcome_at-outcome.ensures ∙ ap (outcome_of c.args.moment) (sym (c.in-Some.ensures.only other t n));
+    })
