@@ -1,17 +1,14 @@
 -- A kept policy has few levels: `kept_levels`.
-use Rattle.std.proofs.Common.{◌≡◌, ◌≤◌, ℕ, suc, Bool, true, false, ◌&&◌, List, [], ◌∷◌, ◌++◌, length, Option, Some, None, codes, refl, sym, ap, ◌∙◌, subst, inl, inr, arith}
+use Rattle.std.proofs.Common.{◌≡◌, ◌≤◌, ℕ, suc, Bool, true, false, ◌&&◌, List, [], ◌∷◌, ◌++◌, Option, Some, None, codes, refl, sym, ap, ◌∙◌, subst, inl, inr, arith}
 use Rattle.std.specs.Prelude.{unwrap_or}
 use Rattle.std.specs.Str.{bytes_eq}
 use Rattle.std.proofs.lemmas.Bool.{cases_Bool, both_ways, cond-true, cond-false}
 use Rattle.std.proofs.lemmas.Slice.Eq.{bytes_eq-Decides}
 use Rattle.json_text.specs.Tree.{Tree, null, truth, number, text, list, object, Items, no_items, item, Members, no_members, member}
-use Rattle.json_text.specs.Node.{levels_of}
-use Rattle.json_text.specs.Compact.{compact_text, LacksKey, IsValue, AreItems, AreMembers, tree_levels, items_levels, members_levels}
-use Rattle.json_text.proofs.SpelledBack.{compact_spelled}
+use Rattle.json_text.specs.Compact.{LacksKey, IsValue, AreItems, AreMembers, tree_levels, items_levels, members_levels}
 use Rattle.bus_policy.specs.Parts.{member_at, member_of, statements_of, text_passes}
 use Rattle.bus_policy.specs.Grammar.{each_item, each_member, is_object_of, are_texts, any_text, member_is, is_version, is_principal_word, is_principal, is_operator, is_key, are_keys, is_condition, is_statement_key, first_fault}
 use Rattle.bus_policy.specs.Kept.{default_version, policy_with, IsKept}
-use Rattle.bus_policy.specs.Text.{IsPolicyText}
 use Rattle.bus_policy.proofs.GrammarLemmas.{RightParts, right_parts, first_right, sid_right}
 use Rattle.bus_policy.proofs.KeptLemmas.{faultless, versioned, statements_are_values}
 
