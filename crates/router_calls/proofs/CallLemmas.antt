@@ -25,7 +25,7 @@ use Rattle.rule_table.specs.declared.control.Target.{Target}
 use Rattle.rule_table.specs.RuleSet.{Rule, Bus, RuleSet, IsSound, IsQueueThere, named, has_bus, rules_of, rules_in}
 use Rattle.delivery_duties.specs.declared.duty.NewDuty.{NewDuty}
 use Rattle.delivery_duties.specs.Duties.{Mailbox, HasMailbox}
-use Rattle.delivery_duties.proofs.SoundLemmas.{any_behind}
+use Rattle.delivery_duties.proofs.AnyLemmas.{any_behind}
 use Rattle.router_core.specs.Batch as batch
 use Rattle.router_core.specs.Reply.{Reply, served, number_limit}
 use Rattle.router_core.specs.Request.{Action}
