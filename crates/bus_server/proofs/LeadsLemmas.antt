@@ -7,6 +7,8 @@ use Rattle.delivery_duties.specs.declared.duty.NewDuty.{NewDuty}
 use Rattle.delivery_duties.specs.declared.duty.DutyRow.{DutyRow}
 use Rattle.delivery_duties.specs.declared.fate.Outcome.{Outcome}
 use Rattle.delivery_duties.specs.declared.fate.Outcome.TheVariants.{Accepted, TooOld}
+use Rattle.delivery_duties.specs.declared.fate.SettledDuty.{SettledDuty}
+use Rattle.delivery_duties.specs.declared.fate.Fate.TheVariants.{Delivered, Dropped}
 use Rattle.delivery_duties.specs.Duties.{Duties, Mailbox, added, added_one, begun as begun_row, marked, marked_row, claimed, settled, taken_of, IsNext}
 use Rattle.rule_table.specs.Control.{Control, rule_put, targets_put, queue_made}
 use Rattle.router_core.specs.Request.{Request}
@@ -124,9 +126,16 @@ taken_rows n (row ∷ rows) ms = by_number (row.number == n) refl (taken_rows n 
 
 settled_claimed : (n : ℕ) (outcome : Outcome) (s : Duties) → settled n outcome (claimed n s) ≡ settled n outcome s
 settled_claimed n Accepted s =
-    ap (λ (rows : List DutyRow). record s { pending = rows; mailboxes = taken_of (find (λ row. row.number == n) (marked true n s.pending)) s.mailboxes; delivered = s.delivered + 1 }) (settled_rows n s.pending)
-    ∙ ap (λ (ms : List Mailbox). record s { pending = filter (λ row. not (row.number == n)) s.pending; mailboxes = ms; delivered = s.delivered + 1 }) (taken_rows n s.pending s.mailboxes)
-settled_claimed n TooOld s = ap (λ (rows : List DutyRow). record s { pending = rows; dropped = s.dropped + 1 }) (settled_rows n s.pending)
+    let ended : List SettledDuty = s.ended ++ record { number = n; fate = Delivered } ∷ [] in
+    ap (λ (rows : List DutyRow). record s {
+      pending = rows;
+      ended = ended;
+      mailboxes = taken_of (find (λ row. row.number == n) (marked true n s.pending)) s.mailboxes;
+      delivered = s.delivered + 1;
+    }) (settled_rows n s.pending)
+    ∙ ap (λ (ms : List Mailbox). record s { pending = filter (λ row. not (row.number == n)) s.pending; ended = ended; mailboxes = ms; delivered = s.delivered + 1 }) (taken_rows n s.pending s.mailboxes)
+settled_claimed n TooOld s =
+    ap (λ (rows : List DutyRow). record s { pending = rows; ended = s.ended ++ record { number = n; fate = Dropped } ∷ []; dropped = s.dropped + 1 }) (settled_rows n s.pending)
 
 record_claimed : (moment n : ℕ) (outcome : Outcome) (t : Tables) → after_batch (record_of moment n outcome) (claiming n t) ≡ after_batch (record_of moment n outcome) t
 record_claimed moment n outcome t = ap (λ (d : Duties). record t { duties = d; entries = t.entries + 1; moment = moment }) (settled_claimed n outcome t.duties)
