@@ -3,6 +3,8 @@
 
 mod holds;
 mod pattern;
+#[cfg(test)]
+mod tests;
 
 pub use holds::{plain_holds, unseen_member};
 pub use pattern::{Field, Fields, LeafTest, LeafTests, Pattern};
