@@ -84,7 +84,7 @@ impl Book {
         let reading = reading.min(LAST_MOMENT);
         let moment = reading.max(self.tables.moment());
         let full = self.tables.full();
-        let claim = match self.tables.claim_next(moment) {
+        let claim = match self.tables.claim(moment) {
             Some(claim) => claim,
             None => return Step::Idle,
         };

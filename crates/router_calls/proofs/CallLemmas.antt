@@ -1,28 +1,19 @@
--- Lists of rules, duties and events as a request goes through them. Callers cite each `pub` lemma.
-use Rattle.std.proofs.Common.{◌≡◌, ℕ, ◌+◌, ◌*◌, ◌<◌, ◌≤◌, ◌⊎◌, inl, inr, true, false, cond, List, [], ◌∷◌, ◌++◌, length, map, take, get_or, Option, Some, None, sym, refl, ap, ◌∙◌, subst, arith, codes, append_assoc, length-append}
-use Rattle.std.specs.Prelude.{Result, Ok, Err, IfOk, All, is_some, bytes_eq}
-use Rattle.std.specs.declared.sync.Arc.{Arc}
-use Rattle.std.specs.Arc.{arc_value}
+-- Replies, duties and events as a request goes through them. Callers cite each `pub` lemma.
+use Rattle.std.proofs.Common.{◌≡◌, ℕ, ◌+◌, ◌≤◌, false, List, [], ◌∷◌, ◌++◌, length, map, Option, Some, sym, refl, ap, ◌∙◌, subst, arith, codes, append_assoc, length-append}
+use Rattle.std.specs.Prelude.{Result, Ok, Err, IfOk, All}
 use Rattle.std.proofs.lemmas.Bool.{cond-false}
-use Rattle.std.proofs.lemmas.List.{append-nil, length-map, get_or-map, take_more, map-append}
-use Rattle.std.proofs.lemmas.List.Elements.{All-nil, All-head, All-tail, All-append, All-map, All-weaker, All-get_or}
-use Rattle.json_text.proofs.ReadLemmas.{is_only}
-use Rattle.json_text.proofs.SpelledRead.{spelled_read}
+use Rattle.std.proofs.lemmas.List.{append-nil, length-map, map-append}
+use Rattle.std.proofs.lemmas.List.Elements.{All-map, All-weaker}
 use Rattle.json_text.specs.Tree.{Tree, number, list, items_of}
 use Rattle.json_text.specs.View.{trees_of}
 use Rattle.json_text.specs.declared.value.Json.{Json}
-use Rattle.json_text.specs.Node.{Node, value_of}
 use Rattle.event_shape.specs.Entry.{Entry, entry_of}
 use Rattle.event_shape.specs.Event.{Checked, IsCheckedOf}
 use Rattle.event_shape.specs.Fault.{HasFault}
 use Rattle.event_shape.specs.declared.entry.EventEntry.{EventEntry}
 use Rattle.event_shape.specs.declared.entry.EntryFault.{EntryFault}
-use Rattle.pattern_meaning.specs.Pattern.{Pattern}
-use Rattle.pattern_read.specs.Text.{IsPatternText, pattern_at}
-use Rattle.pattern_read.proofs.ReadLemmas.{stands}
 use Rattle.rule_table.specs.Control.{Control}
-use Rattle.rule_table.specs.declared.control.Target.{Target}
-use Rattle.rule_table.specs.RuleSet.{Rule, Bus, RuleSet, IsSound, IsQueueThere, named, has_bus, rules_of, rules_in}
+use Rattle.rule_table.specs.RuleSet.{RuleSet, IsSound, IsQueueThere, rules_of}
 use Rattle.delivery_duties.specs.declared.duty.NewDuty.{NewDuty}
 use Rattle.delivery_duties.specs.Duties.{Mailbox, HasMailbox}
 use Rattle.delivery_duties.proofs.AnyLemmas.{any_behind}
@@ -30,20 +21,19 @@ use Rattle.router_core.specs.Batch as batch
 use Rattle.router_core.specs.Reply.{Reply, served, number_limit}
 use Rattle.router_core.specs.Request.{Action}
 use Rattle.router_core.specs.Ready.{accepted_of, AreDeliverable, IsConsistent}
-use Rattle.router_core.specs.Matching.{AreDuties, Matches, duty_of, IsAccepted, IsAcceptedAs, AreAccepted, HasFaulty}
+use Rattle.router_core.specs.Matching.{AreMatched, IsSeen, duty_of}
 use Rattle.router_core.specs.Seen.{reply_of}
+use Rattle.router_core.specs.declared.seen.SeenTarget.{SeenTarget}
+use Rattle.router_core.specs.declared.seen.SeenEntry.{SeenEntry}
+use Rattle.router_core.specs.declared.seen.Seen.{Seen}
 use Rattle.router_core.specs.declared.ready.AcceptedEvent.{AcceptedEvent}
 use Rattle.router_core.specs.Tables.{Tables, is_full}
 use Rattle.router_core.specs.declared.ready.Ready.{Ready}
 use Rattle.router_core.specs.declared.reply.Reply.{Reply as CodeReply}
+use Rattle.router_core.proofs.MatchingLemmas.{matched_fits}
+use Rattle.router_calls.specs.Accepted.{IsAccepted, IsAcceptedAs, AreAccepted, HasFaulty}
 use Rattle.router_calls.specs.Answer.{Answer, IsAnswerAt, IsControlled, told_event, told_events, tells, writes}
 use Rattle.router_calls.specs.Decided.{answer_of}
-
--- a text is one pattern only
-pub one_pattern : {text : List ℕ} {p q : Pattern} → IsPatternText text p → IsPatternText text q → p ≡ q
-one_pattern {text} {p} {q} a b =
-    let same : a.node ≡ b.node = is_only 100 text a.node b.node (spelled_read 100 text a.node a.spelled) b.spelled in
-    stands (pattern_at (value_of a.node)) p q a.stands_for (ap (λ (n : Node). pattern_at (value_of n)) same ∙ b.stands_for)
 
 -- the same change with the same reply
 pub controlled_so : {E : Type 0} (r : Result (Option Ready × CodeReply) E) (t : Tables) (moment : ℕ) {c d : Control} {reply other : Reply} → c ≡ d → reply ≡ other
@@ -76,117 +66,31 @@ events_told (Ok x) items [] all none told h =
 
 -- ---- the duties of one event
 
--- the rule's targets are few, and each is a queue that takes messages
-abbrev pub IsServed : List Mailbox → Rule → Type 0
-IsServed mailboxes rule = (length rule.targets ≤ 5) × All (λ (t : Target). HasMailbox t.arn mailboxes) rule.targets
+-- the entry that is taken is the one that was seen
+taken_matched : (set : RuleSet) (bus : List ℕ) (event : Tree) (seen : Seen) (rest : List SeenEntry) (entry : SeenEntry) → IsSeen set bus event seen
+    → seen.entries.items ≡ rest ++ entry ∷ [] → AreMatched bus (rules_of bus set) event entry.targets.items
+taken_matched set bus event seen [] entry h cut =
+    let both : h.entry ∷ [] ≡ entry ∷ [] = sym h.alone ∙ cut in
+    let same : h.entry ≡ entry = cc in
+    subst (λ (e : SeenEntry). AreMatched bus (rules_of bus set) event e.targets.items) same h.matched
+taken_matched set bus event seen (x ∷ rest) entry h cut =
+    let both = ap length (sym h.alone ∙ cut) in
+    absurd (omega (arith, both, length-append rest (entry ∷ [])))
 
--- the duties that so many rules make
-pub record AreMade (bus : List ℕ) (rules : List Rule) (event : Tree) (text : List ℕ) (mailboxes : List Mailbox) (duties : List NewDuty) : Type 0 where
-  pub are : AreDuties bus rules event text duties
-  pub few : length duties ≤ 5 * length rules
-  pub there : All (λ (d : NewDuty). HasMailbox d.endpoint mailboxes) duties
-
-rules_more : (bus : List ℕ) (rules : List Rule) (rule : Rule) (event : Tree) (text : List ℕ) (duties more : List NewDuty) → AreDuties bus rules event text duties
-    → (Matches rule event × (more ≡ map (duty_of bus rule text) rule.targets)) ⊎ ((¬ Matches rule event) × (more ≡ []))
-    → AreDuties bus (rules ++ rule ∷ []) event text (duties ++ more)
-rules_more bus [] rule event text duties more none step =
-    let alone : duties ++ more ≡ more = ap (λ (ds : List NewDuty). ds ++ more) none in
-    elim step [
-      | inl (m, e) ↦ ([], refl, inl (m, alone ∙ e ∙ sym (append-nil (map (duty_of bus rule text) rule.targets))))
-      | inr (n, e) ↦ ([], refl, inr (n, alone ∙ e))
-    ]
-rules_more bus (r ∷ rules) rule event text duties more (rest, are, which) step = (
-  rest ++ more,
-  rules_more bus rules rule event text rest more are step,
-  elim which [
-    | inl (m, e) ↦ inl (m, ap (λ (ds : List NewDuty). ds ++ more) e ∙ append_assoc (map (duty_of bus r text) r.targets) rest more)
-    | inr (n, e) ↦ inr (n, ap (λ (ds : List NewDuty). ds ++ more) e)
-  ],
-)
-
-pub none_made : (bus : List ℕ) (event : Tree) (text : List ℕ) (mailboxes : List Mailbox) (duties : List NewDuty) → duties ≡ [] → AreMade bus [] event text mailboxes duties
-none_made bus event text mailboxes duties none = record {
-  are = none;
-  few = omega (arith, ap length none);
-  there = subst (All (λ (d : NewDuty). HasMailbox d.endpoint mailboxes)) (sym none) (All-nil (λ (d : NewDuty). HasMailbox d.endpoint mailboxes));
-}
-
-pub made_more : (bus : List ℕ) (rules : List Rule) (rule : Rule) (event : Tree) (text : List ℕ) (mailboxes : List Mailbox) (duties new : List NewDuty)
-    → AreMade bus rules event text mailboxes duties → IsServed mailboxes rule → Matches rule event → new ≡ duties ++ map (duty_of bus rule text) rule.targets
-    → AreMade bus (rules ++ rule ∷ []) event text mailboxes new
-made_more bus rules rule event text mailboxes duties new h served m e =
-    let P : NewDuty → Type 0 = λ d. HasMailbox d.endpoint mailboxes in
-    let more = map (duty_of bus rule text) rule.targets in
-    let whole : AreMade bus (rules ++ rule ∷ []) event text mailboxes (duties ++ more) = record {
-      are = rules_more bus rules rule event text duties more h.are (inl (m, refl));
-      few = omega (arith, h.few, served.0, length-append duties more, length-append rules (rule ∷ []), length-map rule.targets (duty_of bus rule text));
-      there = All-append P duties more h.there (All-map P (duty_of bus rule text) rule.targets served.1);
-    } in
-    subst (AreMade bus (rules ++ rule ∷ []) event text mailboxes) (sym e) whole
-
-pub made_same : (bus : List ℕ) (rules : List Rule) (rule : Rule) (event : Tree) (text : List ℕ) (mailboxes : List Mailbox) (duties : List NewDuty)
-    → AreMade bus rules event text mailboxes duties → ¬ Matches rule event → AreMade bus (rules ++ rule ∷ []) event text mailboxes duties
-made_same bus rules rule event text mailboxes duties h n = record {
-  are = subst (AreDuties bus (rules ++ rule ∷ []) event text) (append-nil duties) (rules_more bus rules rule event text duties [] h.are (inr (n, refl)));
-  few = omega (arith, h.few, length-append rules (rule ∷ []));
-  there = h.there;
-}
-
--- the row that is found is one of the rows
-named_all : {A : Type 0} (P : A → Type 0) (f : A → List ℕ) (name : List ℕ) (rows : List A) (row : A) → All P rows → named f name rows ≡ Some row → P row
-named_all P f name [] row all e = cc
-named_all P f name (r ∷ rows) row all e =
-    (elim (bytes_eq (f r) name) as (λ b. cond b (Some r) (named f name rows) ≡ Some row → P row) [
-      | true ↦ λ g. let same : r ≡ row = cc in subst P same (All-head P r rows all)
-      | false ↦ λ g. named_all P f name rows row (All-tail P r rows all) g
-    ]) e
-
--- the rules of a bus of the tables are few and served
-pub rules_served : (bus : List ℕ) (t : Tables) (found : Bus) → IsSound t.set → IsConsistent t → named (λ (b : Bus). b.name) bus t.set.buses ≡ Some found
-    → (length found.rules ≤ 300) × All (IsServed t.duties.mailboxes) found.rules
-rules_served bus t found sound consistent e =
-    let few = named_all (λ (b : Bus). length b.rules ≤ 300) (λ (b : Bus). b.name) bus t.set.buses found sound.rules e in
-    let P : Target → Type 0 = λ target. IsQueueThere t.set target.arn in
-    let Q : Target → Type 0 = λ target. HasMailbox target.arn t.duties.mailboxes in
-    let R : Rule → Type 0 = λ rule. (length rule.targets ≤ 5) × All P rule.targets in
-    let held = named_all (λ (b : Bus). All R b.rules) (λ (b : Bus). b.name) bus t.set.buses found sound.targets e in
-    let there : (target : Target) → P target → Q target = λ target p. subst (λ (arn : List ℕ). HasMailbox arn t.duties.mailboxes) (sym p.1) (consistent.queues p.0 p.2) in
-    (few, All-weaker R (IsServed t.duties.mailboxes) (λ rule r. (r.0, All-weaker P Q there rule.targets r.1)) found.rules held)
-
--- no bus, no rule
-pub no_rules : (bus : List ℕ) (set : RuleSet) → has_bus bus set ≡ false → rules_of bus set ≡ []
-no_rules bus set none = bare (named (λ (b : Bus). b.name) bus set.buses) none
-  where
-    bare : (o : Option Bus) → is_some o ≡ false → rules_in o ≡ []
-    bare None e = refl
-    bare (Some b) e = cc
-
--- the rule at a place of the code's list
-pub served_at : {Z : Type 0} (mailboxes : List Mailbox) (rules : List (Arc Rule Z)) (i : ℕ) (d : Arc Rule Z) → i < length rules
-    → All (IsServed mailboxes) (map arc_value rules) → IsServed mailboxes (arc_value (get_or rules i d))
-served_at mailboxes rules i d within all =
-    subst (IsServed mailboxes) (get_or-map arc_value rules i d (arc_value d) within)
-    (All-get_or (IsServed mailboxes) (map arc_value rules) i (arc_value d) (omega (arith, length-map rules (arc_value {X = Rule}))) all)
-
--- one rule more of the code's list
-pub rules_grown : {Z : Type 0} (rules : List (Arc Rule Z)) (i : ℕ) (d : Arc Rule Z) (rule : Rule) → i < length rules → d ≡ get_or rules i d → rule ≡ arc_value d
-    → map arc_value (take (i + 1) rules) ≡ map arc_value (take i rules) ++ rule ∷ []
-rules_grown rules i d rule within is value =
-    ap (map (arc_value {X = Rule})) (take_more rules i d within)
-    ∙ map-append (arc_value {X = Rule}) (take i rules) (get_or rules i d ∷ [])
-    ∙ ap (λ (r : Rule). map (arc_value {X = Rule}) (take i rules) ++ r ∷ []) (sym (value ∙ ap (arc_value {X = Rule}) is))
-
-pub served_rule : {Z : Type 0} (mailboxes : List Mailbox) (rules : List (Arc Rule Z)) (i : ℕ) (d : Arc Rule Z) (rule : Rule) → i < length rules → d ≡ get_or rules i d → rule ≡ arc_value d
-    → All (IsServed mailboxes) (map arc_value rules) → IsServed mailboxes rule
-served_rule mailboxes rules i d rule within is value all =
-    subst (IsServed mailboxes) (sym (value ∙ ap (arc_value {X = Rule}) is)) (served_at mailboxes rules i d within all)
-
--- what all the rules of the bus make
-pub made_of_bus : (bus : List ℕ) (set : RuleSet) (found : Bus) (rules : List Rule) (event : Tree) (text : List ℕ) (mailboxes : List Mailbox) (duties : List NewDuty)
-    → named (λ (b : Bus). b.name) bus set.buses ≡ Some found → rules ≡ found.rules → AreMade bus rules event text mailboxes duties
-    → AreDuties bus (rules_of bus set) event text duties
-made_of_bus bus set found rules event text mailboxes duties e same h =
-    subst (λ (rs : List Rule). AreDuties bus rs event text duties) (same ∙ sym (ap rules_in e)) h.are
+-- the duties for the targets that were seen are few, and each goes to a queue that takes messages
+pub owed_fits : (t : Tables) (set : RuleSet) (bus : List ℕ) (event : Tree) (text : List ℕ) (seen : Seen) (rest : List SeenEntry) (entry : SeenEntry) (duties : List NewDuty)
+    → set ≡ t.set → IsSound t.set → IsConsistent t → IsSeen set bus event seen → seen.entries.items ≡ rest ++ entry ∷ [] → duties ≡ map (duty_of text) entry.targets.items
+    → (length duties ≤ 1500) × All (λ (d : NewDuty). HasMailbox d.endpoint t.duties.mailboxes) duties
+owed_fits t set bus event text seen rest entry duties same sound consistent is_seen cut owed =
+    let P : SeenTarget → Type 0 = λ s. IsQueueThere t.set s.target.arn in
+    let Q : SeenTarget → Type 0 = λ s. HasMailbox s.target.arn t.duties.mailboxes in
+    let R : NewDuty → Type 0 = λ d. HasMailbox d.endpoint t.duties.mailboxes in
+    let matched = subst (λ (s : RuleSet). AreMatched bus (rules_of bus s) event entry.targets.items) same (taken_matched set bus event seen rest entry is_seen cut) in
+    let fit = matched_fits bus t.set event entry.targets.items sound matched in
+    let there : (s : SeenTarget) → P s → Q s = λ s p. subst (λ (arn : List ℕ). HasMailbox arn t.duties.mailboxes) (sym p.1) (consistent.queues p.0 p.2) in (
+      omega (arith, fit.0, ap length owed, length-map entry.targets.items (duty_of text)),
+      subst (All R) (sym owed) (All-map R (duty_of text) entry.targets.items (All-weaker P Q there entry.targets.items fit.1)),
+    )
 
 -- ---- the events of a request
 

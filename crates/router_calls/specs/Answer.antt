@@ -13,7 +13,7 @@ use Rattle.router_core.specs.Reply.{Reply, served, not_built}
 use Rattle.router_core.specs.Reply as reply_texts
 use Rattle.router_core.specs.Batch as batch
 use Rattle.router_core.specs.Tables.{Tables, is_full}
-use Rattle.router_core.specs.Matching as matching
+use Rattle.router_calls.specs.Accepted.{AreAccepted, HasFaulty, total_size}
 
 -- the batch that is written, if one is, and the reply
 pub record Answer : Type 0 where
@@ -50,10 +50,10 @@ told_events events = served ((codes "FailedEntryCount", number (codes "0")) ∷ 
 -- PutEvents: entries that are small enough together and have no fault are all accepted, numbered on from the last event
 abbrev pub IsPublished : Tables → ℕ → ℕ → List Entry → Answer → Type 0
 IsPublished t moment reading entries a =
-    ((events : List batch.Accepted) × (matching.total_size entries ≤ 262144)
-    × matching.AreAccepted t.set reading (t.events + 1) entries events
+    ((events : List batch.Accepted) × (total_size entries ≤ 262144)
+    × AreAccepted t.set reading (t.events + 1) entries events
     × (a ≡ writes t moment (map batch.accepted events) (told_events events)))
-    ⊎ (((262144 < matching.total_size entries) ⊎ matching.HasFaulty entries) × (a ≡ tells not_built))
+    ⊎ (((262144 < total_size entries) ⊎ HasFaulty entries) × (a ≡ tells not_built))
 
 abbrev pub told_message : QueueMessage → Tree
 told_message m = object (members_of (

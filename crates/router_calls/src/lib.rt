@@ -1,8 +1,12 @@
 //! The router machine: a request is answered by a change of the tables and a reply.
 #![tactic(auto)]
 
-mod events;
-mod peek;
+mod configure;
+mod create_queue;
+mod peek_messages;
+mod put_events;
+mod put_rule;
+mod put_targets;
 mod reply;
 mod requests;
 #[cfg(test)]

@@ -182,7 +182,7 @@ fn deliver_next(tables: &mut Tables, moment: u64) -> Option<Outcome> {
     if tables.full() || tables.moment() > moment || moment > 250_000_000_000 {
         return None;
     }
-    let claim = tables.claim_next(moment)?;
+    let claim = tables.claim(moment)?;
     Some(tables.record(claim, moment))
 }
 

@@ -1,14 +1,18 @@
-//! The router's tables: a batch of changes leads from tables to tables; requests, replies and delivery steps.
+//! The router's tables: a batch of changes leads from tables to tables; requests, replies, matching and delivery steps.
 #![tactic(auto)]
 
+mod matching;
 mod ready;
 mod reply;
 mod request;
+mod seen;
 mod tables;
 #[cfg(test)]
 mod tests;
 
+pub use matching::{duties_of, see_plain_event};
 pub use ready::{AcceptedEvent, Change, Ready};
 pub use reply::{Reply, not_built, number_limit, unknown_operation};
 pub use request::{Action, Request};
+pub use seen::{Seen, SeenEntries, SeenEntry, SeenTarget, SeenTargets};
 pub use tables::Tables;

@@ -143,7 +143,7 @@ impl Tables {
     }
 
     /// Claims the duty that is due first. No batch records it.
-    pub fn claim_next(&mut self, moment: u64) -> Option<Claim>
+    pub fn claim(&mut self, moment: u64) -> Option<Claim>
         ensures some { IfSome result (λ c. IsNext self.old.duties moment c.number × IsOut c.number self.new.duties × (self.new ≡ claiming c.number self.old)) }
         ensures none { IfNone result (NoneDue self.old.duties moment × (self.new ≡ self.old)) }
     {

@@ -2,12 +2,13 @@ ghost use Rattle.std.specs.Prelude.{◌≡◌, IfOk, codes};
 ghost use Rattle.event_shape.specs.Names as arns;
 
 use crate::{
-    AcceptedEvent, Change, Ready, Reply, Tables, not_built, number_limit, unknown_operation,
+    AcceptedEvent, Change, Ready, Reply, SeenTarget, SeenTargets, Tables, duties_of, not_built,
+    number_limit, see_plain_event, unknown_operation,
 };
 use delivery_duties::{NewDuties, NewDuty, NewMailbox, Outcome};
-use event_shape::queue_arn;
+use event_shape::{DEFAULT_BUS, Event, EventEntry, OWNER, check, queue_arn};
 use json_text::{Bytes, NoMemory, Text, write};
-use rule_table::Control;
+use rule_table::{Control, RuleSet, Target};
 use std::alloc::Global;
 use std::collections::VecDeque;
 use std::test::Fail;
@@ -83,7 +84,7 @@ fn with_duty(alloc: Global) -> Result<Tables, Fail> {
 
 /// Claims the next duty, and gives it back; answers its number.
 fn next_due(tables: &mut Tables, moment: u64) -> Option<u64> {
-    let claim = tables.claim_next(moment)?;
+    let claim = tables.claim(moment)?;
     let number = claim.number;
     tables.put_back(claim);
     Some(number)
@@ -94,7 +95,7 @@ fn attempt_next(tables: &mut Tables, moment: u64) -> Option<(u64, Outcome)> {
     if tables.full() || tables.moment() > moment || moment > 250_000_000_000 {
         return None;
     }
-    let claim = tables.claim_next(moment)?;
+    let claim = tables.claim(moment)?;
     let number = claim.number;
     Some((number, tables.record(claim, moment)))
 }
@@ -157,7 +158,7 @@ fn written(alloc: Global, reply: Reply) -> Result<Bytes, Fail> {
 }
 
 #[test]
-fn refusals(rt: HostRuntime) -> Result<(), Fail> {
+fn each_refusal_has_its_status_and_its_text(rt: HostRuntime) -> Result<(), Fail> {
     let alloc = rt.alloc();
     let rows = [
         (
@@ -178,5 +179,127 @@ fn refusals(rt: HostRuntime) -> Result<(), Fail> {
         let out = written(alloc, reply)?;
         assert_eq!(rt; out.as_slice(), body.as_bytes());
     }
+    Ok(())
+}
+
+/// The rule set with the change made.
+fn changed(alloc: Global, set: RuleSet, control: Control) -> Result<RuleSet, Fail> {
+    if set.control_count() > 100 {
+        return Err(Fail::from("too many changes"));
+    }
+    match set.apply(alloc, &control) {
+        Ok(set) => Ok(set),
+        Err(_) => Err(Fail::from("a change is refused")),
+    }
+}
+
+/// The rule set with a rule, which has two targets, `t` and `s`.
+fn with_rule(
+    alloc: Global,
+    set: RuleSet,
+    name: &str,
+    pattern: &str,
+    enabled: bool,
+) -> Result<RuleSet, Fail> {
+    let rule = Control::RulePut {
+        bus: Text::from_str(alloc, DEFAULT_BUS)?,
+        name: Text::from_str(alloc, name)?,
+        pattern: Text::from_str(alloc, pattern)?,
+        enabled,
+    };
+    let set = changed(alloc, set, rule)?;
+    let mut targets = Vec::new(alloc);
+    for id in ["t", "s"] {
+        targets.push(Target {
+            id: Text::from_str(alloc, id)?,
+            arn: queue_arn(alloc, "q")?,
+        })?;
+    }
+    let put = Control::TargetsPut {
+        bus: Text::from_str(alloc, DEFAULT_BUS)?,
+        rule: Text::from_str(alloc, name)?,
+        targets,
+    };
+    changed(alloc, set, put)
+}
+
+/// Rules of which `a` is not enabled, `b` asks for the source, `c` for a text in a list of the detail, `d` for another source
+/// and `e` for a replay's name.
+fn rules(alloc: Global) -> Result<RuleSet, Fail> {
+    let queue = Control::QueueMade {
+        name: Text::from_str(alloc, "q")?,
+    };
+    let set = changed(alloc, RuleSet::first(alloc)?, queue)?;
+    let shop = "{\"source\":[\"shop\"]}";
+    let set = with_rule(alloc, set, "e", "{\"replay-name\":[\"p\"]}", true)?;
+    let set = with_rule(alloc, set, "d", "{\"source\":[\"other\"]}", true)?;
+    let set = with_rule(alloc, set, "c", "{\"detail\":{\"a\":[\"1\"]}}", true)?;
+    let set = with_rule(alloc, set, "b", shop, true)?;
+    with_rule(alloc, set, "a", shop, false)
+}
+
+fn event(alloc: Global) -> Result<Event, Fail> {
+    let entry = EventEntry {
+        time: None,
+        source: Some(Text::from_str(alloc, "shop")?),
+        resources: Vec::new(alloc),
+        detail_type: Some(Text::from_str(alloc, "Order")?),
+        detail: Some(Text::from_str(alloc, "{\"a\":[\"0\",\"1\"]}")?),
+        bus: None,
+    };
+    match check(alloc, entry) {
+        Ok(checked) => Ok(Event::make(alloc, checked, 1, 1000, OWNER)?),
+        Err(_) => Err(Fail::from("the entry has a fault")),
+    }
+}
+
+/// The targets that the rules of the bus have for the event.
+fn targets_seen(alloc: Global, bus: &str, replay: Option<&str>) -> Result<SeenTargets, Fail> {
+    let mut seen = see_plain_event(alloc, &rules(alloc)?, bus, &event(alloc)?, replay)?;
+    if seen.k != 11 {
+        return Err(Fail::from("eleven changes made the rule set"));
+    }
+    match seen.entries.pop() {
+        Some(entry) => Ok(entry.targets),
+        None => Err(Fail::from("nothing is seen of the event")),
+    }
+}
+
+/// The ARN of each target's rule, and the target's id, in order.
+fn listed(alloc: Global, targets: &SeenTargets) -> Result<String, Fail> {
+    let mut listed = String::new(alloc);
+    for target in targets {
+        let SeenTarget { rule_arn, target } = target;
+        let part = format!(in alloc; "{} {};", rule_arn.as_str(), target.id.as_str())?;
+        listed.push_str(&part)?;
+    }
+    Ok(listed)
+}
+
+#[test]
+fn the_targets_of_the_rules_that_match_are_seen(rt: HostRuntime) -> Result<(), Fail> {
+    let alloc = rt.alloc();
+    let new =
+        "arn:aws:events:us-east-1:111122223333:rule/b s;arn:aws:events:us-east-1:111122223333:rule/b t;arn:aws:events:us-east-1:111122223333:rule/c s;arn:aws:events:us-east-1:111122223333:rule/c t;";
+    let more =
+        "arn:aws:events:us-east-1:111122223333:rule/e s;arn:aws:events:us-east-1:111122223333:rule/e t;";
+    let replayed = format!(in alloc; "{new}{more}")?;
+    for (bus, replay, want) in [
+        (DEFAULT_BUS, None, new),
+        (DEFAULT_BUS, Some("p"), replayed.as_str()),
+        (DEFAULT_BUS, Some("q"), new),
+        ("no bus", None, ""),
+    ] {
+        let targets = targets_seen(alloc, bus, replay)?;
+        assert_eq!(rt; listed(alloc, &targets)?.as_str(), want, "on {bus}");
+    }
+    Ok(())
+}
+
+#[test]
+fn each_target_is_owed_one_duty(rt: HostRuntime) -> Result<(), Fail> {
+    let alloc = rt.alloc();
+    let targets = targets_seen(alloc, DEFAULT_BUS, None)?;
+    assert_eq!(rt; duties_of(alloc, targets, "{}")?.len(), 4);
     Ok(())
 }

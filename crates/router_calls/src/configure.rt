@@ -1,0 +1,45 @@
+//! Changes of the configuration.
+ghost use Rattle.std.specs.Prelude.{◌≤◌, IfOk, IfSome};
+ghost use Rattle.json_text.specs.Moment.{IsMoment};
+ghost use Rattle.rule_table.specs.Seen.{control_of};
+ghost use Rattle.router_core.specs.Seen.{reply_of};
+ghost use Rattle.router_core.specs.Ready.{HasPlace, IsReadyAt};
+ghost use Rattle.router_calls.specs.Answer.{IsControlled};
+ghost use Rattle.router_calls.specs.Decided.{answer_of};
+
+use delivery_duties::NewMailbox;
+use json_text::NoMemory;
+use router_core::{Change, Ready, Reply, Tables, not_built, number_limit};
+use rule_table::{Control, ControlFault};
+use std::alloc::Global;
+
+/// A change of the configuration, where it is accepted and numbered.
+pub(crate) fn configure(
+    alloc: Global,
+    tables: &Tables,
+    moment: u64,
+    control: Control,
+    mailbox: Option<NewMailbox>,
+    reply: Reply,
+) -> Result<(Option<Ready>, Reply), NoMemory>
+    requires moment { IsMoment moment }
+    requires later { tables.now.moment ≤ moment }
+    requires place { HasPlace (control_of control) mailbox }
+    ensures answer { IfOk result (λ p. IsControlled tables.now moment (control_of control) (reply_of reply) (answer_of p)) }
+    ensures ready { IfOk result (λ p. IfSome p.0 (λ r. IsReadyAt tables.now r)) }
+{
+    let full = tables.full();
+    match tables.set().apply(alloc, &control) {
+        Ok(_) if full => Ok((None, number_limit(alloc)?)),
+        Ok(set) => {
+            let change = Change::Configuration {
+                control,
+                set,
+                mailbox,
+            };
+            Ok((Some(Ready { moment, change }), reply))
+        }
+        Err(ControlFault::NotBuilt) => Ok((None, not_built(alloc)?)),
+        Err(ControlFault::NoMemory) => Err(NoMemory),
+    }
+}

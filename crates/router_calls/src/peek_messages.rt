@@ -1,0 +1,64 @@
+//! PeekMessages.
+ghost use Rattle.std.specs.Prelude.{◌≡◌, IfOk, None, map, codes};
+ghost use Rattle.json_text.specs.Tree.{object, members_of};
+ghost use Rattle.json_text.specs.View.{tree_of, trees_of};
+ghost use Rattle.router_core.specs.Seen.{reply_of};
+ghost use Rattle.router_calls.specs.Answer.{peeked, told_message, told_messages};
+ghost use Rattle.router_calls.specs.Decided.{answer_of};
+
+use crate::reply::{number_json, push_member};
+use delivery_duties::QueueMessage;
+use json_text::{Items, Json, Members, NoMemory};
+use router_core::{Ready, Reply, Tables, not_built};
+use std::alloc::Global;
+
+/// How many messages are peeked at.
+const PEEKED: usize = 10;
+
+pub(crate) fn peek_messages(
+    alloc: Global,
+    tables: &Tables,
+    queue: &str,
+) -> Result<(Option<Ready>, Reply), NoMemory>
+    ensures answer { IfOk result (λ p. answer_of p ≡ peeked tables.now queue.now) }
+    ensures ready { IfOk result (λ p. p.0 ≡ None) }
+{
+    if !tables.set().queue(queue) {
+        return Ok((None, not_built(alloc)?));
+    }
+    let messages = tables.duties().peek(alloc, queue, PEEKED)?;
+    Ok((None, messages_reply(alloc, messages)?))
+}
+
+/// The messages, oldest first.
+fn messages_reply(alloc: Global, messages: Vec<QueueMessage>) -> Result<Reply, NoMemory>
+    ensures { IfOk result (λ r. reply_of r ≡ told_messages messages.items) }
+{
+    let mut items: Items = Vec::with_capacity(alloc, messages.len())?;
+    for message in messages {
+        items.push(message_json(alloc, message)?)?;
+    }
+    let mut members: Members = Vec::with_capacity(alloc, 1)?;
+    push_member(alloc, &mut members, "Messages", Json::List(items))?;
+    Ok(Reply {
+        status: 200,
+        body: Json::Obj(members),
+    })
+}
+
+fn message_json(alloc: Global, message: QueueMessage) -> Result<Json, NoMemory>
+    ensures { IfOk result (λ j. tree_of j ≡ told_message message) }
+{
+    let mut members: Members = Vec::with_capacity(alloc, 3)?;
+    let QueueMessage { number, body } = message;
+    let number = number_json(alloc, number)?;
+    push_member(alloc, &mut members, "Number", number)?;
+    push_member(alloc, &mut members, "Body", Json::Str(body))?;
+    push_member(
+        alloc,
+        &mut members,
+        "Attributes",
+        Json::Obj(Vec::new(alloc)),
+    )?;
+    Ok(Json::Obj(members))
+}

@@ -1,0 +1,148 @@
+//! PutEvents.
+ghost use Rattle.std.specs.Prelude.{◌≡◌, ◌≤◌, ◌+◌, ◌-◌, ◌^◌, min, length, map, IfOk, IfSome, IfNone, All};
+ghost use Rattle.json_text.specs.Moment.{IsMoment};
+ghost use Rattle.json_text.specs.View.{tree_of};
+ghost use Rattle.event_shape.specs.Entry.{entry_of};
+ghost use Rattle.delivery_duties.specs.Duties.{HasMailbox};
+ghost use Rattle.router_core.specs.Ready.{accepted_of, AreDeliverable, IsReadyAt};
+ghost use Rattle.router_core.specs.Seen.{reply_of};
+ghost use Rattle.router_calls.specs.Accepted.{total_size, IsAcceptedAs, AreAccepted, HasFaulty};
+ghost use Rattle.router_calls.specs.Answer.{IsPublished, told_event, told_events};
+ghost use Rattle.router_calls.specs.Decided.{answer_of};
+
+use crate::reply::{list_reply, push_member};
+use crate::requests::read_tables;
+use event_shape::{CheckFault, Checked, Event, EventEntry, OWNER, check, event_id, size};
+use json_text::{Items, Json, Members, NoMemory, Text};
+use router_core::{
+    AcceptedEvent, Change, Ready, Reply, Seen, Tables, duties_of, not_built, number_limit,
+    see_plain_event,
+};
+use std::alloc::Global;
+use std::collections::VecDeque;
+
+/// How many bytes the entries of one request may have together.
+const SIZE_LIMIT: u64 = 262_144;
+
+/// Accepts all entries, or none.
+pub(crate) fn put_events(
+    alloc: Global,
+    tables: &Tables,
+    moment: u64,
+    reading: u64,
+    entries: Vec<EventEntry>,
+) -> Result<(Option<Ready>, Reply), NoMemory>
+    requires reading { IsMoment reading }
+    requires moment { IsMoment moment }
+    requires later { tables.now.moment ≤ moment }
+    requires few { length entries.items ≤ 10 }
+    ensures answer { IfOk result (λ p. IsPublished tables.now moment reading (map entry_of entries.items) (answer_of p)) }
+    ensures ready { IfOk result (λ p. IfSome p.0 (λ r. IsReadyAt tables.now r)) }
+{
+    if total_len(&entries) > SIZE_LIMIT {
+        return Ok((None, not_built(alloc)?));
+    }
+    let Some(events) = accept_all(alloc, tables, reading, VecDeque::from(entries))? else {
+        return Ok((None, not_built(alloc)?));
+    };
+    if tables.full() {
+        return Ok((None, number_limit(alloc)?));
+    }
+    let reply = events_reply(alloc, &events)?;
+    let change = Change::Events(events);
+    Ok((Some(Ready { moment, change }), reply))
+}
+
+/// How many bytes the entries have together. A sum past the type's end stands at that end.
+fn total_len(entries: &[EventEntry]) -> u64
+    ensures { result ≡ min (total_size (map entry_of entries.now)) (2 ^ 64 - 1) }
+{
+    let mut total: u64 = 0;
+    for entry in entries {
+        total = total.saturating_add(size(entry));
+    }
+    total
+}
+
+/// The events of the entries, numbered on; none where an entry has a fault.
+fn accept_all(
+    alloc: Global,
+    tables: &Tables,
+    reading: u64,
+    mut entries: VecDeque<EventEntry>,
+) -> Result<Option<VecDeque<AcceptedEvent>>, NoMemory>
+    requires reading { IsMoment reading }
+    requires few { length entries.items ≤ 10 }
+    ensures accepted { IfOk result (λ found. IfSome found (λ events. AreAccepted tables.now.set reading (tables.now.events + 1) (map entry_of entries.items) (map accepted_of events.items))) }
+    ensures deliverable { IfOk result (λ found. IfSome found (λ events. AreDeliverable tables.now.duties.mailboxes events.items)) }
+    ensures faulty { IfOk result (λ found. IfNone found (HasFaulty (map entry_of entries.items))) }
+{
+    read_tables(tables);
+    let mut events = VecDeque::with_capacity(alloc, entries.len())?;
+    let mut number = tables.events();
+    while let Some(entry) = entries.pop_front() {
+        number += 1;
+        match check(alloc, entry) {
+            Ok(checked) => {
+                let event = accept(alloc, tables, checked, number, reading)?;
+                events.push_back(event)?;
+            }
+            Err(CheckFault::Entry(_fault)) => return Ok(None),
+            Err(CheckFault::NoMemory) => return Err(NoMemory),
+        }
+    }
+    Ok(Some(events))
+}
+
+/// The event of an entry without a fault, with its duties.
+fn accept(
+    alloc: Global,
+    tables: &Tables,
+    checked: Checked,
+    number: u64,
+    reading: u64,
+) -> Result<AcceptedEvent, NoMemory>
+    requires reading { IsMoment reading }
+    ensures accepted { IfOk result (λ e. IsAcceptedAs tables.now.set reading number checked (accepted_of e)) }
+    ensures few { IfOk result (λ e. length e.duties ≤ 1500) }
+    ensures there { IfOk result (λ e. All (λ d. HasMailbox d.endpoint tables.now.duties.mailboxes) e.duties) }
+{
+    read_tables(tables);
+    let bus = Text::from_str(alloc, checked.bus())?;
+    let event = Event::make(alloc, checked, number, reading, OWNER)?;
+    let seen = see_plain_event(alloc, tables.set(), bus.as_str(), &event, None)?;
+    let text = event.text(alloc, None)?;
+    let Seen { k, mut entries } = seen;
+    let Some(entry) = entries.pop() else {
+        unreachable!();
+    };
+    let duties = duties_of(alloc, entry.targets, text.as_str())?;
+    Ok(AcceptedEvent {
+        number,
+        bus,
+        version: k,
+        time: event.moment(),
+        text,
+        duties,
+    })
+}
+
+/// The ids of the events.
+fn events_reply(alloc: Global, events: &VecDeque<AcceptedEvent>) -> Result<Reply, NoMemory>
+    ensures { IfOk result (λ r. reply_of r ≡ told_events (map accepted_of events.now.items)) }
+{
+    let mut items: Items = Vec::with_capacity(alloc, events.len())?;
+    for event in events {
+        items.push(event_json(alloc, event)?)?;
+    }
+    list_reply(alloc, "Entries", items)
+}
+
+fn event_json(alloc: Global, event: &AcceptedEvent) -> Result<Json, NoMemory>
+    ensures { IfOk result (λ j. tree_of j ≡ told_event (accepted_of event.now)) }
+{
+    let id = event_id(alloc, event.number)?;
+    let mut members: Members = Vec::with_capacity(alloc, 1)?;
+    push_member(alloc, &mut members, "EventId", Json::Str(id))?;
+    Ok(Json::Obj(members))
+}

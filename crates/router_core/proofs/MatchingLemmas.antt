@@ -1,0 +1,117 @@
+-- The targets of the rules that match an event. Callers cite `one_pattern`, `matched_more`, `matched_same`, `rules_grown`,
+-- `matched_of_bus`, and `matched_fits`: they are few, and their queues are there.
+use Rattle.std.proofs.Common.{◌≡◌, ℕ, ◌+◌, ◌*◌, ◌<◌, ◌≤◌, ◌⊎◌, inl, inr, true, false, cond, List, [], ◌∷◌, ◌++◌, length, map, take, get_or, Option, Some, None, sym, refl, ap, ◌∙◌, subst, arith, append_assoc, length-append}
+use Rattle.std.specs.Prelude.{All, bytes_eq}
+use Rattle.std.specs.declared.sync.Arc.{Arc}
+use Rattle.std.specs.Arc.{arc_value}
+use Rattle.std.proofs.lemmas.List.{append-nil, length-map, take_more, map-append}
+use Rattle.std.proofs.lemmas.List.Elements.{All-nil, All-head, All-tail, All-append, All-map}
+use Rattle.json_text.proofs.ReadLemmas.{is_only}
+use Rattle.json_text.proofs.SpelledRead.{spelled_read}
+use Rattle.json_text.specs.Tree.{Tree}
+use Rattle.json_text.specs.Node.{Node, value_of}
+use Rattle.pattern_meaning.specs.Pattern.{Pattern}
+use Rattle.pattern_read.specs.Text.{IsPatternText, pattern_at}
+use Rattle.pattern_read.proofs.ReadLemmas.{stands}
+use Rattle.rule_table.specs.declared.control.Target.{Target}
+use Rattle.rule_table.specs.RuleSet.{Rule, Bus, RuleSet, IsSound, IsQueueThere, named, rules_of, rules_in}
+use Rattle.router_core.specs.declared.seen.SeenTarget.{SeenTarget}
+use Rattle.router_core.specs.Matching.{Matches, seen_target, AreMatched}
+
+-- a text is one pattern only
+pub one_pattern : {text : List ℕ} {p q : Pattern} → IsPatternText text p → IsPatternText text q → p ≡ q
+one_pattern {text} {p} {q} a b =
+    let same : a.node ≡ b.node = is_only 100 text a.node b.node (spelled_read 100 text a.node a.spelled) b.spelled in
+    stands (pattern_at (value_of a.node)) p q a.stands_for (ap (λ (n : Node). pattern_at (value_of n)) same ∙ b.stands_for)
+
+one_more : (bus : List ℕ) (rules : List Rule) (rule : Rule) (event : Tree) (targets more : List SeenTarget) → AreMatched bus rules event targets
+    → (Matches rule event × (more ≡ map (seen_target bus rule) rule.targets)) ⊎ ((¬ Matches rule event) × (more ≡ []))
+    → AreMatched bus (rules ++ rule ∷ []) event (targets ++ more)
+one_more bus [] rule event targets more none step =
+    let alone : targets ++ more ≡ more = ap (λ (ts : List SeenTarget). ts ++ more) none in
+    elim step [
+      | inl (m, e) ↦ ([], refl, inl (m, alone ∙ e ∙ sym (append-nil (map (seen_target bus rule) rule.targets))))
+      | inr (n, e) ↦ ([], refl, inr (n, alone ∙ e))
+    ]
+one_more bus (r ∷ rules) rule event targets more (rest, are, which) step = (
+  rest ++ more,
+  one_more bus rules rule event rest more are step,
+  elim which [
+    | inl (m, e) ↦ inl (m, ap (λ (ts : List SeenTarget). ts ++ more) e ∙ append_assoc (map (seen_target bus r) r.targets) rest more)
+    | inr (n, e) ↦ inr (n, ap (λ (ts : List SeenTarget). ts ++ more) e)
+  ],
+)
+
+-- with a further rule that matches
+pub matched_more : (bus : List ℕ) (rules : List Rule) (rule : Rule) (event : Tree) (targets new : List SeenTarget) → AreMatched bus rules event targets
+    → Matches rule event → new ≡ targets ++ map (seen_target bus rule) rule.targets → AreMatched bus (rules ++ rule ∷ []) event new
+matched_more bus rules rule event targets new are m e =
+    subst (AreMatched bus (rules ++ rule ∷ []) event) (sym e) (one_more bus rules rule event targets (map (seen_target bus rule) rule.targets) are (inl (m, refl)))
+
+-- with a further rule that does not match
+pub matched_same : (bus : List ℕ) (rules : List Rule) (rule : Rule) (event : Tree) (targets new : List SeenTarget) → AreMatched bus rules event targets
+    → ¬ Matches rule event → new ≡ targets → AreMatched bus (rules ++ rule ∷ []) event new
+matched_same bus rules rule event targets new are n e =
+    subst (AreMatched bus (rules ++ rule ∷ []) event) (append-nil targets ∙ sym e) (one_more bus rules rule event targets [] are (inr (n, refl)))
+
+-- one rule more of the code's list
+pub rules_grown : {Z : Type 0} (rules : List (Arc Rule Z)) (i : ℕ) (d : Arc Rule Z) (rule : Rule) → i < length rules → d ≡ get_or rules i d → rule ≡ arc_value d
+    → map arc_value (take (i + 1) rules) ≡ map arc_value (take i rules) ++ rule ∷ []
+rules_grown rules i d rule within is value =
+    ap (map (arc_value {X = Rule})) (take_more rules i d within)
+    ∙ map-append (arc_value {X = Rule}) (take i rules) (get_or rules i d ∷ [])
+    ∙ ap (λ (r : Rule). map (arc_value {X = Rule}) (take i rules) ++ r ∷ []) (sym (value ∙ ap (arc_value {X = Rule}) is))
+
+-- what all the rules of the bus have
+pub matched_of_bus : (bus : List ℕ) (set : RuleSet) (found : Bus) (rules : List Rule) (event : Tree) (targets : List SeenTarget)
+    → named (λ (b : Bus). b.name) bus set.buses ≡ Some found → rules ≡ found.rules → AreMatched bus rules event targets → AreMatched bus (rules_of bus set) event targets
+matched_of_bus bus set found rules event targets e same are =
+    subst (λ (rs : List Rule). AreMatched bus rs event targets) (same ∙ sym (ap rules_in e)) are
+
+-- the row that is found is one of the rows
+named_all : {A : Type 0} (P : A → Type 0) (f : A → List ℕ) (name : List ℕ) (rows : List A) (row : A) → All P rows → named f name rows ≡ Some row → P row
+named_all P f name [] row all e = cc
+named_all P f name (r ∷ rows) row all e =
+    (elim (bytes_eq (f r) name) as (λ b. cond b (Some r) (named f name rows) ≡ Some row → P row) [
+      | true ↦ λ g. let same : r ≡ row = cc in subst P same (All-head P r rows all)
+      | false ↦ λ g. named_all P f name rows row (All-tail P r rows all) g
+    ]) e
+
+-- a rule of a rule set has at most five targets, all of them queues that are there
+abbrev Fits : RuleSet → Rule → Type 0
+Fits set rule = (length rule.targets ≤ 5) × All (λ (t : Target). IsQueueThere set t.arn) rule.targets
+
+fits_all : (set : RuleSet) (bus : List ℕ) (rules : List Rule) (event : Tree) (targets : List SeenTarget) → All (Fits set) rules → AreMatched bus rules event targets
+    → (length targets ≤ 5 * length rules) × All (λ (t : SeenTarget). IsQueueThere set t.target.arn) targets
+fits_all set bus [] event targets all none = (
+  omega (arith, ap length none),
+  subst (All (λ (t : SeenTarget). IsQueueThere set t.target.arn)) (sym none) (All-nil (λ (t : SeenTarget). IsQueueThere set t.target.arn)),
+)
+fits_all set bus (rule ∷ rules) event targets all (rest, are, which) =
+    let P : SeenTarget → Type 0 = λ t. IsQueueThere set t.target.arn in
+    let own = All-head (Fits set) rule rules all in
+    let others = fits_all set bus rules event rest (All-tail (Fits set) rule rules all) are in
+    let more = map (seen_target bus rule) rule.targets in
+    elim which [
+      | inl (m, e) ↦ (
+        omega (arith, others.0, own.0, ap length e, length-append more rest, length-map rule.targets (seen_target bus rule)),
+        subst (All P) (sym e) (All-append P more rest (All-map P (seen_target bus rule) rule.targets own.1) others.1),
+      )
+      | inr (n, e) ↦ (omega (arith, others.0, ap length e), subst (All P) (sym e) others.1)
+    ]
+
+-- an event has at most 1,500 targets, all of them queues that are there
+pub matched_fits : (bus : List ℕ) (set : RuleSet) (event : Tree) (targets : List SeenTarget) → IsSound set → AreMatched bus (rules_of bus set) event targets
+    → (length targets ≤ 1500) × All (λ (t : SeenTarget). IsQueueThere set t.target.arn) targets
+matched_fits bus set event targets sound =
+    by_bus (named (λ (b : Bus). b.name) bus set.buses) refl
+  where
+    by_bus : (o : Option Bus) → named (λ (b : Bus). b.name) bus set.buses ≡ o → AreMatched bus (rules_in o) event targets
+        → (length targets ≤ 1500) × All (λ (t : SeenTarget). IsQueueThere set t.target.arn) targets
+    by_bus None e are =
+        let fit = fits_all set bus [] event targets (All-nil (Fits set)) are in
+        (omega (arith, fit.0), fit.1)
+    by_bus (Some b) e are =
+        let few = named_all (λ (b : Bus). length b.rules ≤ 300) (λ (b : Bus). b.name) bus set.buses b sound.rules e in
+        let fit = fits_all set bus b.rules event targets (named_all (λ (b : Bus). All (Fits set) b.rules) (λ (b : Bus). b.name) bus set.buses b sound.targets e) are in
+        (omega (arith, fit.0, few), fit.1)

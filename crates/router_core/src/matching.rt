@@ -1,0 +1,129 @@
+//! Which rules match an event, and which duties it makes.
+ghost use Rattle.std.specs.Prelude.{◌≡◌, ◌++◌, map, IsTrue, IsFalse, IfOk, OnOk};
+ghost use Rattle.std.specs.Option.{option_copied};
+ghost use Rattle.json_text.specs.View.{tree_of};
+ghost use Rattle.json_text.specs.Compact.{IsValue};
+ghost use Rattle.event_shape.specs.Event.{event_tree};
+ghost use Rattle.rule_table.specs.RuleSet.{rules_of};
+ghost use Rattle.router_core.specs.Matching.{Matches, seen_target, AreMatched, IsSeen, duty_of};
+
+use crate::seen::{Seen, SeenEntry, SeenTarget, SeenTargets};
+use delivery_duties::{NewDuties, NewDuty};
+use event_shape::{Event, rule_arn};
+use json_text::{Json, NoMemory, Text};
+use pattern_meaning::plain_holds;
+use rule_table::{Rule, RuleSet, Target};
+use std::alloc::Global;
+use std::collections::VecDeque;
+
+/// How many bytes a target gets at most.
+const TEXT_LIMIT: usize = 1_048_576;
+
+/// How often a delivery is tried again by default, and how old its event may become, in seconds.
+const ATTEMPTS: u16 = 185;
+
+const AGE: u32 = 86_400;
+
+/// What is seen of one event: each rule of its bus is asked in turn. A replayed event has the replay's name.
+pub fn see_plain_event(
+    alloc: Global,
+    set: &RuleSet,
+    bus: &str,
+    event: &Event,
+    replay: Option<&str>,
+) -> Result<Seen, NoMemory>
+    ensures { IfOk result (λ seen. IsSeen set.now bus.now (event_tree event.now (option_copied replay.entry)) seen) }
+{
+    let tree = event.tree(alloc, replay)?;
+    let targets = matched(alloc, set, bus, &tree)?;
+    let mut entries = Vec::with_capacity(alloc, 1)?;
+    entries.push(SeenEntry { targets })?;
+    Ok(Seen {
+        k: set.control_count(),
+        entries,
+    })
+}
+
+/// The targets of the rules that match.
+fn matched(alloc: Global, set: &RuleSet, bus: &str, event: &Json) -> Result<SeenTargets, NoMemory>
+    requires { IsValue (tree_of event.now) }
+    ensures { IfOk result (λ targets. AreMatched bus.now (rules_of bus.now set.now) (tree_of event.now) targets.items) }
+{
+    let mut targets = VecDeque::new(alloc);
+    let Some(found) = set.bus(bus) else {
+        return Ok(targets);
+    };
+    for rule in found.rules() {
+        let rule: &Rule = rule;
+        if matches(rule, event) {
+            push_targets(alloc, bus, rule, &mut targets)?;
+        }
+    }
+    Ok(targets)
+}
+
+/// Whether the rule is enabled and its pattern holds of the event.
+fn matches(rule: &Rule, event: &Json) -> bool
+    requires { IsValue (tree_of event.now) }
+    ensures yes { IsTrue result → Matches rule.now (tree_of event.now) }
+    ensures not { IsFalse result → ¬ Matches rule.now (tree_of event.now) }
+{
+    rule.is_enabled() && plain_holds(rule.pattern(), event)
+}
+
+/// Puts the rule's targets at the end.
+fn push_targets(
+    alloc: Global,
+    bus: &str,
+    rule: &Rule,
+    targets: &mut SeenTargets,
+) -> Result<(), NoMemory>
+    ensures { OnOk result (targets.new.items ≡ targets.old.items ++ map (seen_target bus.now rule.now) rule.now.targets) }
+{
+    for target in rule.targets() {
+        targets.push_back(seen_target(alloc, bus, rule, target)?)?;
+    }
+    Ok(())
+}
+
+fn seen_target(
+    alloc: Global,
+    bus: &str,
+    rule: &Rule,
+    target: &Target,
+) -> Result<SeenTarget, NoMemory>
+    ensures { IfOk result (λ seen. seen ≡ seen_target bus.now rule.now target.now) }
+{
+    Ok(SeenTarget {
+        rule_arn: rule_arn(alloc, bus, rule.name())?,
+        target: target.copy(alloc)?,
+    })
+}
+
+/// One duty for each target, in their order. A text of more than 1,048,576 bytes is owed as `{}`.
+pub fn duties_of(alloc: Global, mut targets: SeenTargets, text: &str) -> Result<NewDuties, NoMemory>
+    ensures { IfOk result (λ duties. duties ≡ map (duty_of text.now) targets.items) }
+{
+    let mut duties = NewDuties::new(alloc);
+    while let Some(target) = targets.pop_front() {
+        duties.push(alloc, duty_of(alloc, target, text)?)?;
+    }
+    Ok(duties)
+}
+
+fn duty_of(alloc: Global, seen: SeenTarget, text: &str) -> Result<NewDuty, NoMemory>
+    ensures { IfOk result (λ duty. duty ≡ duty_of text.now seen) }
+{
+    let too_long = text.len() > TEXT_LIMIT;
+    let sent = if too_long { "{}" } else { text };
+    let SeenTarget { rule_arn, target } = seen;
+    Ok(NewDuty {
+        rule: rule_arn,
+        target: target.id,
+        endpoint: target.arn,
+        text: Text::from_str(alloc, sent)?,
+        attempts: ATTEMPTS,
+        age: AGE,
+        too_long,
+    })
+}
