@@ -1,11 +1,15 @@
 //! The router's guarded state: its tables, and the history of its turns.
-ghost use Rattle.std.specs.Prelude.{◌≡◌, ◌≢◌, ◌++◌, ◌∷◌, [], IfOk, OnErr};
+ghost use Rattle.std.specs.Prelude.{◌≡◌, ◌≢◌, ◌++◌, ◌∷◌, [], IfOk, IfSome, OnErr};
+ghost use Rattle.std.specs.Option.{option_map};
 ghost use Rattle.json_text.specs.Moment.{IsMoment};
 ghost use Rattle.router_core.specs.Request.{deliver_due};
 ghost use Rattle.router_core.specs.Seen.{action_of, request_of};
 ghost use Rattle.router_core.specs.Tables.{first_tables};
+ghost use Rattle.router_core.specs.Ready.{batch_of, IsReadyAt};
+ghost use Rattle.router_calls.specs.Answer.{moment_at};
 ghost use Rattle.router_calls.specs.Decided.{IsBounded};
-ghost use Rattle.bus_server.specs.Book.{book_of};
+ghost use Rattle.bus_server.specs.Book.{ask_of, book_of};
+ghost use Rattle.bus_server.specs.History.{after_written};
 ghost use Rattle.bus_server.specs.Answered.{IsAnswered};
 ghost use Rattle.bus_server.specs.Steps.{StepOf};
 
@@ -14,7 +18,7 @@ use crate::text::reply_bytes;
 use delivery_duties::Outcome;
 use json_text::{Bytes, LAST_MOMENT, NoMemory};
 use router_calls::decide;
-use router_core::{Request, Tables};
+use router_core::{Ready, Request, Tables};
 use std::alloc::Global;
 use std::snapshot::Snapshot;
 
@@ -61,8 +65,21 @@ impl Book {
         ensures unchanged { OnErr result (book_of self.new ≡ book_of self.old) }
     {
         let ask = Ask::Asked(Snapshot::of(&request));
-        let (ready, reply) = decide(alloc, &self.tables, request)?;
+        let moment = turn_moment(&self.tables, request.reading);
+        let (ready, reply) = decide(alloc, &self.tables, request, moment)?;
         let bytes = reply_bytes(alloc, &reply, close)?;
+        self.enter(ask, ready);
+        Ok(bytes)
+    }
+
+    /// Makes what was made ready, if anything, and enters the turn.
+    fn enter(&mut self, ask: Ask, ready: Option<Ready>)
+        requires { IfSome ready (λ r. IsReadyAt self.old.tables r) }
+        ensures { book_of self.new ≡ record {
+          tables = after_written (option_map batch_of ready) (book_of self.old).tables;
+          turns = (book_of self.old).turns ++ record { ask = ask_of ask; batch = option_map batch_of ready } ∷ [];
+        } }
+    {
         match ready {
             Some(ready) => {
                 let written = Written::Change(Snapshot::of(&ready));
@@ -74,7 +91,6 @@ impl Book {
                 written: Written::Nothing,
             }),
         }
-        Ok(bytes)
     }
 
     /// One step of delivery at this reading of the clock.
@@ -82,7 +98,7 @@ impl Book {
         ensures { StepOf (book_of self.old) (book_of self.new) reading result }
     {
         let reading = reading.min(LAST_MOMENT);
-        let moment = reading.max(self.tables.moment());
+        let moment = turn_moment(&self.tables, reading);
         let full = self.tables.full();
         let claim = match self.tables.claim(moment) {
             Some(claim) => claim,
@@ -116,4 +132,11 @@ impl Book {
         });
         Step::Made(outcome)
     }
+}
+
+/// The moment of a turn at this reading of the clock.
+fn turn_moment(tables: &Tables, reading: u64) -> u64
+    ensures { result ≡ moment_at tables.now reading }
+{
+    reading.max(tables.moment())
 }

@@ -17,20 +17,22 @@ use json_text::NoMemory;
 use router_core::{Action, Ready, Reply, Request, Tables};
 use std::alloc::Global;
 
-/// What a request changes, if anything, and its reply. DeliverDue is answered by its steps.
+/// What a request changes at the moment of its turn, if anything, and its reply. DeliverDue is answered by its steps.
 pub fn decide(
     alloc: Global,
     tables: &Tables,
     request: Request,
+    moment: u64,
 ) -> Result<(Option<Ready>, Reply), NoMemory>
     requires reading { IsMoment request.reading }
+    requires at { moment ≡ moment_at tables.now request.reading }
     requires few { IsBounded (action_of request.action) }
     requires one_turn { action_of request.action ≢ deliver_due }
     ensures answer { IfOk result (λ p. IsAnswer tables.now (request_of request) (answer_of p)) }
     ensures ready { IfOk result (λ p. IfSome p.0 (λ r. IsReadyAt tables.now r)) }
 {
+    read_tables(tables);
     let Request { action, reading } = request;
-    let moment = turn_moment(tables, reading);
     match action {
         Action::CreateQueue { name } => create_queue(alloc, tables, moment, name),
         Action::PutRule { name, pattern } => put_rule(alloc, tables, moment, name, pattern),
@@ -39,16 +41,6 @@ pub fn decide(
         Action::PeekMessages { queue } => peek_messages(alloc, tables, queue.as_str()),
         Action::DeliverDue => unreachable!(),
     }
-}
-
-/// The moment of a turn.
-fn turn_moment(tables: &Tables, reading: u64) -> u64
-    requires { IsMoment reading }
-    ensures at { result ≡ moment_at tables.now reading }
-    ensures moment { IsMoment result }
-{
-    let _full = tables.full();
-    reading.max(tables.moment())
 }
 
 /// A contract knows what holds of all tables only where they are read.

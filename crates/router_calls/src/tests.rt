@@ -165,7 +165,8 @@ fn turn(alloc: Global, tables: &mut Tables, step: Step) -> Result<String, Fail> 
         action: action(alloc, step)?,
         reading: READING,
     };
-    let (ready, reply) = decide(alloc, tables, request)?;
+    let moment = request.reading.max(tables.moment());
+    let (ready, reply) = decide(alloc, tables, request, moment)?;
     if let Some(ready) = ready {
         tables.apply(ready);
     }
