@@ -3,6 +3,7 @@
 
 mod configure;
 mod create_queue;
+mod laws;
 mod peek_messages;
 mod put_events;
 mod put_rule;
@@ -12,4 +13,5 @@ mod requests;
 #[cfg(test)]
 mod tests;
 
+pub use laws::one_answer;
 pub use requests::decide;
