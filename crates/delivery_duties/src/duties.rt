@@ -216,12 +216,12 @@ impl Duties {
         &self,
         alloc: Global,
         queue: &str,
-        limit: usize,
+        limit: u32,
     ) -> Result<Vec<QueueMessage>, NoMemory>
         ensures { IfOk result (λ ms. ms.items ≡ take limit (spec.messages_of queue.now self.now.mailboxes)) }
     {
         match named(&self.mailboxes, queue) {
-            Some(mailbox) => mailbox.peek(alloc, limit),
+            Some(mailbox) => mailbox.peek(alloc, limit as usize),
             None => Ok(Vec::new(alloc)),
         }
     }

@@ -94,7 +94,7 @@ fn deliver_two(duties: &mut Duties, moment: u64) -> Option<(u64, u64)> {
 }
 
 /// The numbers and bodies of the messages that a peek shows, as one text.
-fn shown(alloc: Global, duties: &Duties, queue: &str, limit: usize) -> Result<String, Fail> {
+fn shown(alloc: Global, duties: &Duties, queue: &str, limit: u32) -> Result<String, Fail> {
     let mut shown = String::new(alloc);
     for message in &duties.peek(alloc, queue, limit)? {
         let part = format!(in alloc; "{}:{};", message.number, message.body.as_str())?;
@@ -113,7 +113,7 @@ fn counts(created: u64, pending: u64, delivered: u64, dropped: u64) -> Counts {
 }
 
 #[test]
-fn claims_and_fates(rt: HostRuntime) -> Result<(), Fail> {
+fn each_claim_ends_in_its_fate(rt: HostRuntime) -> Result<(), Fail> {
     let alloc = rt.alloc();
     let mut duties = queues(alloc)?;
     assert_eq!(rt; duties.counts(), counts(0, 0, 0, 0));
@@ -140,7 +140,7 @@ fn claims_and_fates(rt: HostRuntime) -> Result<(), Fail> {
 }
 
 #[test]
-fn messages_in_order(rt: HostRuntime) -> Result<(), Fail> {
+fn messages_stand_in_the_order_of_their_deliveries(rt: HostRuntime) -> Result<(), Fail> {
     let alloc = rt.alloc();
     let mut duties = queues(alloc)?;
     add_three(alloc, &mut duties, 1000)?;
@@ -168,7 +168,7 @@ fn messages_in_order(rt: HostRuntime) -> Result<(), Fail> {
 }
 
 #[test]
-fn batches(rt: HostRuntime) -> Result<(), Fail> {
+fn new_duties_tell_how_many_they_are(rt: HostRuntime) -> Result<(), Fail> {
     let alloc = rt.alloc();
     let mut batch = NewDuties::new(alloc);
     assert!(rt; batch.is_empty());

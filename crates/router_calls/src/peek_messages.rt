@@ -13,7 +13,7 @@ use router_core::{Ready, Reply, Tables, not_built};
 use std::alloc::Global;
 
 /// How many messages are peeked at.
-const PEEKED: usize = 10;
+const PEEKED: u32 = 10;
 
 pub(crate) fn peek_messages(
     alloc: Global,
