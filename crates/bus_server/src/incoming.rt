@@ -55,13 +55,9 @@ pub(crate) fn next_message<S: Source>(
             Err(WireFault::NoMemory) => return Incoming::Lack(Lack::NoMemory { head: true }),
         }
         // The room is made before the bytes are taken, so that no byte is lost.
-        match wire.reserve(piece.len()) {
-            Ok(()) => {}
-            Err(NoMemory) => {
-                return Incoming::Lack(Lack::NoMemory {
-                    head: wire.has_head(),
-                });
-            }
+        if let Err(NoMemory) = wire.reserve(piece.len()) {
+            let head = wire.has_head();
+            return Incoming::Lack(Lack::NoMemory { head });
         }
         match input.read(piece) {
             Ok(0) => return Incoming::Lack(lack_at_end(wire)),

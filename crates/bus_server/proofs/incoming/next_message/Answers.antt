@@ -38,8 +38,8 @@ returns-in-Err-clause-next g c =
     let awaited : IsAwaited c.loop-message.wire.rest × (c.next.new.self ≡ c.loop-message.wire) = search rules in
     let same : c.reserve.new.self.rest ≡ c.loop-message.wire.rest = c.reserve.ensures.rest ∙ ap (λ (w : Incoming). w.rest) awaited.1 in
     let still : IsAwaited c.reserve.new.self.rest = subst IsAwaited (sym same) awaited.0 in
-    starved _ _ c.args.wire.now.rest c.reserve.new.self.rest kept.0 c.has_head.result kept.1 (same ∙ kept.2) still
-    c.has_head.ensures.whole (λ no_head. c.has_head.ensures.none no_head still)
+    starved _ _ c.args.wire.now.rest c.reserve.new.self.rest kept.0 c.has_head-head.result kept.1 (same ∙ kept.2) still
+    c.has_head-head.ensures.whole (λ no_head. c.has_head-head.ensures.none no_head still)
 
 pub returns-in-Ok-eq0-clause-next : goal.returns-in-Ok-eq0-clause-next
 returns-in-Ok-eq0-clause-next g c =
@@ -56,10 +56,10 @@ loop-message-smaller g c =
     let awaited : IsAwaited c.loop-message.wire.rest × (c.next.new.self ≡ c.loop-message.wire) = search rules in
     let short = c.awaited_is_short.ensures c.loop-message.wire.rest awaited.0 in
     let same : c.reserve.new.self.rest ≡ c.loop-message.wire.rest = c.reserve.ensures.rest ∙ ap (λ (w : Incoming). w.rest) awaited.1 in
-    let longer_now : c.feed.new.self.rest ≡ c.reserve.new.self.rest ++ take c.in-Ok-read.count c.read.new.buf = c.in-Ok-feed.ensures.ok in
-    let within : c.in-Ok-read.count ≤ length c.read.new.buf = c.in-Ok-read.ensures.within.0 in
-    let read : ¬ (c.in-Ok-read.count ≡ 0) = c.in-Ok-read.count-test.1 in
-    let some : 0 < length (take c.in-Ok-read.count c.read.new.buf) = omega (arith, length-take c.in-Ok-read.count c.read.new.buf, within, read) in
+    let longer_now : c.feed.new.self.rest ≡ c.reserve.new.self.rest ++ take c.in-Ok.count c.read.new.buf = c.in-Ok-feed.ensures.ok in
+    let within : c.in-Ok.count ≤ length c.read.new.buf = c.in-Ok.ensures.within.0 in
+    let read : ¬ (c.in-Ok.count ≡ 0) = c.in-Ok.count-test.1 in
+    let some : 0 < length (take c.in-Ok.count c.read.new.buf) = omega (arith, length-take c.in-Ok.count c.read.new.buf, within, read) in
     let fact : 1064960 - length c.feed.new.self.rest < 1064960 - length c.loop-message.wire.rest =
-    omega (arith, ap length longer_now, ap length same, length-append c.reserve.new.self.rest (take c.in-Ok-read.count c.read.new.buf), short, some) in
+    omega (arith, ap length longer_now, ap length same, length-append c.reserve.new.self.rest (take c.in-Ok.count c.read.new.buf), short, some) in
     fact
