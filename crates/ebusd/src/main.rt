@@ -8,7 +8,7 @@ use std::process::ExitCode;
 use std::{env, io};
 
 fn main(rt: HostRuntime) -> io::Result<ExitCode> {
-    let words: Vec<String> = env::args(&rt)?.collect(rt.alloc())?;
+    let words = words(&rt)?;
     let mut input = ReaderSource::new(rt.stdin());
     let mut output = WriterSink::new(rt.stdout());
     let mut faults = WriterSink::new(rt.stderr());
@@ -25,4 +25,13 @@ fn main(rt: HostRuntime) -> io::Result<ExitCode> {
         &mut clock,
     );
     Ok(ExitCode::from(status.code()))
+}
+
+/// The process's words. Where one is not UTF-8 they are none of the program's lines, as no words are.
+fn words(rt: &HostRuntime) -> io::Result<Vec<String>> {
+    match env::args(rt) {
+        Ok(words) => Ok(words.collect(rt.alloc())?),
+        Err(fault) if fault.kind() == io::ErrorKind::InvalidData => Ok(Vec::new(rt.alloc())),
+        Err(fault) => Err(fault),
+    }
 }
