@@ -157,9 +157,6 @@ pub record IsReadSoFar {X : Type 0} (IsRead : Tree → X → Type 0) (all left :
   pub read : (rest : List X) → AreEach IsRead left rest → AreEach IsRead all (done ++ rest)
   pub only : (xs : List X) → AreEach IsRead all xs → (rest : List X) × (xs ≡ done ++ rest) × AreEach IsRead left rest
 
-pub none_read : {X : Type 0} (IsRead : Tree → X → Type 0) (all : Items) → IsReadSoFar IsRead all all []
-none_read IsRead all = record { read = λ rest p. p; only = λ xs p. (xs, refl, p) }
-
 pub one_more_read : {X : Type 0} (IsRead : Tree → X → Type 0) → ((t : Tree) (a b : X) → IsRead t a → IsRead t b → a ≡ b)
     → (all left : Items) (t : Tree) (done : List X) (x : X) → IsReadSoFar IsRead all (item t left) done → IsRead t x → IsReadSoFar IsRead all left (done ++ x ∷ [])
 one_more_read {X} IsRead one all left t done x old is = record {

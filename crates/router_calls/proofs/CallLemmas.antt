@@ -122,15 +122,6 @@ deliverable_more : (mailboxes : List Mailbox) (events : List AcceptedEvent) (e :
 deliverable_more mailboxes [] e h few there = (few, there, tt)
 deliverable_more mailboxes (x ∷ events) e h few there = (h.0, h.1, deliverable_more mailboxes events e h.2 few there)
 
-pub none_taken : (t : Tables) (reading : ℕ) (all : List EventEntry) (events : List AcceptedEvent) (latest : ℕ) → events ≡ [] → latest ≡ t.events → AreTaken t reading all all events latest
-none_taken t reading all events latest none at = record {
-  done = [];
-  parts = refl;
-  last = omega (arith, at);
-  accepted = ap (map accepted_of) none;
-  deliverable = subst (AreDeliverable t.duties.mailboxes) (sym none) tt;
-}
-
 pub taken_more : (t : Tables) (reading : ℕ) (all left rest : List EventEntry) (events new : List AcceptedEvent) (latest : ℕ) (entry : EventEntry) (checked : Checked) (e : AcceptedEvent)
     → AreTaken t reading all left events latest → left ≡ entry ∷ rest → IsCheckedOf (entry_of entry) checked → IsAcceptedAs t.set reading (latest + 1) checked (accepted_of e)
     → length e.duties ≤ 1500 → All (λ (d : NewDuty). HasMailbox d.endpoint t.duties.mailboxes) e.duties → new ≡ events ++ e ∷ []
