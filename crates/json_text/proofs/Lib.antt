@@ -9,6 +9,7 @@ pub mod KeptLemmas
 pub mod NumberReads
 pub mod NumberText
 pub mod ObjectLemmas
+pub mod OneValue
 pub mod ReadSpelled
 pub mod ReaderLemmas
 pub mod Rest

@@ -12,5 +12,6 @@ pub mod Parts
 pub mod Kept
 pub mod View
 pub mod Once
+pub mod Access
 pub mod Moment
 pub mod Code

@@ -11,10 +11,11 @@ use super::reader::{Read, read_all};
 use super::{Json, JsonFault};
 use std::alloc::Global;
 
-/// The value that the text spells, within so many levels of lists and objects. Of a repeated key the first place counts,
-/// and the last value. A place is the number of bytes before it. A value is dropped and copied by one call inside another for
-/// each level, so `levels` has to fit the stack: a hundred take some 40 kB.
+/// The value that the text spells, with at most `levels` levels of lists and objects. A repeated key keeps its first place and
+/// its last value. A place in an error is the number of bytes before it. `levels` is at most 1,000, because a value is
+/// dropped and copied by one nested call for each level: 100 levels use about 40 kB of stack, and 58,000 overflow it.
 pub fn read(alloc: Global, bytes: &[u8], levels: u32) -> Result<Json, JsonFault>
+    requires { levels ≤ 1000 }
     ensures found { IfOk result (λ v. (n : Node) × IsText levels bytes.now n
         × (tree_of v ≡ value_of n)) }
     ensures only { (n : Node) → IsText levels bytes.now n
@@ -33,9 +34,10 @@ pub fn read(alloc: Global, bytes: &[u8], levels: u32) -> Result<Json, JsonFault>
     }
 }
 
-/// The same, but a text in which an object has a key twice is refused: `KeyTwice` tells the first such key's place. It
-/// comes only of a text that is JSON within the levels.
+/// The same, but refuses a text in which an object has a key twice: `KeyTwice` has the place of the first repeated key. It
+/// is returned only for a text that is JSON within the levels.
 pub fn read_once(alloc: Global, bytes: &[u8], levels: u32) -> Result<Json, JsonFault>
+    requires { levels ≤ 1000 }
     ensures found { IfOk result (λ v. (n : Node) × IsText levels bytes.now n
         × (first_repeat n ≡ None) × (tree_of v ≡ value_of n)) }
     ensures only { (n : Node) → IsText levels bytes.now n

@@ -1,6 +1,8 @@
 //! What no clause says: that the calls succeed where there is memory, and that the definitions are those of RFC 8259.
 
-use super::{Bytes, Json, JsonFault, Text, copy, read, read_once, write};
+use super::{
+    Bytes, Json, JsonFault, Text, copy, member_at, push_member, push_text, read, read_once, write,
+};
 use std::alloc::Global;
 use std::test::Fail;
 
@@ -65,7 +67,7 @@ fn values_are_written_compactly(rt: HostRuntime) -> Result<(), Fail> {
 // The place is the length of the longest front that some JSON text begins with.
 #[test]
 fn faults_are_told_at_their_places(rt: HostRuntime) {
-    let rows: [(&[u8], u32, Answer); 30] = [
+    let rows: [(&[u8], u8, Answer); 30] = [
         (b"", 100, Answer::NotJson(0)),
         (b"  ", 100, Answer::NotJson(2)),
         (b"[1,]", 100, Answer::NotJson(3)),
@@ -98,6 +100,7 @@ fn faults_are_told_at_their_places(rt: HostRuntime) {
         (b"[[1],[[2]]]", 2, Answer::TooDeep(6)),
     ];
     for (text, levels, want) in rows {
+        let levels = u32::from(levels);
         let got = answered(&read(rt.alloc(), text, levels));
         let once = answered(&read_once(rt.alloc(), text, levels));
         assert_eq!(rt; got, want, "of {text:?}");
@@ -197,5 +200,23 @@ fn texts_and_bytes_keep_what_they_are_given(rt: HostRuntime) -> Result<(), Fail>
     bytes.truncate(2);
     assert_eq!(rt; bytes.as_slice(), b"ab".as_slice());
     assert_eq!(rt; bytes.len(), 2);
+    Ok(())
+}
+
+// Members are found by key, the first of a repeated key first, and are added at the end.
+#[test]
+fn members_are_found_and_added(rt: HostRuntime) -> Result<(), Fail> {
+    let alloc = rt.alloc();
+    let mut members = Vec::new(alloc);
+    push_text(alloc, &mut members, "a", "one")?;
+    push_text(alloc, &mut members, "a", "two")?;
+    push_member(alloc, &mut members, "", Json::Null)?;
+    let found = member_at(&members, "a");
+    assert!(rt; matches!(found, Some(json) if json.as_text() == Some("one")));
+    let json = Json::Obj(members);
+    assert!(rt; json.is_object());
+    assert!(rt; matches!(json.member(""), Some(Json::Null)));
+    assert!(rt; json.member("b").is_none());
+    assert!(rt; json.as_text().is_none());
     Ok(())
 }
