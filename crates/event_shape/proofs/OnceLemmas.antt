@@ -9,7 +9,7 @@ use Rattle.json_text.specs.Node.{Node, value_of}
 use Rattle.json_text.specs.Grammar.{IsText}
 use Rattle.json_text.specs.Compact.{compact_text, IsValue, tree_levels}
 use Rattle.json_text.proofs.SpelledBack.{compact_spelled}
-use Rattle.json_text.proofs.TextReads.{spelled_read}
+use Rattle.json_text.proofs.OneValue.{one_value}
 use Rattle.event_shape.specs.Id.{event_id, id_base}
 use Rattle.event_shape.specs.Fault.{IsDetail, IsObject}
 use Rattle.event_shape.specs.Event.{Event, event_tree, IsEventText}
@@ -39,16 +39,11 @@ id_once n m a b e =
     let same : id_base + n ≡ id_base + m = sym p ∙ ap (from_be_bytes w128) bytes ∙ q in
     omega (arith, same)
 
--- a text spells one node
-pub spelled_once : (levels : ℕ) (bytes : List ℕ) (n m : Node) → IsText levels bytes n → IsText levels bytes m → n ≡ m
-spelled_once levels bytes n m p q = let a = spelled_read levels bytes n p in let b = spelled_read levels bytes m q in
-    let same : Ok n ≡ Ok m = sym a ∙ b in cc
-
 pub detail_spelled : (d : Tree) → IsValue d → IsObject d → tree_levels d ≤ 99 → IsDetail (compact_text d) d
 detail_spelled d v o l = let s = compact_spelled d v in (s.0, record { spelled = s.1.spelled; within = let w = s.1.within in omega (arith, w, l) }, sym s.2, o)
 
 pub detail_once : (bytes : List ℕ) (d e : Tree) → IsDetail bytes d → IsDetail bytes e → d ≡ e
-detail_once bytes d e p q = p.2 ∙ ap value_of (spelled_once 99 bytes p.0 q.0 p.1 q.1) ∙ sym q.2
+detail_once bytes d e p q = p.2 ∙ ap value_of (one_value 99 99 bytes p.0 q.0 p.1 q.1) ∙ sym q.2
 
 pub deeper : (a b : ℕ) (bytes : List ℕ) (n : Node) → a ≤ b → IsText a bytes n → IsText b bytes n
 deeper a b bytes n le is = record { spelled = is.spelled; within = let w = is.within in omega (arith, w, le) }
@@ -58,10 +53,8 @@ pub compact_once : (t u : Tree) → IsValue t → IsValue u → compact_text t �
 compact_once t u v w e =
     let s = compact_spelled t v in
     let r = compact_spelled u w in
-    let both = tree_levels t + tree_levels u in
-    let p = deeper (tree_levels t) both (compact_text t) s.0 (omega arith) s.1 in
-    let q = subst (λ b. IsText both b r.0) (sym e) (deeper (tree_levels u) both (compact_text u) r.0 (omega arith) r.1) in
-    sym s.2 ∙ ap value_of (spelled_once both (compact_text t) s.0 r.0 p q) ∙ r.2
+    let q = subst (λ b. IsText (tree_levels u) b r.0) (sym e) r.1 in
+    sym s.2 ∙ ap value_of (one_value (tree_levels t) (tree_levels u) (compact_text t) s.0 r.0 s.1 q) ∙ r.2
 
 pub texts_once : (a b : List (List ℕ)) → items_of (map text a) ≡ items_of (map text b) → a ≡ b
 texts_once [] [] e = refl

@@ -6,8 +6,7 @@ use Rattle.std.specs.declared.sync.Arc.{Arc}
 use Rattle.std.specs.Arc.{arc_value}
 use Rattle.std.proofs.lemmas.List.{append-nil, length-map, take_more, map-append}
 use Rattle.std.proofs.lemmas.List.Elements.{All-nil, All-head, All-tail, All-append, All-map}
-use Rattle.json_text.proofs.ReadLemmas.{is_only}
-use Rattle.json_text.proofs.SpelledRead.{spelled_read}
+use Rattle.json_text.proofs.OneValue.{one_value}
 use Rattle.json_text.specs.Tree.{Tree}
 use Rattle.json_text.specs.Node.{Node, value_of}
 use Rattle.pattern_meaning.specs.Pattern.{Pattern}
@@ -21,7 +20,7 @@ use Rattle.router_core.specs.Matching.{Matches, seen_target, AreMatched}
 -- a text is one pattern only
 pub one_pattern : {text : List ℕ} {p q : Pattern} → IsPatternText text p → IsPatternText text q → p ≡ q
 one_pattern {text} {p} {q} a b =
-    let same : a.node ≡ b.node = is_only 100 text a.node b.node (spelled_read 100 text a.node a.spelled) b.spelled in
+    let same : a.node ≡ b.node = one_value 100 100 text a.node b.node a.spelled b.spelled in
     stands (pattern_at (value_of a.node)) p q a.stands_for (ap (λ (n : Node). pattern_at (value_of n)) same ∙ b.stands_for)
 
 one_more : (bus : List ℕ) (rules : List Rule) (rule : Rule) (event : Tree) (targets more : List SeenTarget) → AreMatched bus rules event targets
