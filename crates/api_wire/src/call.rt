@@ -3,7 +3,7 @@ ghost use Rattle.std.specs.Prelude.{◌≡◌, None, IfOk, MatchResult, IsSome, 
 ghost use Rattle.json_text.specs.Tree.{members_of};
 ghost use Rattle.json_text.specs.View.{pairs_of};
 ghost use Rattle.router_core.specs.Request.{Request as Seen, Action as SeenAction};
-ghost use Rattle.router_core.specs.Seen.{request_of, action_of};
+ghost use Rattle.router_core.specs.View.{request_of, action_of};
 ghost use Rattle.api_wire.specs.Call.{operation_of, IsAction, IsAsked};
 ghost use Rattle.api_wire.specs.CallAnswers.{IsFault};
 

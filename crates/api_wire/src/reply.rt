@@ -1,7 +1,7 @@
 //! Replies to bytes.
 ghost use Rattle.std.specs.Prelude.{◌≡◌, ◌≤◌, ◌++◌, true, length, take, IfOk, OnOk, OnErr};
 ghost use Rattle.router_core.specs.Reply.{no_memory, bad_head};
-ghost use Rattle.router_core.specs.Seen.{reply_of};
+ghost use Rattle.router_core.specs.View.{reply_of};
 ghost use Rattle.api_wire.specs.Written.{IsServedStatus, reply_text};
 ghost use Rattle.api_wire.specs.Pieces as pieces;
 

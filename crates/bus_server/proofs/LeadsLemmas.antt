@@ -9,13 +9,13 @@ use Rattle.delivery_duties.specs.declared.fate.Outcome.{Outcome}
 use Rattle.delivery_duties.specs.declared.fate.Outcome.TheVariants.{Accepted, TooOld}
 use Rattle.delivery_duties.specs.declared.fate.SettledDuty.{SettledDuty}
 use Rattle.delivery_duties.specs.declared.fate.Fate.TheVariants.{Delivered, Dropped}
-use Rattle.delivery_duties.specs.Duties.{Duties, Mailbox, added, added_one, begun as begun_row, marked, marked_row, claimed, settled, taken_of, IsNext}
-use Rattle.rule_table.specs.Control.{Control, rule_put, targets_put, queue_made}
+use Rattle.delivery_duties.specs.Duties.{Duties, Queue, added, added_one, begun as begun_row, marked, marked_row, claimed, settled, taken_of, IsNext}
+use Rattle.rule_table.specs.Control.{Control, rule_put, targets_put, queue_created}
 use Rattle.router_core.specs.Request.{Request}
 use Rattle.router_core.specs.Reply.{Counts, Reply}
 use Rattle.router_core.specs.Batch.{Entry, control, accepted, attempt, Batch}
-use Rattle.router_core.specs.Tables.{Tables, first_tables, opened_by, after_entry, after_entries, after_batch, tables_after, is_full}
-use Rattle.router_core.specs.Steps.{EndsSo, record_of, claiming, giving_back}
+use Rattle.router_core.specs.Tables.{Tables, first_tables, duties_after, after_entry, after_entries, after_batch, tables_after, is_full}
+use Rattle.router_core.specs.Steps.{EndsSo, record_of, claiming, putting_back}
 use Rattle.router_calls.specs.Answer.{Answer, IsAnswer, moment_at}
 use Rattle.bus_server.specs.History.{Turn, State, asked, claims, records, puts_back, closed_claims, after_turn, after_written, IsLegal, state_after, with_written, batches_of, begun, NoneClaimed, Leads}
 use Rattle.bus_server.specs.Exchange.{Exchange, moment_of, AreSteps, Stop, done, limited, IsStop, IsExchange, unknown, unbuilt, answered, delivered, out_of_memory, IsWithoutTurn, AreExchanges, turns_of}
@@ -80,10 +80,10 @@ added_free (d ∷ ds) moment s free =
     let last : All Free (row ∷ []) = All-cons Free row [] refl (All-nil Free) in
     added_free ds moment (added_one d moment s) (chosen_free d.too_long _ _ free (All-append Free s.pending (row ∷ []) free last))
 
-opened_free : (c : Control) (s : Duties) → All Free s.pending → All Free (opened_by c s).pending
-opened_free (rule_put bus name pattern enabled) s free = free
-opened_free (targets_put bus rule targets) s free = free
-opened_free (queue_made name) s free = free
+control_free : (c : Control) (s : Duties) → All Free s.pending → All Free (duties_after c s).pending
+control_free (rule_put bus name pattern enabled) s free = free
+control_free (targets_put bus rule targets) s free = free
+control_free (queue_created name) s free = free
 
 settled_free : (number : ℕ) (outcome : Outcome) (s : Duties) → All Free s.pending → All Free (settled number outcome s).pending
 settled_free number Accepted s free = filter_free (λ row. not (row.number == number)) s.pending free
@@ -94,7 +94,7 @@ entries_free moment [] t free = free
 entries_free moment (e ∷ es) t free = entries_free moment es (after_entry moment e t) (one_free e)
   where
     one_free : (e : Entry) → NoneClaimed (after_entry moment e t)
-    one_free (control c) = opened_free c t.duties free
+    one_free (control c) = control_free c t.duties free
     one_free (accepted a) = added_free a.duties moment t.duties free
     one_free (attempt duty outcome) = settled_free duty outcome t.duties free
 
@@ -115,7 +115,7 @@ settled_rows n (row ∷ rows) = by_number (row.number == n) refl (settled_rows n
     by_number true is rest = simp is rest
     by_number false is rest = simp is (ap (λ (rs : List DutyRow). row ∷ rs) rest)
 
-taken_rows : (n : ℕ) (rows : List DutyRow) (ms : List Mailbox) → taken_of (find (λ row. row.number == n) (marked true n rows)) ms ≡ taken_of (find (λ row. row.number == n) rows) ms
+taken_rows : (n : ℕ) (rows : List DutyRow) (ms : List Queue) → taken_of (find (λ row. row.number == n) (marked true n rows)) ms ≡ taken_of (find (λ row. row.number == n) rows) ms
 taken_rows n [] ms = refl
 taken_rows n (row ∷ rows) ms = by_number (row.number == n) refl (taken_rows n rows ms)
   where
@@ -130,10 +130,10 @@ settled_claimed n Accepted s =
     ap (λ (rows : List DutyRow). record s {
       pending = rows;
       ended = ended;
-      mailboxes = taken_of (find (λ row. row.number == n) (marked true n s.pending)) s.mailboxes;
+      queues = taken_of (find (λ row. row.number == n) (marked true n s.pending)) s.queues;
       delivered = s.delivered + 1;
     }) (settled_rows n s.pending)
-    ∙ ap (λ (ms : List Mailbox). record s { pending = filter (λ row. not (row.number == n)) s.pending; ended = ended; mailboxes = ms; delivered = s.delivered + 1 }) (taken_rows n s.pending s.mailboxes)
+    ∙ ap (λ (ms : List Queue). record s { pending = filter (λ row. not (row.number == n)) s.pending; ended = ended; queues = ms; delivered = s.delivered + 1 }) (taken_rows n s.pending s.queues)
 settled_claimed n TooOld s =
     ap (λ (rows : List DutyRow). record s { pending = rows; ended = s.ended ++ record { number = n; fate = Dropped } ∷ []; dropped = s.dropped + 1 }) (settled_rows n s.pending)
 
@@ -151,7 +151,7 @@ back_rows n (row ∷ rows) free = by_number (row.number == n) refl (back_rows n 
         simp is (ap (λ (c : Bool). record row { claimed = c } ∷ marked false n (marked true n rows)) (sym (All-head Free row rows free)) ∙ ap (λ (rs : List DutyRow). row ∷ rs) rest)
     by_number false is rest = simp is (ap (λ (rs : List DutyRow). row ∷ rs) rest)
 
-back_tables : (n : ℕ) (t : Tables) → NoneClaimed t → giving_back n (claiming n t) ≡ t
+back_tables : (n : ℕ) (t : Tables) → NoneClaimed t → putting_back n (claiming n t) ≡ t
 back_tables n t free = ap (λ (rows : List DutyRow). record t { duties = record t.duties { pending = rows } }) (back_rows n t.duties.pending free)
 
 -- the claim of a duty is closed
@@ -188,10 +188,10 @@ leads_record t duty reading outcome next numbered ends =
 
 -- a claim that is given back
 leads_back : (t : Tables) (duty reading : ℕ) → IsNext t.duties (moment_at t reading) duty
-    → Leads t (record { ask = claims duty reading; batch = None } ∷ record { ask = puts_back duty; batch = None } ∷ []) (giving_back duty (claiming duty t))
+    → Leads t (record { ask = claims duty reading; batch = None } ∷ record { ask = puts_back duty; batch = None } ∷ []) (putting_back duty (claiming duty t))
 leads_back t duty reading next = record {
   legal = ((refl, next), ((refl, (reading, held duty reading)), tt));
-  reaches = ap (λ (cs : List (ℕ × ℕ)). record { tables = giving_back duty (claiming duty t); open_claims = cs }) (closes_claim duty reading);
+  reaches = ap (λ (cs : List (ℕ × ℕ)). record { tables = putting_back duty (claiming duty t); open_claims = cs }) (closes_claim duty reading);
   folds = λ none. (back_tables duty t none, subst NoneClaimed (sym (back_tables duty t none)) none);
 }
 

@@ -2,7 +2,7 @@
 use Rattle.std.specs.Prelude.{List, map, Option, Some, None}
 use Rattle.router_core.specs.Tables.{Tables}
 use Rattle.router_core.specs.Batch.{Batch}
-use Rattle.router_core.specs.Seen.{request_of}
+use Rattle.router_core.specs.View.{request_of}
 use Rattle.router_core.specs.Ready.{batch_of}
 use Rattle.router_core.specs.Steps.{record_of}
 use Rattle.bus_server.specs.declared.history.Ask.{Ask}

@@ -4,12 +4,12 @@ use Rattle.delivery_duties.specs.declared.fate.Outcome.{Outcome}
 use Rattle.delivery_duties.specs.declared.fate.Outcome.TheVariants.{Accepted, TooOld}
 use Rattle.delivery_duties.specs.Duties.{IsNext, NoneDue}
 use Rattle.router_core.specs.Request.{deliver_due, Request}
-use Rattle.router_core.specs.Reply.{Reply, Counts, counted, unknown_operation, not_built, number_limit, no_memory}
+use Rattle.router_core.specs.Reply.{Reply, Counts, counted, unknown_operation, not_built, limit_reply, no_memory}
 use Rattle.router_core.specs.Tables.{Tables, is_full, after_batch}
 use Rattle.router_calls.specs.Answer.{Answer, IsAnswer, moment_at}
 use Rattle.api_messages.specs.declared.message.Message.{Message}
 use Rattle.api_wire.specs.Call.{operation_of, IsAsked}
-use Rattle.router_core.specs.Steps.{EndsSo, record_of, claiming, giving_back}
+use Rattle.router_core.specs.Steps.{EndsSo, record_of, claiming, putting_back}
 use Rattle.bus_server.specs.History.{asked, claims, records, puts_back, Turn, after_written}
 
 -- the reading of the clock when the message was whole, those of its delivery steps and of the look behind them that made none, the
@@ -65,7 +65,7 @@ IsStop budget made t last turns limited new =
     (made < budget) × ((reading duty : ℕ) × (last ≡ reading ∷ [])
     × IsNext t.duties (moment_at t (moment_of reading)) duty × (is_full t ≡ true)
     × (turns ≡ record { ask = claims duty (moment_of reading); batch = None } ∷ record { ask = puts_back duty; batch = None } ∷ [])
-    × (new ≡ giving_back duty (claiming duty t)))
+    × (new ≡ putting_back duty (claiming duty t)))
 
 -- the steps of one DeliverDue, at most so many
 pub record IsDelivery (budget : ℕ) (t : Tables) (readings : List ℕ) (turns : List Turn) (counts : Counts) (stop : Stop) (new : Tables) : Type 0 where
@@ -86,7 +86,7 @@ default_budget = 100
 -- the reply to a DeliverDue
 abbrev pub delivery_reply : Counts → Stop → Reply
 delivery_reply counts done = counted counts
-delivery_reply counts limited = number_limit
+delivery_reply counts limited = limit_reply
 
 -- an exchange that makes no turn
 pub record IsWithoutTurn (t : Tables) (e : Exchange) (reply : Reply) (new : Tables) : Type 0 where

@@ -6,7 +6,7 @@ use Rattle.router_core.specs.Request.{Request}
 use Rattle.router_core.specs.Reply.{Reply}
 use Rattle.router_core.specs.Batch.{Batch}
 use Rattle.router_core.specs.Tables.{Tables, after_batch, tables_after, is_full}
-use Rattle.router_core.specs.Steps.{EndsSo, record_of, claiming, giving_back}
+use Rattle.router_core.specs.Steps.{EndsSo, record_of, claiming, putting_back}
 use Rattle.router_calls.specs.Answer.{IsAnswer, moment_at}
 
 -- what a turn was taken for: a request; a claim of the next due duty, at a reading of the clock; the record of how a claimed
@@ -50,7 +50,7 @@ abbrev pub after_ask : Ask → Option Batch → State → State
 after_ask (asked request) written s = record s { tables = after_written written s.tables }
 after_ask (claims duty reading) written s = record { tables = claiming duty s.tables; open_claims = (duty, reading) ∷ s.open_claims }
 after_ask (records duty reading outcome) written s = record { tables = after_written written s.tables; open_claims = closed_claims duty s.open_claims }
-after_ask (puts_back duty) written s = record { tables = giving_back duty s.tables; open_claims = closed_claims duty s.open_claims }
+after_ask (puts_back duty) written s = record { tables = putting_back duty s.tables; open_claims = closed_claims duty s.open_claims }
 
 abbrev pub after_turn : Turn → State → State
 after_turn turn s = after_ask turn.ask turn.batch s

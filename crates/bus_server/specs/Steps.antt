@@ -4,7 +4,7 @@ use Rattle.delivery_duties.specs.Duties.{IsNext, NoneDue}
 use Rattle.router_disk.specs.Clock.{Gives}
 use Rattle.router_core.specs.Reply.{Counts}
 use Rattle.router_core.specs.Tables.{is_full}
-use Rattle.router_core.specs.Steps.{claiming, giving_back}
+use Rattle.router_core.specs.Steps.{claiming, putting_back}
 use Rattle.router_calls.specs.Answer.{moment_at}
 use Rattle.bus_server.specs.declared.book.Step.{Step}
 use Rattle.bus_server.specs.declared.book.Step.TheVariants.{Idle, Limited, Made}
@@ -20,7 +20,7 @@ abbrev pub StepOf : BookState → BookState → ℕ → Step → Type 0
 StepOf old new reading Idle = NoneDue old.tables.duties (moment_at old.tables (moment_of reading)) × (new ≡ old)
 StepOf old new reading Limited = (duty : ℕ) × IsNext old.tables.duties (moment_at old.tables (moment_of reading)) duty × (is_full old.tables ≡ true)
     × (new ≡ record {
-      tables = giving_back duty (claiming duty old.tables);
+      tables = putting_back duty (claiming duty old.tables);
       turns = old.turns ++ record { ask = claims duty (moment_of reading); batch = None } ∷ record { ask = puts_back duty; batch = None } ∷ [];
     })
 StepOf old new reading (Made outcome) = (turns : List Turn) × IsStep old.tables reading turns outcome new.tables × (new.turns ≡ old.turns ++ turns)

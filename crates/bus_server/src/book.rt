@@ -3,7 +3,7 @@ ghost use Rattle.std.specs.Prelude.{◌≡◌, ◌≢◌, ◌++◌, ◌∷◌, [
 ghost use Rattle.std.specs.Option.{option_map};
 ghost use Rattle.json_text.specs.Moment.{IsMoment};
 ghost use Rattle.router_core.specs.Request.{deliver_due};
-ghost use Rattle.router_core.specs.Seen.{action_of, request_of};
+ghost use Rattle.router_core.specs.View.{action_of, request_of};
 ghost use Rattle.router_core.specs.Tables.{first_tables};
 ghost use Rattle.router_core.specs.Ready.{batch_of, IsReadyAt};
 ghost use Rattle.router_calls.specs.Answer.{moment_at};

@@ -1,8 +1,8 @@
 //! One message and its reply.
 ghost use Rattle.std.specs.Prelude.{◌≡◌, ◌↔◌, ◌⊎◌, IsTrue, IfOk};
-ghost use Rattle.router_core.specs.Reply as told;
+ghost use Rattle.router_core.specs.Reply as replies;
 ghost use Rattle.router_core.specs.Request.{deliver_due};
-ghost use Rattle.router_core.specs.Seen.{action_of};
+ghost use Rattle.router_core.specs.View.{action_of};
 ghost use Rattle.router_disk.specs.Faults.{CountsFaults};
 ghost use Rattle.router_disk.specs.Sink.{WritesAll};
 ghost use Rattle.api_wire.specs.Written.{reply_text};
@@ -17,7 +17,7 @@ use crate::delivery::{Delivery, Ending, deliver};
 use crate::text::reply_bytes;
 use api_wire::{CallFault, CountsReply, Message, no_memory_reply, read_call};
 use json_text::{Bytes, LAST_MOMENT, NoMemory};
-use router_core::{Action, not_built, number_limit, unknown_operation};
+use router_core::{Action, not_built, limit_reply, unknown_operation};
 use router_disk::{Clock, Failed, Sink};
 use std::alloc::Global;
 
@@ -86,14 +86,14 @@ fn fault_bytes(alloc: Global, fault: CallFault, close: bool) -> Result<Bytes, No
 }
 
 fn unknown_bytes(alloc: Global, close: bool) -> Result<Bytes, NoMemory>
-    ensures { IfOk result (λ bytes. bytes ≡ reply_text told.unknown_operation close) }
+    ensures { IfOk result (λ bytes. bytes ≡ reply_text replies.unknown_operation close) }
 {
     let reply = unknown_operation(alloc)?;
     reply_bytes(alloc, &reply, close)
 }
 
 fn not_built_bytes(alloc: Global, close: bool) -> Result<Bytes, NoMemory>
-    ensures { IfOk result (λ bytes. bytes ≡ reply_text told.not_built close) }
+    ensures { IfOk result (λ bytes. bytes ≡ reply_text replies.not_built close) }
 {
     let reply = not_built(alloc)?;
     reply_bytes(alloc, &reply, close)
@@ -128,7 +128,7 @@ fn write_delivery<K: Sink>(
     close: bool,
     output: &mut K,
 ) -> Result<(), Failed>
-    requires { limit.now ≡ reply_text told.number_limit close }
+    requires { limit.now ≡ reply_text replies.limit_reply close }
     ensures writes { WritesAll (K.written output.old) (K.written output.new) result (reply_text (delivery_reply (counts_of made) (stop_of made.ending)) close) }
     ensures count { CountsFaults (K.faults output.old) (K.faults output.new) result }
 {
@@ -143,10 +143,10 @@ fn write_delivery<K: Sink>(
 
 /// Room for the reply to a DeliverDue, and the reply where no further batch is numbered.
 fn delivery_room(alloc: Global, close: bool) -> Result<(CountsReply, Bytes), NoMemory>
-    ensures { IfOk result (λ p. p.1 ≡ reply_text told.number_limit close) }
+    ensures { IfOk result (λ p. p.1 ≡ reply_text replies.limit_reply close) }
 {
     let room = CountsReply::new(alloc)?;
-    let reply = number_limit(alloc)?;
+    let reply = limit_reply(alloc)?;
     let limit = reply_bytes(alloc, &reply, close)?;
     Ok((room, limit))
 }

@@ -1,6 +1,6 @@
 //! The bytes of replies.
 ghost use Rattle.std.specs.Prelude.{◌≡◌, IfOk};
-ghost use Rattle.router_core.specs.Seen.{reply_of};
+ghost use Rattle.router_core.specs.View.{reply_of};
 ghost use Rattle.api_wire.specs.Written.{IsServedStatus, reply_text};
 
 use api_wire::write_reply;

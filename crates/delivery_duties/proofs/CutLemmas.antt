@@ -9,7 +9,7 @@ use Rattle.delivery_duties.specs.declared.duty.DutyRow.{DutyRow}
 use Rattle.delivery_duties.specs.declared.claim.Claim.{Claim}
 use Rattle.std.specs.Str.{bytes_eq}
 use Rattle.event_shape.specs.Names.{queue_arn}
-use Rattle.delivery_duties.specs.Duties.{Mailbox, marked, with_next, taken_in}
+use Rattle.delivery_duties.specs.Duties.{Queue, marked, with_next, taken_in}
 use Rattle.delivery_duties.specs.Sound.{IsOrdered}
 use Rattle.delivery_duties.specs.Cuts.{IsAt, IsFirstFree}
 use Rattle.delivery_duties.proofs.RowLemmas.{cut_at, marked_at, found_at, without_at}
@@ -112,23 +112,23 @@ taken_rest number rows front row rest back owed left joined o at b e j =
     ∙ ap (λ ys. filter (λ (r : DutyRow). not (r.number == number)) ys) (sym at.split)
 
 -- the queues, where the first whose ARN is the endpoint stands behind the front
-pub taken_in_at : (endpoint body : List ℕ) (front : List Mailbox) (m : Mailbox) (rest : List Mailbox) →
-    All (λ o. bytes_eq endpoint (queue_arn o.queue) ≡ false) front → bytes_eq endpoint (queue_arn m.queue) ≡ true →
+pub taken_in_at : (endpoint body : List ℕ) (front : List Queue) (m : Queue) (rest : List Queue) →
+    All (λ o. bytes_eq endpoint (queue_arn o.name) ≡ false) front → bytes_eq endpoint (queue_arn m.name) ≡ true →
     taken_in endpoint body (front ++ m ∷ rest) ≡ front ++ with_next body m ∷ rest
 taken_in_at endpoint body [] m rest a h = rw h
 taken_in_at endpoint body (o ∷ front) m rest a h =
-    let P : Mailbox → Type 0 = λ q. bytes_eq endpoint (queue_arn q.queue) ≡ false in
-    let e : bytes_eq endpoint (queue_arn o.queue) ≡ false = All-head P o front a in
+    let P : Queue → Type 0 = λ q. bytes_eq endpoint (queue_arn q.name) ≡ false in
+    let e : bytes_eq endpoint (queue_arn o.name) ≡ false = All-head P o front a in
     rw e (ap (λ ys. o ∷ ys) (taken_in_at endpoint body front m rest (All-tail P o front a) h))
 
-pub delivered_to : (endpoint body : List ℕ) (mailboxes : List Mailbox) (at : ℕ) (front back : List Mailbox) (now new : Mailbox) (joined : List Mailbox) →
-    position (λ m. bytes_eq endpoint (queue_arn m.queue)) mailboxes ≡ Some at → front ≡ take at mailboxes → back ≡ drop at mailboxes →
-    now ≡ get_or back 0 now → new ≡ with_next body now → joined ≡ front ++ set back 0 new → joined ≡ taken_in endpoint body mailboxes
-delivered_to endpoint body mailboxes at front back now new joined p f b n e j =
-    let k = cut_at (λ (m : Mailbox). bytes_eq endpoint (queue_arn m.queue)) mailboxes at p in
-    let s : mailboxes ≡ take at mailboxes ++ k.0 ∷ k.1 = sym (take-append-drop at mailboxes) ∙ ap (λ ys. take at mailboxes ++ ys) k.2 in
+pub delivered_to : (endpoint body : List ℕ) (queues : List Queue) (at : ℕ) (front back : List Queue) (now new : Queue) (joined : List Queue) →
+    position (λ m. bytes_eq endpoint (queue_arn m.name)) queues ≡ Some at → front ≡ take at queues → back ≡ drop at queues →
+    now ≡ get_or back 0 now → new ≡ with_next body now → joined ≡ front ++ set back 0 new → joined ≡ taken_in endpoint body queues
+delivered_to endpoint body queues at front back now new joined p f b n e j =
+    let k = cut_at (λ (m : Queue). bytes_eq endpoint (queue_arn m.name)) queues at p in
+    let s : queues ≡ take at queues ++ k.0 ∷ k.1 = sym (take-append-drop at queues) ∙ ap (λ ys. take at queues ++ ys) k.2 in
     let same : now ≡ k.0 = n ∙ ap (λ ys. get_or ys 0 now) (b ∙ k.2) in
-    j ∙ ap (λ ys. ys ++ set back 0 new) f ∙ ap (λ ys. take at mailboxes ++ set ys 0 new) (b ∙ k.2)
-    ∙ ap (λ m. take at mailboxes ++ m ∷ k.1) (e ∙ ap (with_next body) same)
-    ∙ sym (taken_in_at endpoint body (take at mailboxes) k.0 k.1 k.4 k.3)
+    j ∙ ap (λ ys. ys ++ set back 0 new) f ∙ ap (λ ys. take at queues ++ set ys 0 new) (b ∙ k.2)
+    ∙ ap (λ m. take at queues ++ m ∷ k.1) (e ∙ ap (with_next body) same)
+    ∙ sym (taken_in_at endpoint body (take at queues) k.0 k.1 k.4 k.3)
     ∙ ap (taken_in endpoint body) (sym s)

@@ -9,9 +9,9 @@ use Rattle.event_shape.specs.Names.{queue_arn}
 use Rattle.delivery_duties.specs.declared.duty.NewDuty.{NewDuty}
 use Rattle.delivery_duties.specs.declared.duty.DutyRow.{DutyRow}
 use Rattle.delivery_duties.specs.declared.claim.Claim.{Claim}
-use Rattle.delivery_duties.specs.Duties.{Duties, Mailbox, HasMailbox, IsPending, marked, marked_row, begun, with_next, taken_in}
-use Rattle.delivery_duties.specs.Mailboxes.{empty_mailbox}
-use Rattle.delivery_duties.specs.Sound.{ComesBefore, IsOrdered, IsWithin, IsKept, IsSound}
+use Rattle.delivery_duties.specs.Duties.{Duties, Queue, HasEndpoint, IsPending, marked, marked_row, begun, with_next, taken_in}
+use Rattle.delivery_duties.specs.NewQueue.{empty_queue}
+use Rattle.delivery_duties.specs.Sound.{ComesBefore, IsOrdered, IsQueueWithin, IsDutyWithin, IsSound}
 use Rattle.delivery_duties.specs.declared.fate.SettledDuty.{SettledDuty}
 use Rattle.delivery_duties.specs.declared.fate.Fate.TheVariants.{Delivered, Dropped}
 use Rattle.delivery_duties.proofs.RowLemmas.{All-middle, ordered_push, without_at}
@@ -19,21 +19,21 @@ use Rattle.delivery_duties.proofs.AnyLemmas.{any_here, any_there, any_cases, any
 use Rattle.delivery_duties.proofs.EndLemmas.{accounted_marked, accounted_begun, accounted_too_long, accounted_delivered, accounted_dropped, ended_length}
 
 -- a queue is made
-pub sound_opened : {s : Duties} (queue : List ℕ) (mailboxes : List Mailbox) → IsSound s → mailboxes ≡ s.mailboxes ++ empty_mailbox queue ∷ [] →
-    IsSound (record s { mailboxes = mailboxes })
-sound_opened {s} queue mailboxes h e =
-    let P : DutyRow → Type 0 = IsKept s.created s.latest s.mailboxes in
-    let Q : DutyRow → Type 0 = IsKept s.created s.latest (s.mailboxes ++ empty_mailbox queue ∷ []) in
-    let F : List Mailbox → Type 0 = λ ms. IsSound (record s { mailboxes = ms }) in
-    let opened : F (s.mailboxes ++ empty_mailbox queue ∷ []) = record {
+pub sound_with_queue : {s : Duties} (queue : List ℕ) (queues : List Queue) → IsSound s → queues ≡ s.queues ++ empty_queue queue ∷ [] →
+    IsSound (record s { queues = queues })
+sound_with_queue {s} queue queues h e =
+    let P : DutyRow → Type 0 = IsDutyWithin s.created s.latest s.queues in
+    let Q : DutyRow → Type 0 = IsDutyWithin s.created s.latest (s.queues ++ empty_queue queue ∷ []) in
+    let F : List Queue → Type 0 = λ ms. IsSound (record s { queues = ms }) in
+    let larger : F (s.queues ++ empty_queue queue ∷ []) = record {
       ordered = h.ordered;
-      kept = All-weaker P Q (λ r k. (k.0, k.1, any_left (λ m. r.duty.endpoint ≡ queue_arn m.queue) s.mailboxes (empty_mailbox queue ∷ []) k.2)) s.pending h.kept;
-      within = All-push (IsWithin s.delivered) s.mailboxes (empty_mailbox queue) h.within (omega arith, omega arith);
+      kept = All-weaker P Q (λ r k. (k.0, k.1, any_left (λ m. r.duty.endpoint ≡ queue_arn m.name) s.queues (empty_queue queue ∷ []) k.2)) s.pending h.kept;
+      within = All-push (IsQueueWithin s.delivered) s.queues (empty_queue queue) h.within (omega arith, omega arith);
       accounted = h.accounted;
       one_state = h.one_state;
       room = h.room;
     } in
-    subst F (sym e) opened
+    subst F (sym e) larger
 
 -- what is true of a row with either mark
 pub marked_kept : (P : DutyRow → Type 0) (mark : Bool) (number : ℕ) (row : DutyRow) → P row → P (record row { claimed = mark }) → P (marked_row mark number row)
@@ -53,7 +53,7 @@ ordered_marked mark number (row ∷ rows) h =
 pub sound_marked : {s : Duties} (mark : Bool) (number : ℕ) (pending : List DutyRow) → IsSound s → pending ≡ marked mark number s.pending →
     IsSound (record s { pending = pending })
 sound_marked {s} mark number pending h e =
-    let P : DutyRow → Type 0 = IsKept s.created s.latest s.mailboxes in
+    let P : DutyRow → Type 0 = IsDutyWithin s.created s.latest s.queues in
     let F : List DutyRow → Type 0 = λ rows. IsSound (record s { pending = rows }) in
     let f : DutyRow → DutyRow = marked_row mark number in
     let changed : F (marked mark number s.pending) = record {
@@ -68,15 +68,15 @@ sound_marked {s} mark number pending h e =
 
 -- the numbers of pending duties were given
 numbers_given : {s : Duties} → IsSound s → All (λ row. row.number ≤ s.created) s.pending
-numbers_given {s} h = All-weaker (IsKept s.created s.latest s.mailboxes) (λ row. row.number ≤ s.created) (λ row k. k.0) s.pending h.kept
+numbers_given {s} h = All-weaker (IsDutyWithin s.created s.latest s.queues) (λ row. row.number ≤ s.created) (λ row k. k.0) s.pending h.kept
 
 -- a duty whose text is too long is made
 pub sound_too_long : {s : Duties} (moment : ℕ) (ended : List SettledDuty) → IsSound s → s.latest ≤ moment → s.created + 1 < 2 ^ 63 →
     ended ≡ s.ended ++ record { number = s.created + 1; fate = Dropped } ∷ [] →
     IsSound (record s { created = s.created + 1; ended = ended; dropped = s.dropped + 1; latest = moment })
 sound_too_long {s} moment ended h later room e =
-    let P : DutyRow → Type 0 = IsKept s.created s.latest s.mailboxes in
-    let Q : DutyRow → Type 0 = IsKept (s.created + 1) moment s.mailboxes in
+    let P : DutyRow → Type 0 = IsDutyWithin s.created s.latest s.queues in
+    let Q : DutyRow → Type 0 = IsDutyWithin (s.created + 1) moment s.queues in
     let F : List SettledDuty → Type 0 = λ ds. IsSound (record s { created = s.created + 1; ended = ds; dropped = s.dropped + 1; latest = moment }) in
     let made : F (s.ended ++ record { number = s.created + 1; fate = Dropped } ∷ []) = record {
       ordered = h.ordered;
@@ -89,12 +89,12 @@ sound_too_long {s} moment ended h later room e =
     subst F (sym e) made
 
 -- another duty is made
-pub sound_begun : {s : Duties} (duty : NewDuty) (moment : ℕ) (pending : List DutyRow) → IsSound s → s.latest ≤ moment → s.created + 1 < 2 ^ 63 → HasMailbox duty.endpoint s.mailboxes →
+pub sound_begun : {s : Duties} (duty : NewDuty) (moment : ℕ) (pending : List DutyRow) → IsSound s → s.latest ≤ moment → s.created + 1 < 2 ^ 63 → HasEndpoint duty.endpoint s.queues →
     pending ≡ s.pending ++ begun (s.created + 1) moment duty ∷ [] → IsSound (record s { created = s.created + 1; pending = pending; latest = moment })
 sound_begun {s} duty moment pending h later room there e =
     let row : DutyRow = begun (s.created + 1) moment duty in
-    let P : DutyRow → Type 0 = IsKept s.created s.latest s.mailboxes in
-    let Q : DutyRow → Type 0 = IsKept (s.created + 1) moment s.mailboxes in
+    let P : DutyRow → Type 0 = IsDutyWithin s.created s.latest s.queues in
+    let Q : DutyRow → Type 0 = IsDutyWithin (s.created + 1) moment s.queues in
     let F : List DutyRow → Type 0 = λ rows. IsSound (record s { created = s.created + 1; pending = rows; latest = moment }) in
     let made : F (s.pending ++ row ∷ []) = record {
       ordered = ordered_push s.pending row h.ordered (All-weaker P (λ o. ComesBefore o row) (λ r k. (omega (arith, k.0), omega (arith, k.1))) s.pending h.kept);
@@ -124,23 +124,23 @@ found_split {X} p (y ∷ ys) x h =
       | false ↦ λ e f. let k = found_split p ys x f in (y ∷ k.0, k.1, ap (λ zs. y ∷ zs) k.2, k.3)
     ]) refl h
 
-has_mailbox_taken : (endpoint body arn : List ℕ) (mailboxes : List Mailbox) → HasMailbox arn mailboxes → HasMailbox arn (taken_in endpoint body mailboxes)
-has_mailbox_taken endpoint body arn [] h = h
-has_mailbox_taken endpoint body arn (m ∷ ms) h =
-    let P : Mailbox → Type 0 = λ o. arn ≡ queue_arn o.queue in
-    elim (bytes_eq endpoint (queue_arn m.queue)) as (λ b. Any P (cond b (with_next body m ∷ ms) (m ∷ taken_in endpoint body ms))) [
+endpoint_taken : (endpoint body arn : List ℕ) (queues : List Queue) → HasEndpoint arn queues → HasEndpoint arn (taken_in endpoint body queues)
+endpoint_taken endpoint body arn [] h = h
+endpoint_taken endpoint body arn (m ∷ ms) h =
+    let P : Queue → Type 0 = λ o. arn ≡ queue_arn o.name in
+    elim (bytes_eq endpoint (queue_arn m.name)) as (λ b. Any P (cond b (with_next body m ∷ ms) (m ∷ taken_in endpoint body ms))) [
       | true ↦ elim (any_cases P m ms h) [ inl p ↦ any_here P (with_next body m) ms p | inr r ↦ any_there P (with_next body m) ms r ]
-      | false ↦ elim (any_cases P m ms h) [ inl p ↦ any_here P m (taken_in endpoint body ms) p | inr r ↦ any_there P m (taken_in endpoint body ms) (has_mailbox_taken endpoint body arn ms r) ]
+      | false ↦ elim (any_cases P m ms h) [ inl p ↦ any_here P m (taken_in endpoint body ms) p | inr r ↦ any_there P m (taken_in endpoint body ms) (endpoint_taken endpoint body arn ms r) ]
     ]
 
-within_taken : (delivered : ℕ) (endpoint body : List ℕ) (mailboxes : List Mailbox) → All (IsWithin delivered) mailboxes → All (IsWithin (delivered + 1)) (taken_in endpoint body mailboxes)
-within_taken delivered endpoint body [] h = All-nil (IsWithin (delivered + 1))
+within_taken : (delivered : ℕ) (endpoint body : List ℕ) (queues : List Queue) → All (IsQueueWithin delivered) queues → All (IsQueueWithin (delivered + 1)) (taken_in endpoint body queues)
+within_taken delivered endpoint body [] h = All-nil (IsQueueWithin (delivered + 1))
 within_taken delivered endpoint body (m ∷ ms) h =
-    let P : Mailbox → Type 0 = IsWithin delivered in
-    let Q : Mailbox → Type 0 = IsWithin (delivered + 1) in
+    let P : Queue → Type 0 = IsQueueWithin delivered in
+    let Q : Queue → Type 0 = IsQueueWithin (delivered + 1) in
     let first = All-head P m ms h in
-    let weaker : (o : Mailbox) → P o → Q o = λ o w. (w.0, omega (arith, w.1)) in
-    elim (bytes_eq endpoint (queue_arn m.queue)) as (λ b. All Q (cond b (with_next body m ∷ ms) (m ∷ taken_in endpoint body ms))) [
+    let weaker : (o : Queue) → P o → Q o = λ o w. (w.0, omega (arith, w.1)) in
+    elim (bytes_eq endpoint (queue_arn m.name)) as (λ b. All Q (cond b (with_next body m ∷ ms) (m ∷ taken_in endpoint body ms))) [
       | true ↦ All-cons Q (with_next body m) ms (omega (arith, first.0, length-append m.messages (record { number = m.sent + 1; body = body } ∷ [])), omega (arith, first.1))
           (All-weaker P Q weaker ms (All-tail P m ms h))
       | false ↦ All-cons Q m (taken_in endpoint body ms) (weaker m first) (within_taken delivered endpoint body ms (All-tail P m ms h))
@@ -180,7 +180,7 @@ sound_dropped {s} number owed pending ended h f e kept =
     let E : List SettledDuty → Type 0 = λ ds. IsSound (record s { pending = filter p s.pending; ended = ds; dropped = s.dropped + 1 }) in
     let left : E (s.ended ++ record { number = number; fate = Dropped } ∷ []) = record {
       ordered = ordered_filter p s.pending h.ordered;
-      kept = All-filter p (IsKept s.created s.latest s.mailboxes) s.pending h.kept;
+      kept = All-filter p (IsDutyWithin s.created s.latest s.queues) s.pending h.kept;
       within = h.within;
       accounted = accounted_dropped number h.accounted (numbers_given h) (found_pending number s.pending owed f);
       one_state = omega (arith, h.one_state, length_without number s.pending owed h.ordered f);
@@ -189,23 +189,23 @@ sound_dropped {s} number owed pending ended h f e kept =
     subst F (sym e) (subst E (sym kept) left)
 
 -- a duty is delivered
-pub sound_delivered : {s : Duties} (number : ℕ) (owed : DutyRow) (pending : List DutyRow) (mailboxes : List Mailbox) (ended : List SettledDuty) → IsSound s →
+pub sound_delivered : {s : Duties} (number : ℕ) (owed : DutyRow) (pending : List DutyRow) (queues : List Queue) (ended : List SettledDuty) → IsSound s →
     find (λ row. row.number == number) s.pending ≡ Some owed → pending ≡ filter (λ row. not (row.number == number)) s.pending →
-    mailboxes ≡ taken_in owed.duty.endpoint owed.duty.text s.mailboxes → ended ≡ s.ended ++ record { number = number; fate = Delivered } ∷ [] →
-    IsSound (record s { pending = pending; ended = ended; mailboxes = mailboxes; delivered = s.delivered + 1 })
-sound_delivered {s} number owed pending mailboxes ended h f e t kept =
+    queues ≡ taken_in owed.duty.endpoint owed.duty.text s.queues → ended ≡ s.ended ++ record { number = number; fate = Delivered } ∷ [] →
+    IsSound (record s { pending = pending; ended = ended; queues = queues; delivered = s.delivered + 1 })
+sound_delivered {s} number owed pending queues ended h f e t kept =
     let p : DutyRow → Bool = λ row. not (row.number == number) in
-    let P : DutyRow → Type 0 = IsKept s.created s.latest s.mailboxes in
-    let taken : List Mailbox = taken_in owed.duty.endpoint owed.duty.text s.mailboxes in
-    let Q : DutyRow → Type 0 = IsKept s.created s.latest taken in
-    let F : List DutyRow → Type 0 = λ rows. IsSound (record s { pending = rows; ended = ended; mailboxes = taken; delivered = s.delivered + 1 }) in
-    let G : List Mailbox → Type 0 = λ ms. IsSound (record s { pending = pending; ended = ended; mailboxes = ms; delivered = s.delivered + 1 }) in
+    let P : DutyRow → Type 0 = IsDutyWithin s.created s.latest s.queues in
+    let taken : List Queue = taken_in owed.duty.endpoint owed.duty.text s.queues in
+    let Q : DutyRow → Type 0 = IsDutyWithin s.created s.latest taken in
+    let F : List DutyRow → Type 0 = λ rows. IsSound (record s { pending = rows; ended = ended; queues = taken; delivered = s.delivered + 1 }) in
+    let G : List Queue → Type 0 = λ ms. IsSound (record s { pending = pending; ended = ended; queues = ms; delivered = s.delivered + 1 }) in
     let E : List SettledDuty → Type 0 =
-    λ ds. IsSound (record s { pending = filter p s.pending; ended = ds; mailboxes = taken; delivered = s.delivered + 1 }) in
+    λ ds. IsSound (record s { pending = filter p s.pending; ended = ds; queues = taken; delivered = s.delivered + 1 }) in
     let left : E (s.ended ++ record { number = number; fate = Delivered } ∷ []) = record {
       ordered = ordered_filter p s.pending h.ordered;
-      kept = All-filter p Q s.pending (All-weaker P Q (λ r k. (k.0, k.1, has_mailbox_taken owed.duty.endpoint owed.duty.text r.duty.endpoint s.mailboxes k.2)) s.pending h.kept);
-      within = within_taken s.delivered owed.duty.endpoint owed.duty.text s.mailboxes h.within;
+      kept = All-filter p Q s.pending (All-weaker P Q (λ r k. (k.0, k.1, endpoint_taken owed.duty.endpoint owed.duty.text r.duty.endpoint s.queues k.2)) s.pending h.kept);
+      within = within_taken s.delivered owed.duty.endpoint owed.duty.text s.queues h.within;
       accounted = accounted_delivered number h.accounted (numbers_given h) (found_pending number s.pending owed f);
       one_state = omega (arith, h.one_state, length_without number s.pending owed h.ordered f);
       room = h.room;
@@ -213,10 +213,10 @@ sound_delivered {s} number owed pending mailboxes ended h f e t kept =
     subst G (sym t) (subst F (sym e) (subst E (sym kept) left))
 
 -- a duty that is pending is kept
-pub kept_found : {s : Duties} (number : ℕ) (owed : DutyRow) → IsSound s → find (λ row. row.number == number) s.pending ≡ Some owed → IsKept s.created s.latest s.mailboxes owed
+pub kept_found : {s : Duties} (number : ℕ) (owed : DutyRow) → IsSound s → find (λ row. row.number == number) s.pending ≡ Some owed → IsDutyWithin s.created s.latest s.queues owed
 kept_found {s} number owed h f =
     let k = found_split (λ (row : DutyRow). row.number == number) s.pending owed f in
-    let P : DutyRow → Type 0 = IsKept s.created s.latest s.mailboxes in
+    let P : DutyRow → Type 0 = IsDutyWithin s.created s.latest s.queues in
     All-middle P k.0 owed k.1 (subst (All P) k.2 h.kept)
 
 -- there is room for what is kept of one more

@@ -11,7 +11,7 @@ use Rattle.delivery_duties.specs.declared.duty.NewDuty.{NewDuty}
 use Rattle.delivery_duties.specs.declared.duty.DutyRow.{DutyRow}
 use Rattle.delivery_duties.specs.declared.fate.Outcome.{Outcome}
 use Rattle.delivery_duties.specs.declared.fate.Outcome.TheVariants.{Accepted, TooOld}
-use Rattle.delivery_duties.specs.Duties.{Duties, Mailbox, HasMailbox, IsNoLater, IsNext, NoneDue, IsOut, IsInOneState, has_queue, messages_of, marked, claimed, settled, begun, added, added_one, with_next, taken_in, taken_of}
+use Rattle.delivery_duties.specs.Duties.{Duties, Queue, HasEndpoint, IsNoLater, IsNext, NoneDue, IsOut, IsInOneState, has_queue, messages_of, marked, claimed, settled, begun, added, added_one, with_next, taken_in, taken_of}
 use Rattle.delivery_duties.specs.Cuts.{IsFirstFree}
 use Rattle.delivery_duties.specs.Sound.{ComesBefore, IsOrdered, IsSound}
 use Rattle.delivery_duties.proofs.RowLemmas.{marked_at, ordered_split}
@@ -27,51 +27,51 @@ pub is_some_map : {A B : Type 0} (f : A → B) (r : Option A) → is_some r ≡ 
 is_some_map f None = refl
 is_some_map f (Some x) = refl
 
-pub has_queue_found : (queue : List ℕ) (mailboxes : List Mailbox) → is_some (find (λ m. bytes_eq m.queue queue) mailboxes) ≡ has_queue queue mailboxes
+pub has_queue_found : (queue : List ℕ) (queues : List Queue) → is_some (find (λ m. bytes_eq m.name queue) queues) ≡ has_queue queue queues
 has_queue_found queue [] = refl
 has_queue_found queue (o ∷ ms) =
-    let p : Mailbox → Bool = λ m. bytes_eq m.queue queue in
-    elim (bytes_eq o.queue queue) as (λ b. is_some (cond b (Some o) (find p ms)) ≡ cond b true (has_queue queue ms)) [
+    let p : Queue → Bool = λ m. bytes_eq m.name queue in
+    elim (bytes_eq o.name queue) as (λ b. is_some (cond b (Some o) (find p ms)) ≡ cond b true (has_queue queue ms)) [
       | true ↦ refl
       | false ↦ has_queue_found queue ms
     ]
 
-queue_there : (queue : List ℕ) (mailboxes : List Mailbox) → has_queue queue mailboxes ≡ true → HasMailbox (queue_arn queue) mailboxes
+queue_there : (queue : List ℕ) (queues : List Queue) → has_queue queue queues ≡ true → HasEndpoint (queue_arn queue) queues
 queue_there queue [] h = absurd (cc)
 queue_there queue (o ∷ ms) h =
-    let P : Mailbox → Type 0 = λ m. queue_arn queue ≡ queue_arn m.queue in
-    let d = bytes_eq-Decides o.queue queue in
-    (elim (bytes_eq o.queue queue) as (λ b. bytes_eq o.queue queue ≡ b → cond b true (has_queue queue ms) ≡ true → Any P (o ∷ ms)) [
+    let P : Queue → Type 0 = λ m. queue_arn queue ≡ queue_arn m.name in
+    let d = bytes_eq-Decides o.name queue in
+    (elim (bytes_eq o.name queue) as (λ b. bytes_eq o.name queue ≡ b → cond b true (has_queue queue ms) ≡ true → Any P (o ∷ ms)) [
       | true ↦ λ e _. any_here P o ms (ap queue_arn (sym (d.0 e)))
       | false ↦ λ _ g. any_there P o ms (queue_there queue ms g)
     ]) refl h
 
-queue_has : (queue : List ℕ) (mailboxes : List Mailbox) → HasMailbox (queue_arn queue) mailboxes → has_queue queue mailboxes ≡ true
+queue_has : (queue : List ℕ) (queues : List Queue) → HasEndpoint (queue_arn queue) queues → has_queue queue queues ≡ true
 queue_has queue [] (k, m, l, e, p) = absurd (omega arith)
 queue_has queue (o ∷ ms) h =
-    let P : Mailbox → Type 0 = λ m. queue_arn queue ≡ queue_arn m.queue in
+    let P : Queue → Type 0 = λ m. queue_arn queue ≡ queue_arn m.name in
     elim (any_cases P o ms h) [
-      | inl p ↦ let e : bytes_eq o.queue queue ≡ true = (bytes_eq-Decides o.queue queue).1 (sym (append_cancel_left (codes "arn:aws:sqs:us-east-1:111122223333:") queue o.queue p)) in rw e
-      | inr r ↦ let rest = queue_has queue ms r in elim (bytes_eq o.queue queue) as (λ b. cond b true (has_queue queue ms) ≡ true) [ true ↦ refl | false ↦ rest ]
+      | inl p ↦ let e : bytes_eq o.name queue ≡ true = (bytes_eq-Decides o.name queue).1 (sym (append_cancel_left (codes "arn:aws:sqs:us-east-1:111122223333:") queue o.name p)) in rw e
+      | inr r ↦ let rest = queue_has queue ms r in elim (bytes_eq o.name queue) as (λ b. cond b true (has_queue queue ms) ≡ true) [ true ↦ refl | false ↦ rest ]
     ]
 
-pub queue_decides : (queue : List ℕ) (mailboxes : List Mailbox) (b : Bool) → b ≡ has_queue queue mailboxes → IsTrue b ↔ HasMailbox (queue_arn queue) mailboxes
-queue_decides queue mailboxes b e = (λ t. queue_there queue mailboxes (sym e ∙ t), λ h. e ∙ queue_has queue mailboxes h)
+pub queue_decides : (queue : List ℕ) (queues : List Queue) (b : Bool) → b ≡ has_queue queue queues → IsTrue b ↔ HasEndpoint (queue_arn queue) queues
+queue_decides queue queues b e = (λ t. queue_there queue queues (sym e ∙ t), λ h. e ∙ queue_has queue queues h)
 
-pub messages_some : (queue : List ℕ) (mailboxes : List Mailbox) (m : Mailbox) → find (λ m. bytes_eq m.queue queue) mailboxes ≡ Some m → messages_of queue mailboxes ≡ m.messages
+pub messages_some : (queue : List ℕ) (queues : List Queue) (m : Queue) → find (λ m. bytes_eq m.name queue) queues ≡ Some m → messages_of queue queues ≡ m.messages
 messages_some queue [] m f = absurd (cc)
 messages_some queue (o ∷ ms) m f =
-    let p : Mailbox → Bool = λ m. bytes_eq m.queue queue in
-    (elim (bytes_eq o.queue queue) as (λ b. cond b (Some o) (find p ms) ≡ Some m → cond b o.messages (messages_of queue ms) ≡ m.messages) [
-      | true ↦ λ g. let same : o ≡ m = cc in ap (λ (x : Mailbox). x.messages) same
+    let p : Queue → Bool = λ m. bytes_eq m.name queue in
+    (elim (bytes_eq o.name queue) as (λ b. cond b (Some o) (find p ms) ≡ Some m → cond b o.messages (messages_of queue ms) ≡ m.messages) [
+      | true ↦ λ g. let same : o ≡ m = cc in ap (λ (x : Queue). x.messages) same
       | false ↦ λ g. messages_some queue ms m g
     ]) f
 
-pub messages_none : (queue : List ℕ) (mailboxes : List Mailbox) → find (λ m. bytes_eq m.queue queue) mailboxes ≡ None → messages_of queue mailboxes ≡ []
+pub messages_none : (queue : List ℕ) (queues : List Queue) → find (λ m. bytes_eq m.name queue) queues ≡ None → messages_of queue queues ≡ []
 messages_none queue [] f = refl
 messages_none queue (o ∷ ms) f =
-    let p : Mailbox → Bool = λ m. bytes_eq m.queue queue in
-    (elim (bytes_eq o.queue queue) as (λ b. cond b (Some o) (find p ms) ≡ None → cond b o.messages (messages_of queue ms) ≡ []) [
+    let p : Queue → Bool = λ m. bytes_eq m.name queue in
+    (elim (bytes_eq o.name queue) as (λ b. cond b (Some o) (find p ms) ≡ None → cond b o.messages (messages_of queue ms) ≡ []) [
       | true ↦ λ g. absurd (cc)
       | false ↦ λ g. messages_none queue ms g
     ]) f
@@ -199,31 +199,31 @@ in_one_state {s} v e h =
 
 -- ---- fates
 
-pub settled_accepted : {s : Duties} (v : Duties) (number : ℕ) (outcome : Outcome) (owed : DutyRow) (pending : List DutyRow) (mailboxes : List Mailbox) (ended : List SettledDuty) → s ≡ v → outcome ≡ Accepted →
+pub settled_accepted : {s : Duties} (v : Duties) (number : ℕ) (outcome : Outcome) (owed : DutyRow) (pending : List DutyRow) (queues : List Queue) (ended : List SettledDuty) → s ≡ v → outcome ≡ Accepted →
     find (λ row. row.number == number) s.pending ≡ Some owed → pending ≡ filter (λ row. not (row.number == number)) s.pending →
-    mailboxes ≡ taken_in owed.duty.endpoint owed.duty.text s.mailboxes → ended ≡ s.ended ++ record { number = number; fate = Delivered } ∷ [] →
-    record s { pending = pending; ended = ended; mailboxes = mailboxes; delivered = s.delivered + 1 } ≡ settled number outcome v
-settled_accepted {s} v number outcome owed pending mailboxes ended e o f p t k =
+    queues ≡ taken_in owed.duty.endpoint owed.duty.text s.queues → ended ≡ s.ended ++ record { number = number; fate = Delivered } ∷ [] →
+    record s { pending = pending; ended = ended; queues = queues; delivered = s.delivered + 1 } ≡ settled number outcome v
+settled_accepted {s} v number outcome owed pending queues ended e o f p t k =
     let F : Duties → Type 0 =
-    λ v. record s { pending = pending; ended = ended; mailboxes = mailboxes; delivered = s.delivered + 1 } ≡ settled number Accepted v in
+    λ v. record s { pending = pending; ended = ended; queues = queues; delivered = s.delivered + 1 } ≡ settled number Accepted v in
     let at_s : F s =
-    ap (λ rows. record s { pending = rows; ended = ended; mailboxes = mailboxes; delivered = s.delivered + 1 }) p
-    ∙ ap (λ ds. record s { pending = filter (λ row. not (row.number == number)) s.pending; ended = ds; mailboxes = mailboxes; delivered = s.delivered + 1 }) k
+    ap (λ rows. record s { pending = rows; ended = ended; queues = queues; delivered = s.delivered + 1 }) p
+    ∙ ap (λ ds. record s { pending = filter (λ row. not (row.number == number)) s.pending; ended = ds; queues = queues; delivered = s.delivered + 1 }) k
     ∙ ap (λ ms. record s {
       pending = filter (λ row. not (row.number == number)) s.pending;
       ended = s.ended ++ record { number = number; fate = Delivered } ∷ [];
-      mailboxes = ms;
+      queues = ms;
       delivered = s.delivered + 1;
     })
-    (t ∙ ap (λ found. taken_of found s.mailboxes) (sym f)) in
+    (t ∙ ap (λ found. taken_of found s.queues) (sym f)) in
     subst F e at_s ∙ ap (λ out. settled number out v) (sym o)
 
-pub queues_taken : (endpoint body : List ℕ) (mailboxes : List Mailbox) → map (λ m. m.queue) (taken_in endpoint body mailboxes) ≡ map (λ m. m.queue) mailboxes
+pub queues_taken : (endpoint body : List ℕ) (queues : List Queue) → map (λ m. m.name) (taken_in endpoint body queues) ≡ map (λ m. m.name) queues
 queues_taken endpoint body [] = refl
 queues_taken endpoint body (m ∷ ms) =
-    elim (bytes_eq endpoint (queue_arn m.queue)) as (λ b. map (λ (o : Mailbox). o.queue) (cond b (with_next body m ∷ ms) (m ∷ taken_in endpoint body ms)) ≡ m.queue ∷ map (λ (o : Mailbox). o.queue) ms) [
+    elim (bytes_eq endpoint (queue_arn m.name)) as (λ b. map (λ (o : Queue). o.name) (cond b (with_next body m ∷ ms) (m ∷ taken_in endpoint body ms)) ≡ m.name ∷ map (λ (o : Queue). o.name) ms) [
       | true ↦ refl
-      | false ↦ ap (λ names. m.queue ∷ names) (queues_taken endpoint body ms)
+      | false ↦ ap (λ names. m.name ∷ names) (queues_taken endpoint body ms)
     ]
 
 -- ---- makings
@@ -237,7 +237,7 @@ single (x ∷ y ∷ ys) h = absurd (omega arith)
 pub record Counted (s : Duties) (moment : ℕ) (t : Duties) : Type 0 where
   pub created : t.created ≡ s.created + 1
   pub latest : t.latest ≡ moment
-  pub queues : t.mailboxes ≡ s.mailboxes
+  pub queues : t.queues ≡ s.queues
 
 pub one_counted : (duty : NewDuty) (moment : ℕ) (s : Duties) → Counted s moment (added_one duty moment s)
 one_counted duty moment s =
@@ -259,7 +259,7 @@ pub added_latest : (duties : List NewDuty) (moment : ℕ) (s : Duties) → s.lat
 added_latest [] moment s h = h
 added_latest (duty ∷ duties) moment s h = added_latest duties moment (added_one duty moment s) (omega (arith, (one_counted duty moment s).latest))
 
-pub added_queues : (duties : List NewDuty) (moment : ℕ) (s : Duties) → (added duties moment s).mailboxes ≡ s.mailboxes
+pub added_queues : (duties : List NewDuty) (moment : ℕ) (s : Duties) → (added duties moment s).queues ≡ s.queues
 added_queues [] moment s = refl
 added_queues (duty ∷ duties) moment s = added_queues duties moment (added_one duty moment s) ∙ (one_counted duty moment s).queues
 
@@ -268,7 +268,7 @@ pub record IsLeft (duties : List NewDuty) (moment : ℕ) (s : Duties) (rows : Li
   pub made : added (map (λ row. row.duty) rows) moment t ≡ added duties moment s
   pub order : t.latest ≤ moment
   pub room : t.created + length rows < 2 ^ 63
-  pub there : All (λ row. HasMailbox row.duty.endpoint t.mailboxes) rows
+  pub there : All (λ row. HasEndpoint row.duty.endpoint t.queues) rows
 
 pub one_made : (duties : List NewDuty) (moment : ℕ) (s : Duties) (rows : List DutyRow) (t : Duties) (one more : List DutyRow) (u : Duties) →
     IsLeft duties moment s rows t → 0 < length rows → one ≡ take 1 rows → more ≡ drop 1 rows → u ≡ added (map (λ row. row.duty) one) moment t →
@@ -276,8 +276,8 @@ pub one_made : (duties : List NewDuty) (moment : ℕ) (s : Duties) (rows : List 
 one_made duties moment s [] t one more u h l o m e = absurd (omega arith)
 one_made duties moment s (row ∷ rows) t one more u h l o m e =
     let k = one_counted row.duty moment t in
-    let P : DutyRow → Type 0 = λ row. HasMailbox row.duty.endpoint t.mailboxes in
-    let F : List Mailbox → Type 0 = λ ms. All (λ row. HasMailbox row.duty.endpoint ms) rows in
+    let P : DutyRow → Type 0 = λ row. HasEndpoint row.duty.endpoint t.queues in
+    let F : List Queue → Type 0 = λ ms. All (λ row. HasEndpoint row.duty.endpoint ms) rows in
     let G : Duties → Type 0 = λ u. IsLeft duties moment s rows u in
     let M : List DutyRow → Type 0 = λ more. IsLeft duties moment s more u in
     let left : G (added_one row.duty moment t) = record {
@@ -288,23 +288,23 @@ one_made duties moment s (row ∷ rows) t one more u h l o m e =
     } in
     subst M (sym m) (subst G (sym (e ∙ ap (λ ys. added (map (λ (row : DutyRow). row.duty) ys) moment t) o)) left)
 
-rows_there : (mailboxes : List Mailbox) (rows : List DutyRow) → All (λ d. HasMailbox d.endpoint mailboxes) (map (λ (row : DutyRow). row.duty) rows) →
-    All (λ row. HasMailbox row.duty.endpoint mailboxes) rows
-rows_there mailboxes [] h = All-nil (λ (row : DutyRow). HasMailbox row.duty.endpoint mailboxes)
-rows_there mailboxes (row ∷ rows) h =
-    let P : NewDuty → Type 0 = λ d. HasMailbox d.endpoint mailboxes in
+rows_there : (queues : List Queue) (rows : List DutyRow) → All (λ d. HasEndpoint d.endpoint queues) (map (λ (row : DutyRow). row.duty) rows) →
+    All (λ row. HasEndpoint row.duty.endpoint queues) rows
+rows_there queues [] h = All-nil (λ (row : DutyRow). HasEndpoint row.duty.endpoint queues)
+rows_there queues (row ∷ rows) h =
+    let P : NewDuty → Type 0 = λ d. HasEndpoint d.endpoint queues in
     let duties : List NewDuty = map (λ (r : DutyRow). r.duty) rows in
-    All-cons (λ r. P r.duty) row rows (All-head P row.duty duties h) (rows_there mailboxes rows (All-tail P row.duty duties h))
+    All-cons (λ r. P r.duty) row rows (All-head P row.duty duties h) (rows_there queues rows (All-tail P row.duty duties h))
 
 pub all_left : (duties : List NewDuty) (moment : ℕ) (s : Duties) (rows : List DutyRow) → map (λ row. row.duty) rows ≡ duties → s.latest ≤ moment →
-    s.created + length duties < 2 ^ 63 → All (λ d. HasMailbox d.endpoint s.mailboxes) duties → IsLeft duties moment s rows s
+    s.created + length duties < 2 ^ 63 → All (λ d. HasEndpoint d.endpoint s.queues) duties → IsLeft duties moment s rows s
 all_left duties moment s rows e order room there =
-    let P : NewDuty → Type 0 = λ d. HasMailbox d.endpoint s.mailboxes in
+    let P : NewDuty → Type 0 = λ d. HasEndpoint d.endpoint s.queues in
     record {
       made = ap (λ ds. added ds moment s) e;
       order = order;
       room = omega (arith, room, ap (length {A = NewDuty}) e, length-map rows (λ (row : DutyRow). row.duty));
-      there = rows_there s.mailboxes rows (subst (All P) (sym e) there);
+      there = rows_there s.queues rows (subst (All P) (sym e) there);
     }
 
 pub none_left : {duties : List NewDuty} {moment : ℕ} {s : Duties} (rows : List DutyRow) (t : Duties) → IsLeft duties moment s rows t → length rows ≡ 0 → t ≡ added duties moment s
@@ -323,7 +323,7 @@ settled_dropped {s} v number outcome pending ended e o p k =
     ∙ ap (λ ds. record s { pending = filter (λ row. not (row.number == number)) s.pending; ended = ds; dropped = s.dropped + 1 }) k in
     subst F e at_s ∙ ap (λ out. settled number out v) (sym o)
 
-pub delivered_text : (before now : List Mailbox) (duty ended : NewDuty) → ended ≡ duty → now ≡ taken_in ended.endpoint ended.text before → now ≡ taken_in duty.endpoint duty.text before
+pub delivered_text : (before now : List Queue) (duty ended : NewDuty) → ended ≡ duty → now ≡ taken_in ended.endpoint ended.text before → now ≡ taken_in duty.endpoint duty.text before
 delivered_text before now duty ended e t = t ∙ ap (λ (d : NewDuty). taken_in d.endpoint d.text before) e
 
 -- what is kept of the duty that was taken out has the number that was asked for

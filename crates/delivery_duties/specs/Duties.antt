@@ -12,8 +12,8 @@ use Rattle.delivery_duties.specs.declared.fate.Fate.TheVariants.{Delivered, Drop
 use Rattle.delivery_duties.specs.declared.fate.SettledDuty.{SettledDuty}
 
 -- a queue: its name, the number of its last message, and the messages that stand, oldest first
-pub record Mailbox : Type 0 where
-  pub queue : List ℕ
+pub record Queue : Type 0 where
+  pub name : List ℕ
   pub sent : ℕ
   pub messages : List QueueMessage
 
@@ -22,7 +22,7 @@ pub record Mailbox : Type 0 where
 pub record Duties : Type 0 where
   pub pending : List DutyRow
   pub ended : List SettledDuty
-  pub mailboxes : List Mailbox
+  pub queues : List Queue
   pub created : ℕ
   pub delivered : ℕ
   pub dropped : ℕ
@@ -30,20 +30,20 @@ pub record Duties : Type 0 where
 
 -- no duties and no queues
 abbrev pub no_duties : Duties
-no_duties = record { pending = []; ended = []; mailboxes = []; created = 0; delivered = 0; dropped = 0; latest = 0 }
+no_duties = record { pending = []; ended = []; queues = []; created = 0; delivered = 0; dropped = 0; latest = 0 }
 
 -- there is a queue of this name
-abbrev pub has_queue : List ℕ → List Mailbox → Bool
+abbrev pub has_queue : List ℕ → List Queue → Bool
 has_queue queue [] = false
-has_queue queue (m ∷ ms) = if bytes_eq m.queue queue then true else has_queue queue ms
+has_queue queue (m ∷ ms) = if bytes_eq m.name queue then true else has_queue queue ms
 
 -- the endpoint is the ARN of one of these queues
-abbrev pub HasMailbox : List ℕ → List Mailbox → Type 0
-HasMailbox endpoint mailboxes = Any (λ m. endpoint ≡ queue_arn m.queue) mailboxes
+abbrev pub HasEndpoint : List ℕ → List Queue → Type 0
+HasEndpoint endpoint queues = Any (λ m. endpoint ≡ queue_arn m.name) queues
 
--- a queue is made, with no message
-abbrev pub opened : List ℕ → Duties → Duties
-opened queue s = record s { mailboxes = s.mailboxes ++ record { queue = queue; sent = 0; messages = [] } ∷ [] }
+-- the duties with one more queue, the last, which has no message
+abbrev pub with_queue : List ℕ → Duties → Duties
+with_queue name s = record s { queues = s.queues ++ record { name = name; sent = 0; messages = [] } ∷ [] }
 
 -- the duty with this number, made at the moment and due at once
 abbrev pub begun : ℕ → ℕ → NewDuty → DutyRow
@@ -107,26 +107,26 @@ abbrev pub IsOut : ℕ → Duties → Type 0
 IsOut number s = Any (λ row. (row.number ≡ number) × (row.claimed ≡ true)) s.pending
 
 -- the queue, with the text as its next message
-abbrev pub with_next : List ℕ → Mailbox → Mailbox
+abbrev pub with_next : List ℕ → Queue → Queue
 with_next body m = record m { sent = m.sent + 1; messages = m.messages ++ record { number = m.sent + 1; body = body } ∷ [] }
 
 -- the first queue whose ARN is the endpoint takes the text as its next message
-abbrev pub taken_in : List ℕ → List ℕ → List Mailbox → List Mailbox
+abbrev pub taken_in : List ℕ → List ℕ → List Queue → List Queue
 taken_in endpoint body [] = []
 taken_in endpoint body (m ∷ ms) =
-    if bytes_eq endpoint (queue_arn m.queue) then with_next body m ∷ ms else m ∷ taken_in endpoint body ms
+    if bytes_eq endpoint (queue_arn m.name) then with_next body m ∷ ms else m ∷ taken_in endpoint body ms
 
 -- what the queues take of a duty that was delivered
-abbrev pub taken_of : Option DutyRow → List Mailbox → List Mailbox
-taken_of None mailboxes = mailboxes
-taken_of (Some row) mailboxes = taken_in row.duty.endpoint row.duty.text mailboxes
+abbrev pub taken_of : Option DutyRow → List Queue → List Queue
+taken_of None queues = queues
+taken_of (Some row) queues = taken_in row.duty.endpoint row.duty.text queues
 
 -- a duty ends: the queue takes its text, or it was too old and is dropped; its number and its fate are kept
 abbrev pub settled : ℕ → Outcome → Duties → Duties
 settled number Accepted s = record s {
   pending = filter (λ row. not (row.number == number)) s.pending;
   ended = s.ended ++ record { number = number; fate = Delivered } ∷ [];
-  mailboxes = taken_of (find (λ row. row.number == number) s.pending) s.mailboxes;
+  queues = taken_of (find (λ row. row.number == number) s.pending) s.queues;
   delivered = s.delivered + 1;
 }
 settled number TooOld s = record s {
@@ -174,6 +174,6 @@ IsInOneState number s =
     × ((other : SettledDuty) → Contains s.ended other → other.number ≡ number → other ≡ d)))
 
 -- the messages of the queue of this name, none where there is no such queue
-abbrev pub messages_of : List ℕ → List Mailbox → List QueueMessage
+abbrev pub messages_of : List ℕ → List Queue → List QueueMessage
 messages_of queue [] = []
-messages_of queue (m ∷ ms) = if bytes_eq m.queue queue then m.messages else messages_of queue ms
+messages_of queue (m ∷ ms) = if bytes_eq m.name queue then m.messages else messages_of queue ms

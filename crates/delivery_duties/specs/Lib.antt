@@ -1,4 +1,4 @@
 pub mod Duties
-pub mod Mailboxes
+pub mod NewQueue
 pub mod Sound
 pub mod Cuts

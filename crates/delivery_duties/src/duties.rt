@@ -9,10 +9,10 @@ use crate::counts::Counts;
 use crate::duty::DutyRow;
 use crate::fate::{Fate, Outcome, SettledDuty};
 use crate::lists::{cut, join};
-use crate::mailbox::{Mailbox, NewMailbox, deliver, named};
 use crate::message::QueueMessage;
 use crate::new_duties::NewDuties;
 use crate::owed::Owed;
+use crate::queue::{NewQueue, Queue, deliver, named};
 use crate::rows::{begin, claim_due, drop_one, free, take_out};
 use json_text::NoMemory;
 use std::alloc::Global;
@@ -24,7 +24,7 @@ use std::marker::Model;
 pub struct Duties {
     pending: LinkedList<Owed>,
     ended: LinkedList<SettledDuty>,
-    mailboxes: LinkedList<Mailbox>,
+    queues: LinkedList<Queue>,
     created: u64,
     delivered: u64,
     dropped: u64,
@@ -32,15 +32,15 @@ pub struct Duties {
 }
 
 impl Model for Duties {
-    ghost use Rattle.delivery_duties.specs.Duties.{Duties as Seen};
+    ghost use Rattle.delivery_duties.specs.Duties.{Duties as View};
     ghost use Rattle.delivery_duties.specs.Sound.{IsSound};
 
-    ghost Value = { Seen };
+    ghost Value = { View };
 
     ghost view = { λ d. record {
       pending = d.pending;
       ended = d.ended;
-      mailboxes = d.mailboxes;
+      queues = d.queues;
       created = d.created;
       delivered = d.delivered;
       dropped = d.dropped;
@@ -50,7 +50,7 @@ impl Model for Duties {
     ghost invariant = { λ d. IsSound (record {
       pending = d.pending;
       ended = d.ended;
-      mailboxes = d.mailboxes;
+      queues = d.queues;
       created = d.created;
       delivered = d.delivered;
       dropped = d.dropped;
@@ -66,7 +66,7 @@ impl Duties {
         Duties {
             pending: LinkedList::new(alloc),
             ended: LinkedList::new(alloc),
-            mailboxes: LinkedList::new(alloc),
+            queues: LinkedList::new(alloc),
             created: 0,
             delivered: 0,
             dropped: 0,
@@ -74,31 +74,31 @@ impl Duties {
         }
     }
 
-    /// Makes the queue.
-    pub fn open(&mut self, mailbox: NewMailbox)
-        requires { length self.old.mailboxes < 2 ^ 62 }
-        ensures { self.new ≡ spec.opened mailbox self.old }
+    /// Creates the queue, with no message.
+    pub fn create_queue(&mut self, queue: NewQueue)
+        requires { length self.old.queues < 2 ^ 62 }
+        ensures { self.new ≡ spec.with_queue queue self.old }
     {
-        join(&mut self.mailboxes, mailbox.into_made());
+        join(&mut self.queues, queue.into_made());
     }
 
     /// Whether there is a queue of this name.
     pub fn has_queue(&self, queue: &str) -> bool
-        ensures value { result ≡ spec.has_queue queue.now self.now.mailboxes }
-        ensures arn { IsTrue result ↔ spec.HasMailbox (queue_arn queue.now) self.now.mailboxes }
+        ensures value { result ≡ spec.has_queue queue.now self.now.queues }
+        ensures arn { IsTrue result ↔ spec.HasEndpoint (queue_arn queue.now) self.now.queues }
     {
-        named(&self.mailboxes, queue).is_some()
+        named(&self.queues, queue).is_some()
     }
 
     /// Makes the duties, in their order, at the moment; it takes no memory.
     pub fn add(&mut self, duties: NewDuties, moment: u64)
         requires order { self.old.latest ≤ moment }
         requires room { self.old.created + length duties < 2 ^ 63 }
-        requires there { All (λ d. spec.HasMailbox d.endpoint self.old.mailboxes) duties }
+        requires there { All (λ d. spec.HasEndpoint d.endpoint self.old.queues) duties }
         ensures added { self.new ≡ spec.added duties moment self.old }
         ensures created { self.new.created ≡ self.old.created + length duties }
         ensures latest { self.new.latest ≤ moment }
-        ensures queues { self.new.mailboxes ≡ self.old.mailboxes }
+        ensures queues { self.new.queues ≡ self.old.queues }
         ensures still_out { (n : ℕ) → spec.IsOut n self.old → spec.IsOut n self.new }
     {
         let mut rows = duties.into_rows();
@@ -114,7 +114,7 @@ impl Duties {
         requires one { length one ≡ 1 }
         requires order { self.old.latest ≤ moment }
         requires room { self.old.created + 1 < 2 ^ 63 }
-        requires there { All (λ row. spec.HasMailbox row.duty.endpoint self.old.mailboxes) one }
+        requires there { All (λ row. spec.HasEndpoint row.duty.endpoint self.old.queues) one }
         ensures { self.new ≡ spec.added (map (λ row. row.duty) one) moment self.old }
     {
         self.created += 1;
@@ -145,9 +145,9 @@ impl Duties {
         ensures settled { self.new ≡ spec.settled claim.number outcome self.old }
         ensures created { self.new.created ≡ self.old.created }
         ensures latest { self.new.latest ≡ self.old.latest }
-        ensures queues { map (λ m. m.queue) self.new.mailboxes ≡ map (λ m. m.queue) self.old.mailboxes }
+        ensures queues { map (λ m. m.name) self.new.queues ≡ map (λ m. m.name) self.old.queues }
         ensures still_out { (n : ℕ) → n ≢ claim.number → spec.IsOut n self.old → spec.IsOut n self.new }
-        ensures has_queue { (row : DutyRow) → Contains self.old.pending row → spec.HasMailbox row.duty.endpoint self.old.mailboxes }
+        ensures has_queue { (row : DutyRow) → Contains self.old.pending row → spec.HasEndpoint row.duty.endpoint self.old.queues }
     {
         let Claim { number } = claim;
         let owed = take_out(&mut self.pending, number);
@@ -155,7 +155,7 @@ impl Duties {
             Outcome::Accepted => {
                 let (ended, kept) = owed.end(Fate::Delivered);
                 self.delivered += 1;
-                deliver(&mut self.mailboxes, ended);
+                deliver(&mut self.queues, ended);
                 join(&mut self.ended, kept);
                 Fate::Delivered
             }
@@ -218,10 +218,10 @@ impl Duties {
         queue: &str,
         limit: u32,
     ) -> Result<Vec<QueueMessage>, NoMemory>
-        ensures { IfOk result (λ ms. ms.items ≡ take limit (spec.messages_of queue.now self.now.mailboxes)) }
+        ensures { IfOk result (λ ms. ms.items ≡ take limit (spec.messages_of queue.now self.now.queues)) }
     {
-        match named(&self.mailboxes, queue) {
-            Some(mailbox) => mailbox.peek(alloc, limit as usize),
+        match named(&self.queues, queue) {
+            Some(found) => found.peek(alloc, limit as usize),
             None => Ok(Vec::new(alloc)),
         }
     }

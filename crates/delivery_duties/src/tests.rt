@@ -2,7 +2,7 @@ ghost use Rattle.std.specs.Prelude.{◌≡◌, ◌+◌, ◌^◌, ◌<◌, ◌≤
 ghost use Rattle.event_shape.specs.Names as arns;
 ghost use Rattle.delivery_duties.specs.Duties as spec;
 
-use crate::{Counts, Duties, Fate, NewDuties, NewDuty, NewMailbox, Outcome};
+use crate::{Counts, Duties, Fate, NewDuties, NewDuty, NewQueue, Outcome};
 use event_shape::queue_arn;
 use json_text::{NoMemory, Text};
 use std::alloc::Global;
@@ -27,8 +27,8 @@ fn queues(alloc: Global) -> Result<Duties, NoMemory>
     ensures { IfOk result (λ d. (d.created ≡ 0) × (d.latest ≡ 0)) }
 {
     let mut duties = Duties::new(alloc);
-    duties.open(NewMailbox::new(alloc, "orders")?);
-    duties.open(NewMailbox::new(alloc, "audit")?);
+    duties.create_queue(NewQueue::new(alloc, "orders")?);
+    duties.create_queue(NewQueue::new(alloc, "audit")?);
     Ok(duties)
 }
 
@@ -41,8 +41,8 @@ fn push(
     text: &str,
     too_long: bool,
 ) -> Result<(), NoMemory>
-    requires there { All (λ d. spec.HasMailbox d.endpoint duties.now.mailboxes) batch.old }
-    ensures there { OnOk result (All (λ d. spec.HasMailbox d.endpoint duties.now.mailboxes) batch.new) }
+    requires there { All (λ d. spec.HasEndpoint d.endpoint duties.now.queues) batch.old }
+    ensures there { OnOk result (All (λ d. spec.HasEndpoint d.endpoint duties.now.queues) batch.new) }
     ensures one_more { OnOk result (length batch.new ≤ length batch.old + 1) }
 {
     if duties.has_queue(queue) {

@@ -15,14 +15,14 @@ use Rattle.event_shape.specs.declared.entry.EntryFault.{EntryFault}
 use Rattle.rule_table.specs.Control.{Control}
 use Rattle.rule_table.specs.RuleSet.{RuleSet, IsSound, IsQueueThere, rules_of}
 use Rattle.delivery_duties.specs.declared.duty.NewDuty.{NewDuty}
-use Rattle.delivery_duties.specs.Duties.{Mailbox, HasMailbox}
+use Rattle.delivery_duties.specs.Duties.{Queue, HasEndpoint}
 use Rattle.delivery_duties.proofs.AnyLemmas.{any_behind}
 use Rattle.router_core.specs.Batch as batch
-use Rattle.router_core.specs.Reply.{Reply, served, number_limit}
+use Rattle.router_core.specs.Reply.{Reply, served, limit_reply}
 use Rattle.router_core.specs.Request.{Action}
 use Rattle.router_core.specs.Ready.{accepted_of, AreDeliverable, IsConsistent}
 use Rattle.router_core.specs.Matching.{AreMatched, IsSeen, duty_of}
-use Rattle.router_core.specs.Seen.{reply_of}
+use Rattle.router_core.specs.View.{reply_of}
 use Rattle.router_core.specs.declared.seen.SeenTarget.{SeenTarget}
 use Rattle.router_core.specs.declared.seen.SeenEntry.{SeenEntry}
 use Rattle.router_core.specs.declared.seen.Seen.{Seen}
@@ -32,15 +32,15 @@ use Rattle.router_core.specs.declared.ready.Ready.{Ready}
 use Rattle.router_core.specs.declared.reply.Reply.{Reply as CodeReply}
 use Rattle.router_core.proofs.MatchingLemmas.{matched_fits}
 use Rattle.router_calls.specs.Accepted.{IsAccepted, IsAcceptedAs, AreAccepted, HasFaulty}
-use Rattle.router_calls.specs.Answer.{Answer, IsAnswerAt, IsControlled, told_event, told_events, tells, writes}
+use Rattle.router_calls.specs.Answer.{Answer, IsAnswerAt, IsControlled, event_report, events_reply, reply_alone, writes}
 use Rattle.router_calls.specs.Decided.{answer_of}
 
 -- the same change with the same reply
 pub controlled_so : {E : Type 0} (r : Result (Option Ready × CodeReply) E) (t : Tables) (moment : ℕ) {c d : Control} {reply other : Reply} → c ≡ d → reply ≡ other
     → IfOk r (λ p. IsControlled t moment c reply (answer_of p)) → IfOk r (λ p. (reading : ℕ) → IsControlled t moment d other (answer_of p))
-controlled_so (Ok p) t moment {c} {d} {reply} {other} same told h =
-    λ reading. subst (λ (x : Control). IsControlled t moment x other (answer_of p)) same (subst (λ (x : Reply). IsControlled t moment c x (answer_of p)) told h)
-controlled_so (Err e) t moment same told h = tt
+controlled_so (Ok p) t moment {c} {d} {reply} {other} same is h =
+    λ reading. subst (λ (x : Control). IsControlled t moment x other (answer_of p)) same (subst (λ (x : Reply). IsControlled t moment c x (answer_of p)) is h)
+controlled_so (Err e) t moment same is h = tt
 
 -- what is answered at any reading is answered at this one
 pub answered : {E : Type 0} (r : Result (Option Ready × CodeReply) E) (t : Tables) (moment at reading : ℕ) {seen action : Action} → moment ≡ at → seen ≡ action
@@ -49,19 +49,19 @@ answered (Ok p) t moment at reading {seen} {action} same is h =
     subst (λ (a : Action). IsAnswerAt t at reading a (answer_of p)) (sym is) (subst (λ (m : ℕ). IsAnswerAt t m reading action (answer_of p)) same (h reading))
 answered (Err e) t moment at reading same is h = tt
 
-told_both : (events : List AcceptedEvent) → map (λ (e : AcceptedEvent). told_event (accepted_of e)) events ≡ map told_event (map accepted_of events)
-told_both [] = refl
-told_both (e ∷ es) = ap (λ (ts : List Tree). told_event (accepted_of e) ∷ ts) (told_both es)
+reports_of : (events : List AcceptedEvent) → map (λ (e : AcceptedEvent). event_report (accepted_of e)) events ≡ map event_report (map accepted_of events)
+reports_of [] = refl
+reports_of (e ∷ es) = ap (λ (ts : List Tree). event_report (accepted_of e) ∷ ts) (reports_of es)
 
--- when no event is left, what was told is what all tell
-pub events_told : {E : Type 0} (r : Result CodeReply E) (items : List Json) (left all : List AcceptedEvent) → length left ≡ 0
-    → trees_of items ++ map (λ (e : AcceptedEvent). told_event (accepted_of e)) left ≡ map (λ (e : AcceptedEvent). told_event (accepted_of e)) all
+-- when no event is left, what was is is what all tell
+pub events_reported : {E : Type 0} (r : Result CodeReply E) (items : List Json) (left all : List AcceptedEvent) → length left ≡ 0
+    → trees_of items ++ map (λ (e : AcceptedEvent). event_report (accepted_of e)) left ≡ map (λ (e : AcceptedEvent). event_report (accepted_of e)) all
     → IfOk r (λ x. reply_of x ≡ served ((codes "FailedEntryCount", number (codes "0")) ∷ (codes "Entries", list (items_of (trees_of items))) ∷ []))
-    → IfOk r (λ x. reply_of x ≡ told_events (map accepted_of all))
-events_told (Err e) items left all none told h = tt
-events_told (Ok x) items (e ∷ es) all none told h = absurd (omega arith)
-events_told (Ok x) items [] all none told h =
-    let same : trees_of items ≡ map told_event (map accepted_of all) = sym (append-nil (trees_of items)) ∙ told ∙ told_both all in
+    → IfOk r (λ x. reply_of x ≡ events_reply (map accepted_of all))
+events_reported (Err e) items left all none is h = tt
+events_reported (Ok x) items (e ∷ es) all none is h = absurd (omega arith)
+events_reported (Ok x) items [] all none is h =
+    let same : trees_of items ≡ map event_report (map accepted_of all) = sym (append-nil (trees_of items)) ∙ is ∙ reports_of all in
     h ∙ ap (λ (ts : List Tree). served ((codes "FailedEntryCount", number (codes "0")) ∷ (codes "Entries", list (items_of ts)) ∷ [])) same
 
 -- ---- the duties of one event
@@ -80,14 +80,14 @@ taken_matched set bus event seen (x ∷ rest) entry h cut =
 -- the duties for the targets that were seen are few, and each goes to a queue that takes messages
 pub owed_fits : (t : Tables) (set : RuleSet) (bus : List ℕ) (event : Tree) (text : List ℕ) (seen : Seen) (rest : List SeenEntry) (entry : SeenEntry) (duties : List NewDuty)
     → set ≡ t.set → IsSound t.set → IsConsistent t → IsSeen set bus event seen → seen.entries.items ≡ rest ++ entry ∷ [] → duties ≡ map (duty_of text) entry.targets.items
-    → (length duties ≤ 1500) × All (λ (d : NewDuty). HasMailbox d.endpoint t.duties.mailboxes) duties
+    → (length duties ≤ 1500) × All (λ (d : NewDuty). HasEndpoint d.endpoint t.duties.queues) duties
 owed_fits t set bus event text seen rest entry duties same sound consistent is_seen cut owed =
     let P : SeenTarget → Type 0 = λ s. IsQueueThere t.set s.target.arn in
-    let Q : SeenTarget → Type 0 = λ s. HasMailbox s.target.arn t.duties.mailboxes in
-    let R : NewDuty → Type 0 = λ d. HasMailbox d.endpoint t.duties.mailboxes in
+    let Q : SeenTarget → Type 0 = λ s. HasEndpoint s.target.arn t.duties.queues in
+    let R : NewDuty → Type 0 = λ d. HasEndpoint d.endpoint t.duties.queues in
     let matched = subst (λ (s : RuleSet). AreMatched bus (rules_of bus s) event entry.targets.items) same (taken_matched set bus event seen rest entry is_seen cut) in
     let fit = matched_fits bus t.set event entry.targets.items sound matched in
-    let there : (s : SeenTarget) → P s → Q s = λ s p. subst (λ (arn : List ℕ). HasMailbox arn t.duties.mailboxes) (sym p.1) (consistent.queues p.0 p.2) in (
+    let there : (s : SeenTarget) → P s → Q s = λ s p. subst (λ (arn : List ℕ). HasEndpoint arn t.duties.queues) (sym p.1) (consistent.queues p.0 p.2) in (
       omega (arith, fit.0, ap length owed, length-map entry.targets.items (duty_of text)),
       subst (All R) (sym owed) (All-map R (duty_of text) entry.targets.items (All-weaker P Q there entry.targets.items fit.1)),
     )
@@ -100,7 +100,7 @@ pub record AreTaken (t : Tables) (reading : ℕ) (all left : List EventEntry) (e
   pub parts : all ≡ done ++ left
   pub last : latest ≡ t.events + length done
   pub accepted : AreAccepted t.set reading (t.events + 1) (map entry_of done) (map accepted_of events)
-  pub deliverable : AreDeliverable t.duties.mailboxes events
+  pub deliverable : AreDeliverable t.duties.queues events
 
 accepted_more : (set : RuleSet) (reading n : ℕ) (entries : List Entry) (events : List batch.Accepted) (entry : Entry) (e : batch.Accepted)
     → AreAccepted set reading n entries events → IsAccepted set reading (n + length entries) entry e
@@ -117,14 +117,14 @@ accepted_more set reading n (x ∷ entries) events entry e (y, ys, parts, one, m
       accepted_more set reading (n + 1) entries ys entry e more (subst (λ (m : ℕ). IsAccepted set reading m entry e) next h),
     )
 
-deliverable_more : (mailboxes : List Mailbox) (events : List AcceptedEvent) (e : AcceptedEvent) → AreDeliverable mailboxes events
-    → length e.duties ≤ 1500 → All (λ (d : NewDuty). HasMailbox d.endpoint mailboxes) e.duties → AreDeliverable mailboxes (events ++ e ∷ [])
-deliverable_more mailboxes [] e h few there = (few, there, tt)
-deliverable_more mailboxes (x ∷ events) e h few there = (h.0, h.1, deliverable_more mailboxes events e h.2 few there)
+deliverable_more : (queues : List Queue) (events : List AcceptedEvent) (e : AcceptedEvent) → AreDeliverable queues events
+    → length e.duties ≤ 1500 → All (λ (d : NewDuty). HasEndpoint d.endpoint queues) e.duties → AreDeliverable queues (events ++ e ∷ [])
+deliverable_more queues [] e h few there = (few, there, tt)
+deliverable_more queues (x ∷ events) e h few there = (h.0, h.1, deliverable_more queues events e h.2 few there)
 
 pub taken_more : (t : Tables) (reading : ℕ) (all left rest : List EventEntry) (events new : List AcceptedEvent) (latest : ℕ) (entry : EventEntry) (checked : Checked) (e : AcceptedEvent)
     → AreTaken t reading all left events latest → left ≡ entry ∷ rest → IsCheckedOf (entry_of entry) checked → IsAcceptedAs t.set reading (latest + 1) checked (accepted_of e)
-    → length e.duties ≤ 1500 → All (λ (d : NewDuty). HasMailbox d.endpoint t.duties.mailboxes) e.duties → new ≡ events ++ e ∷ []
+    → length e.duties ≤ 1500 → All (λ (d : NewDuty). HasEndpoint d.endpoint t.duties.queues) e.duties → new ≡ events ++ e ∷ []
     → AreTaken t reading all rest new (latest + 1)
 taken_more t reading all left rest events new latest entry checked e h cut is_checked accepted few there put =
     let at : latest + 1 ≡ t.events + 1 + length (map entry_of h.done) = omega (arith, h.last, length-map h.done entry_of) in
@@ -137,7 +137,7 @@ taken_more t reading all left rest events new latest entry checked e h cut is_ch
       last = omega (arith, h.last, length-append h.done (entry ∷ []));
       accepted = subst (λ (xs : List Entry). AreAccepted t.set reading (t.events + 1) xs (map accepted_of (events ++ e ∷ []))) (sym (map-append entry_of h.done (entry ∷ [])))
           (subst (AreAccepted t.set reading (t.events + 1) (map entry_of h.done ++ entry_of entry ∷ [])) (sym (map-append accepted_of events (e ∷ []))) more);
-      deliverable = deliverable_more t.duties.mailboxes events e h.deliverable few there;
+      deliverable = deliverable_more t.duties.queues events e h.deliverable few there;
     } in
     subst (λ (es : List AcceptedEvent). AreTaken t reading all rest es (latest + 1)) (sym put) whole
 
@@ -157,16 +157,16 @@ accepted_count set reading n (x ∷ entries) events (y, ys, parts, one, more) =
     let rest = accepted_count set reading (n + 1) entries ys more in
     omega (arith, counted, rest)
 
-told_entries : (events : List AcceptedEvent) → map (λ (e : AcceptedEvent). batch.accepted (accepted_of e)) events ≡ map batch.accepted (map accepted_of events)
-told_entries [] = refl
-told_entries (e ∷ es) = ap (λ (rest : List batch.Entry). batch.accepted (accepted_of e) ∷ rest) (told_entries es)
+entries_of_events : (events : List AcceptedEvent) → map (λ (e : AcceptedEvent). batch.accepted (accepted_of e)) events ≡ map batch.accepted (map accepted_of events)
+entries_of_events [] = refl
+entries_of_events (e ∷ es) = ap (λ (rest : List batch.Entry). batch.accepted (accepted_of e) ∷ rest) (entries_of_events es)
 
 -- the answer with its batch
-pub written : (t : Tables) (moment : ℕ) (events : List AcceptedEvent) (reply : Reply) → is_full t ≡ false → reply ≡ told_events (map accepted_of events)
+pub written : (t : Tables) (moment : ℕ) (events : List AcceptedEvent) (reply : Reply) → is_full t ≡ false → reply ≡ events_reply (map accepted_of events)
     → record { batch = Some (record { moment = moment; entries = map (λ (e : AcceptedEvent). batch.accepted (accepted_of e)) events }); reply = reply }
-    ≡ writes t moment (map batch.accepted (map accepted_of events)) (told_events (map accepted_of events))
-written t moment events reply numbered told =
-    let one : Answer = record { batch = Some (record { moment = moment; entries = map batch.accepted (map accepted_of events) }); reply = told_events (map accepted_of events) } in
-    ap (λ (es : List batch.Entry). record { batch = Some (record { moment = moment; entries = es }); reply = reply }) (told_entries events)
-    ∙ ap (λ (r : Reply). record { batch = Some (record { moment = moment; entries = map batch.accepted (map accepted_of events) }); reply = r }) told
-    ∙ sym (cond-false (is_full t) (tells number_limit) one numbered)
+    ≡ writes t moment (map batch.accepted (map accepted_of events)) (events_reply (map accepted_of events))
+written t moment events reply numbered is =
+    let one : Answer = record { batch = Some (record { moment = moment; entries = map batch.accepted (map accepted_of events) }); reply = events_reply (map accepted_of events) } in
+    ap (λ (es : List batch.Entry). record { batch = Some (record { moment = moment; entries = es }); reply = reply }) (entries_of_events events)
+    ∙ ap (λ (r : Reply). record { batch = Some (record { moment = moment; entries = map batch.accepted (map accepted_of events) }); reply = r }) is
+    ∙ sym (cond-false (is_full t) (reply_alone limit_reply) one numbered)

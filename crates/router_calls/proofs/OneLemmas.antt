@@ -27,7 +27,7 @@ use Rattle.router_core.specs.Reply.{Reply}
 use Rattle.router_core.specs.Request.{Action, create_queue, put_rule, put_targets, put_events, peek_messages, deliver_due, Request}
 use Rattle.router_core.specs.Tables.{Tables}
 use Rattle.router_calls.specs.Accepted.{IsAcceptedAs, IsAccepted, AreAccepted, HasFaulty, total_size}
-use Rattle.router_calls.specs.Answer.{Answer, IsAnswer, IsAnswerAt, IsControlled, IsPublished, told_events, writes, moment_at}
+use Rattle.router_calls.specs.Answer.{Answer, IsAnswer, IsAnswerAt, IsControlled, IsPublished, events_reply, writes, moment_at}
 
 -- ---- the targets that match
 
@@ -39,8 +39,8 @@ matched_once bus (rule ∷ rules) event xs ys (rest, are, inl (m, e)) (other, so
 matched_once bus (rule ∷ rules) event xs ys (rest, are, inr (m, e)) (other, so, inl (n, f)) = absurd (m n)
 matched_once bus (rule ∷ rules) event xs ys (rest, are, inr (m, e)) (other, so, inr (n, f)) = e ∙ matched_once bus rules event rest other are so ∙ sym f
 
-duties_once : (bus : List ℕ) (rules : List Rule) (event : Tree) (told : List ℕ) (ds es : List NewDuty) → AreDuties bus rules event told ds → AreDuties bus rules event told es → ds ≡ es
-duties_once bus rules event told ds es (xs, are, d) (ys, so, e) = d ∙ ap (map (duty_of told)) (matched_once bus rules event xs ys are so) ∙ sym e
+duties_once : (bus : List ℕ) (rules : List Rule) (event : Tree) (shown : List ℕ) (ds es : List NewDuty) → AreDuties bus rules event shown ds → AreDuties bus rules event shown es → ds ≡ es
+duties_once bus rules event shown ds es (xs, are, d) (ys, so, e) = d ∙ ap (map (duty_of shown)) (matched_once bus rules event xs ys are so) ∙ sym e
 
 -- ---- the members of an entry without a fault
 
@@ -102,23 +102,23 @@ made_once c n reading caller e f p q =
     (iso_once (unwrap_or c.time reading) e.time f.time p.time q.time) (p.resources ∙ sym q.resources) (p.detail ∙ sym q.detail)
 
 abbrev accepted_from : ℕ → List ℕ → ℕ → ℕ → List ℕ → List NewDuty → batch.Accepted
-accepted_from n b v t told ds = record { number = n; bus = b; version = v; time = t; text = told; duties = ds }
+accepted_from n b v t shown ds = record { number = n; bus = b; k = v; time = t; text = shown; duties = ds }
 
-same_accepted : (a b : batch.Accepted) → a.number ≡ b.number → a.bus ≡ b.bus → a.version ≡ b.version → a.time ≡ b.time → a.text ≡ b.text → a.duties ≡ b.duties → a ≡ b
+same_accepted : (a b : batch.Accepted) → a.number ≡ b.number → a.bus ≡ b.bus → a.k ≡ b.k → a.time ≡ b.time → a.text ≡ b.text → a.duties ≡ b.duties → a ≡ b
 same_accepted a b h0 h1 h2 h3 h4 h5 =
-    let whole : accepted_from a.number a.bus a.version a.time a.text a.duties ≡ accepted_from b.number b.bus b.version b.time b.text b.duties =
+    let whole : accepted_from a.number a.bus a.k a.time a.text a.duties ≡ accepted_from b.number b.bus b.k b.time b.text b.duties =
     rw (h0, h1, h2, h3, h4, h5) refl in
     whole
 
 accepted_as_once : (set : RuleSet) (reading n : ℕ) (c : Checked) (a b : batch.Accepted) → IsAcceptedAs set reading n c a → IsAcceptedAs set reading n c b → a ≡ b
 accepted_as_once set reading n c a b p q =
     let event : q.event ≡ p.event = made_once c n reading _ q.event p.event q.is_made p.is_made in
-    let told : b.text ≡ a.text = q.text ∙ ap (λ (e : Event). compact_text (event_tree e None)) event ∙ sym p.text in
+    let texts : b.text ≡ a.text = q.text ∙ ap (λ (e : Event). compact_text (event_tree e None)) event ∙ sym p.text in
     let shown = subst (λ (e : Event). IsIso b.time e.time) event q.time in
     let owed = subst (λ (e : Event). AreDuties c.bus (rules_of c.bus set) (event_tree e None) b.text b.duties) event q.duties in
-    let duties = subst (λ (t : List ℕ). AreDuties c.bus (rules_of c.bus set) (event_tree p.event None) t b.duties) told owed in
-    same_accepted a b (p.number ∙ sym q.number) (p.bus ∙ sym q.bus) (p.version ∙ sym q.version)
-    (time_once p.event.time a.time b.time (iso_is_time p.event.time a.time p.time) (iso_is_time p.event.time b.time shown)) (sym told)
+    let duties = subst (λ (t : List ℕ). AreDuties c.bus (rules_of c.bus set) (event_tree p.event None) t b.duties) texts owed in
+    same_accepted a b (p.number ∙ sym q.number) (p.bus ∙ sym q.bus) (p.k ∙ sym q.k)
+    (time_once p.event.time a.time b.time (iso_is_time p.event.time a.time p.time) (iso_is_time p.event.time b.time shown)) (sym texts)
     (duties_once c.bus (rules_of c.bus set) (event_tree p.event None) a.text a.duties b.duties p.duties duties)
 
 accepted_once : (set : RuleSet) (reading n : ℕ) (entry : Entry) (a b : batch.Accepted) → IsAccepted set reading n entry a → IsAccepted set reading n entry b → a ≡ b
@@ -155,7 +155,7 @@ not_both set reading n entries events small are (inr faulty) = none_faulty set r
 
 published_once : (t : Tables) (moment reading : ℕ) (entries : List Entry) (a b : Answer) → IsPublished t moment reading entries a → IsPublished t moment reading entries b → a ≡ b
 published_once t moment reading entries a b (inl (xs, small, are, e)) (inl (ys, low, so, f)) =
-    e ∙ ap (λ (es : List batch.Accepted). writes t moment (map batch.accepted es) (told_events es)) (events_once t.set reading (t.events + 1) entries xs ys are so) ∙ sym f
+    e ∙ ap (λ (es : List batch.Accepted). writes t moment (map batch.accepted es) (events_reply es)) (events_once t.set reading (t.events + 1) entries xs ys are so) ∙ sym f
 published_once t moment reading entries a b (inl (xs, small, are, e)) (inr (bad, f)) = absurd (not_both t.set reading (t.events + 1) entries xs small are bad)
 published_once t moment reading entries a b (inr (bad, e)) (inl (ys, low, so, f)) = absurd (not_both t.set reading (t.events + 1) entries ys low so bad)
 published_once t moment reading entries a b (inr (bad, e)) (inr (worse, f)) = e ∙ sym f

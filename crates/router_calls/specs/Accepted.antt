@@ -19,7 +19,7 @@ pub record IsAcceptedAs (set : RuleSet) (reading n : ℕ) (checked : Checked) (a
   pub is_event : IsEvent event
   pub number : a.number ≡ n
   pub bus : a.bus ≡ checked.bus
-  pub version : a.version ≡ set.count
+  pub k : a.k ≡ set.count
   pub time : IsIso a.time event.time
   pub text : a.text ≡ compact_text (event_tree event None)
   pub duties : AreDuties checked.bus (rules_of checked.bus set) (event_tree event None) a.text a.duties

@@ -4,13 +4,13 @@ use Rattle.json_text.specs.Tree.{Tree, number, text, list, object, items_of, mem
 use Rattle.event_shape.specs.Names.{default_bus, queue_arn, rule_arn}
 use Rattle.event_shape.specs.Entry.{Entry}
 use Rattle.event_shape.specs.Id.{event_id}
-use Rattle.rule_table.specs.Control.{Control, rule_put, targets_put, queue_made}
-use Rattle.rule_table.specs.RuleSet.{IsAccepted, has_queue}
+use Rattle.rule_table.specs.Control.{Control, rule_put, targets_put, queue_created}
+use Rattle.rule_table.specs.RuleSet.{IsAllowed, has_queue}
 use Rattle.delivery_duties.specs.declared.message.QueueMessage.{QueueMessage}
 use Rattle.delivery_duties.specs.Duties.{messages_of}
 use Rattle.router_core.specs.Request.{Action, create_queue, put_rule, put_targets, put_events, peek_messages, deliver_due, Request}
 use Rattle.router_core.specs.Reply.{Reply, served, not_built}
-use Rattle.router_core.specs.Reply as reply_texts
+use Rattle.router_core.specs.Reply as replies
 use Rattle.router_core.specs.Batch as batch
 use Rattle.router_core.specs.Tables.{Tables, is_full}
 use Rattle.router_calls.specs.Accepted.{AreAccepted, HasFaulty, total_size}
@@ -21,58 +21,58 @@ pub record Answer : Type 0 where
   pub reply : Reply
 
 -- a reply without a batch
-abbrev pub tells : Reply → Answer
-tells reply = record { batch = None; reply = reply }
+abbrev pub reply_alone : Reply → Answer
+reply_alone reply = record { batch = None; reply = reply }
 
 -- a batch with its reply, or the refusal where no further batch is numbered
 abbrev pub writes : Tables → ℕ → List batch.Entry → Reply → Answer
 writes t moment entries reply =
-    if is_full t then tells reply_texts.number_limit
+    if is_full t then reply_alone replies.limit_reply
     else record { batch = Some (record { moment = moment; entries = entries }); reply = reply }
 
 -- a change of the configuration: written where it is accepted, and else refused
 abbrev pub IsControlled : Tables → ℕ → Control → Reply → Answer → Type 0
 IsControlled t moment control reply a =
-    (IsAccepted control t.set × (a ≡ writes t moment (batch.control control ∷ []) reply))
-    ⊎ ((¬ IsAccepted control t.set) × (a ≡ tells not_built))
+    (IsAllowed control t.set × (a ≡ writes t moment (batch.control control ∷ []) reply))
+    ⊎ ((¬ IsAllowed control t.set) × (a ≡ reply_alone not_built))
 
 -- PutTargets without a failed entry
 abbrev pub none_failed : Reply
 none_failed = served ((codes "FailedEntryCount", number (codes "0")) ∷ (codes "FailedEntries", list no_items) ∷ [])
 
--- one accepted event tells its id
-abbrev pub told_event : batch.Accepted → Tree
-told_event e = object (members_of ((codes "EventId", text (event_id e.number)) ∷ []))
+-- one accepted event reply_alone its id
+abbrev pub event_report : batch.Accepted → Tree
+event_report e = object (members_of ((codes "EventId", text (event_id e.number)) ∷ []))
 
-abbrev pub told_events : List batch.Accepted → Reply
-told_events events = served ((codes "FailedEntryCount", number (codes "0")) ∷ (codes "Entries", list (items_of (map told_event events))) ∷ [])
+abbrev pub events_reply : List batch.Accepted → Reply
+events_reply events = served ((codes "FailedEntryCount", number (codes "0")) ∷ (codes "Entries", list (items_of (map event_report events))) ∷ [])
 
 -- PutEvents: entries that are small enough together and have no fault are all accepted, numbered on from the last event
 abbrev pub IsPublished : Tables → ℕ → ℕ → List Entry → Answer → Type 0
 IsPublished t moment reading entries a =
     ((events : List batch.Accepted) × (total_size entries ≤ 262144)
     × AreAccepted t.set reading (t.events + 1) entries events
-    × (a ≡ writes t moment (map batch.accepted events) (told_events events)))
-    ⊎ (((262144 < total_size entries) ⊎ HasFaulty entries) × (a ≡ tells not_built))
+    × (a ≡ writes t moment (map batch.accepted events) (events_reply events)))
+    ⊎ (((262144 < total_size entries) ⊎ HasFaulty entries) × (a ≡ reply_alone not_built))
 
-abbrev pub told_message : QueueMessage → Tree
-told_message m = object (members_of (
+abbrev pub message_report : QueueMessage → Tree
+message_report m = object (members_of (
     (codes "Number", number (decimal m.number))
     ∷ (codes "Body", text m.body)
     ∷ (codes "Attributes", object no_members)
     ∷ []))
 
-abbrev pub told_messages : List QueueMessage → Reply
-told_messages messages = served ((codes "Messages", list (items_of (map told_message messages))) ∷ [])
+abbrev pub messages_reply : List QueueMessage → Reply
+messages_reply messages = served ((codes "Messages", list (items_of (map message_report messages))) ∷ [])
 
 -- PeekMessages: the ten oldest messages of a queue that is there
 abbrev pub peeked : Tables → List ℕ → Answer
-peeked t queue = tells (if has_queue queue t.set then told_messages (take 10 (messages_of queue t.duties.mailboxes)) else not_built)
+peeked t queue = reply_alone (if has_queue queue t.set then messages_reply (take 10 (messages_of queue t.duties.queues)) else not_built)
 
 -- The answer to a request at the moment of its turn, from the tables before it. DeliverDue is answered by its steps.
 abbrev pub IsAnswerAt : Tables → ℕ → ℕ → Action → Answer → Type 0
 IsAnswerAt t moment reading (create_queue name) a =
-    IsControlled t moment (queue_made name) (served ((codes "QueueArn", text (queue_arn name)) ∷ [])) a
+    IsControlled t moment (queue_created name) (served ((codes "QueueArn", text (queue_arn name)) ∷ [])) a
 IsAnswerAt t moment reading (put_rule name pattern) a =
     IsControlled t moment (rule_put default_bus name pattern true) (served ((codes "RuleArn", text (rule_arn default_bus name)) ∷ [])) a
 IsAnswerAt t moment reading (put_targets rule targets) a =

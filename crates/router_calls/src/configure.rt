@@ -1,15 +1,15 @@
 //! Changes of the configuration.
 ghost use Rattle.std.specs.Prelude.{◌≤◌, IfOk, IfSome};
 ghost use Rattle.json_text.specs.Moment.{IsMoment};
-ghost use Rattle.rule_table.specs.Seen.{control_of};
-ghost use Rattle.router_core.specs.Seen.{reply_of};
+ghost use Rattle.rule_table.specs.View.{control_of};
+ghost use Rattle.router_core.specs.View.{reply_of};
 ghost use Rattle.router_core.specs.Ready.{HasPlace, IsReadyAt};
 ghost use Rattle.router_calls.specs.Answer.{IsControlled};
 ghost use Rattle.router_calls.specs.Decided.{answer_of};
 
-use delivery_duties::NewMailbox;
+use delivery_duties::NewQueue;
 use json_text::NoMemory;
-use router_core::{Change, Ready, Reply, Tables, not_built, number_limit};
+use router_core::{Change, Ready, Reply, Tables, limit_reply, not_built};
 use rule_table::{Control, ControlFault};
 use std::alloc::Global;
 
@@ -19,23 +19,23 @@ pub(crate) fn configure(
     tables: &Tables,
     moment: u64,
     control: Control,
-    mailbox: Option<NewMailbox>,
+    new_queue: Option<NewQueue>,
     reply: Reply,
 ) -> Result<(Option<Ready>, Reply), NoMemory>
     requires moment { IsMoment moment }
     requires later { tables.now.moment ≤ moment }
-    requires place { HasPlace (control_of control) mailbox }
+    requires place { HasPlace (control_of control) new_queue }
     ensures answer { IfOk result (λ p. IsControlled tables.now moment (control_of control) (reply_of reply) (answer_of p)) }
     ensures ready { IfOk result (λ p. IfSome p.0 (λ r. IsReadyAt tables.now r)) }
 {
     let full = tables.full();
     match tables.set().apply(alloc, &control) {
-        Ok(_) if full => Ok((None, number_limit(alloc)?)),
+        Ok(_) if full => Ok((None, limit_reply(alloc)?)),
         Ok(set) => {
             let change = Change::Configuration {
                 control,
                 set,
-                mailbox,
+                new_queue,
             };
             Ok((Some(Ready { moment, change }), reply))
         }

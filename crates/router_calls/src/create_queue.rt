@@ -1,14 +1,14 @@
 //! CreateQueue.
 ghost use Rattle.std.specs.Prelude.{◌≤◌, ℕ, IfOk, IfSome};
 ghost use Rattle.json_text.specs.Moment.{IsMoment};
-ghost use Rattle.router_core.specs.Request as seen;
+ghost use Rattle.router_core.specs.Request as request;
 ghost use Rattle.router_core.specs.Ready.{IsReadyAt};
 ghost use Rattle.router_calls.specs.Answer.{IsAnswerAt};
 ghost use Rattle.router_calls.specs.Decided.{answer_of};
 
 use crate::configure::configure;
 use crate::reply::text_reply;
-use delivery_duties::NewMailbox;
+use delivery_duties::NewQueue;
 use event_shape::queue_arn;
 use json_text::{NoMemory, Text};
 use router_core::{Ready, Reply, Tables};
@@ -23,12 +23,12 @@ pub(crate) fn create_queue(
 ) -> Result<(Option<Ready>, Reply), NoMemory>
     requires moment { IsMoment moment }
     requires later { tables.now.moment ≤ moment }
-    ensures answer { IfOk result (λ p. (reading : ℕ) → IsAnswerAt tables.now moment reading (seen.create_queue name) (answer_of p)) }
+    ensures answer { IfOk result (λ p. (reading : ℕ) → IsAnswerAt tables.now moment reading (request.create_queue name) (answer_of p)) }
     ensures ready { IfOk result (λ p. IfSome p.0 (λ r. IsReadyAt tables.now r)) }
 {
     let arn = queue_arn(alloc, name.as_str())?;
     let reply = text_reply(alloc, "QueueArn", arn)?;
-    let mailbox = NewMailbox::new(alloc, name.as_str())?;
-    let control = Control::QueueMade { name };
-    configure(alloc, tables, moment, control, Some(mailbox), reply)
+    let new_queue = NewQueue::new(alloc, name.as_str())?;
+    let control = Control::QueueCreated { name };
+    configure(alloc, tables, moment, control, Some(new_queue), reply)
 }

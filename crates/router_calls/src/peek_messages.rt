@@ -2,8 +2,8 @@
 ghost use Rattle.std.specs.Prelude.{◌≡◌, IfOk, None, map, codes};
 ghost use Rattle.json_text.specs.Tree.{object, members_of};
 ghost use Rattle.json_text.specs.View.{tree_of, trees_of};
-ghost use Rattle.router_core.specs.Seen.{reply_of};
-ghost use Rattle.router_calls.specs.Answer.{peeked, told_message, told_messages};
+ghost use Rattle.router_core.specs.View.{reply_of};
+ghost use Rattle.router_calls.specs.Answer.{peeked, message_report, messages_reply};
 ghost use Rattle.router_calls.specs.Decided.{answer_of};
 
 use crate::reply::{number_json, push_member};
@@ -32,7 +32,7 @@ pub(crate) fn peek_messages(
 
 /// The messages, oldest first.
 fn messages_reply(alloc: Global, messages: Vec<QueueMessage>) -> Result<Reply, NoMemory>
-    ensures { IfOk result (λ r. reply_of r ≡ told_messages messages.items) }
+    ensures { IfOk result (λ r. reply_of r ≡ messages_reply messages.items) }
 {
     let mut items: Items = Vec::with_capacity(alloc, messages.len())?;
     for message in messages {
@@ -47,7 +47,7 @@ fn messages_reply(alloc: Global, messages: Vec<QueueMessage>) -> Result<Reply, N
 }
 
 fn message_json(alloc: Global, message: QueueMessage) -> Result<Json, NoMemory>
-    ensures { IfOk result (λ j. tree_of j ≡ told_message message) }
+    ensures { IfOk result (λ j. tree_of j ≡ message_report message) }
 {
     let mut members: Members = Vec::with_capacity(alloc, 3)?;
     let QueueMessage { number, body } = message;

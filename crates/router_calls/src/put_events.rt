@@ -3,11 +3,11 @@ ghost use Rattle.std.specs.Prelude.{◌≡◌, ◌≤◌, ◌+◌, ◌-◌, ◌^
 ghost use Rattle.json_text.specs.Moment.{IsMoment};
 ghost use Rattle.json_text.specs.View.{tree_of};
 ghost use Rattle.event_shape.specs.Entry.{entry_of};
-ghost use Rattle.delivery_duties.specs.Duties.{HasMailbox};
+ghost use Rattle.delivery_duties.specs.Duties.{HasEndpoint};
 ghost use Rattle.router_core.specs.Ready.{accepted_of, AreDeliverable, IsReadyAt};
-ghost use Rattle.router_core.specs.Seen.{reply_of};
+ghost use Rattle.router_core.specs.View.{reply_of};
 ghost use Rattle.router_calls.specs.Accepted.{total_size, IsAcceptedAs, AreAccepted, HasFaulty};
-ghost use Rattle.router_calls.specs.Answer.{IsPublished, told_event, told_events};
+ghost use Rattle.router_calls.specs.Answer.{IsPublished, event_report, events_reply};
 ghost use Rattle.router_calls.specs.Decided.{answer_of};
 
 use crate::reply::{list_reply, push_member};
@@ -15,7 +15,7 @@ use crate::requests::read_tables;
 use event_shape::{CheckFault, Checked, Event, EventEntry, OWNER, check, event_id, size};
 use json_text::{Items, Json, Members, NoMemory, Text};
 use router_core::{
-    AcceptedEvent, Change, Ready, Reply, Seen, Tables, duties_of, not_built, number_limit,
+    AcceptedEvent, Change, Ready, Reply, Seen, Tables, duties_of, limit_reply, not_built,
     see_plain_event,
 };
 use std::alloc::Global;
@@ -46,7 +46,7 @@ pub(crate) fn put_events(
         return Ok((None, not_built(alloc)?));
     };
     if tables.full() {
-        return Ok((None, number_limit(alloc)?));
+        return Ok((None, limit_reply(alloc)?));
     }
     let reply = events_reply(alloc, &events)?;
     let change = Change::Events(events);
@@ -74,7 +74,7 @@ fn accept_all(
     requires reading { IsMoment reading }
     requires few { length entries.items ≤ 10 }
     ensures accepted { IfOk result (λ found. IfSome found (λ events. AreAccepted tables.now.set reading (tables.now.events + 1) (map entry_of entries.items) (map accepted_of events.items))) }
-    ensures deliverable { IfOk result (λ found. IfSome found (λ events. AreDeliverable tables.now.duties.mailboxes events.items)) }
+    ensures deliverable { IfOk result (λ found. IfSome found (λ events. AreDeliverable tables.now.duties.queues events.items)) }
     ensures faulty { IfOk result (λ found. IfNone found (HasFaulty (map entry_of entries.items))) }
 {
     read_tables(tables);
@@ -105,7 +105,7 @@ fn accept(
     requires reading { IsMoment reading }
     ensures accepted { IfOk result (λ e. IsAcceptedAs tables.now.set reading number checked (accepted_of e)) }
     ensures few { IfOk result (λ e. length e.duties ≤ 1500) }
-    ensures there { IfOk result (λ e. All (λ d. HasMailbox d.endpoint tables.now.duties.mailboxes) e.duties) }
+    ensures there { IfOk result (λ e. All (λ d. HasEndpoint d.endpoint tables.now.duties.queues) e.duties) }
 {
     read_tables(tables);
     let bus = Text::from_str(alloc, checked.bus())?;
@@ -120,7 +120,7 @@ fn accept(
     Ok(AcceptedEvent {
         number,
         bus,
-        version: k,
+        k,
         time: event.moment(),
         text,
         duties,
@@ -129,7 +129,7 @@ fn accept(
 
 /// The ids of the events.
 fn events_reply(alloc: Global, events: &VecDeque<AcceptedEvent>) -> Result<Reply, NoMemory>
-    ensures { IfOk result (λ r. reply_of r ≡ told_events (map accepted_of events.now.items)) }
+    ensures { IfOk result (λ r. reply_of r ≡ events_reply (map accepted_of events.now.items)) }
 {
     let mut items: Items = Vec::with_capacity(alloc, events.len())?;
     for event in events {
@@ -139,7 +139,7 @@ fn events_reply(alloc: Global, events: &VecDeque<AcceptedEvent>) -> Result<Reply
 }
 
 fn event_json(alloc: Global, event: &AcceptedEvent) -> Result<Json, NoMemory>
-    ensures { IfOk result (λ j. tree_of j ≡ told_event (accepted_of event.now)) }
+    ensures { IfOk result (λ j. tree_of j ≡ event_report (accepted_of event.now)) }
 {
     let id = event_id(alloc, event.number)?;
     let mut members: Members = Vec::with_capacity(alloc, 1)?;

@@ -1,7 +1,7 @@
 //! PutRule.
 ghost use Rattle.std.specs.Prelude.{◌≤◌, ℕ, IfOk, IfSome};
 ghost use Rattle.json_text.specs.Moment.{IsMoment};
-ghost use Rattle.router_core.specs.Request as seen;
+ghost use Rattle.router_core.specs.Request as request;
 ghost use Rattle.router_core.specs.Ready.{IsReadyAt};
 ghost use Rattle.router_calls.specs.Answer.{IsAnswerAt};
 ghost use Rattle.router_calls.specs.Decided.{answer_of};
@@ -23,7 +23,7 @@ pub(crate) fn put_rule(
 ) -> Result<(Option<Ready>, Reply), NoMemory>
     requires moment { IsMoment moment }
     requires later { tables.now.moment ≤ moment }
-    ensures answer { IfOk result (λ p. (reading : ℕ) → IsAnswerAt tables.now moment reading (seen.put_rule name pattern) (answer_of p)) }
+    ensures answer { IfOk result (λ p. (reading : ℕ) → IsAnswerAt tables.now moment reading (request.put_rule name pattern) (answer_of p)) }
     ensures ready { IfOk result (λ p. IfSome p.0 (λ r. IsReadyAt tables.now r)) }
 {
     let arn = rule_arn(alloc, DEFAULT_BUS, name.as_str())?;

@@ -2,9 +2,9 @@
 ghost use Rattle.std.specs.Prelude.{◌≡◌, ◌++◌, ◌∷◌, [], map, IfOk, OnOk, codes, decimal};
 ghost use Rattle.json_text.specs.Tree.{Tree, text, number, list, items_of, members_of, object};
 ghost use Rattle.json_text.specs.View.{tree_of, pairs_of, trees_of};
-ghost use Rattle.router_core.specs.Reply as told;
-ghost use Rattle.router_core.specs.Seen.{reply_of};
-ghost use Rattle.router_calls.specs.Answer.{none_failed, told_events, told_messages};
+ghost use Rattle.router_core.specs.Reply as replies;
+ghost use Rattle.router_core.specs.View.{reply_of};
+ghost use Rattle.router_calls.specs.Answer.{none_failed, events_reply, messages_reply};
 
 use json_text::{Items, Json, Members, NoMemory, Text};
 use router_core::Reply;
@@ -26,7 +26,7 @@ pub(crate) fn push_member(
 
 /// A reply whose one member is a text.
 pub(crate) fn text_reply(alloc: Global, key: &str, value: Text) -> Result<Reply, NoMemory>
-    ensures { IfOk result (λ r. reply_of r ≡ told.served ((key.now, text value) ∷ [])) }
+    ensures { IfOk result (λ r. reply_of r ≡ replies.served ((key.now, text value) ∷ [])) }
 {
     let mut members: Members = Vec::with_capacity(alloc, 1)?;
     push_member(alloc, &mut members, key, Json::Str(value))?;
@@ -45,7 +45,7 @@ pub(crate) fn number_json(alloc: Global, value: u64) -> Result<Json, NoMemory>
 
 /// No entry failed, and a list beside it.
 pub(crate) fn list_reply(alloc: Global, key: &str, items: Items) -> Result<Reply, NoMemory>
-    ensures { IfOk result (λ r. reply_of r ≡ told.served ((codes "FailedEntryCount", number (codes "0")) ∷ (key.now, list (items_of (trees_of items.items))) ∷ [])) }
+    ensures { IfOk result (λ r. reply_of r ≡ replies.served ((codes "FailedEntryCount", number (codes "0")) ∷ (key.now, list (items_of (trees_of items.items))) ∷ [])) }
 {
     let mut members: Members = Vec::with_capacity(alloc, 2)?;
     let none = Json::Num(Text::from_str(alloc, "0")?);

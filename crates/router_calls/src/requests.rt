@@ -3,7 +3,7 @@ ghost use Rattle.std.specs.Prelude.{◌≡◌, ◌≢◌, IfOk, IfSome};
 ghost use Rattle.json_text.specs.Moment.{IsMoment};
 ghost use Rattle.rule_table.specs.RuleSet.{IsSound};
 ghost use Rattle.router_core.specs.Request.{deliver_due};
-ghost use Rattle.router_core.specs.Seen.{action_of, request_of};
+ghost use Rattle.router_core.specs.View.{action_of, request_of};
 ghost use Rattle.router_core.specs.Ready.{IsReadyAt, IsConsistent};
 ghost use Rattle.router_calls.specs.Answer.{IsAnswer, moment_at};
 ghost use Rattle.router_calls.specs.Decided.{IsBounded, answer_of};

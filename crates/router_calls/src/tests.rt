@@ -1,6 +1,6 @@
 ghost use Rattle.std.specs.Prelude.{◌≡◌, ◌≢◌, ◌≤◌, IfOk, length};
 ghost use Rattle.router_core.specs.Request.{deliver_due};
-ghost use Rattle.router_core.specs.Seen.{action_of};
+ghost use Rattle.router_core.specs.View.{action_of};
 ghost use Rattle.router_calls.specs.Decided.{IsBounded};
 
 use crate::decide;
@@ -196,9 +196,9 @@ fn is_answered(
     events: u64,
     pending: u64,
 ) -> Result<bool, Fail> {
-    let told = turn(alloc, tables, step)?;
+    let got = turn(alloc, tables, step)?;
     let counts = tables.duties().counts();
-    Ok(told.as_str() == reply && tables.events() == events && counts.pending == pending)
+    Ok(got.as_str() == reply && tables.events() == events && counts.pending == pending)
 }
 
 /// The place of the first step that isn't answered so, or how many steps there are.

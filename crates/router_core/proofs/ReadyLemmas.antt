@@ -1,4 +1,4 @@
--- What a change that was made ready does to the tables. Callers cite `queues_take`, `opened_counts`, `mailbox_names`, `queues_of_accepted`,
+-- What a change that was made ready does to the tables. Callers cite `queues_take`, `counts_stay`, `endpoint_by_names`, `queues_of_accepted`,
 -- `after_control`, `after_events` and `not_full`.
 use Rattle.std.proofs.Common.{◌≡◌, ℕ, ◌+◌, ◌<◌, ◌≤◌, ◌⊎◌, inl, inr, Bool, true, false, ◌||◌, cond, List, [], ◌∷◌, ◌++◌, length, map, Option, Some, None, sym, refl, ap, ◌∙◌, arith, length-append}
 use Rattle.std.specs.Prelude.{nat_le, is_some, bytes_eq}
@@ -9,67 +9,67 @@ use Rattle.std.proofs.lemmas.Bool.Decides.{nat_tests}
 use Rattle.std.proofs.lemmas.Slice.Eq.{bytes_eq-Decides}
 use Rattle.delivery_duties.proofs.AnyLemmas.{any_here, any_there, any_cases}
 use Rattle.event_shape.specs.Names.{queue_arn}
-use Rattle.rule_table.specs.Control.{Control, rule_put, targets_put, queue_made}
+use Rattle.rule_table.specs.Control.{Control, rule_put, targets_put, queue_created}
 use Rattle.rule_table.specs.RuleSet.{RuleSet, by_order, put_queue, named, has_queue, applied}
-use Rattle.delivery_duties.specs.Duties.{Mailbox, Duties, HasMailbox}
+use Rattle.delivery_duties.specs.Duties.{Queue, Duties, HasEndpoint}
 use Rattle.router_core.specs.Batch as batch
 use Rattle.router_core.specs.Tables.{Tables, after_entry, after_entries, after_batch, is_full, number_limit}
 use Rattle.router_core.specs.declared.ready.AcceptedEvent.{AcceptedEvent}
-use Rattle.router_core.specs.Ready.{accepted_of, added_all, opened_by, HasPlace}
+use Rattle.router_core.specs.Ready.{accepted_of, added_all, with_new_queue, HasPlace}
 
-receives : List ℕ → Mailbox → Type 0
-receives endpoint m = endpoint ≡ queue_arn m.queue
+receives : List ℕ → Queue → Type 0
+receives endpoint m = endpoint ≡ queue_arn m.name
 
-pub mailbox_append : (endpoint : List ℕ) (ms more : List Mailbox) → HasMailbox endpoint ms → HasMailbox endpoint (ms ++ more)
+pub endpoint_append : (endpoint : List ℕ) (ms more : List Queue) → HasEndpoint endpoint ms → HasEndpoint endpoint (ms ++ more)
 unfolding receives
-mailbox_append endpoint [] more (k, m, below, is, here) = absurd (omega arith)
-mailbox_append endpoint (m ∷ ms) more has = elim (any_cases (receives endpoint) m ms has) [
+endpoint_append endpoint [] more (k, m, below, is, here) = absurd (omega arith)
+endpoint_append endpoint (m ∷ ms) more has = elim (any_cases (receives endpoint) m ms has) [
   | inl here ↦ any_here (receives endpoint) m (ms ++ more) here
-  | inr there ↦ any_there (receives endpoint) m (ms ++ more) (mailbox_append endpoint ms more there)
+  | inr there ↦ any_there (receives endpoint) m (ms ++ more) (endpoint_append endpoint ms more there)
 ]
 
-pub mailbox_last : (queue : List ℕ) (ms : List Mailbox) (m : Mailbox) → m.queue ≡ queue → HasMailbox (queue_arn queue) (ms ++ m ∷ [])
+pub endpoint_last : (queue : List ℕ) (ms : List Queue) (m : Queue) → m.name ≡ queue → HasEndpoint (queue_arn queue) (ms ++ m ∷ [])
 unfolding receives
-mailbox_last queue [] m is = any_here (receives (queue_arn queue)) m [] (ap queue_arn (sym is))
-mailbox_last queue (n ∷ ms) m is = any_there (receives (queue_arn queue)) n (ms ++ m ∷ []) (mailbox_last queue ms m is)
+endpoint_last queue [] m is = any_here (receives (queue_arn queue)) m [] (ap queue_arn (sym is))
+endpoint_last queue (n ∷ ms) m is = any_there (receives (queue_arn queue)) n (ms ++ m ∷ []) (endpoint_last queue ms m is)
 
-opened_mailbox : (mailbox : Option (List ℕ)) (duties : Duties) (endpoint : List ℕ) → HasMailbox endpoint duties.mailboxes → HasMailbox endpoint (opened_by mailbox duties).mailboxes
-opened_mailbox None duties endpoint there = there
-opened_mailbox (Some queue) duties endpoint there = mailbox_append endpoint duties.mailboxes _ there
+endpoint_stays : (new_queue : Option (List ℕ)) (duties : Duties) (endpoint : List ℕ) → HasEndpoint endpoint duties.queues → HasEndpoint endpoint (with_new_queue new_queue duties).queues
+endpoint_stays None duties endpoint there = there
+endpoint_stays (Some queue) duties endpoint there = endpoint_append endpoint duties.queues _ there
 
-opened_own : (mailbox : Option (List ℕ)) (duties : Duties) (queue : List ℕ) → mailbox ≡ Some queue → HasMailbox (queue_arn queue) (opened_by mailbox duties).mailboxes
-opened_own None duties queue is = cc
-opened_own (Some name) duties queue is = let same : name ≡ queue = cc in mailbox_last queue duties.mailboxes _ same
+endpoint_comes : (new_queue : Option (List ℕ)) (duties : Duties) (queue : List ℕ) → new_queue ≡ Some queue → HasEndpoint (queue_arn queue) (with_new_queue new_queue duties).queues
+endpoint_comes None duties queue is = cc
+endpoint_comes (Some name) duties queue is = let same : name ≡ queue = cc in endpoint_last queue duties.queues _ same
 
 -- each queue of the new rule set takes messages
-pub queues_take : (mailbox : Option (List ℕ)) (duties : Duties) (old new : RuleSet)
-    → ((queue : List ℕ) → has_queue queue new ≡ true → (has_queue queue old ≡ true) ⊎ (mailbox ≡ Some queue))
-    → ((queue : List ℕ) → has_queue queue old ≡ true → HasMailbox (queue_arn queue) duties.mailboxes)
-    → (queue : List ℕ) → has_queue queue new ≡ true → HasMailbox (queue_arn queue) (opened_by mailbox duties).mailboxes
-queues_take mailbox duties old new from before queue there =
+pub queues_take : (new_queue : Option (List ℕ)) (duties : Duties) (old new : RuleSet)
+    → ((queue : List ℕ) → has_queue queue new ≡ true → (has_queue queue old ≡ true) ⊎ (new_queue ≡ Some queue))
+    → ((queue : List ℕ) → has_queue queue old ≡ true → HasEndpoint (queue_arn queue) duties.queues)
+    → (queue : List ℕ) → has_queue queue new ≡ true → HasEndpoint (queue_arn queue) (with_new_queue new_queue duties).queues
+queues_take new_queue duties old new from before queue there =
     by_source (from queue there)
   where
-    by_source : (has_queue queue old ≡ true) ⊎ (mailbox ≡ Some queue) → HasMailbox (queue_arn queue) (opened_by mailbox duties).mailboxes
-    by_source (inl was) = opened_mailbox mailbox duties (queue_arn queue) (before queue was)
-    by_source (inr is) = opened_own mailbox duties queue is
+    by_source : (has_queue queue old ≡ true) ⊎ (new_queue ≡ Some queue) → HasEndpoint (queue_arn queue) (with_new_queue new_queue duties).queues
+    by_source (inl was) = endpoint_stays new_queue duties (queue_arn queue) (before queue was)
+    by_source (inr is) = endpoint_comes new_queue duties queue is
 
-pub opened_counts : (mailbox : Option (List ℕ)) (duties : Duties)
-    → ((opened_by mailbox duties).created ≡ duties.created) × ((opened_by mailbox duties).latest ≡ duties.latest) × (length (opened_by mailbox duties).mailboxes ≤ length duties.mailboxes + 1)
-opened_counts None duties = (refl, refl, omega arith)
-opened_counts (Some queue) duties = (refl, refl, omega (arith, length-append duties.mailboxes (record { queue = queue; sent = 0; messages = [] } ∷ [])))
+pub counts_stay : (new_queue : Option (List ℕ)) (duties : Duties)
+    → ((with_new_queue new_queue duties).created ≡ duties.created) × ((with_new_queue new_queue duties).latest ≡ duties.latest) × (length (with_new_queue new_queue duties).queues ≤ length duties.queues + 1)
+counts_stay None duties = (refl, refl, omega arith)
+counts_stay (Some queue) duties = (refl, refl, omega (arith, length-append duties.queues (record { name = queue; sent = 0; messages = [] } ∷ [])))
 
 -- queues of the same names
-pub mailbox_names : (endpoint : List ℕ) (ms ns : List Mailbox) → map (λ (m : Mailbox). m.queue) ms ≡ map (λ (m : Mailbox). m.queue) ns
-    → HasMailbox endpoint ms → HasMailbox endpoint ns
+pub endpoint_by_names : (endpoint : List ℕ) (ms ns : List Queue) → map (λ (m : Queue). m.name) ms ≡ map (λ (m : Queue). m.name) ns
+    → HasEndpoint endpoint ms → HasEndpoint endpoint ns
 unfolding receives
-mailbox_names endpoint [] ns same (k, m, below, is, here) = absurd (omega arith)
-mailbox_names endpoint (m ∷ ms) [] same has = cc
-mailbox_names endpoint (m ∷ ms) (n ∷ ns) same has =
-    let first : m.queue ≡ n.queue = cc in
-    let later : map (λ (o : Mailbox). o.queue) ms ≡ map (λ (o : Mailbox). o.queue) ns = cc in
+endpoint_by_names endpoint [] ns same (k, m, below, is, here) = absurd (omega arith)
+endpoint_by_names endpoint (m ∷ ms) [] same has = cc
+endpoint_by_names endpoint (m ∷ ms) (n ∷ ns) same has =
+    let first : m.name ≡ n.name = cc in
+    let later : map (λ (o : Queue). o.name) ms ≡ map (λ (o : Queue). o.name) ns = cc in
     elim (any_cases (receives endpoint) m ms has) [
       | inl here ↦ any_here (receives endpoint) n ns (here ∙ ap queue_arn first)
-      | inr there ↦ any_there (receives endpoint) n ns (mailbox_names endpoint ms ns later there)
+      | inr there ↦ any_there (receives endpoint) n ns (endpoint_by_names endpoint ms ns later there)
     ]
 
 has : List ℕ → List (List ℕ) → Bool
@@ -107,12 +107,12 @@ has_put name new (row ∷ rows) is =
     ]) is
 
 -- the queues that are there after a change
-pub queues_of_accepted : (c : Control) (mailbox : Option (List ℕ)) (set : RuleSet) → HasPlace c mailbox
-    → (queue : List ℕ) → has_queue queue (applied c set) ≡ true → (has_queue queue set ≡ true) ⊎ (mailbox ≡ Some queue)
+pub queues_of_accepted : (c : Control) (new_queue : Option (List ℕ)) (set : RuleSet) → HasPlace c new_queue
+    → (queue : List ℕ) → has_queue queue (applied c set) ≡ true → (has_queue queue set ≡ true) ⊎ (new_queue ≡ Some queue)
 unfolding has
-queues_of_accepted (rule_put bus name pattern enabled) mailbox set place queue there = inl there
-queues_of_accepted (targets_put bus rule targets) mailbox set place queue there = inl there
-queues_of_accepted (queue_made name) mailbox set place queue there = elim (has_put queue name set.queues there) [
+queues_of_accepted (rule_put bus name pattern enabled) new_queue set place queue there = inl there
+queues_of_accepted (targets_put bus rule targets) new_queue set place queue there = inl there
+queues_of_accepted (queue_created name) new_queue set place queue there = elim (has_put queue name set.queues there) [
   | inl same ↦ inr (place ∙ ap Some (sym same))
   | inr before ↦ inl before
 ]
@@ -120,18 +120,18 @@ queues_of_accepted (queue_made name) mailbox set place queue there = elim (has_p
 pub count_of_accepted : (c : Control) (set : RuleSet) → (applied c set).count ≡ set.count + 1
 count_of_accepted (rule_put bus name pattern enabled) set = refl
 count_of_accepted (targets_put bus rule targets) set = refl
-count_of_accepted (queue_made name) set = refl
+count_of_accepted (queue_created name) set = refl
 
 -- the tables after a change of the configuration
-pub after_control : (c : Control) (mailbox : Option (List ℕ)) (moment : ℕ) (t : Tables) → HasPlace c mailbox
-    → record t { set = applied c t.set; duties = opened_by mailbox t.duties; entries = t.entries + 1; moment = moment }
+pub after_control : (c : Control) (new_queue : Option (List ℕ)) (moment : ℕ) (t : Tables) → HasPlace c new_queue
+    → record t { set = applied c t.set; duties = with_new_queue new_queue t.duties; entries = t.entries + 1; moment = moment }
     ≡ after_batch (record { moment = moment; entries = batch.control c ∷ [] }) t
-after_control (rule_put bus name pattern enabled) mailbox moment t place =
-    ap (λ (m : Option (List ℕ)). record t { set = applied (rule_put bus name pattern enabled) t.set; duties = opened_by m t.duties; entries = t.entries + 1; moment = moment }) place
-after_control (targets_put bus rule targets) mailbox moment t place =
-    ap (λ (m : Option (List ℕ)). record t { set = applied (targets_put bus rule targets) t.set; duties = opened_by m t.duties; entries = t.entries + 1; moment = moment }) place
-after_control (queue_made name) mailbox moment t place =
-    ap (λ (m : Option (List ℕ)). record t { set = applied (queue_made name) t.set; duties = opened_by m t.duties; entries = t.entries + 1; moment = moment }) place
+after_control (rule_put bus name pattern enabled) new_queue moment t place =
+    ap (λ (m : Option (List ℕ)). record t { set = applied (rule_put bus name pattern enabled) t.set; duties = with_new_queue m t.duties; entries = t.entries + 1; moment = moment }) place
+after_control (targets_put bus rule targets) new_queue moment t place =
+    ap (λ (m : Option (List ℕ)). record t { set = applied (targets_put bus rule targets) t.set; duties = with_new_queue m t.duties; entries = t.entries + 1; moment = moment }) place
+after_control (queue_created name) new_queue moment t place =
+    ap (λ (m : Option (List ℕ)). record t { set = applied (queue_created name) t.set; duties = with_new_queue m t.duties; entries = t.entries + 1; moment = moment }) place
 
 -- the tables after events
 events_after : (events : List AcceptedEvent) (moment : ℕ) (t : Tables)

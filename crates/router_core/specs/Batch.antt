@@ -9,7 +9,7 @@ use Rattle.rule_table.specs.Control.{Control}
 pub record Accepted : Type 0 where
   pub number : ℕ
   pub bus : List ℕ
-  pub version : ℕ
+  pub k : ℕ
   pub time : ℕ
   pub text : List ℕ
   pub duties : List NewDuty

@@ -1,6 +1,6 @@
 pub mod Request
 pub mod Reply
-pub mod Seen
+pub mod View
 pub mod Batch
 pub mod Tables
 pub mod Matching

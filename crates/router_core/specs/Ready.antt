@@ -2,10 +2,10 @@
 use Rattle.std.specs.Prelude.{◌≡◌, ℕ, ◌+◌, ◌^◌, ◌<◌, ◌≤◌, true, false, List, [], ◌∷◌, length, map, Option, Some, None, All}
 use Rattle.json_text.specs.Moment.{IsMoment}
 use Rattle.event_shape.specs.Names.{queue_arn}
-use Rattle.rule_table.specs.Control.{Control, rule_put, targets_put, queue_made}
-use Rattle.rule_table.specs.Seen.{control_of}
-use Rattle.rule_table.specs.RuleSet.{has_queue, IsAccepted, applied}
-use Rattle.delivery_duties.specs.Duties.{Mailbox, Duties, HasMailbox, added, opened}
+use Rattle.rule_table.specs.Control.{Control, rule_put, targets_put, queue_created}
+use Rattle.rule_table.specs.View.{control_of}
+use Rattle.rule_table.specs.RuleSet.{has_queue, IsAllowed, applied}
+use Rattle.delivery_duties.specs.Duties.{Queue, Duties, HasEndpoint, added, with_queue}
 use Rattle.router_core.specs.Batch as batch
 use Rattle.router_core.specs.Tables.{Tables, number_limit, is_full}
 use Rattle.router_core.specs.declared.ready.AcceptedEvent.{AcceptedEvent}
@@ -15,11 +15,11 @@ use Rattle.router_core.specs.declared.ready.Ready.{Ready}
 
 -- the event as a batch records it
 abbrev pub accepted_of : AcceptedEvent → batch.Accepted
-accepted_of e = record { number = e.number; bus = e.bus; version = e.version; time = e.time; text = e.text; duties = e.duties }
+accepted_of e = record { number = e.number; bus = e.bus; k = e.k; time = e.time; text = e.text; duties = e.duties }
 
 -- the entries that record the change
 abbrev pub entries_of : Change → List batch.Entry
-entries_of (Configuration control set mailbox) = batch.control (control_of control) ∷ []
+entries_of (Configuration control set new_queue) = batch.control (control_of control) ∷ []
 entries_of (Events events) = map (λ e. batch.accepted (accepted_of e)) events.items
 
 -- the batch that records the change at its moment
@@ -27,9 +27,9 @@ abbrev pub batch_of : Ready → batch.Batch
 batch_of r = record { moment = r.moment; entries = entries_of r.change }
 
 -- the duties with the queue of this name, if there is one to make; it has no message
-abbrev pub opened_by : Option (List ℕ) → Duties → Duties
-opened_by None duties = duties
-opened_by (Some queue) duties = opened queue duties
+abbrev pub with_new_queue : Option (List ℕ) → Duties → Duties
+with_new_queue None duties = duties
+with_new_queue (Some queue) duties = with_queue queue duties
 
 -- the duties of events, made one after the other
 abbrev pub added_all : List AcceptedEvent → ℕ → Duties → Duties
@@ -38,20 +38,20 @@ added_all (e ∷ es) moment duties = added_all es moment (added e.duties moment 
 
 -- a change that makes a queue comes with that queue's place, and any other with none
 abbrev pub HasPlace : Control → Option (List ℕ) → Type 0
-HasPlace (rule_put bus name pattern enabled) mailbox = mailbox ≡ None
-HasPlace (targets_put bus rule targets) mailbox = mailbox ≡ None
-HasPlace (queue_made name) mailbox = mailbox ≡ Some name
+HasPlace (rule_put bus name pattern enabled) new_queue = new_queue ≡ None
+HasPlace (targets_put bus rule targets) new_queue = new_queue ≡ None
+HasPlace (queue_created name) new_queue = new_queue ≡ Some name
 
 -- each event has at most 1,500 duties (five targets of each of 300 rules), and each duty goes to one of these queues
-abbrev pub AreDeliverable : List Mailbox → List AcceptedEvent → Type 0
-AreDeliverable mailboxes [] = Unit {0}
-AreDeliverable mailboxes (e ∷ es) = (length e.duties ≤ 1500) × All (λ d. HasMailbox d.endpoint mailboxes) e.duties × AreDeliverable mailboxes es
+abbrev pub AreDeliverable : List Queue → List AcceptedEvent → Type 0
+AreDeliverable queues [] = Unit {0}
+AreDeliverable queues (e ∷ es) = (length e.duties ≤ 1500) × All (λ d. HasEndpoint d.endpoint queues) e.duties × AreDeliverable queues es
 
 -- what was made ready for these tables: an accepted change with the rule set after it; or at most ten events whose duties go to their queues
 abbrev pub IsMadeAt : Tables → Change → Type 0
-IsMadeAt t (Configuration control set mailbox) =
-    IsAccepted (control_of control) t.set × (set ≡ applied (control_of control) t.set) × HasPlace (control_of control) mailbox
-IsMadeAt t (Events events) = (length events.items ≤ 10) × AreDeliverable t.duties.mailboxes events.items
+IsMadeAt t (Configuration control set new_queue) =
+    IsAllowed (control_of control) t.set × (set ≡ applied (control_of control) t.set) × HasPlace (control_of control) new_queue
+IsMadeAt t (Events events) = (length events.items ≤ 10) × AreDeliverable t.duties.queues events.items
 
 -- the change may be made of these tables: its moment is no earlier than the last batch's, and a further batch is numbered
 pub record IsReadyAt (t : Tables) (r : Ready) : Type 0 where
@@ -63,11 +63,11 @@ pub record IsReadyAt (t : Tables) (r : Ready) : Type 0 where
 -- what holds of all tables that batches made of the first ones
 pub record IsConsistent (t : Tables) : Type 0 where
   -- each queue takes messages
-  pub queues : (queue : List ℕ) → has_queue queue t.set ≡ true → HasMailbox (queue_arn queue) t.duties.mailboxes
+  pub queues : (queue : List ℕ) → has_queue queue t.set ≡ true → HasEndpoint (queue_arn queue) t.duties.queues
   pub latest : t.duties.latest ≤ t.moment
   pub moment : IsMoment t.moment
   pub count : t.set.count ≤ t.entries
   pub events : t.events ≤ t.entries
   pub entries : t.entries < number_limit + 2 ^ 20
   pub created : t.duties.created < number_limit + 2 ^ 20
-  pub mailboxes : length t.duties.mailboxes ≤ t.entries
+  pub queue_count : length t.duties.queues ≤ t.entries

@@ -27,8 +27,8 @@ abbrev pub not_built : Reply
 not_built = refusal 400 (codes "NotBuilt") (codes "Not built yet.")
 
 -- no further batch is numbered
-abbrev pub number_limit : Reply
-number_limit = refusal 400 (codes "LimitExceededException") (codes "Number limit 281474976710656 reached.")
+abbrev pub limit_reply : Reply
+limit_reply = refusal 400 (codes "LimitExceededException") (codes "Number limit 281474976710656 reached.")
 
 -- memory was refused
 abbrev pub no_memory : Reply

@@ -28,5 +28,5 @@ abbrev pub claiming : ℕ → Tables → Tables
 claiming duty t = record t { duties = claimed duty t.duties }
 
 -- the tables with the duty's claim given back
-abbrev pub giving_back : ℕ → Tables → Tables
-giving_back duty t = record t { duties = unclaimed duty t.duties }
+abbrev pub putting_back : ℕ → Tables → Tables
+putting_back duty t = record t { duties = unclaimed duty t.duties }

@@ -1,8 +1,8 @@
 -- The tables of the router: a fold over batches.
 use Rattle.std.specs.Prelude.{ℕ, ◌+◌, ◌^◌, Bool, ◌||◌, nat_le, List, [], ◌∷◌}
-use Rattle.rule_table.specs.Control.{Control, rule_put, targets_put, queue_made}
+use Rattle.rule_table.specs.Control.{Control, rule_put, targets_put, queue_created}
 use Rattle.rule_table.specs.RuleSet.{RuleSet, first_set, applied}
-use Rattle.delivery_duties.specs.Duties.{Duties, no_duties, opened, added, settled}
+use Rattle.delivery_duties.specs.Duties.{Duties, no_duties, with_queue, added, settled}
 use Rattle.router_core.specs.Batch.{Entry, control, accepted, attempt, Batch}
 
 -- the rule set, the duties with the queues' messages, how many events were accepted and how many entries made so far, and
@@ -19,14 +19,14 @@ abbrev pub first_tables : Tables
 first_tables = record { set = first_set; duties = no_duties; events = 0; entries = 0; moment = 0 }
 
 -- the duties after a change of the configuration: a queue that is made takes messages, and has none
-abbrev pub opened_by : Control → Duties → Duties
-opened_by (rule_put bus name pattern enabled) duties = duties
-opened_by (targets_put bus rule targets) duties = duties
-opened_by (queue_made name) duties = opened name duties
+abbrev pub duties_after : Control → Duties → Duties
+duties_after (rule_put bus name pattern enabled) duties = duties
+duties_after (targets_put bus rule targets) duties = duties
+duties_after (queue_created name) duties = with_queue name duties
 
 -- the tables after an entry that was made at the moment; an event's duties are due at once
 abbrev pub after_entry : ℕ → Entry → Tables → Tables
-after_entry moment (control c) t = record t { set = applied c t.set; duties = opened_by c t.duties; entries = t.entries + 1 }
+after_entry moment (control c) t = record t { set = applied c t.set; duties = duties_after c t.duties; entries = t.entries + 1 }
 after_entry moment (accepted e) t = record t { duties = added e.duties moment t.duties; events = t.events + 1; entries = t.entries + 1 }
 after_entry moment (attempt duty outcome) t = record t { duties = settled duty outcome t.duties; entries = t.entries + 1 }
 

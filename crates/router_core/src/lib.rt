@@ -12,7 +12,7 @@ mod tests;
 
 pub use matching::{duties_of, see_plain_event};
 pub use ready::{AcceptedEvent, Change, Ready};
-pub use reply::{Reply, not_built, number_limit, unknown_operation};
+pub use reply::{Reply, limit_reply, not_built, unknown_operation};
 pub use request::{Action, Request};
 pub use seen::{Seen, SeenEntries, SeenEntry, SeenTarget, SeenTargets};
 pub use tables::Tables;

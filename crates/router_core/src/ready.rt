@@ -1,5 +1,5 @@
 //! Changes that are ready to be made.
-use delivery_duties::{NewDuties, NewMailbox};
+use delivery_duties::{NewDuties, NewQueue};
 use json_text::Text;
 use rule_table::{Control, RuleSet};
 use std::collections::VecDeque;
@@ -12,7 +12,7 @@ pub struct AcceptedEvent {
     /// The name of its bus.
     pub bus: Text,
     /// How many changes of the configuration it was matched on.
-    pub version: u64,
+    pub k: u64,
     /// The moment of its member `time`, in seconds since 1970-01-01T00:00:00Z.
     pub time: u64,
     /// The whole event, as compact JSON.
@@ -27,7 +27,7 @@ pub enum Change {
     Configuration {
         control: Control,
         set: RuleSet,
-        mailbox: Option<NewMailbox>,
+        new_queue: Option<NewQueue>,
     },
     /// Events are accepted, in this order.
     Events(VecDeque<AcceptedEvent>),

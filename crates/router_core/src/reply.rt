@@ -2,8 +2,8 @@
 ghost use Rattle.std.specs.Prelude.{◌≡◌, ◌++◌, ◌∷◌, [], IfOk, OnOk};
 ghost use Rattle.json_text.specs.Tree.{text};
 ghost use Rattle.json_text.specs.View.{pairs_of, tree_of};
-ghost use Rattle.router_core.specs.Seen.{reply_of};
-ghost use Rattle.router_core.specs.Reply as told;
+ghost use Rattle.router_core.specs.View.{reply_of};
+ghost use Rattle.router_core.specs.Reply as replies;
 
 use json_text::{Json, Members, NoMemory, Text};
 use std::alloc::Global;
@@ -17,7 +17,7 @@ pub struct Reply {
 
 /// A refusal: its type and its message are the two members.
 fn refusal(alloc: Global, status: u16, kind: &str, message: &str) -> Result<Reply, NoMemory>
-    ensures { IfOk result (λ reply. reply_of reply ≡ told.refusal status kind.now message.now) }
+    ensures { IfOk result (λ reply. reply_of reply ≡ replies.refusal status kind.now message.now) }
 {
     let mut members: Members = Vec::with_capacity(alloc, 2)?;
     push_text(alloc, &mut members, "__type", kind)?;
@@ -40,7 +40,7 @@ fn push_text(alloc: Global, members: &mut Members, key: &str, value: &str) -> Re
 
 /// No operation of this name is served.
 pub fn unknown_operation(alloc: Global) -> Result<Reply, NoMemory>
-    ensures { IfOk result (λ reply. reply_of reply ≡ told.unknown_operation) }
+    ensures { IfOk result (λ reply. reply_of reply ≡ replies.unknown_operation) }
 {
     refusal(
         alloc,
@@ -52,14 +52,14 @@ pub fn unknown_operation(alloc: Global) -> Result<Reply, NoMemory>
 
 /// The operation is served, but not in this form.
 pub fn not_built(alloc: Global) -> Result<Reply, NoMemory>
-    ensures { IfOk result (λ reply. reply_of reply ≡ told.not_built) }
+    ensures { IfOk result (λ reply. reply_of reply ≡ replies.not_built) }
 {
     refusal(alloc, 400, "NotBuilt", "Not built yet.")
 }
 
 /// So many entries or deliveries were made that no further one can be numbered.
-pub fn number_limit(alloc: Global) -> Result<Reply, NoMemory>
-    ensures { IfOk result (λ reply. reply_of reply ≡ told.number_limit) }
+pub fn limit_reply(alloc: Global) -> Result<Reply, NoMemory>
+    ensures { IfOk result (λ reply. reply_of reply ≡ replies.limit_reply) }
 {
     refusal(
         alloc,

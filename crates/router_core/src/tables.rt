@@ -4,11 +4,11 @@ ghost use Rattle.rule_table.specs.RuleSet.{has_queue};
 ghost use Rattle.json_text.specs.Moment.{IsMoment};
 ghost use Rattle.delivery_duties.specs.Duties.{IsNext, NoneDue, IsOut};
 ghost use Rattle.router_core.specs.Tables.{first_tables, after_batch, is_full};
-ghost use Rattle.router_core.specs.Ready.{AreDeliverable, added_all, opened_by, batch_of, IsReadyAt, IsConsistent};
-ghost use Rattle.router_core.specs.Steps.{EndsSo, outcome_of, record_of, claiming, giving_back};
+ghost use Rattle.router_core.specs.Ready.{AreDeliverable, added_all, with_new_queue, batch_of, IsReadyAt, IsConsistent};
+ghost use Rattle.router_core.specs.Steps.{EndsSo, outcome_of, record_of, claiming, putting_back};
 
 use crate::ready::{AcceptedEvent, Change, Ready};
-use delivery_duties::{Claim, Duties, DutyRow, NewMailbox, Outcome};
+use delivery_duties::{Claim, Duties, DutyRow, NewQueue, Outcome};
 use json_text::NoMemory;
 use rule_table::RuleSet;
 use std::alloc::Global;
@@ -29,10 +29,10 @@ pub struct Tables {
 }
 
 impl Model for Tables {
-    ghost use Rattle.router_core.specs.Tables.{Tables as Seen};
+    ghost use Rattle.router_core.specs.Tables.{Tables as View};
     ghost use Rattle.router_core.specs.Ready.{IsConsistent};
 
-    ghost Value = { Seen };
+    ghost Value = { View };
 
     ghost view = { λ t. record { set = t.set; duties = t.duties; events = t.events; entries = t.entries; moment = t.moment } };
 
@@ -99,25 +99,25 @@ impl Tables {
             Change::Configuration {
                 control,
                 set,
-                mailbox,
+                new_queue,
             } => {
                 drop(control);
-                self.configure(set, mailbox, moment);
+                self.configure(set, new_queue, moment);
             }
             Change::Events(events) => self.publish(events, moment),
         }
     }
 
-    fn configure(&mut self, set: RuleSet, mailbox: Option<NewMailbox>, moment: u64)
+    fn configure(&mut self, set: RuleSet, new_queue: Option<NewQueue>, moment: u64)
         requires moment { IsMoment moment }
         requires later { self.old.moment ≤ moment }
         requires numbered { is_full self.old ≡ false }
         requires count { set.count ≡ self.old.set.count + 1 }
-        requires queues { (queue : List ℕ) → has_queue queue set ≡ true → (has_queue queue self.old.set ≡ true) ⊎ (mailbox ≡ Some queue) }
-        ensures { self.new ≡ record self.old { set = set; duties = opened_by mailbox self.old.duties; entries = self.old.entries + 1; moment = moment } }
+        requires queues { (queue : List ℕ) → has_queue queue set ≡ true → (has_queue queue self.old.set ≡ true) ⊎ (new_queue ≡ Some queue) }
+        ensures { self.new ≡ record self.old { set = set; duties = with_new_queue new_queue self.old.duties; entries = self.old.entries + 1; moment = moment } }
     {
         self.set = set;
-        open(&mut self.duties, mailbox);
+        create_queue(&mut self.duties, new_queue);
         self.entries += 1;
         self.moment = moment;
     }
@@ -127,7 +127,7 @@ impl Tables {
         requires later { self.old.moment ≤ moment }
         requires numbered { is_full self.old ≡ false }
         requires few { length events.items ≤ 10 }
-        requires there { AreDeliverable self.old.duties.mailboxes events.items }
+        requires there { AreDeliverable self.old.duties.queues events.items }
         ensures { self.new ≡ record self.old {
           duties = added_all events.items moment self.old.duties;
           events = self.old.events + length events.items;
@@ -172,19 +172,19 @@ impl Tables {
     /// Gives the claim back: the duty may be claimed again.
     pub fn put_back(&mut self, claim: Claim)
         requires { IsOut claim.number self.old.duties }
-        ensures { self.new ≡ giving_back claim.number self.old }
+        ensures { self.new ≡ putting_back claim.number self.old }
     {
         self.duties.unclaim(claim);
     }
 }
 
 /// Makes the queue, if one is made.
-fn open(duties: &mut Duties, mailbox: Option<NewMailbox>)
-    requires { length duties.old.mailboxes < 2 ^ 62 }
-    ensures { duties.new ≡ opened_by mailbox duties.old }
+fn create_queue(duties: &mut Duties, new_queue: Option<NewQueue>)
+    requires { length duties.old.queues < 2 ^ 62 }
+    ensures { duties.new ≡ with_new_queue new_queue duties.old }
 {
-    if let Some(mailbox) = mailbox {
-        duties.open(mailbox);
+    if let Some(new_queue) = new_queue {
+        duties.create_queue(new_queue);
     }
 }
 
@@ -203,11 +203,11 @@ fn outcome_at(row: &DutyRow, moment: u64) -> Outcome
 fn accept(duties: &mut Duties, mut events: VecDeque<AcceptedEvent>, moment: u64)
     requires latest { duties.old.latest ≤ moment }
     requires room { duties.old.created + 1500 * length events.items < 2 ^ 63 }
-    requires there { AreDeliverable duties.old.mailboxes events.items }
+    requires there { AreDeliverable duties.old.queues events.items }
     ensures added { duties.new ≡ added_all events.items moment duties.old }
     ensures created { duties.new.created ≤ duties.old.created + 1500 * length events.items }
     ensures latest { duties.new.latest ≤ moment }
-    ensures queues { duties.new.mailboxes ≡ duties.old.mailboxes }
+    ensures queues { duties.new.queues ≡ duties.old.queues }
 {
     while let Some(event) = events.pop_front() {
         let AcceptedEvent { duties: new, .. } = event;

@@ -2,10 +2,10 @@ ghost use Rattle.std.specs.Prelude.{◌≡◌, IfOk, codes};
 ghost use Rattle.event_shape.specs.Names as arns;
 
 use crate::{
-    AcceptedEvent, Change, Ready, Reply, SeenTarget, SeenTargets, Tables, duties_of, not_built,
-    number_limit, see_plain_event, unknown_operation,
+    AcceptedEvent, Change, Ready, Reply, SeenTarget, SeenTargets, Tables, duties_of, limit_reply,
+    not_built, see_plain_event, unknown_operation,
 };
-use delivery_duties::{NewDuties, NewDuty, NewMailbox, Outcome};
+use delivery_duties::{NewDuties, NewDuty, NewQueue, Outcome};
 use event_shape::{DEFAULT_BUS, Event, EventEntry, OWNER, check, queue_arn};
 use json_text::{Bytes, NoMemory, Text, write};
 use rule_table::{Control, RuleSet, Target};
@@ -14,23 +14,23 @@ use std::collections::VecDeque;
 use std::test::Fail;
 
 /// Makes the queue `q` at moment 0.
-fn make_queue(alloc: Global, tables: &mut Tables) -> Result<(), Fail> {
+fn create_queue(alloc: Global, tables: &mut Tables) -> Result<(), Fail> {
     if tables.full() || tables.moment() > 0 {
         return Err(Fail::from("no change can be made"));
     }
-    let control = Control::QueueMade {
+    let control = Control::QueueCreated {
         name: Text::from_str(alloc, "q")?,
     };
     let Ok(set) = tables.set().apply(alloc, &control) else {
         return Err(Fail::from("q is refused"));
     };
-    let mailbox = NewMailbox::new(alloc, "q")?;
+    let new_queue = NewQueue::new(alloc, "q")?;
     tables.apply(Ready {
         moment: 0,
         change: Change::Configuration {
             control,
             set,
-            mailbox: Some(mailbox),
+            new_queue: Some(new_queue),
         },
     });
     Ok(())
@@ -60,7 +60,7 @@ fn publish(alloc: Global, tables: &mut Tables) -> Result<(), Fail> {
     let event = AcceptedEvent {
         number: 1,
         bus: Text::from_str(alloc, "default")?,
-        version: 1,
+        k: 1,
         time: 1000,
         text: Text::from_str(alloc, "{\"a\":1}")?,
         duties,
@@ -77,7 +77,7 @@ fn publish(alloc: Global, tables: &mut Tables) -> Result<(), Fail> {
 /// The tables with the queue, the event, and its duty.
 fn with_duty(alloc: Global) -> Result<Tables, Fail> {
     let mut tables = Tables::first(alloc)?;
-    make_queue(alloc, &mut tables)?;
+    create_queue(alloc, &mut tables)?;
     publish(alloc, &mut tables)?;
     Ok(tables)
 }
@@ -170,7 +170,7 @@ fn each_refusal_has_its_status_and_its_text(rt: HostRuntime) -> Result<(), Fail>
             "{\"__type\":\"UnknownOperationException\",\"message\":\"Unknown operation.\"}",
         ),
         (
-            number_limit(alloc)?,
+            limit_reply(alloc)?,
             "{\"__type\":\"LimitExceededException\",\"message\":\"Number limit 281474976710656 reached.\"}",
         ),
     ];
@@ -226,7 +226,7 @@ fn with_rule(
 /// Rules of which `a` is not enabled, `b` asks for the source, `c` for a text in a list of the detail, `d` for another source
 /// and `e` for a replay's name.
 fn rules(alloc: Global) -> Result<RuleSet, Fail> {
-    let queue = Control::QueueMade {
+    let queue = Control::QueueCreated {
         name: Text::from_str(alloc, "q")?,
     };
     let set = changed(alloc, RuleSet::first(alloc)?, queue)?;

@@ -6,13 +6,13 @@ use Rattle.std.proofs.Math.ListN.{set}
 use Rattle.event_shape.specs.Names.{IsShortName}
 use Rattle.pattern_meaning.specs.Pattern.{Pattern}
 use Rattle.pattern_read.specs.Text.{IsPatternText}
-use Rattle.rule_table.specs.Control.{rule_put, targets_put, queue_made}
-use Rattle.rule_table.specs.RuleSet.{Rule, Bus, RuleSet, named, changed, put_targets, rules_in, applied, IsQueueThere, ForRule, IsAccepted}
-use Rattle.rule_table.specs.Kept.{IsOrdered, IsKept, HasRoom, HasFew}
+use Rattle.rule_table.specs.Control.{rule_put, targets_put, queue_created}
+use Rattle.rule_table.specs.RuleSet.{Rule, Bus, RuleSet, named, changed, put_targets, rules_in, applied, IsQueueThere, ForRule, IsAllowed}
+use Rattle.rule_table.specs.Sorted.{AreSorted, IsSortedSet, HasRoom, HasFew}
 use Rattle.rule_table.specs.Place.{IsHere, IsBefore}
 use Rattle.rule_table.specs.declared.control.Target.{Target}
 use Rattle.rule_table.proofs.RowLemmas.{named_here, named_before, changed_here, placed_before}
-use Rattle.rule_table.proofs.KeptLemmas.{All_named}
+use Rattle.rule_table.proofs.SortedLemmas.{All_named}
 
 -- the bus of the name is at the place
 abbrev pub IsFound : RuleSet → List ℕ → ℕ → Bus → Type 0
@@ -21,23 +21,23 @@ IsFound rules name at old = (here : IsHere (λ bus. bus.name) name rules.buses a
 pub found_named : (rules : RuleSet) (name : List ℕ) (at : ℕ) (old : Bus) → IsFound rules name at old → named (λ bus. bus.name) name rules.buses ≡ Some old
 found_named rules name at old f = named_here (λ bus. bus.name) name rules.buses at f.0 ∙ ap (λ bus. Some bus) (sym f.1)
 
-pub found_ordered : (rules : RuleSet) (name : List ℕ) (at : ℕ) (old : Bus) → IsFound rules name at old → IsKept rules → IsOrdered (λ rule. rule.name) old.rules
+pub found_ordered : (rules : RuleSet) (name : List ℕ) (at : ℕ) (old : Bus) → IsFound rules name at old → IsSortedSet rules → AreSorted (λ rule. rule.name) old.rules
 found_ordered rules name at old f k =
-    All_named (λ bus. IsOrdered (λ rule. rule.name) bus.rules) (λ bus. bus.name) name rules.buses old (found_named rules name at old f) k.rules
+    All_named (λ bus. AreSorted (λ rule. rule.name) bus.rules) (λ bus. bus.name) name rules.buses old (found_named rules name at old f) k.rules
 
-pub found_changed : (rules : RuleSet) (name : List ℕ) (at : ℕ) (old : Bus) (change : Bus → Bus) (new : Bus) → IsFound rules name at old → IsKept rules → new ≡ change old
+pub found_changed : (rules : RuleSet) (name : List ℕ) (at : ℕ) (old : Bus) (change : Bus → Bus) (new : Bus) → IsFound rules name at old → IsSortedSet rules → new ≡ change old
     → set rules.buses at new ≡ changed (λ bus. bus.name) name change rules.buses
 found_changed rules name at old change new f k e =
     ap (set rules.buses at) (e ∙ ap change f.1) ∙ sym (changed_here (λ bus. bus.name) name change rules.buses at k.buses f.0)
 
 pub rule_accepted : (bus name pattern : List ℕ) (enabled : Bool) (rules : RuleSet) (at : ℕ) (old : Bus) → IsFound rules bus at old
-    → (p : Pattern) × IsPatternText pattern p → HasRoom name old.rules → IsAccepted (rule_put bus name pattern enabled) rules
+    → (p : Pattern) × IsPatternText pattern p → HasRoom name old.rules → IsAllowed (rule_put bus name pattern enabled) rules
 rule_accepted bus name pattern enabled rules at old f p room =
     let is = found_named rules bus at old f in
     (p, ap is_some is, subst (λ o. HasRoom name (rules_in o)) (sym is) room)
 
 pub rule_has_room : (bus name pattern : List ℕ) (enabled : Bool) (rules : RuleSet) (at : ℕ) (old : Bus) → IsFound rules bus at old
-    → IsAccepted (rule_put bus name pattern enabled) rules → HasRoom name old.rules
+    → IsAllowed (rule_put bus name pattern enabled) rules → HasRoom name old.rules
 rule_has_room bus name pattern enabled rules at old f a = subst (λ o. HasRoom name (rules_in o)) (found_named rules bus at old f) a.2
 
 abbrev AreAll : RuleSet → List Target → Type 0
@@ -56,36 +56,36 @@ first_for A P None p = absurd p
 first_for A P (Some rule) p = p.0
 
 pub targets_accepted : (bus rule : List ℕ) (targets : List Target) (rules : RuleSet) (at : ℕ) (old : Bus) → IsFound rules bus at old
-    → All (λ target. IsShortName target.id × IsQueueThere rules target.arn) targets → HasFew rule targets old.rules → IsAccepted (targets_put bus rule targets) rules
+    → All (λ target. IsShortName target.id × IsQueueThere rules target.arn) targets → HasFew rule targets old.rules → IsAllowed (targets_put bus rule targets) rules
 targets_accepted bus rule targets rules at old f all few =
     let Fits : Rule → Type 0 = λ r. length (put_targets targets r.targets) ≤ 5 in
     subst (λ o. ForRule (named (λ r. r.name) rule (rules_in o)) (λ r. AreAll rules targets × Fits r)) (sym (found_named rules bus at old f))
     (both_for (AreAll rules targets) Fits (named (λ r. r.name) rule old.rules) all few)
 
 pub targets_few : (bus rule : List ℕ) (targets : List Target) (rules : RuleSet) (at : ℕ) (old : Bus) → IsFound rules bus at old
-    → IsAccepted (targets_put bus rule targets) rules → HasFew rule targets old.rules
+    → IsAllowed (targets_put bus rule targets) rules → HasFew rule targets old.rules
 targets_few bus rule targets rules at old f a =
     let Fits : Rule → Type 0 = λ r. length (put_targets targets r.targets) ≤ 5 in
     second_for (AreAll rules targets) Fits (named (λ r. r.name) rule old.rules)
     (subst (λ o. ForRule (named (λ r. r.name) rule (rules_in o)) (λ r. AreAll rules targets × Fits r)) (found_named rules bus at old f) a)
 
-pub targets_all : (bus rule : List ℕ) (targets : List Target) (rules : RuleSet) → IsAccepted (targets_put bus rule targets) rules
+pub targets_all : (bus rule : List ℕ) (targets : List Target) (rules : RuleSet) → IsAllowed (targets_put bus rule targets) rules
     → All (λ target. IsShortName target.id × IsQueueThere rules target.arn) targets
 targets_all bus rule targets rules a =
     first_for (AreAll rules targets) (λ r. length (put_targets targets r.targets) ≤ 5) (named (λ r. r.name) rule (rules_in (named (λ b. b.name) bus rules.buses))) a
 
 -- without the bus there is no rule
 pub targets_bus : (bus rule : List ℕ) (targets : List Target) (rules : RuleSet) → named (λ b. b.name) bus rules.buses ≡ None
-    → ¬ IsAccepted (targets_put bus rule targets) rules
+    → ¬ IsAllowed (targets_put bus rule targets) rules
 targets_bus bus rule targets rules none a =
     let Fits : Rule → Type 0 = λ r. length (put_targets targets r.targets) ≤ 5 in
     subst (λ o. ForRule (named (λ r. r.name) rule (rules_in o)) (λ r. AreAll rules targets × Fits r)) none a
 
-pub queue_accepted : (name : List ℕ) (rules : RuleSet) (at : ℕ) → IsBefore (λ queue. queue) name rules.queues at → IsKept rules
-    → length rules.queues < 1000 → IsAccepted (queue_made name) rules
+pub queue_accepted : (name : List ℕ) (rules : RuleSet) (at : ℕ) → IsBefore (λ queue. queue) name rules.queues at → IsSortedSet rules
+    → length rules.queues < 1000 → IsAllowed (queue_created name) rules
 queue_accepted name rules at before k room = (ap is_some (named_before (λ queue. queue) name rules.queues at k.queues before), room)
 
 pub queue_applied : (name : List ℕ) (rules : RuleSet) (at : ℕ) → IsBefore (λ queue. queue) name rules.queues at
-    → record rules { queues = insert rules.queues at name; count = rules.count + 1 } ≡ applied (queue_made name) rules
+    → record rules { queues = insert rules.queues at name; count = rules.count + 1 } ≡ applied (queue_created name) rules
 queue_applied name rules at before =
     ap (λ queues. record rules { queues = queues; count = rules.count + 1 }) (sym (placed_before (λ queue. queue) (λ old new. new) name rules.queues at before))

@@ -15,7 +15,7 @@ use Rattle.rule_table.specs.RuleSet.{named, changed, placed}
 use Rattle.rule_table.specs.Place.{IsHere, IsBefore, IsPlace, StartsGreater}
 use Rattle.rule_table.specs.declared.rows.Place.{Place}
 use Rattle.rule_table.specs.declared.rows.Place.TheVariants.{Here, Before}
-use Rattle.rule_table.specs.Kept.{IsOrdered}
+use Rattle.rule_table.specs.Sorted.{AreSorted}
 use Rattle.rule_table.proofs.NameOrder.{Less_trans, Less_from_Greater, same_name, Greater_from_Less, bytes_eq_itself, bytes_eq_Less, bytes_eq_Greater}
 
 abbrev Smaller : {A : Type 0} → (A → List ℕ) → List ℕ → A → Type 0
@@ -59,7 +59,7 @@ placed_behind f joined new (row ∷ front) back all =
     let e = All-head (Smaller f (f new)) row front all in
     rw e (ap (λ rs. row ∷ rs) (placed_behind f joined new front back (All-tail (Smaller f (f new)) row front all)))
 
-pub ordered_back : {A : Type 0} (f : A → List ℕ) (front back : List A) → IsOrdered f (front ++ back) → IsOrdered f back
+pub ordered_back : {A : Type 0} (f : A → List ℕ) (front back : List A) → AreSorted f (front ++ back) → AreSorted f back
 ordered_back f [] back o = o
 ordered_back f (row ∷ front) back o = ordered_back f front back o.1
 
@@ -76,17 +76,17 @@ named_here f name rows at h =
     let is_it : bytes_eq (f h.old) name ≡ true = rw (← same_name name (f h.old) h.same) (bytes_eq_itself name) in
     ap (named f name) h.parts ∙ named_behind f name h.front (h.old ∷ h.back) others ∙ rw is_it refl
 
-pub none_greater : {A : Type 0} (f : A → List ℕ) (name : List ℕ) (back : List A) → IsOrdered f back → StartsGreater f name back → All (Other f name) back
+pub none_greater : {A : Type 0} (f : A → List ℕ) (name : List ℕ) (back : List A) → AreSorted f back → StartsGreater f name back → All (Other f name) back
 none_greater f name [] o greater = All-nil (Other f name)
 none_greater f name (row ∷ rows) o greater =
     All-cons (Other f name) row rows (bytes_eq_Greater (f row) name (Greater_from_Less name (f row) greater))
     (All-weaker (λ other. slice_cmp nat_cmp (f row) (f other) ≡ Less) (Other f name)
     (λ other less. bytes_eq_Greater (f other) name (Greater_from_Less name (f other) (Less_trans name (f row) (f other) greater less))) rows o.0)
 
-pub named_before : {A : Type 0} (f : A → List ℕ) (name : List ℕ) (rows : List A) (at : ℕ) → IsOrdered f rows → IsBefore f name rows at → named f name rows ≡ None
+pub named_before : {A : Type 0} (f : A → List ℕ) (name : List ℕ) (rows : List A) (at : ℕ) → AreSorted f rows → IsBefore f name rows at → named f name rows ≡ None
 named_before f name rows at o h =
     let others = All-weaker (Smaller f name) (Other f name) (smaller_other f name) h.front h.smaller in
-    let behind = ordered_back f h.front h.back (subst (IsOrdered f) h.parts o) in
+    let behind = ordered_back f h.front h.back (subst (AreSorted f) h.parts o) in
     ap (named f name) h.parts ∙ named_behind f name h.front h.back others ∙ named_none f name h.back (none_greater f name h.back behind h.greater)
 
 pub set_here : {A : Type 0} (f : A → List ℕ) (name : List ℕ) (rows : List A) (at : ℕ) (new : A) → (h : IsHere f name rows at)
@@ -94,12 +94,12 @@ pub set_here : {A : Type 0} (f : A → List ℕ) (name : List ℕ) (rows : List 
 set_here f name rows at new h =
     ap (λ rs. set rs at new) h.parts ∙ ap (λ n. set (h.front ++ h.old ∷ h.back) n new) (sym h.at) ∙ set-append_seam h.front h.old h.back new
 
-pub changed_here : {A : Type 0} (f : A → List ℕ) (name : List ℕ) (change : A → A) (rows : List A) (at : ℕ) → IsOrdered f rows
+pub changed_here : {A : Type 0} (f : A → List ℕ) (name : List ℕ) (change : A → A) (rows : List A) (at : ℕ) → AreSorted f rows
     → (h : IsHere f name rows at) → changed f name change rows ≡ set rows at (change h.old)
 changed_here f name change rows at o h =
     let others = All-weaker (Smaller f name) (Other f name) (smaller_other f name) h.front h.smaller in
     let is_it : bytes_eq (f h.old) name ≡ true = rw (← same_name name (f h.old) h.same) (bytes_eq_itself name) in
-    let behind = ordered_back f h.front (h.old ∷ h.back) (subst (IsOrdered f) h.parts o) in
+    let behind = ordered_back f h.front (h.old ∷ h.back) (subst (AreSorted f) h.parts o) in
     let rest = changed_none f name change h.back (others_behind f name h.old h.back (sym (same_name name (f h.old) h.same)) behind.0) in
     ap (changed f name change) h.parts ∙ changed_behind f name change h.front (h.old ∷ h.back) others
     ∙ rw (is_it, rest) (sym (set_here f name rows at (change h.old) h))

@@ -6,4 +6,4 @@ use Rattle.rule_table.specs.declared.control.Target.{Target}
 pub data Control : Type 0 where
   rule_put : (bus name pattern : List ℕ) (enabled : Bool) → Control
   targets_put : (bus rule : List ℕ) (targets : List Target) → Control
-  queue_made : (name : List ℕ) → Control
+  queue_created : (name : List ℕ) → Control

@@ -1,5 +1,5 @@
 pub mod Control
 pub mod RuleSet
-pub mod Seen
+pub mod View
 pub mod Place
-pub mod Kept
+pub mod Sorted

@@ -9,7 +9,7 @@ use Rattle.event_shape.specs.Names.{default_bus, IsShortName, queue_arn}
 use Rattle.pattern_meaning.specs.Pattern.{Pattern}
 use Rattle.pattern_read.specs.Text.{IsPatternText}
 use Rattle.rule_table.specs.declared.control.Target.{Target}
-use Rattle.rule_table.specs.Control.{Control, rule_put, targets_put, queue_made}
+use Rattle.rule_table.specs.Control.{Control, rule_put, targets_put, queue_created}
 
 -- a rule: its name, its pattern's text, whether it is enabled, and its targets in the byte order of their ids
 pub record Rule : Type 0 where
@@ -103,7 +103,7 @@ applied (targets_put bus rule targets) set = record set {
   buses = changed (λ b. b.name) bus (λ b. record b { rules = changed (λ r. r.name) rule (λ r. record r { targets = put_targets targets r.targets }) b.rules }) set.buses;
   count = set.count + 1;
 }
-applied (queue_made name) set = record set { queues = put_queue name set.queues; count = set.count + 1 }
+applied (queue_created name) set = record set { queues = put_queue name set.queues; count = set.count + 1 }
 
 -- the text is the ARN of a queue that is there
 abbrev pub IsQueueThere : RuleSet → List ℕ → Type 0
@@ -117,14 +117,14 @@ ForRule (Some rule) fact = fact rule
 -- What a change asks for: a text that is a pattern, a bus, and fewer than 300 rules of it where the rule is new; a rule, target
 -- ids of the syntax, queues that are there, and no more than five targets in the end; a name that no queue has, and fewer
 -- than 1,000 queues. (All limits but that on targets are this project's own.)
-abbrev pub IsAccepted : Control → RuleSet → Type 0
-IsAccepted (rule_put bus name pattern enabled) set =
+abbrev pub IsAllowed : Control → RuleSet → Type 0
+IsAllowed (rule_put bus name pattern enabled) set =
     ((p : Pattern) × IsPatternText pattern p) × (has_bus bus set ≡ true)
     × ((is_some (rule_at bus name set) ≡ true) ⊎ (length (rules_of bus set) < 300))
-IsAccepted (targets_put bus rule targets) set =
+IsAllowed (targets_put bus rule targets) set =
     ForRule (rule_at bus rule set) (λ r. All (λ target. IsShortName target.id × IsQueueThere set target.arn) targets
     × (length (put_targets targets r.targets) ≤ 5))
-IsAccepted (queue_made name) set = (has_queue name set ≡ false) × (length set.queues < 1000)
+IsAllowed (queue_created name) set = (has_queue name set ≡ false) × (length set.queues < 1000)
 
 -- what holds of each rule set that changes made of the first one
 pub record IsSound (set : RuleSet) : Type 0 where

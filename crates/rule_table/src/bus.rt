@@ -4,7 +4,7 @@ ghost use Rattle.std.specs.List.{insert};
 ghost use Rattle.std.specs.Arc.{arc_value};
 ghost use Rattle.rule_table.specs.RuleSet as spec;
 ghost use Rattle.rule_table.specs.Place.{IsPlace};
-ghost use Rattle.rule_table.specs.Kept.{IsOrdered, HasRoom, HasFew};
+ghost use Rattle.rule_table.specs.Sorted.{AreSorted, HasRoom, HasFew};
 
 use crate::control::{ControlFault, Target};
 use crate::rows::{Place, inserted, place_of, replaced, row_at};
@@ -31,9 +31,9 @@ pub struct Bus {
 impl Model for Bus {
     ghost use Rattle.std.specs.Prelude.{map};
     ghost use Rattle.std.specs.Arc.{arc_value};
-    ghost use Rattle.rule_table.specs.RuleSet.{Bus as Seen};
+    ghost use Rattle.rule_table.specs.RuleSet.{Bus as View};
 
-    ghost Value = { Seen };
+    ghost Value = { View };
 
     ghost view = { λ b. record { name = b.name; rules = map arc_value b.rules.items } };
 }
@@ -60,7 +60,7 @@ impl Bus {
         pattern: RulePattern,
         enabled: bool,
     ) -> Result<Bus, ControlFault>
-        requires { IsOrdered (λ rule. rule.name) self.now.rules }
+        requires { AreSorted (λ rule. rule.name) self.now.rules }
         ensures put { IfOk result (λ bus. bus ≡ record self.now {
           rules = spec.put_rule (record { name = name.now; pattern = pattern; enabled = enabled; targets = [] }) self.now.rules;
         }) }
@@ -90,7 +90,7 @@ impl Bus {
         rule: &str,
         targets: &[Target],
     ) -> Result<Bus, ControlFault>
-        requires { IsOrdered (λ rule. rule.name) self.now.rules }
+        requires { AreSorted (λ rule. rule.name) self.now.rules }
         ensures put { IfOk result (λ bus. bus ≡ record self.now {
           rules = spec.changed (λ r. r.name) rule.now (λ r. record r { targets = spec.put_targets targets.now r.targets }) self.now.rules;
         }) }

@@ -41,7 +41,7 @@ pub enum Control {
         targets: Vec<Target>,
     },
     /// A queue is made.
-    QueueMade {
+    QueueCreated {
         name: Text,
     },
 }

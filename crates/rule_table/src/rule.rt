@@ -66,9 +66,9 @@ pub struct Rule {
 
 impl Model for Rule {
     ghost use Rattle.std.specs.Arc.{arc_value};
-    ghost use Rattle.rule_table.specs.RuleSet.{Rule as Seen};
+    ghost use Rattle.rule_table.specs.RuleSet.{Rule as View};
 
-    ghost Value = { Seen };
+    ghost Value = { View };
 
     ghost view = { λ r. record {
       name = r.name;

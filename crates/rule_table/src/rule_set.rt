@@ -3,11 +3,11 @@ ghost use Rattle.std.specs.Prelude.{◌≡◌, ◌↔◌, ◌+◌, ◌^◌, ◌<
 ghost use Rattle.std.specs.List.{insert};
 ghost use Rattle.std.specs.Arc.{arc_value};
 ghost use Rattle.event_shape.specs.Names.{IsShortName};
-ghost use Rattle.rule_table.specs.Control.{rule_put, targets_put, queue_made};
+ghost use Rattle.rule_table.specs.Control.{rule_put, targets_put, queue_created};
 ghost use Rattle.rule_table.specs.RuleSet as spec;
-ghost use Rattle.rule_table.specs.Kept.{IsKept};
+ghost use Rattle.rule_table.specs.Sorted.{IsSortedSet};
 ghost use Rattle.rule_table.specs.Place.{IsHere, IsPlace};
-ghost use Rattle.rule_table.specs.Seen.{control_of};
+ghost use Rattle.rule_table.specs.View.{control_of};
 
 use crate::bus::Bus;
 use crate::control::{Control, ControlFault, Target};
@@ -33,10 +33,10 @@ pub struct RuleSet {
 impl Model for RuleSet {
     ghost use Rattle.std.specs.Prelude.{map};
     ghost use Rattle.std.specs.Arc.{arc_value};
-    ghost use Rattle.rule_table.specs.RuleSet.{RuleSet as Seen};
-    ghost use Rattle.rule_table.specs.Kept.{IsKept};
+    ghost use Rattle.rule_table.specs.RuleSet.{RuleSet as View};
+    ghost use Rattle.rule_table.specs.Sorted.{IsSortedSet};
 
-    ghost Value = { Seen };
+    ghost Value = { View };
 
     ghost view = { λ s. record {
       buses = map arc_value (arc_value s.buses).items;
@@ -44,7 +44,7 @@ impl Model for RuleSet {
       count = s.count;
     } };
 
-    ghost invariant = { λ s. IsKept (record {
+    ghost invariant = { λ s. IsSortedSet (record {
       buses = map arc_value (arc_value s.buses).items;
       queues = map arc_value (arc_value s.queues).items;
       count = s.count;
@@ -72,8 +72,8 @@ impl RuleSet {
     /// The set after the change. What does not change is shared; of the list that changes the pointers are copied.
     pub fn apply(&self, alloc: Global, control: &Control) -> Result<RuleSet, ControlFault>
         requires { self.now.count < 2 ^ 63 }
-        ensures applied { IfOk result (λ set. spec.IsAccepted (control_of control.now) self.now × (set ≡ spec.applied (control_of control.now) self.now)) }
-        ensures refused { IsErrOf result ControlFault.NotBuilt → ¬ spec.IsAccepted (control_of control.now) self.now }
+        ensures applied { IfOk result (λ set. spec.IsAllowed (control_of control.now) self.now × (set ≡ spec.applied (control_of control.now) self.now)) }
+        ensures refused { IsErrOf result ControlFault.NotBuilt → ¬ spec.IsAllowed (control_of control.now) self.now }
     {
         match control {
             Control::RulePut {
@@ -85,7 +85,7 @@ impl RuleSet {
             Control::TargetsPut { bus, rule, targets } => self.put_targets(
                 alloc, bus, rule, targets,
             ),
-            Control::QueueMade { name } => self.make_queue(alloc, name),
+            Control::QueueCreated { name } => self.create_queue(alloc, name),
         }
     }
 
@@ -122,9 +122,9 @@ impl RuleSet {
         enabled: bool,
     ) -> Result<RuleSet, ControlFault>
         requires { self.now.count < 2 ^ 63 }
-        ensures applied { IfOk result (λ set. spec.IsAccepted (rule_put bus.now name.now pattern.now enabled) self.now
+        ensures applied { IfOk result (λ set. spec.IsAllowed (rule_put bus.now name.now pattern.now enabled) self.now
             × (set ≡ spec.applied (rule_put bus.now name.now pattern.now enabled) self.now)) }
-        ensures refused { IsErrOf result ControlFault.NotBuilt → ¬ spec.IsAccepted (rule_put bus.now name.now pattern.now enabled) self.now }
+        ensures refused { IsErrOf result ControlFault.NotBuilt → ¬ spec.IsAllowed (rule_put bus.now name.now pattern.now enabled) self.now }
     {
         let Some((at, old)) = self.bus_at(bus.as_str()) else {
             return Err(ControlFault::NotBuilt);
@@ -142,9 +142,9 @@ impl RuleSet {
         targets: &[Target],
     ) -> Result<RuleSet, ControlFault>
         requires { self.now.count < 2 ^ 63 }
-        ensures applied { IfOk result (λ set. spec.IsAccepted (targets_put bus.now rule.now targets.now) self.now
+        ensures applied { IfOk result (λ set. spec.IsAllowed (targets_put bus.now rule.now targets.now) self.now
             × (set ≡ spec.applied (targets_put bus.now rule.now targets.now) self.now)) }
-        ensures refused { IsErrOf result ControlFault.NotBuilt → ¬ spec.IsAccepted (targets_put bus.now rule.now targets.now) self.now }
+        ensures refused { IsErrOf result ControlFault.NotBuilt → ¬ spec.IsAllowed (targets_put bus.now rule.now targets.now) self.now }
     {
         let Some((at, old)) = self.bus_at(bus.as_str()) else {
             return Err(ControlFault::NotBuilt);
@@ -156,10 +156,10 @@ impl RuleSet {
         Ok(self.with_bus(alloc, at, new)?)
     }
 
-    fn make_queue(&self, alloc: Global, name: &Text) -> Result<RuleSet, ControlFault>
+    fn create_queue(&self, alloc: Global, name: &Text) -> Result<RuleSet, ControlFault>
         requires { self.now.count < 2 ^ 63 }
-        ensures applied { IfOk result (λ set. spec.IsAccepted (queue_made name.now) self.now × (set ≡ spec.applied (queue_made name.now) self.now)) }
-        ensures refused { IsErrOf result ControlFault.NotBuilt → ¬ spec.IsAccepted (queue_made name.now) self.now }
+        ensures applied { IfOk result (λ set. spec.IsAllowed (queue_created name.now) self.now × (set ≡ spec.applied (queue_created name.now) self.now)) }
+        ensures refused { IsErrOf result ControlFault.NotBuilt → ¬ spec.IsAllowed (queue_created name.now) self.now }
     {
         let Place::Before(at) = self.queue_place(name.as_str()) else {
             return Err(ControlFault::NotBuilt);
@@ -174,7 +174,7 @@ impl RuleSet {
         ensures found { MatchOption result
             (spec.has_bus name.now self.now ≡ false)
             (λ found. (here : IsHere (λ bus. bus.name) name.now self.now.buses found.0) × (found.1.now ≡ here.old)) }
-        ensures kept { IsKept self.now }
+        ensures kept { IsSortedSet self.now }
     {
         match place_of(&self.buses, name) {
             Place::Here(at) => Some((at, row_at(&self.buses, at))),
@@ -186,7 +186,7 @@ impl RuleSet {
     fn with_bus(&self, alloc: Global, at: usize, bus: Bus) -> Result<RuleSet, NoMemory>
         requires place { at < length self.now.buses }
         requires count { self.now.count < 2 ^ 63 }
-        requires kept { IsKept (record self.now { buses = slice_set self.now.buses at bus; count = self.now.count + 1 }) }
+        requires kept { IsSortedSet (record self.now { buses = slice_set self.now.buses at bus; count = self.now.count + 1 }) }
         ensures { IfOk result (λ set. set ≡ record self.now { buses = slice_set self.now.buses at bus; count = self.now.count + 1 }) }
     {
         let buses = replaced(alloc, &self.buses, at, bus)?;
@@ -195,7 +195,7 @@ impl RuleSet {
 
     fn queue_place(&self, name: &str) -> Place
         ensures place { IsPlace (λ queue. queue) name.now self.now.queues result }
-        ensures kept { IsKept self.now }
+        ensures kept { IsSortedSet self.now }
     {
         place_of(&self.queues, name)
     }
@@ -204,7 +204,7 @@ impl RuleSet {
     fn with_queue(&self, alloc: Global, at: usize, queue: Text) -> Result<RuleSet, NoMemory>
         requires place { at ≤ length self.now.queues }
         requires count { self.now.count < 2 ^ 63 }
-        requires kept { IsKept (record self.now { queues = insert self.now.queues at queue; count = self.now.count + 1 }) }
+        requires kept { IsSortedSet (record self.now { queues = insert self.now.queues at queue; count = self.now.count + 1 }) }
         ensures { IfOk result (λ set. set ≡ record self.now { queues = insert self.now.queues at queue; count = self.now.count + 1 }) }
     {
         let queues = inserted(alloc, &self.queues, at, queue)?;
@@ -214,7 +214,7 @@ impl RuleSet {
     /// The set after one change more.
     fn next(&self, buses: Arc<Vec<Arc<Bus>>>, queues: Arc<Vec<Arc<Text>>>) -> RuleSet
         requires count { self.now.count < 2 ^ 63 }
-        requires kept { IsKept (record {
+        requires kept { IsSortedSet (record {
           buses = map arc_value (arc_value buses).items;
           queues = map arc_value (arc_value queues).items;
           count = self.now.count + 1;

@@ -84,7 +84,7 @@ fn control(alloc: Global, step: Step) -> Result<Control, Fail> {
                 targets,
             }
         }
-        Step::Queue(name) => Control::QueueMade {
+        Step::Queue(name) => Control::QueueCreated {
             name: Text::from_str(alloc, name)?,
         },
     })
@@ -140,7 +140,7 @@ fn each_change_is_made_or_refused(rt: HostRuntime) -> Result<(), Fail> {
 }
 
 #[test]
-fn a_set_tells_its_buses_and_queues(rt: HostRuntime) -> Result<(), Fail> {
+fn a_set_shows_its_buses_and_queues(rt: HostRuntime) -> Result<(), Fail> {
     let alloc = rt.alloc();
     let first = RuleSet::first(alloc)?;
     assert_eq!(rt; first.bus("default").map(|bus| bus.rules().len()), Some(0));

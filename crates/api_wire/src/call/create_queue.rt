@@ -2,7 +2,7 @@
 ghost use Rattle.std.specs.Prelude.{MatchResult};
 ghost use Rattle.json_text.specs.Tree.{members_of};
 ghost use Rattle.json_text.specs.View.{pairs_of};
-ghost use Rattle.router_core.specs.Seen.{action_of};
+ghost use Rattle.router_core.specs.View.{action_of};
 ghost use Rattle.api_wire.specs.Call.{IsAction};
 ghost use Rattle.api_wire.specs.CallAnswers.{IsFault};
 ghost use Rattle.api_wire.specs.declared.call.operation.Operation.TheVariants.{CreateQueue};

@@ -3,7 +3,7 @@ ghost use Rattle.std.specs.Prelude.{◌↔◌, IsTrue, MatchResult, codes, map};
 ghost use Rattle.json_text.specs.Tree.{items_of, members_of};
 ghost use Rattle.json_text.specs.View.{tree_of, trees_of, pairs_of};
 ghost use Rattle.event_shape.specs.Entry.{entry_of};
-ghost use Rattle.router_core.specs.Seen.{action_of};
+ghost use Rattle.router_core.specs.View.{action_of};
 ghost use Rattle.api_wire.specs.Call.{IsAction, IsEntryTree, AreEntries, Lacks};
 ghost use Rattle.api_wire.specs.CallAnswers.{IsFault};
 ghost use Rattle.api_wire.specs.declared.call.operation.Operation.TheVariants.{PutEvents};

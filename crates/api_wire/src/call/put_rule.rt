@@ -4,7 +4,7 @@ ghost use Rattle.json_text.specs.Tree.{members_of};
 ghost use Rattle.json_text.specs.View.{pairs_of};
 ghost use Rattle.pattern_meaning.specs.Pattern.{Pattern as SeenPattern};
 ghost use Rattle.pattern_read.specs.Text.{IsPatternText};
-ghost use Rattle.router_core.specs.Seen.{action_of};
+ghost use Rattle.router_core.specs.View.{action_of};
 ghost use Rattle.api_wire.specs.Call.{IsAction, Lacks};
 ghost use Rattle.api_wire.specs.CallAnswers.{IsFault};
 ghost use Rattle.api_wire.specs.declared.call.operation.Operation.TheVariants.{PutRule};

@@ -1,5 +1,5 @@
 use Rattle.std.proofs.Common.{◌≡◌, ℕ, Err, ap, sym, subst}
-use Rattle.router_core.specs.Seen.{request_of}
+use Rattle.router_core.specs.View.{request_of}
 use Rattle.api_wire.specs.Call.{IsAsked}
 use Rattle.bus_server.specs.Book.{book_of}
 use Rattle.bus_server.specs.Exchange.{moment_of}

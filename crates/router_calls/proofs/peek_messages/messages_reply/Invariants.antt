@@ -1,11 +1,11 @@
 use Rattle.std.proofs.Common.{◌≡◌, map}
 use Rattle.json_text.specs.View.{trees_of}
-use Rattle.router_calls.specs.Answer.{told_message}
+use Rattle.router_calls.specs.Answer.{message_report}
 use Rattle.router_calls.proofs.peek_messages.messages_reply.Given as goal
 
--- what is told of the messages so far
+-- the reports of the messages so far
 abbrev pub invariant-loop-message : goal.invariant-loop-message
 invariant-loop-message l =
     (goal.iterator-loop-message).can_next l.message-iterator ×
     (goal.iterator-loop-message).is_finite l.message-iterator ×
-    (trees_of l.items.items ≡ map told_message l.yielded)
+    (trees_of l.items.items ≡ map message_report l.yielded)

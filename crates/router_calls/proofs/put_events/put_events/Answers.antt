@@ -5,7 +5,7 @@ use Rattle.event_shape.specs.Entry.{entry_of}
 use Rattle.event_shape.specs.declared.entry.EventEntry.{EventEntry}
 use Rattle.router_calls.specs.Accepted.{total_size, AreAccepted}
 use Rattle.router_core.specs.Ready.{accepted_of, AreDeliverable}
-use Rattle.router_core.specs.Seen.{reply_of}
+use Rattle.router_core.specs.View.{reply_of}
 use Rattle.router_core.specs.Tables.{is_full}
 use Rattle.router_calls.proofs.CallLemmas.{accepted_count, written}
 use Rattle.router_calls.proofs.put_events.put_events.Goals as goal
@@ -30,7 +30,7 @@ returns-clause-ready c =
     let events = c.in-Some.events.items in
     let found : AreAccepted t.set c.args.reading (t.events + 1) (map entry_of c.from.result.items) (map accepted_of events) =
     subst (λ r. IfSome r (λ es. AreAccepted t.set c.args.reading (t.events + 1) (map entry_of c.from.result.items) (map accepted_of es.items))) c.in-Some.is c.in_ok-events.ensures.accepted in
-    let deliverable : AreDeliverable t.duties.mailboxes events = subst (λ r. IfSome r (λ es. AreDeliverable t.duties.mailboxes es.items)) c.in-Some.is c.in_ok-events.ensures.deliverable in
+    let deliverable : AreDeliverable t.duties.queues events = subst (λ r. IfSome r (λ es. AreDeliverable t.duties.queues es.items)) c.in-Some.is c.in_ok-events.ensures.deliverable in
     let counted = accepted_count t.set c.args.reading (t.events + 1) (map entry_of c.from.result.items) (map accepted_of events) found in
     let few : length events ≤ 10 =
     omega (arith, counted, length-map events accepted_of, length-map c.from.result.items entry_of, ap length c.from.ensures.0, c.requires.few) in

@@ -3,7 +3,7 @@ use Rattle.json_text.specs.Tree.{text}
 use Rattle.event_shape.specs.Names.{default_bus, rule_arn}
 use Rattle.rule_table.specs.Control.{rule_put}
 use Rattle.router_core.specs.Reply.{served}
-use Rattle.router_core.specs.Seen.{reply_of}
+use Rattle.router_core.specs.View.{reply_of}
 use Rattle.router_calls.proofs.CallLemmas.{controlled_so}
 use Rattle.router_calls.proofs.put_rule.put_rule.Goals as goal
 

@@ -1,5 +1,5 @@
 use Rattle.std.proofs.Common.{ap}
-use Rattle.router_core.specs.Seen.{action_of}
+use Rattle.router_core.specs.View.{action_of}
 use Rattle.router_calls.proofs.CallLemmas.{answered}
 use Rattle.router_calls.proofs.requests.decide.Goals as goal
 

@@ -8,8 +8,8 @@ invariant-loop-event l = record {
   added : added_all l.events.items l.moment l.duties ≡ added_all l.initial.events.items l.moment l.initial.duties;
   latest : l.duties.latest ≤ l.moment;
   room : l.duties.created + 1500 * length l.events.items ≤ l.initial.duties.created + 1500 * length l.initial.events.items;
-  there : AreDeliverable l.duties.mailboxes l.events.items;
-  queues : l.duties.mailboxes ≡ l.initial.duties.mailboxes;
+  there : AreDeliverable l.duties.queues l.events.items;
+  queues : l.duties.queues ≡ l.initial.duties.queues;
 }
 
 abbrev pub decreases-loop-event : goal.decreases-loop-event

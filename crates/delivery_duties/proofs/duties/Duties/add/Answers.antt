@@ -27,7 +27,7 @@ returns-clause-created c =
 pub returns-clause-queues : goal.returns-clause-queues
 returns-clause-queues c =
     let none = is_zero (length c.loop-rows.rows) c.is_empty.result c.is_empty.ensures c.loop-rows-test.false in
-    ap (λ (s : Duties). s.mailboxes) (none_left c.loop-rows.rows c.loop-rows.self c.loop-rows.invariant none) ∙ added_queues c.args.duties c.args.moment c.args.self.now
+    ap (λ (s : Duties). s.queues) (none_left c.loop-rows.rows c.loop-rows.self c.loop-rows.invariant none) ∙ added_queues c.args.duties c.args.moment c.args.self.now
 
 pub returns-clause-still_out : goal.returns-clause-still_out
 returns-clause-still_out c = λ n h.

@@ -7,7 +7,7 @@ use Rattle.delivery_duties.proofs.duties.Duties.has_queue.Goals as goal
 pub returns-clause-value : goal.returns-clause-value
 returns-clause-value c =
     c.is_some.ensures ∙ is_some_map (λ m. m.now) c.named.result ∙ ap is_some c.named.ensures
-    ∙ has_queue_found c.args.queue.now c.self.inside.mailboxes ∙ ap (λ (s : Duties). has_queue c.args.queue.now s.mailboxes) c.self.view_is
+    ∙ has_queue_found c.args.queue.now c.self.inside.queues ∙ ap (λ (s : Duties). has_queue c.args.queue.now s.queues) c.self.view_is
 
 pub returns-clause-arn : goal.returns-clause-arn
-returns-clause-arn c = queue_decides c.args.queue.now c.args.self.now.mailboxes c.is_some.result (returns-clause-value c)
+returns-clause-arn c = queue_decides c.args.queue.now c.args.self.now.queues c.is_some.result (returns-clause-value c)

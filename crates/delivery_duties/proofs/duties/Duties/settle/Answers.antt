@@ -1,5 +1,5 @@
 use Rattle.std.proofs.Common.{◌≡◌, sym, subst, ap, ◌∙◌, map, length}
-use Rattle.delivery_duties.specs.Duties.{Mailbox, Duties}
+use Rattle.delivery_duties.specs.Duties.{Queue, Duties}
 use Rattle.delivery_duties.proofs.SoundLemmas.{sound_delivered, sound_dropped, kept_found, ended_room}
 use Rattle.delivery_duties.proofs.StepLemmas.{settled_accepted, settled_dropped, queues_taken, kept_named, delivered_text}
 use Rattle.std.specs.Prelude.{Any, Contains}
@@ -8,15 +8,15 @@ use Rattle.delivery_duties.specs.declared.duty.DutyRow.{DutyRow}
 use Rattle.delivery_duties.specs.declared.duty.NewDuty.{NewDuty}
 use Rattle.delivery_duties.specs.declared.fate.SettledDuty.{SettledDuty}
 use Rattle.delivery_duties.specs.declared.fate.Fate.TheVariants.{Delivered, Dropped}
-use Rattle.delivery_duties.specs.Duties.{IsOut, HasMailbox}
-use Rattle.delivery_duties.specs.Sound.{IsKept, IsSound}
+use Rattle.delivery_duties.specs.Duties.{IsOut, HasEndpoint}
+use Rattle.delivery_duties.specs.Sound.{IsDutyWithin, IsSound}
 use Rattle.delivery_duties.proofs.OutLemmas.{Out, still_out_settled}
 use Rattle.delivery_duties.proofs.duties.Duties.settle.Goals as goal
 
-has_queue_of : {s : Duties} (v : Duties) → s ≡ v → IsSound s → (row : DutyRow) → Contains v.pending row → HasMailbox row.duty.endpoint v.mailboxes
+has_queue_of : {s : Duties} (v : Duties) → s ≡ v → IsSound s → (row : DutyRow) → Contains v.pending row → HasEndpoint row.duty.endpoint v.queues
 has_queue_of {s} v e h =
-    let F : Duties → Type 0 = λ v. (row : DutyRow) → Contains v.pending row → HasMailbox row.duty.endpoint v.mailboxes in
-    let at_s : F s = λ row t. let k : IsKept s.created s.latest s.mailboxes row = All-contains (IsKept s.created s.latest s.mailboxes) s.pending row h.kept t in k.2 in
+    let F : Duties → Type 0 = λ v. (row : DutyRow) → Contains v.pending row → HasEndpoint row.duty.endpoint v.queues in
+    let at_s : F s = λ row t. let k : IsDutyWithin s.created s.latest s.queues row = All-contains (IsDutyWithin s.created s.latest s.queues) s.pending row h.kept t in k.2 in
     subst F e at_s
 
 pub join-requires : goal.join-requires
@@ -27,14 +27,14 @@ join-requires-in-TooOld c = ended_room c.args.claim.number c.take_out-owed.resul
 
 pub deliver-requires-clause-there : goal.deliver-requires-clause-there
 deliver-requires-clause-there c =
-    let F : NewDuty → Type 0 = λ duty. HasMailbox duty.endpoint c.self.inside.mailboxes in
+    let F : NewDuty → Type 0 = λ duty. HasEndpoint duty.endpoint c.self.inside.queues in
     subst F (sym c.end-ended.ensures.duty) (kept_found c.args.claim.number c.take_out-owed.result c.self.invariant c.take_out-owed.ensures.found).2
 
 pub invariant_of-self : goal.invariant_of-self
 invariant_of-self c =
-    sound_delivered c.args.claim.number c.take_out-owed.result c.take_out-owed.new.rows c.deliver.new.mailboxes c.join.new.list c.self.invariant
+    sound_delivered c.args.claim.number c.take_out-owed.result c.take_out-owed.new.rows c.deliver.new.queues c.join.new.list c.self.invariant
     c.take_out-owed.ensures.found c.take_out-owed.ensures.rest
-    (delivered_text c.self.inside.mailboxes c.deliver.new.mailboxes c.take_out-owed.result.duty c.end-ended.result.0 c.end-ended.ensures.duty c.deliver.ensures)
+    (delivered_text c.self.inside.queues c.deliver.new.queues c.take_out-owed.result.duty c.end-ended.result.0 c.end-ended.ensures.duty c.deliver.ensures)
     (kept_named c.args.claim.number c.self.inside.pending c.take_out-owed.result c.self.inside.ended c.join.new.list c.end-ended.result.1 Delivered
     c.take_out-owed.ensures.found c.end-ended.ensures.kept c.join.ensures)
 
@@ -47,9 +47,9 @@ invariant_of-self-in-TooOld c =
 
 pub returns-in-Accepted-clause-settled : goal.returns-in-Accepted-clause-settled
 returns-in-Accepted-clause-settled c =
-    settled_accepted c.args.self.now c.args.claim.number c.args.outcome c.take_out-owed.result c.take_out-owed.new.rows c.deliver.new.mailboxes c.join.new.list
+    settled_accepted c.args.self.now c.args.claim.number c.args.outcome c.take_out-owed.result c.take_out-owed.new.rows c.deliver.new.queues c.join.new.list
     c.self.view_is c.in-Accepted.is c.take_out-owed.ensures.found c.take_out-owed.ensures.rest
-    (delivered_text c.self.inside.mailboxes c.deliver.new.mailboxes c.take_out-owed.result.duty c.end-ended.result.0 c.end-ended.ensures.duty c.deliver.ensures)
+    (delivered_text c.self.inside.queues c.deliver.new.queues c.take_out-owed.result.duty c.end-ended.result.0 c.end-ended.ensures.duty c.deliver.ensures)
     (kept_named c.args.claim.number c.self.inside.pending c.take_out-owed.result c.self.inside.ended c.join.new.list c.end-ended.result.1 Delivered
     c.take_out-owed.ensures.found c.end-ended.ensures.kept c.join.ensures)
 
@@ -61,8 +61,8 @@ returns-in-TooOld-clause-settled c =
 
 pub returns-in-Accepted-clause-queues : goal.returns-in-Accepted-clause-queues
 returns-in-Accepted-clause-queues c =
-    ap (map (λ (m : Mailbox). m.queue)) c.deliver.ensures ∙ queues_taken c.end-ended.result.0.endpoint c.end-ended.result.0.text c.self.inside.mailboxes
-    ∙ ap (λ (s : Duties). map (λ (m : Mailbox). m.queue) s.mailboxes) c.self.view_is
+    ap (map (λ (m : Queue). m.name)) c.deliver.ensures ∙ queues_taken c.end-ended.result.0.endpoint c.end-ended.result.0.text c.self.inside.queues
+    ∙ ap (λ (s : Duties). map (λ (m : Queue). m.name) s.queues) c.self.view_is
 
 pub returns-in-Accepted-clause-still_out : goal.returns-in-Accepted-clause-still_out
 returns-in-Accepted-clause-still_out c = λ n other h.

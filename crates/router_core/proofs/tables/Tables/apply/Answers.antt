@@ -1,5 +1,5 @@
 use Rattle.std.proofs.Common.{◌≡◌, true, ap, sym, subst, ◌∙◌}
-use Rattle.rule_table.specs.Seen.{control_of}
+use Rattle.rule_table.specs.View.{control_of}
 use Rattle.rule_table.specs.RuleSet.{has_queue, RuleSet}
 use Rattle.router_core.specs.declared.ready.Change.{Change}
 use Rattle.router_core.specs.declared.ready.Change.TheVariants.{Configuration}
@@ -10,9 +10,9 @@ use Rattle.router_core.proofs.tables.Tables.apply.Goals as goal
 
 pub configure-requires-clause-queues : goal.configure-requires-clause-queues
 configure-requires-clause-queues c =
-    let made : IsMadeAt c.args.self.now (Configuration c.in-Configuration.control c.in-Configuration.set c.in-Configuration.mailbox) =
+    let made : IsMadeAt c.args.self.now (Configuration c.in-Configuration.control c.in-Configuration.set c.in-Configuration.new_queue) =
     subst (IsMadeAt c.args.self.now) c.in-Configuration.is c.requires.made in
-    λ queue there. queues_of_accepted (control_of c.in-Configuration.control) c.in-Configuration.mailbox c.args.self.now.set made.2 queue
+    λ queue there. queues_of_accepted (control_of c.in-Configuration.control) c.in-Configuration.new_queue c.args.self.now.set made.2 queue
     (subst (λ (s : RuleSet). has_queue queue s ≡ true) made.1 there)
 
 pub returns-in-Events : goal.returns-in-Events

@@ -1,9 +1,9 @@
 use Rattle.std.proofs.Common.{◌≡◌, map, length, ap, sym, ◌∙◌, subst, arith}
 use Rattle.std.proofs.lemmas.List.{length-map}
-use Rattle.delivery_duties.specs.Duties.{Mailbox, IsOut}
+use Rattle.delivery_duties.specs.Duties.{Queue, IsOut}
 use Rattle.router_core.specs.Tables.{Tables}
 use Rattle.router_core.specs.Steps.{EndsSo, outcome_of}
-use Rattle.router_core.proofs.ReadyLemmas.{mailbox_names, not_full}
+use Rattle.router_core.proofs.ReadyLemmas.{endpoint_by_names, not_full}
 use Rattle.router_core.proofs.tables.Tables.record.Goals as goal
 
 pub unreachable-requires : goal.unreachable-requires
@@ -18,16 +18,16 @@ invariant_of-self c =
     let limits = not_full c.args.self.now c.requires.numbered in
     let entries : i.entries ≡ c.args.self.now.entries = ap (λ (t : Tables). t.entries) c.self.view_is in
     let later : i.moment ≡ c.args.self.now.moment = ap (λ (t : Tables). t.moment) c.self.view_is in
-    let names : map (λ (m : Mailbox). m.queue) c.settle.new.self.mailboxes ≡ map (λ (m : Mailbox). m.queue) i.duties.mailboxes = c.settle.ensures.queues in
+    let names : map (λ (m : Queue). m.name) c.settle.new.self.queues ≡ map (λ (m : Queue). m.name) i.duties.queues = c.settle.ensures.queues in
     record {
-      queues = λ queue there. mailbox_names _ i.duties.mailboxes c.settle.new.self.mailboxes (sym names) (was.queues queue there);
+      queues = λ queue there. endpoint_by_names _ i.duties.queues c.settle.new.self.queues (sym names) (was.queues queue there);
       latest = omega (arith, was.latest, c.settle.ensures.latest, later, c.requires.later);
       moment = c.requires.moment;
       count = omega (arith, was.count);
       events = omega (arith, was.events);
       entries = omega (arith, limits.0, entries);
       created = omega (arith, was.created, c.settle.ensures.created);
-      mailboxes = omega (arith, was.mailboxes, ap length names, length-map c.settle.new.self.mailboxes (λ (m : Mailbox). m.queue), length-map i.duties.mailboxes (λ (m : Mailbox). m.queue));
+      queue_count = omega (arith, was.queue_count, ap length names, length-map c.settle.new.self.queues (λ (m : Queue). m.name), length-map i.duties.queues (λ (m : Queue). m.name));
     }
 
 pub returns-clause-ends : goal.returns-clause-ends

@@ -2,7 +2,7 @@ use Rattle.std.proofs.Common.{◌≡◌, ℕ, List, map, ap, ◌∙◌, get_or, 
 use Rattle.std.specs.Prelude.{is_some}
 use Rattle.std.specs.Arc.{arc_value}
 use Rattle.rule_table.specs.RuleSet.{Bus, RuleSet}
-use Rattle.rule_table.specs.Kept.{IsOrdered}
+use Rattle.rule_table.specs.Sorted.{AreSorted}
 use Rattle.rule_table.specs.declared.rows.Place.TheVariants.{Here, Before}
 use Rattle.rule_table.proofs.RowLemmas.{place_seen, here_old, named_before}
 use Rattle.rule_table.proofs.rule_set.RuleSet.bus_at.Goals as goal
@@ -26,5 +26,5 @@ returns-in-Before-clause-found c =
     let seen : map arc_value (arc_value c.self.inside.buses).items ≡ buses = ap (λ (s : RuleSet). s.buses) c.self.view_is in
     let first = ap (map arc_value) (c.deref-2.ensures.value ∙ ap (λ v. v.items) c.deref.ensures) ∙ seen in
     let before = place_seen arc_value name_of name c.deref-2.result.now buses (Before c.in-Before.field-0) c.in-Before.ensures first in
-    let ordered = subst (IsOrdered name_of) seen c.self.invariant.buses in
+    let ordered = subst (AreSorted name_of) seen c.self.invariant.buses in
     ap is_some (named_before name_of name buses c.in-Before.field-0 ordered before)

@@ -2,9 +2,9 @@ use Rattle.std.proofs.Common.{◌≡◌, ◌+◌, ℕ, List, [], Err, ap, sym, �
 use Rattle.std.proofs.lemmas.Result.{err_from_is_err_and}
 use Rattle.rule_table.specs.Control.{rule_put}
 use Rattle.rule_table.specs.RuleSet.{Rule, Bus, put_rule}
-use Rattle.rule_table.specs.Kept.{IsKept}
+use Rattle.rule_table.specs.Sorted.{IsSortedSet}
 use Rattle.rule_table.specs.declared.control.ControlFault.TheVariants.{NotBuilt}
-use Rattle.rule_table.proofs.KeptLemmas.{kept_applied}
+use Rattle.rule_table.proofs.SortedLemmas.{kept_applied}
 use Rattle.rule_table.proofs.ChangeLemmas.{IsFound, found_ordered, found_changed, rule_accepted, rule_has_room}
 use Rattle.rule_table.proofs.rule_set.RuleSet.put_rule.Goals as goal
 
@@ -39,7 +39,7 @@ with_bus-requires-clause-kept c =
     let change : Bus → Bus = λ b. record b { rules = put_rule (rule c.args.pattern.now) b.rules } in
     let new : c.in_ok-new.new ≡ change old = c.in_ok-new.ensures.put ∙ ap (λ pattern. record old { rules = put_rule (rule pattern) old.rules }) c.in_ok-pattern.ensures.same in
     let accepted = rule_accepted bus c.args.name.now c.args.pattern.now c.args.enabled set at old found c.in_ok-pattern.ensures.read c.in_ok-new.ensures.room in
-    subst (λ buses. IsKept (record set { buses = buses; count = set.count + 1 })) (sym (found_changed set bus at old change c.in_ok-new.new found kept new))
+    subst (λ buses. IsSortedSet (record set { buses = buses; count = set.count + 1 })) (sym (found_changed set bus at old change c.in_ok-new.new found kept new))
     (kept_applied (rule_put bus c.args.name.now c.args.pattern.now c.args.enabled) set accepted kept)
 
 pub returns-clause-applied : goal.returns-clause-applied

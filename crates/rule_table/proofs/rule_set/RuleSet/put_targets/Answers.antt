@@ -2,9 +2,9 @@ use Rattle.std.proofs.Common.{◌≡◌, ◌+◌, Err, refl, ap, sym, ◌∙◌,
 use Rattle.std.proofs.lemmas.Result.{err_from_is_err_and}
 use Rattle.rule_table.specs.Control.{targets_put}
 use Rattle.rule_table.specs.RuleSet.{Rule, Bus, changed, put_targets}
-use Rattle.rule_table.specs.Kept.{IsKept, HasFew}
+use Rattle.rule_table.specs.Sorted.{IsSortedSet, HasFew}
 use Rattle.rule_table.specs.declared.control.ControlFault.TheVariants.{NotBuilt}
-use Rattle.rule_table.proofs.KeptLemmas.{kept_applied}
+use Rattle.rule_table.proofs.SortedLemmas.{kept_applied}
 use Rattle.rule_table.proofs.ChangeLemmas.{IsFound, found_ordered, found_changed, targets_accepted, targets_few}
 use Rattle.rule_table.proofs.rule_set.RuleSet.put_targets.Goals as goal
 
@@ -36,7 +36,7 @@ with_bus-requires-clause-kept c =
     let new : c.in_ok-new.new ≡ change old = c.in_ok-new.ensures.put ∙ ap (λ name. record old { rules = changed (λ r. r.name) name put old.rules }) c.as_str-2.ensures in
     let few = subst (λ name. HasFew name targets old.rules) c.as_str-2.ensures c.in_ok-new.ensures.few in
     let accepted = targets_accepted bus rule targets set at old found (c.if-not-are_targets.ensures.0 refl) few in
-    subst (λ buses. IsKept (record set { buses = buses; count = set.count + 1 })) (sym (found_changed set bus at old change c.in_ok-new.new found kept new))
+    subst (λ buses. IsSortedSet (record set { buses = buses; count = set.count + 1 })) (sym (found_changed set bus at old change c.in_ok-new.new found kept new))
     (kept_applied (targets_put bus rule targets) set accepted kept)
 
 pub returns-clause-applied : goal.returns-clause-applied

@@ -10,10 +10,10 @@ use Rattle.std.proofs.lemmas.Bool.{false≢true}
 use Rattle.std.proofs.lemmas.List.{length-map}
 use Rattle.std.proofs.lemmas.List.Elements.{All-head, All-tail, All-cons, All-nil, All-weaker}
 use Rattle.std.proofs.lemmas.Slice.Eq.{bytes_eq-Decides}
-use Rattle.rule_table.specs.RuleSet.{Rule, Bus, RuleSet, first_set, named, changed, placed, keeping_targets, put_rule, put_target, put_targets, rules_in, rules_of, rule_at, applied, IsQueueThere, ForRule, IsAccepted}
+use Rattle.rule_table.specs.RuleSet.{Rule, Bus, RuleSet, first_set, named, changed, placed, keeping_targets, put_rule, put_target, put_targets, rules_in, rules_of, rule_at, applied, IsQueueThere, ForRule, IsAllowed}
 use Rattle.event_shape.specs.Names.{default_bus, IsShortName}
-use Rattle.rule_table.specs.Control.{Control, rule_put, targets_put, queue_made}
-use Rattle.rule_table.specs.Kept.{IsOrdered, IsKept}
+use Rattle.rule_table.specs.Control.{Control, rule_put, targets_put, queue_created}
+use Rattle.rule_table.specs.Sorted.{AreSorted, IsSortedSet}
 use Rattle.rule_table.specs.declared.control.Target.{Target}
 use Rattle.rule_table.proofs.NameOrder.{Less_trans, Less_from_Greater, same_name, bytes_eq_Less}
 use Rattle.rule_table.proofs.RowLemmas.{changed_none, named_none, none_greater, others_behind}
@@ -41,7 +41,7 @@ All_placed P f joined new (old ∷ rest) p j all =
     (λ e. rw e (All-cons P old (placed f joined new rest) first (All_placed P f joined new rest p j others)))
 
 pub ordered_placed : {A : Type 0} (f : A → List ℕ) (joined : A → A → A) (new : A) (rows : List A)
-    → ((old : A) → f (joined old new) ≡ f new) → IsOrdered f rows → IsOrdered f (placed f joined new rows)
+    → ((old : A) → f (joined old new) ≡ f new) → AreSorted f rows → AreSorted f (placed f joined new rows)
 ordered_placed f joined new [] j o = (All-nil (λ other. slice_cmp nat_cmp (f new) (f other) ≡ Less), tt)
 ordered_placed {A} f joined new (old ∷ rest) j o =
     let above : List ℕ → A → Type 0 = λ name other. slice_cmp nat_cmp name (f other) ≡ Less in
@@ -79,7 +79,7 @@ bytes_same a b = (bytes_eq-Decides a b).0
 
 -- in order the row of the name alone changes
 pub All_changed_named : {A : Type 0} (P : A → Type 0) (f : A → List ℕ) (name : List ℕ) (change : A → A) (rows : List A)
-    → IsOrdered f rows → ((row : A) → named f name rows ≡ Some row → P row → P (change row)) → All P rows → All P (changed f name change rows)
+    → AreSorted f rows → ((row : A) → named f name rows ≡ Some row → P row → P (change row)) → All P rows → All P (changed f name change rows)
 All_changed_named P f name change [] o c all = All-nil P
 All_changed_named P f name change (row ∷ rows) o c all =
     let first = All-head P row rows all in
@@ -93,7 +93,7 @@ All_changed_named P f name change (row ∷ rows) o c all =
     (All_changed_named P f name change rows o.1 (λ other is. c other (named_other f name row rows e ∙ is)) others)))
 
 pub ordered_changed : {A : Type 0} (f : A → List ℕ) (name : List ℕ) (change : A → A) (rows : List A)
-    → ((row : A) → f (change row) ≡ f row) → IsOrdered f rows → IsOrdered f (changed f name change rows)
+    → ((row : A) → f (change row) ≡ f row) → AreSorted f rows → AreSorted f (changed f name change rows)
 ordered_changed f name change [] c o = tt
 ordered_changed {A} f name change (row ∷ rows) c o =
     let above : List ℕ → A → Type 0 = λ name other. slice_cmp nat_cmp name (f other) ≡ Less in
@@ -118,7 +118,7 @@ length_placed f joined new (old ∷ rest) =
     (λ e. rw e (omega (arith, length_placed f joined new rest)))
 
 -- in order a row of the name gives way
-length_placed_same : {A : Type 0} (f : A → List ℕ) (joined : A → A → A) (new : A) (rows : List A) → IsOrdered f rows → is_some (named f (f new) rows) ≡ true
+length_placed_same : {A : Type 0} (f : A → List ℕ) (joined : A → A → A) (new : A) (rows : List A) → AreSorted f rows → is_some (named f (f new) rows) ≡ true
     → length (placed f joined new rows) ≡ length rows
 length_placed_same f joined new [] o h = cc
 length_placed_same f joined new (old ∷ rest) o h =
@@ -158,18 +158,18 @@ All_put_targets P (new ∷ news) targets n all =
 abbrev AreTargets : RuleSet → Rule → Type 0
 AreTargets set rule = (length rule.targets ≤ 5) × All (λ target. IsQueueThere set target.arn) rule.targets
 
-short_put : (new : Rule) (rules : List Rule) → IsOrdered (λ rule. rule.name) rules → length rules ≤ 300
+short_put : (new : Rule) (rules : List Rule) → AreSorted (λ rule. rule.name) rules → length rules ≤ 300
     → (is_some (named (λ rule. rule.name) new.name rules) ≡ true) ⊎ (length rules < 300) → length (put_rule new rules) ≤ 300
 short_put new rules o small (inl some) = let e = length_placed_same (λ rule. rule.name) keeping_targets new rules o some in omega (arith, e)
 short_put new rules o small (inr room) = let e = length_placed (λ rule. rule.name) keeping_targets new rules in omega (arith, e, room)
 
-kept_rule : (bus name pattern : List ℕ) (enabled : Bool) (set : RuleSet) → IsAccepted (rule_put bus name pattern enabled) set → IsKept set → IsKept (applied (rule_put bus name pattern enabled) set)
+kept_rule : (bus name pattern : List ℕ) (enabled : Bool) (set : RuleSet) → IsAllowed (rule_put bus name pattern enabled) set → IsSortedSet set → IsSortedSet (applied (rule_put bus name pattern enabled) set)
 kept_rule bus name pattern enabled set a k =
     let new : Rule = record { name = name; pattern = pattern; enabled = enabled; targets = [] } in
     let change : Bus → Bus = λ b. record b { rules = put_rule new b.rules } in
     let bus_name : Bus → List ℕ = λ b. b.name in
     let rule_name : Rule → List ℕ = λ r. r.name in
-    let IsInOrder : Bus → Type 0 = λ b. IsOrdered rule_name b.rules in
+    let IsInOrder : Bus → Type 0 = λ b. AreSorted rule_name b.rules in
     let IsShort : Bus → Type 0 = λ b. length b.rules ≤ 300 in
     let HaveTargets : Bus → Type 0 = λ b. All (AreTargets set) b.rules in
     let short : (b : Bus) → named bus_name bus set.buses ≡ Some b → IsShort b → length (put_rule new b.rules) ≤ 300 =
@@ -189,13 +189,13 @@ kept_rule bus name pattern enabled set a k =
       queues = k.queues;
     }
 
-kept_targets : (bus rule : List ℕ) (targets : List Target) (set : RuleSet) → IsAccepted (targets_put bus rule targets) set → IsKept set → IsKept (applied (targets_put bus rule targets) set)
+kept_targets : (bus rule : List ℕ) (targets : List Target) (set : RuleSet) → IsAllowed (targets_put bus rule targets) set → IsSortedSet set → IsSortedSet (applied (targets_put bus rule targets) set)
 kept_targets bus rule targets set a k =
     let put : Rule → Rule = λ r. record r { targets = put_targets targets r.targets } in
     let bus_name : Bus → List ℕ = λ b. b.name in
     let rule_name : Rule → List ℕ = λ r. r.name in
     let change : Bus → Bus = λ b. record b { rules = changed rule_name rule put b.rules } in
-    let IsInOrder : Bus → Type 0 = λ b. IsOrdered rule_name b.rules in
+    let IsInOrder : Bus → Type 0 = λ b. AreSorted rule_name b.rules in
     let IsShort : Bus → Type 0 = λ b. length b.rules ≤ 300 in
     let HaveTargets : Bus → Type 0 = λ b. All (AreTargets set) b.rules in
     let Fact : Rule → Type 0 = λ r. All (λ target. IsShortName target.id × IsQueueThere set target.arn) targets × (length (put_targets targets r.targets) ≤ 5) in
@@ -219,9 +219,9 @@ kept_targets bus rule targets set a k =
       queues = k.queues;
     }
 
-kept_queue : (name : List ℕ) (set : RuleSet) → IsAccepted (queue_made name) set → IsKept set → IsKept (applied (queue_made name) set)
+kept_queue : (name : List ℕ) (set : RuleSet) → IsAllowed (queue_created name) set → IsSortedSet set → IsSortedSet (applied (queue_created name) set)
 kept_queue name set a k =
-    let next = applied (queue_made name) set in
+    let next = applied (queue_created name) set in
     let itself : List ℕ → List ℕ = λ queue. queue in
     let stays : (target : Target) → IsQueueThere set target.arn → IsQueueThere next target.arn =
     λ target h. (h.0, h.1, named_placed itself (λ old new. new) name h.0 set.queues (λ old. refl) h.2) in
@@ -239,12 +239,12 @@ kept_queue name set a k =
       queues = ordered_placed itself (λ old new. new) name set.queues (λ old. refl) k.queues;
     }
 
-pub kept_applied : (control : Control) (set : RuleSet) → IsAccepted control set → IsKept set → IsKept (applied control set)
+pub kept_applied : (control : Control) (set : RuleSet) → IsAllowed control set → IsSortedSet set → IsSortedSet (applied control set)
 kept_applied (rule_put bus name pattern enabled) set a k = kept_rule bus name pattern enabled set a k
 kept_applied (targets_put bus rule targets) set a k = kept_targets bus rule targets set a k
-kept_applied (queue_made name) set a k = kept_queue name set a k
+kept_applied (queue_created name) set a k = kept_queue name set a k
 
-pub kept_first : IsKept first_set
+pub kept_first : IsSortedSet first_set
 kept_first =
     let first : Bus = record { name = default_bus; rules = [] } in
     record {
@@ -254,6 +254,6 @@ kept_first =
         queues = lit≤ tt;
       };
       buses = (All-nil (λ other. slice_cmp nat_cmp default_bus other.name ≡ Less), tt);
-      rules = All-cons (λ b. IsOrdered (λ rule. rule.name) b.rules) first [] tt (All-nil (λ b. IsOrdered (λ rule. rule.name) b.rules));
+      rules = All-cons (λ b. AreSorted (λ rule. rule.name) b.rules) first [] tt (All-nil (λ b. AreSorted (λ rule. rule.name) b.rules));
       queues = tt;
     }

@@ -4,14 +4,14 @@ use Rattle.std.specs.Arc.{arc_value}
 use Rattle.std.specs.List.{insert}
 use Rattle.std.proofs.lemmas.Bool.{false≢true}
 use Rattle.std.proofs.lemmas.List.{length-map}
-use Rattle.rule_table.specs.Control.{queue_made}
+use Rattle.rule_table.specs.Control.{queue_created}
 use Rattle.rule_table.specs.RuleSet.{RuleSet, has_queue}
-use Rattle.rule_table.specs.Kept.{IsKept}
+use Rattle.rule_table.specs.Sorted.{IsSortedSet}
 use Rattle.rule_table.specs.Place.{IsHere, IsBefore}
 use Rattle.rule_table.proofs.RowLemmas.{named_here}
-use Rattle.rule_table.proofs.KeptLemmas.{kept_applied}
+use Rattle.rule_table.proofs.SortedLemmas.{kept_applied}
 use Rattle.rule_table.proofs.ChangeLemmas.{queue_accepted, queue_applied}
-use Rattle.rule_table.proofs.rule_set.RuleSet.make_queue.Goals as goal
+use Rattle.rule_table.proofs.rule_set.RuleSet.create_queue.Goals as goal
 
 pub returns-in_default-clause-refused : goal.returns-in_default-clause-refused
 returns-in_default-clause-refused c =
@@ -31,8 +31,8 @@ with_queue-requires-clause-kept c =
     let room : length rules.queues < 1000 = omega (arith, counted, long, same, few) in
     let kept = c.in-Before.ensures.kept in
     let accepted = queue_accepted c.args.name.now rules at before kept room in
-    subst IsKept (sym (queue_applied c.args.name.now rules at before) ∙ ap (λ name. record rules { queues = insert rules.queues at name; count = rules.count + 1 }) (sym c.in_ok-copy.ensures))
-    (kept_applied (queue_made c.args.name.now) rules accepted kept)
+    subst IsSortedSet (sym (queue_applied c.args.name.now rules at before) ∙ ap (λ name. record rules { queues = insert rules.queues at name; count = rules.count + 1 }) (sym c.in_ok-copy.ensures))
+    (kept_applied (queue_created c.args.name.now) rules accepted kept)
 
 pub returns-clause-applied : goal.returns-clause-applied
 returns-clause-applied c =

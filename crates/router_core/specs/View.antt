@@ -6,22 +6,22 @@ use Rattle.router_core.specs.declared.request.Action.{Action}
 use Rattle.router_core.specs.declared.request.Action.TheVariants.{CreateQueue, PutRule, PutTargets, PutEvents, PeekMessages, DeliverDue}
 use Rattle.router_core.specs.declared.request.Request.{Request}
 use Rattle.router_core.specs.declared.reply.Reply.{Reply}
-use Rattle.router_core.specs.Request as seen
-use Rattle.router_core.specs.Reply as told
+use Rattle.router_core.specs.Request as request
+use Rattle.router_core.specs.Reply as replies
 
 -- what is asked for, with its lists
-abbrev pub action_of : Action → seen.Action
-action_of (CreateQueue name) = seen.create_queue name
-action_of (PutRule name pattern) = seen.put_rule name pattern
-action_of (PutTargets rule targets) = seen.put_targets rule targets.items
-action_of (PutEvents entries) = seen.put_events (map entry_of entries.items)
-action_of (PeekMessages queue) = seen.peek_messages queue
-action_of DeliverDue = seen.deliver_due
+abbrev pub action_of : Action → request.Action
+action_of (CreateQueue name) = request.create_queue name
+action_of (PutRule name pattern) = request.put_rule name pattern
+action_of (PutTargets rule targets) = request.put_targets rule targets.items
+action_of (PutEvents entries) = request.put_events (map entry_of entries.items)
+action_of (PeekMessages queue) = request.peek_messages queue
+action_of DeliverDue = request.deliver_due
 
 -- the request, with its action so
-abbrev pub request_of : Request → seen.Request
+abbrev pub request_of : Request → request.Request
 request_of r = record { action = action_of r.action; reading = r.reading }
 
 -- the reply, with its body as a tree
-abbrev pub reply_of : Reply → told.Reply
+abbrev pub reply_of : Reply → replies.Reply
 reply_of r = record { status = r.status; body = tree_of r.body }

@@ -7,15 +7,15 @@ use Rattle.rule_table.specs.declared.control.Target.{Target}
 use Rattle.rule_table.specs.RuleSet.{Rule, RuleSet, named, put_targets, ForRule, IsSound}
 
 -- rows in the byte order of their names, no name twice
-abbrev pub IsOrdered : {A : Type 0} → (A → List ℕ) → List A → Type 0
-IsOrdered name_of [] = Unit {0}
-IsOrdered name_of (row ∷ rows) = All (λ other. slice_cmp nat_cmp (name_of row) (name_of other) ≡ Less) rows × IsOrdered name_of rows
+abbrev pub AreSorted : {A : Type 0} → (A → List ℕ) → List A → Type 0
+AreSorted name_of [] = Unit {0}
+AreSorted name_of (row ∷ rows) = All (λ other. slice_cmp nat_cmp (name_of row) (name_of other) ≡ Less) rows × AreSorted name_of rows
 
-pub record IsKept (set : RuleSet) : Type 0 where
+pub record IsSortedSet (set : RuleSet) : Type 0 where
   pub sound : IsSound set
-  pub buses : IsOrdered (λ bus. bus.name) set.buses
-  pub rules : All (λ bus. IsOrdered (λ rule. rule.name) bus.rules) set.buses
-  pub queues : IsOrdered (λ queue. queue) set.queues
+  pub buses : AreSorted (λ bus. bus.name) set.buses
+  pub rules : All (λ bus. AreSorted (λ rule. rule.name) bus.rules) set.buses
+  pub queues : AreSorted (λ queue. queue) set.queues
 
 -- a rule of the name is there, or there is room for one more
 abbrev pub HasRoom : List ℕ → List Rule → Type 0
