@@ -1,8 +1,6 @@
--- Readings given by several calls. Callers cite `Gives-none`, `Gives-append` and, of a clock that repeats one reading,
--- `Gives-constant`.
-use Rattle.std.proofs.Common.{◌≡◌, ℕ, zero, suc, List, [], ◌∷◌, ◌++◌, refl, sym, ◌∙◌, subst, Option, Some, None, All}
-use Rattle.std.proofs.lemmas.List.Elements.{All-nil, All-cons}
-use Rattle.router_disk.specs.Clock.{followed_by, BeginsWith, Gives, repeating}
+-- Readings that several calls gave. Callers cite `Gives-none` and `Gives-append`.
+use Rattle.std.proofs.Common.{◌≡◌, ℕ, zero, suc, List, [], ◌∷◌, ◌++◌, refl, sym, ◌∙◌, Option, Some, None}
+use Rattle.router_disk.specs.Clock.{followed_by, BeginsWith, Gives}
 
 followed_by-append : (xs ys : List ℕ) (later : ℕ → ℕ) (k : ℕ) → followed_by (xs ++ ys) later k ≡ followed_by xs (followed_by ys later) k
 followed_by-append [] ys later k = refl
@@ -33,17 +31,3 @@ BeginsWith-append (Some f) (Some g) (Some h) xs ys first second = λ k.
 pub Gives-append : {old mid new : Option (ℕ → ℕ)} {xs ys : List ℕ} → Gives old mid xs → Gives mid new ys → Gives old new (xs ++ ys)
 Gives-append {old} {mid} {new} {xs} {ys} first second =
     record { in_order = BeginsWith-append old mid new xs ys first.in_order second.in_order }
-
-constant-front : (x : ℕ) (gave : List ℕ) (g : ℕ → ℕ) → ((k : ℕ) → x ≡ followed_by gave g k) → All (λ y. y ≡ x) gave
-constant-front x [] g same = All-nil (λ y. y ≡ x)
-constant-front x (y ∷ ys) g same = All-cons (λ y. y ≡ x) y ys (sym (same zero)) (constant-front x ys g (λ k. same (suc k)))
-
-repeats-front : (x : ℕ) (new : Option (ℕ → ℕ)) (gave : List ℕ) → BeginsWith (Some (repeating x [])) new gave → All (λ y. y ≡ x) gave
-repeats-front x None gave given = absurd given
-repeats-front x (Some g) gave given = constant-front x gave g given
-
--- all readings of a clock that repeats one reading are that one
-pub Gives-constant : (x : ℕ) {old new : Option (ℕ → ℕ)} {gave : List ℕ} → old ≡ Some (repeating x []) → Gives old new gave →
-    All (λ y. y ≡ x) gave
-Gives-constant x {old} {new} {gave} is given =
-    repeats-front x new gave (subst (λ ahead. BeginsWith ahead new gave) is given.in_order)

@@ -1,22 +1,6 @@
 -- What several reads or writes do to known bytes. Callers cite `Consumes-append` and `Appends-append`.
-use Rattle.std.proofs.Common.{ℕ, List, [], ◌++◌, refl, sym, ◌∙◌, ap, Option, Some, None, append_assoc, append-nil}
+use Rattle.std.proofs.Common.{ℕ, List, [], ◌++◌, sym, ◌∙◌, ap, Option, Some, None, append_assoc, append-nil}
 use Rattle.std.specs.Io.KnownBytes.{Keeps, Appends, Consumes}
-
-pub Keeps-same : (known : Option (List ℕ)) → Keeps known known
-Keeps-same None = tt
-Keeps-same (Some xs) = refl
-
-pub Keeps-Keeps : (old mid new : Option (List ℕ)) → Keeps old mid → Keeps mid new → Keeps old new
-Keeps-Keeps None mid new first second = tt
-Keeps-Keeps (Some xs) None new first second = absurd first
-Keeps-Keeps (Some xs) (Some ys) None first second = absurd second
-Keeps-Keeps (Some xs) (Some ys) (Some zs) first second = second ∙ first
-
-pub Keeps-Consumes : (old mid new : Option (List ℕ)) (bytes : List ℕ) → Keeps old mid → Consumes mid new bytes → Consumes old new bytes
-Keeps-Consumes None mid new bytes first second = tt
-Keeps-Consumes (Some xs) None new bytes first second = absurd first
-Keeps-Consumes (Some xs) (Some ys) None bytes first second = absurd second
-Keeps-Consumes (Some xs) (Some ys) (Some zs) bytes first second = sym first ∙ second
 
 -- bytes that were read, and then more
 pub Consumes-append : (old mid new : Option (List ℕ)) (xs ys : List ℕ) → Consumes old mid xs → Consumes mid new ys → Consumes old new (xs ++ ys)

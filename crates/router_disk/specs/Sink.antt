@@ -1,4 +1,4 @@
--- What a write does to the bytes that a sink holds, where those are known.
+-- What a write does to the bytes that a sink holds, if they are known.
 use Rattle.std.specs.Prelude.{◌≡◌, ℕ, List, ◌++◌, Option, Result, MatchResult}
 use Rattle.std.specs.Io.KnownBytes.{Appends}
 

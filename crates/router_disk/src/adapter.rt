@@ -1,4 +1,4 @@
-// The real ones, a few lines each: what they do is trusted to the system. They tell nothing of content.
+// Adapters over the real outside, a few lines each. What the system does is trusted. Their contracts show no content.
 mod clock;
 mod sink;
 mod source;

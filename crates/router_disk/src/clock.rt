@@ -1,14 +1,14 @@
-// What time it is.
+// A clock as a trait.
 ghost use Rattle.std.specs.Prelude.{ℕ, Option, [], ◌∷◌};
 ghost use Rattle.router_disk.specs.Clock.{Gives};
 
 /// A clock. It has no faults.
 pub trait Clock: Send {
-    /// The readings ahead, without end: at `k`, that of the `k`-th call from now on. `None` where the clock doesn't
-    /// tell.
+    /// The readings to come, without end: at `k`, the reading of the `k`-th call from now on, counted from 0. `None` if
+    /// they are not known.
     ghost ahead: { Self → Option (ℕ → ℕ) };
 
-    /// The next reading, in seconds since 1970. It may be any `u64`, and may lie before the last one.
+    /// The next reading, in seconds since 1970. It may be any `u64`, and may be earlier than the last one.
     fn now(&mut self) -> u64
         ensures { Gives (ahead self.old) (ahead self.new) (result ∷ []) };
 }

@@ -4,12 +4,12 @@ ghost use Rattle.router_disk.specs.Faults.{CountsFaults};
 
 use thiserror::Error;
 
-/// A call of an object of the outside failed. The object's count of faults tells that it did.
+/// A call of an object of the outside failed. The object's count of faults shows it.
 #[derive(Clone, Copy, Debug, PartialEq, Eq, Error)]
 #[error("the outside failed")]
 pub struct Failed;
 
-/// Counts a fault, and answers it.
+/// Counts a fault, and returns it.
 pub(crate) fn fail<T>(faults: &mut u64) -> Result<T, Failed>
     ensures fails { IsErr result }
     ensures count { CountsFaults faults.old faults.new result }

@@ -1,31 +1,31 @@
-// What sends a text to an endpoint.
+// An outbound link as a trait.
 ghost use Rattle.std.specs.Prelude.{◌≡◌, ℕ};
 
 use thiserror::Error;
 
-/// Why nothing is known of what an endpoint answered.
+/// Why an endpoint's reply is not known.
 #[derive(Clone, Copy, Debug, PartialEq, Eq, Error)]
 pub enum LinkFault {
-    /// The exchange failed, which the link's count of faults tells.
+    /// The exchange failed. The link's count of faults shows it.
     #[error("the exchange failed")]
     Failed,
-    /// Memory ran out before anything was sent. It is no fault of the link.
+    /// Out of memory before anything was sent. The link's count stays as it was.
     #[error("out of memory")]
     NoMemory,
 }
 
-/// What sends texts to endpoints. What an endpoint got and answered is not told yet.
+/// What sends texts to endpoints. What an endpoint received and replied is not specified yet.
 pub trait Link: Send {
     ghost use Rattle.router_disk.specs.Faults.{CountsFaults, link_outcome};
 
-    /// How often a send has failed.
+    /// The number of sends that have failed.
     ghost faults: { Self → ℕ };
 
-    /// The count of faults, which stands still at the last `u64`.
+    /// The count of faults. It stays at the last `u64`.
     fn faults(&self) -> u64
         ensures { result ≡ faults self.now };
 
-    /// Sends `body` to the endpoint `to`, and answers the status code of the reply.
+    /// Sends `body` to the endpoint `to`, and returns the status code of the reply.
     fn send(&mut self, to: &str, body: &str) -> Result<u16, LinkFault>
         ensures count { CountsFaults (faults self.old) (faults self.new) (link_outcome result) };
 }

@@ -1,4 +1,4 @@
-// Doubles in memory, which tell what they hold.
+// Doubles in memory. Their contracts show what they hold.
 mod clock;
 mod failing;
 mod sink;

@@ -1,4 +1,4 @@
-// Where bytes go.
+// A sink of bytes as a trait.
 ghost use Rattle.std.specs.Prelude.{◌≡◌, ℕ, List, Option};
 ghost use Rattle.router_disk.specs.Faults.{CountsFaults};
 ghost use Rattle.router_disk.specs.Sink.{WritesAll};
@@ -7,17 +7,17 @@ use crate::Failed;
 
 /// A sink of bytes, as the standard output or a connection.
 pub trait Sink: Send {
-    /// The bytes written so far; `None` where the sink doesn't tell.
+    /// The bytes written so far. `None` if they are not known.
     ghost written: { Self → Option (List ℕ) };
 
-    /// How often a write has failed.
+    /// The number of writes that have failed.
     ghost faults: { Self → ℕ };
 
-    /// The count of faults, which stands still at the last `u64`.
+    /// The count of faults. It stays at the last `u64`.
     fn faults(&self) -> u64
         ensures { result ≡ faults self.now };
 
-    /// Writes all of `bytes`. An `Err` leaves a first part of them written, which may be none or all.
+    /// Writes all of `bytes`. After an `Err` a first part of them is written, which may be none or all.
     fn write_all(&mut self, bytes: &[u8]) -> Result<(), Failed>
         ensures bytes { WritesAll (written self.old) (written self.new) result bytes.now }
         ensures count { CountsFaults (faults self.old) (faults self.new) result };

@@ -1,4 +1,4 @@
-// Where bytes come from.
+// A source of bytes as a trait.
 ghost use Rattle.std.specs.Prelude.{◌≡◌, ℕ, List, Option};
 ghost use Rattle.std.specs.Io.{ReadsAtMost};
 ghost use Rattle.std.specs.Io.KnownBytes.{ReadConsumes};
@@ -8,18 +8,18 @@ use crate::Failed;
 
 /// A source of bytes, as the standard input or a connection.
 pub trait Source: Send {
-    /// The bytes that reads give from here on, up to the end; `None` where the source doesn't tell.
+    /// The bytes that reads give from here on, up to the end. `None` if they are not known.
     ghost left: { Self → Option (List ℕ) };
 
-    /// How often a read has failed.
+    /// The number of reads that have failed.
     ghost faults: { Self → ℕ };
 
-    /// The count of faults, which stands still at the last `u64`.
+    /// The count of faults. It stays at the last `u64`.
     fn faults(&self) -> u64
         ensures { result ≡ faults self.now };
 
-    /// Takes bytes into the front of `buf`, and answers how many. 0 for a `buf` with room is the end, answered only
-    /// where no byte is left. An `Err` takes nothing; it may leave any bytes in `buf`, as an `Ok` may behind its own.
+    /// Reads bytes into the front of `buf`, and returns how many. 0 for a `buf` with room is the end: no byte is left.
+    /// An `Err` consumes nothing. Bytes of `buf` after those that were read may have changed, at an `Err` all of them.
     fn read(&mut self, buf: &mut [u8]) -> Result<usize, Failed>
         ensures within { ReadsAtMost result buf.new }
         ensures bytes { ReadConsumes (left self.old) (left self.new) result buf.new }

@@ -10,7 +10,7 @@ use std::time::Duration;
 
 const TEXT: &[u8] = b"POST / HTTP/1.1\r\n";
 
-// Reads to the end, past failures, and answers the bytes and how many calls failed.
+// Reads to the end, past failures, and returns the bytes and the number of calls that failed.
 fn read_all<S: Source>(alloc: Global, source: &mut S) -> Result<(Vec<u8>, u64), AllocError> {
     let mut bytes = Vec::new(alloc);
     let mut failed = 0u64;
@@ -68,7 +68,7 @@ fn a_clock_in_memory_repeats_its_last_reading(rt: HostRuntime) -> Result<(), Fai
     Ok(())
 }
 
-// Gives and takes one byte at a call. Every second call is interrupted, and the call of number `fails` fails.
+// Reads or writes one byte a call. Every second call is interrupted, and call number `fails` fails.
 #[derive(Drop)]
 struct Slow {
     calls: u64,
@@ -126,7 +126,7 @@ impl std::time::Clock for Slow {
 }
 
 #[test]
-fn adapters_try_again_where_interrupted_and_count_failures(rt: HostRuntime) -> Result<(), Fail> {
+fn adapters_try_again_if_interrupted_and_count_failures(rt: HostRuntime) -> Result<(), Fail> {
     let alloc = rt.alloc();
     let mut source = ReaderSource::new(Slow {
         calls: 0,

@@ -2,7 +2,7 @@
 use crate::Clock;
 use std::time::{SystemTime, UNIX_EPOCH};
 
-/// The system's clock. Where the system gives no time, it repeats its last reading, at first 0.
+/// The system's clock. If the system gives no time, it repeats its last reading, at first 0.
 #[derive(Drop)]
 pub struct SystemClock<T> {
     system: T,

@@ -6,8 +6,8 @@ use crate::fault::fail;
 use crate::{Failed, Sink};
 use std::io::{ErrorKind, Write};
 
-/// A sink that writes to a writer, again where it was interrupted, and hands on at once what the writer held back. It
-/// tells what the writer tells.
+/// A sink that writes to a writer, tries again if interrupted, and flushes after each write. Its contract shows the
+/// bytes that the writer's contract shows.
 #[derive(Drop)]
 pub struct WriterSink<W> {
     writer: W,
@@ -46,8 +46,8 @@ impl<W: Write + Send> Sink for WriterSink<W> {
     }
 }
 
-// Writes until all is written, and flushes. The loop is not left to std, whose contract says nothing of what a failure
-// leaves.
+// Writes until all is written, and flushes. The loop is not std's, because the contract of std's does not say what was
+// written before a failure.
 fn write_on<W: Write>(writer: &mut W, bytes: &[u8]) -> Result<(), Failed>
     ensures { WritesAll (W.contents writer.old) (W.contents writer.new) result bytes.now }
 {

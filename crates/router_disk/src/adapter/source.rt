@@ -6,7 +6,7 @@ use crate::fault::fail;
 use crate::{Failed, Source};
 use std::io::{ErrorKind, Read};
 
-/// A source that reads from a reader, and reads again where it was interrupted. It tells what the reader tells.
+/// A source that reads from a reader, and reads again if interrupted. Its contract shows the bytes that the reader's shows.
 #[derive(Drop)]
 pub struct ReaderSource<R> {
     reader: R,
@@ -45,7 +45,7 @@ impl<R: Read + Send> Source for ReaderSource<R> {
     }
 }
 
-// Reads once more for each time that the read was interrupted.
+// Reads again each time that the read is interrupted.
 fn read_on<R: Read>(reader: &mut R, buf: &mut [u8]) -> Result<usize, Failed>
     ensures within { ReadsAtMost result buf.new }
     ensures bytes { ReadConsumes (R.remaining reader.old) (R.remaining reader.new) result buf.new }

@@ -2,7 +2,7 @@
 use crate::Clock;
 use std::alloc::Global;
 
-/// A clock that gives the readings that it holds, in order, and then its last one for ever.
+/// A clock that gives the readings that it holds, in order, and then its last one forever.
 #[derive(Drop)]
 pub struct MemClock {
     reading: u64,

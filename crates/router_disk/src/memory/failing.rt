@@ -2,8 +2,8 @@
 use crate::fault::fail;
 use crate::{Failed, Sink, Source};
 
-/// A source or a sink, of which one call fails before it reaches `inner`: the one behind `sound` calls, if any.
-/// `faults` counts that failure and those of `inner`.
+/// A source or a sink with one planned failure: after `sound` more calls, one call fails before it reaches `inner`.
+/// `None` plans no failure. `faults` counts the planned failure and the failures of `inner`.
 #[derive(Drop)]
 pub struct Failing<T> {
     pub inner: T,
@@ -16,7 +16,7 @@ impl<T> Failing<T> {
     ghost use Rattle.router_disk.specs.Faults.{last_count};
     ghost use Rattle.router_disk.specs.Memory.{sound_after};
 
-    /// A source or a sink whose call behind `sound` further ones fails.
+    /// A source or a sink with no fault yet, one call of which fails after `sound` calls.
     pub fn after(sound: u64, inner: T) -> Self
         ensures { result ≡ record { inner = inner; sound = Some sound; faults = 0 } }
     {
@@ -27,7 +27,7 @@ impl<T> Failing<T> {
         }
     }
 
-    // Counts a call down, and answers whether it fails before it reaches `inner`.
+    // Counts one call down. Returns whether the call fails before it reaches `inner`.
     fn is_due(&mut self) -> bool
         ensures due { IsTrue result ↔ ((self.old.sound ≡ Some 0) ⊎ (self.old.faults ≡ last_count)) }
         ensures next { self.new ≡ record self.old { sound = sound_after self.old.sound } }

@@ -4,7 +4,7 @@ use crate::{Failed, Sink};
 use std::alloc::Global;
 use std::marker::Model;
 
-/// A sink that keeps what was written. A write fails where memory refuses the room, or at the last count of faults.
+/// A sink that holds what was written. A write fails if it is out of memory, or if the count of faults is at its last value.
 #[derive(Drop)]
 pub struct MemSink {
     bytes: Vec<u8>,

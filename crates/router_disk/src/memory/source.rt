@@ -2,7 +2,7 @@
 use crate::{Failed, Source};
 use std::marker::Model;
 
-/// A source that gives the bytes that it holds, all at once or in pieces. It never fails.
+/// A source that gives the bytes that it holds, at once or in pieces. It never fails.
 #[derive(Drop)]
 pub struct MemSource {
     bytes: Vec<u8>,
@@ -24,7 +24,7 @@ impl Model for MemSource {
 impl MemSource {
     ghost use Rattle.std.specs.Prelude.{◌≡◌, ◌<◌};
 
-    /// A source of these bytes, of which a read gives as many as there is room for.
+    /// A source of these bytes. A read gives as many as there is room for.
     pub fn new(bytes: Vec<u8>) -> Self
         ensures { result ≡ record { left = bytes.items; most = usize.MAX } }
     {
@@ -35,7 +35,7 @@ impl MemSource {
         }
     }
 
-    /// The same source, of which a read gives `most` bytes at most.
+    /// The same source, but a read gives at most `most` bytes.
     pub fn in_pieces(self, most: usize) -> Self
         requires { 0 < most }
         ensures { result ≡ record self { most = most } }

@@ -12,15 +12,18 @@ taken_then_left bytes rest copied place n same len =
     let front = take-append_seam copied rest in
     let back = drop-drop n place bytes in cc
 
--- where there was room and nothing was taken, nothing is left
+-- if there was room and nothing was read, nothing is left
 none_left : (bytes : List ℕ) (place n most room : ℕ) → n ≡ min (min most room) (length bytes - place) → 0 < most → 0 < room → n ≡ 0 →
     drop (place + n) bytes ≡ []
 none_left bytes place n most room is positive space none = drop_all (place + n) bytes (omega arith)
 
 pub returns-clause-bytes : goal.returns-clause-bytes
-returns-clause-bytes c = (
-  sym (ap (λ s. s.left) c.self.view_is) ∙ taken_then_left c.self.inside.bytes.items (drop c.min-count.result c.args.buf.now) c.copy_from_slice.new.self c.self.inside.place c.min-count.result
-      (grind (arith, common_steps)) (grind (arith, common_steps)),
-  λ none room. none_left c.self.inside.bytes.items c.self.inside.place c.min-count.result c.self.inside.most (length c.args.buf.now)
-      (grind (arith, common_steps)) (grind arith) (grind (arith, common_steps)) none,
-)
+returns-clause-bytes c =
+    let bytes = c.self.inside.bytes.items in
+    let place = c.self.inside.place in
+    let n = c.min-count.result in (
+      sym (ap (λ s. s.left) c.self.view_is)
+          ∙ taken_then_left bytes (drop n c.args.buf.now) c.copy_from_slice.new.self place n (grind (arith, common_steps)) (grind (arith, common_steps)),
+      λ none room. none_left bytes place n c.self.inside.most (length c.args.buf.now) (grind (arith, common_steps)) (grind arith)
+          (grind (arith, common_steps)) none,
+    )
