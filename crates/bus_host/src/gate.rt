@@ -1,4 +1,4 @@
-// Where a test may hold a session.
+// A place at which a test may hold a session.
 use std::sync::Wait;
 
 /// A place where a session can be held.
@@ -12,8 +12,8 @@ pub enum Point {
 
 /// What may hold a session, so that a test can choose an order of events.
 pub trait Gate {
-    /// Returns once call `call` of connection `conn` may go on from `at`. Connections count from 1 as they come, 0 where
-    /// there is only one session; calls count from 1 in each.
+    /// Returns once call `call` of connection `conn` may go on from `at`. Connections count from 1 in the order in which
+    /// they come; 0 if there is only one session. Calls count from 1 in each connection.
     fn hold<Rt: Wait>(&self, rt: &Rt, conn: u64, call: u64, at: Point);
 }
 

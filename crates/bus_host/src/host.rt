@@ -1,22 +1,22 @@
-// What gives disks, doors and links.
+// The host as a trait: what opens disks, doors and links.
 ghost use Rattle.std.specs.Prelude.{◌≡◌, ℕ};
 
 use crate::Door;
 use router_disk::{Disk, Link};
 use thiserror::Error;
 
-/// Why a host gave nothing.
+/// Why a host opened nothing.
 #[derive(Clone, Copy, Debug, PartialEq, Eq, Error)]
 pub enum HostFault {
-    /// The host failed, which its count of faults for that call tells.
+    /// The host failed. Its count of faults for that call shows it.
     #[error("the host failed")]
     Failed,
-    /// Memory ran out. It is no fault of the host.
+    /// Out of memory. The host's counts stay as they were.
     #[error("out of memory")]
     NoMemory,
 }
 
-/// What gives disks, doors and links, and takes them back. What it gave and got back is not told yet.
+/// What opens disks, doors and links, and takes them back. What it opened and took back is not specified yet.
 pub trait Host {
     ghost use Rattle.router_disk.specs.Faults.{CountsFaults};
     ghost use Rattle.bus_host.specs.HostFault.{host_outcome};
@@ -28,28 +28,28 @@ pub trait Host {
 
     type Link: Link;
 
-    /// How often `disk` has failed.
+    /// The number of calls of `disk` that have failed.
     ghost disk_faults: { Self → ℕ };
 
-    /// How often `door` has failed.
+    /// The number of calls of `door` that have failed.
     ghost door_faults: { Self → ℕ };
 
-    /// How often `link` has failed.
+    /// The number of calls of `link` that have failed.
     ghost link_faults: { Self → ℕ };
 
-    /// The count of faults of `disk`, which stands still at the last `u64`.
+    /// The count of faults of `disk`. It stays at the last `u64`.
     fn disk_faults(&self) -> u64
         ensures { result ≡ disk_faults self.now };
 
-    /// The count of faults of `door`, which stands still at the last `u64`.
+    /// The count of faults of `door`. It stays at the last `u64`.
     fn door_faults(&self) -> u64
         ensures { result ≡ door_faults self.now };
 
-    /// The count of faults of `link`, which stands still at the last `u64`.
+    /// The count of faults of `link`. It stays at the last `u64`.
     fn link_faults(&self) -> u64
         ensures { result ≡ link_faults self.now };
 
-    /// The file at `path`, which is made, empty, where it is missing.
+    /// The file at `path`. A missing file is created, empty.
     fn disk(&mut self, path: &str) -> Result<Self::Disk, HostFault>
         ensures count { CountsFaults (disk_faults self.old) (disk_faults self.new) (host_outcome result) }
         ensures door { door_faults self.new ≡ door_faults self.old }

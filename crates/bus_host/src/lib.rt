@@ -1,4 +1,4 @@
-//! The host as traits, a door where connections come in, a host that gives disks, doors and links, and a gate.
+//! The host as traits: a door for connections, a host that opens disks, doors and links, and a gate.
 #![tactic(auto)]
 
 mod door;

@@ -1,4 +1,4 @@
-// A host that gives nothing, and the types of what it would give.
+// A host whose every call fails, with a disk, a door and a link whose calls fail.
 ghost use Rattle.std.specs.Prelude.{◌≡◌, ◌≤◌, Err};
 ghost use Rattle.router_disk.specs.Faults.{CountsFaults, Rose};
 ghost use Rattle.bus_host.specs.HostFault.{host_outcome};
@@ -24,7 +24,7 @@ pub struct NoLink {
     faults: u64,
 }
 
-/// A host whose every call that can fail fails.
+/// A host that opens nothing: each call that can fail fails.
 #[derive(Debug, Default, Drop)]
 pub struct NoHost {
     disk_faults: u64,

@@ -13,7 +13,7 @@ fn each_call_of_no_host_fails_and_is_counted_apart(rt: HostRuntime) {
 }
 
 #[test]
-fn what_it_would_give_fails_too(rt: HostRuntime) {
+fn its_disk_door_and_link_fail_too(rt: HostRuntime) {
     let mut disk = NoDisk::default();
     assert_eq!(rt; disk.size(), Err(Failed));
     assert_eq!(rt; disk.sync(), Err(Failed));
