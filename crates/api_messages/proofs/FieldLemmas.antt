@@ -1,5 +1,8 @@
--- One field more, and the values that give no length.
-use Rattle.std.proofs.Common.{◌≡◌, ℕ, zero, suc, ◌+◌, ◌<◌, ◌≤◌, Bool, true, false, cond, ◌&&◌, ◌||◌, ◌⊎◌, inl, inr, List, [], ◌∷◌, ◌++◌, map, length, take, get_or, Some, None, sym, refl, ap, ◌∙◌, arith}
+-- One more field, and the values that give no length. Other files cite `one_more` and `list_any-values_of-push` (a field is
+-- added), the four `length_of_..` lemmas (exits of the loop over digits), `text_of-utf8`, `text_of-other` and
+-- `length_at-small`.
+use Rattle.std.proofs.Common.{◌≡◌, ℕ, zero, suc, ◌+◌, ◌<◌, ◌≤◌, Bool, true, false, cond, ◌&&◌, ◌||◌, ◌⊎◌, inl, inr, List, [], ◌∷◌, ◌++◌, map, length}
+use Rattle.std.proofs.Common.{take, get_or, Some, None, sym, refl, ap, ◌∙◌, arith}
 use Rattle.std.specs.Prelude.{IsTrue, ◌↔◌, bytes_eq, nat_le, ◌==◌}
 use Rattle.std.specs.List.{list_all, list_any}
 use Rattle.std.specs.Char.{is_ascii_digit}
@@ -15,7 +18,7 @@ use Rattle.std.proofs.lemmas.Str.{IsUtf8-from_is_utf8, is_utf8-from_IsUtf8}
 use Rattle.api_messages.specs.Fields.{Pair, Occurrence, absent, once, repeated, is_named, values_of, occurs, occurrence_of, length_of, length_at, text_of}
 use Rattle.api_messages.specs.Reading.{and_also}
 
-pub same_test : (b c : Bool) → (b ≡ true → c ≡ true) → (c ≡ true → b ≡ true) → b ≡ c
+same_test : (b c : Bool) → (b ≡ true → c ≡ true) → (c ≡ true → b ≡ true) → b ≡ c
 same_test true true f g = refl
 same_test true false f g = sym (f refl)
 same_test false true f g = g refl
@@ -47,11 +50,12 @@ occurs-push [] v = refl
 occurs-push (a ∷ []) v = refl
 occurs-push (a ∷ b ∷ rest) v = refl
 
-pub occurrence_of-push : (name : List ℕ) (pairs : List Pair) (p : Pair)
+occurrence_of-push : (name : List ℕ) (pairs : List Pair) (p : Pair)
     → occurrence_of name (pairs ++ p ∷ []) ≡ cond (is_named name p.0) (and_also (occurrence_of name pairs) p.1) (occurrence_of name pairs)
 occurrence_of-push name pairs p = ap occurs (values_of-push name pairs p) ∙ by_test (is_named name p.0)
   where
-    by_test : (t : Bool) → occurs (values_of name pairs ++ cond t (p.1 ∷ []) []) ≡ cond t (and_also (occurs (values_of name pairs)) p.1) (occurs (values_of name pairs))
+    by_test : (t : Bool)
+        → occurs (values_of name pairs ++ cond t (p.1 ∷ []) []) ≡ cond t (and_also (occurs (values_of name pairs)) p.1) (occurs (values_of name pairs))
     by_test true = occurs-push _ _
     by_test false = ap occurs (append-nil (values_of name pairs))
 
@@ -76,7 +80,7 @@ one_more name pairs p old new t before test after =
     ∙ sym (occurrence_of-push name pairs p)
 
 -- a value with no digit, or with more than ten
-pub length_of_size : (v : List ℕ) → (nat_le 1 (length v) && nat_le (length v) 10) ≡ false → None ≡ length_of v
+length_of_size : (v : List ℕ) → (nat_le 1 (length v) && nat_le (length v) 10) ≡ false → None ≡ length_of v
 unfolding length_of
 length_of_size v e = sym (cond-false _ _ _ (and_left _ _ e))
 

@@ -1,4 +1,5 @@
--- What stands at the front of the bytes, from what the parser says of their first part.
+-- What is at the front of the bytes, from what the parser returns for their first 16,384. Other files cite `reads_whole`,
+-- `refused_whole`, `refused_by`, `long_by` (for heads), `message_found` and `holds_at` (for messages).
 use Rattle.std.proofs.Common.{◌≡◌, ◌≢◌, ℕ, ◌+◌, ◌-◌, ◌≤◌, ◌||◌, List, ◌++◌, length, take, drop, Some, sym, refl, ap, ◌∙◌, subst, arith}
 use Rattle.std.specs.Prelude.{◌==◌}
 use Rattle.std.proofs.lemmas.List.{take_all, length-take-le, length-take, length-drop, length-map, drop-append-le, take-append-drop}
@@ -14,12 +15,12 @@ use Rattle.api_messages.specs.declared.front.InPlace.{InPlace}
 use Rattle.api_messages.specs.declared.method.Method.{Method}
 use Rattle.api_messages.specs.Fields.{Known, method_of, text_at, body_length_by, body_length}
 use Rattle.api_messages.specs.Messages.{IsServed, IsRefused, never, many, long, HoldsMessage}
-use Rattle.api_messages.specs.Reading.{seen, known, IsHeadAt, IsMessageAt, message_at}
+use Rattle.api_messages.specs.Reading.{occurrence_in, known, IsHeadAt, IsMessageAt, message_at}
 use Rattle.api_messages.proofs.MessageLemmas.{refused_stays}
 
--- what is behind the first `a` bytes, in the two spellings
-pub take_behind : (xs : List ℕ) (a : ℕ) → take (length xs - a) (drop a xs) ≡ drop a xs
-take_behind xs a = take_all (length xs - a) (drop a xs) (omega (arith, length-drop a xs))
+-- the bytes after the first `a`, in the two spellings
+pub take_after : (xs : List ℕ) (a : ℕ) → take (length xs - a) (drop a xs) ≡ drop a xs
+take_after xs a = take_all (length xs - a) (drop a xs) (omega (arith, length-drop a xs))
 
 reads_longer : (a x : List ℕ) (h : RequestHead) (len : ℕ) → ReadsRequest a h (drop len a) → len ≤ length a → ReadsRequest (a ++ x) h (drop len (a ++ x))
 reads_longer a x h len reads within =
@@ -52,7 +53,7 @@ refused_by bytes Version invalid exceeds over = never (invalid (λ e. cc))
 pub long_by : (bytes : List ℕ) → 16384 ≤ length bytes → HasNoRequest bytes → IsRefused bytes
 long_by bytes there none = long there (λ h rest reads. absurd (none h rest reads))
 
--- the parts of a head say what the head says
+-- the body length by the parts of a head is that of the head
 pub body_length_at : (bytes : List ℕ) (head : Head) (h : RequestHead) → IsHeadAt bytes head h
     → body_length_by head.method head.minor (known head.fields) ≡ body_length h
 body_length_at bytes head h at =
@@ -95,8 +96,8 @@ message_found bytes head h n p at announces there len method target caller body 
         reads = reads;
         served = subst (IsServed h) (sym size) served;
         method = method ∙ at.method;
-        target = ap (λ f. text_at (seen f)) target ∙ ap (λ (k : Known). text_at k.target) at.fields;
-        caller = ap (λ f. text_at (seen f)) caller ∙ ap (λ (k : Known). text_at k.caller) at.fields;
+        target = ap (λ f. text_at (occurrence_in f)) target ∙ ap (λ (k : Known). text_at k.target) at.fields;
+        caller = ap (λ f. text_at (occurrence_in f)) caller ∙ ap (λ (k : Known). text_at k.caller) at.fields;
         close = close ∙ ap (λ (m : ℕ). (m == 0) || head.fields.close) at.minor ∙ ap (λ (k : Known). (h.minor == 0) || k.close) at.fields;
       };
     }

@@ -1,5 +1,8 @@
--- Messages, refused bytes and awaited bytes exclude each other.
-use Rattle.std.proofs.Common.{◌≡◌, ℕ, ◌+◌, ◌<◌, ◌≤◌, Bool, true, false, cond, ◌⊎◌, inl, inr, List, [], ◌∷◌, ◌++◌, length, take, drop, Some, None, sym, refl, ap, ◌∙◌, subst, append_assoc, length-append, arith}
+-- Messages, refused bytes and awaited bytes exclude each other. The laws cite `one_message`, `not_refused`, `not_awaited`,
+-- `one_stream`, `undecided`, `awaited_is_short` and `no_message_is_empty`; other files also `refused_stays`, `awaited_refused`
+-- and `nothing_is_awaited`.
+use Rattle.std.proofs.Common.{◌≡◌, ℕ, ◌+◌, ◌<◌, ◌≤◌, Bool, true, false, cond, ◌⊎◌, inl, inr, List, [], ◌∷◌, ◌++◌, length, take, drop, Some, None, sym}
+use Rattle.std.proofs.Common.{refl, ap, ◌∙◌, subst, append_assoc, length-append, arith}
 use Rattle.std.proofs.lemmas.List.{take_at, drop_at, take-append-le, take-append-drop}
 use Rattle.std.proofs.lemmas.Bool.{cases_lt}
 use Rattle.httparse.specs.Grammar.{RequestHead, print_request, ReadsRequest, HasNoRequest, EndsInTarget}
@@ -9,7 +12,8 @@ use Rattle.httparse.proofs.OpenLemmas.{line_blank, request_may_from_line}
 use Rattle.api_messages.specs.declared.message.Message.{Message}
 use Rattle.api_messages.specs.Fields.{method_of, known_of, pairs_of, text_at, is_sound, length_at, body_length, asks_to_close}
 use Rattle.api_messages.proofs.FieldLemmas.{length_at-small}
-use Rattle.api_messages.specs.Messages.{IsServed, IsMessage, IsRefused, never, many, long, unsound, IsAwaited, head_awaited, body_awaited, HoldsMessage, IsStream, IsLeft}
+use Rattle.api_messages.specs.Messages.{IsServed, IsMessage, IsRefused, never, many, long, unsound, IsAwaited, head_awaited, body_awaited}
+use Rattle.api_messages.specs.Messages.{HoldsMessage, IsStream, IsLeft}
 
 -- two heads read of the same bytes announce the same length
 same_length : (bytes : List ℕ) (h k : RequestHead) (p q : List ℕ) (m n : ℕ) → ReadsRequest bytes h p → ReadsRequest bytes k q
@@ -30,8 +34,8 @@ not_unsound bytes h k p q m x y a b =
 same_front : (xs ys x y : List ℕ) → xs ++ x ≡ ys ++ y → length xs ≡ length ys → xs ≡ ys
 same_front xs ys x y e n = sym (take_at xs x (length ys) n) ∙ ap (take (length ys)) e ∙ take_at ys y (length ys) refl
 
-pub told_once : (a b x y : List ℕ) (m n : Message) → IsMessage a m → IsMessage b n → a ++ x ≡ b ++ y → (a ≡ b) × (m ≡ n)
-told_once a b x y m n p q e =
+pub one_message : (a b x y : List ℕ) (m n : Message) → IsMessage a m → IsMessage b n → a ++ x ≡ b ++ y → (a ≡ b) × (m ≡ n)
+one_message a b x y m n p q e =
     let first = ReadsRequest-append a p.head m.body x p.reads in
     let other = subst (λ s. ReadsRequest s q.head (n.body ++ y)) (sym e) (ReadsRequest-append b q.head n.body y q.reads) in
     let same = request_unique (a ++ x) p.head q.head (m.body ++ x) (n.body ++ y) first other in
@@ -45,7 +49,7 @@ told_once a b x y m n p q e =
     (bytes, λ i. record { method = method i; target = target i; caller = caller i; body = body i; close = close i })
 
 -- what refuses bytes refuses no bytes with a served head at the front
-pub not_refused_at : (bytes : List ℕ) (h : RequestHead) (rest : List ℕ) (m : ℕ) → ReadsRequest bytes h rest → IsServed h m → IsRefused bytes → ⊥
+not_refused_at : (bytes : List ℕ) (h : RequestHead) (rest : List ℕ) (m : ℕ) → ReadsRequest bytes h rest → IsServed h m → IsRefused bytes → ⊥
 not_refused_at bytes h rest m reads served (never none) = none [] h (rest ++ []) (ReadsRequest-append bytes h rest [] reads)
 not_refused_at bytes h rest m reads served (many exceeds over) =
     let more = over [] h (rest ++ []) (ReadsRequest-append bytes h rest [] reads) in
@@ -98,16 +102,16 @@ undecided a (head_awaited short none may) (long there past) = absurd (omega arit
 undecided a (head_awaited short none may) (unsound h rest reads e) = absurd (none h rest reads)
 undecided a (body_awaited h part n reads served less) refused = absurd (not_refused_at a h part n reads served refused)
 
--- where no message is whole at the front, none is held
+-- if no message is whole at the front, none is held
 left_holds_none : (bytes after : List ℕ) (m : Message) → IsLeft bytes → HoldsMessage bytes m after → ⊥
 left_holds_none bytes after m (inl awaited) holds = not_awaited holds.0 after m holds.1 (subst IsAwaited holds.2 awaited)
 left_holds_none bytes after m (inr refused) holds = not_refused holds.0 after m holds.1 (subst IsRefused holds.2 refused)
 
--- one message at the front, and one rest behind it
+-- one message at the front, and one rest after it
 held_once : (bytes x y : List ℕ) (m n : Message) → HoldsMessage bytes m x → HoldsMessage bytes n y → (m ≡ n) × (x ≡ y)
 held_once bytes x y m n p q =
     let both = sym p.2 ∙ q.2 in
-    let same = told_once p.0 q.0 x y m n p.1 q.1 both in
+    let same = one_message p.0 q.0 x y m n p.1 q.1 both in
     (same.1, sym (drop_at p.0 x (length q.0) (ap length same.0)) ∙ ap (drop (length q.0)) both ∙ drop_at q.0 y (length q.0) refl)
 
 pub one_stream : (bytes r q : List ℕ) (ms ns : List Message) → IsStream bytes ms r → IsStream bytes ns q → IsLeft r → IsLeft q → (ms ≡ ns) × (r ≡ q)
@@ -150,7 +154,7 @@ nothing_is_awaited = head_awaited (omega arith) none (request_may_from_line (inl
     none : HasNoRequest []
     none h rest reads = omega (arith, ap length reads.1, length-append (print_request h) rest, head_some h)
 
--- bytes that are refused and awaited too hold no head
+-- bytes that are both refused and awaited hold no head
 pub awaited_refused : (bytes : List ℕ) → IsRefused bytes → IsAwaited bytes → HasNoRequest bytes
 awaited_refused bytes refused (head_awaited short none may) = none
 awaited_refused bytes refused (body_awaited h part n reads served less) = absurd (not_refused_at bytes h part n reads served refused)

@@ -1,8 +1,8 @@
--- What stands between messages, and a head whose body may still be awaited.
+-- The empty lines between messages, and a head whose body may not be there yet.
 use Rattle.std.specs.Prelude.{◌≡◌, ℕ, List, [], ◌∷◌}
 use Rattle.httparse.specs.Grammar.{RequestHead, ReadsRequest}
 
--- pairs of carriage return and line feed, which belong to the message behind them (RFC 9112, section 2.2)
+-- pairs of carriage return and line feed, which belong to the message after them (RFC 9112, section 2.2)
 abbrev pub AreEmptyLines : List ℕ → Type 0
 AreEmptyLines [] = Unit {0}
 AreEmptyLines (a ∷ []) = ⊥

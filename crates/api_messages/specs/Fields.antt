@@ -1,5 +1,6 @@
--- What the fields of a request head say, and the length of the body that a head announces.
-use Rattle.std.specs.Prelude.{ℕ, Bool, true, false, not, ◌&&◌, ◌||◌, List, [], ◌∷◌, length, map, filter, Option, Some, None, if◌then◌else◌, ◌==◌, nat_le, codes, bytes_eq}
+-- The fields of a request head, each with its rule, and the length of the body that a head announces.
+use Rattle.std.specs.Prelude.{ℕ, Bool, true, false, not, ◌&&◌, ◌||◌, List, [], ◌∷◌, length, map, filter, Option, Some, None, if◌then◌else◌, ◌==◌}
+use Rattle.std.specs.Prelude.{nat_le, codes, bytes_eq}
 use Rattle.std.specs.List.{list_all, list_any}
 use Rattle.std.specs.Char.{is_ascii_digit, to_ascii_lowercase}
 use Rattle.std.specs.Str.{is_utf8}
@@ -27,7 +28,7 @@ Pair = List ℕ × List ℕ
 abbrev pub pairs_of : RequestHead → List Pair
 pairs_of h = map name_and_value h.fields
 
--- the two are the same but for the case of their letters: so names of fields and options of a connection are compared
+-- the two are equal except for the case of letters; names of fields and options of a connection are compared in this way
 -- (RFC 9110, sections 5.1 and 7.6.1)
 unfoldable pub is_named : List ℕ → List ℕ → Bool
 is_named name field = bytes_eq (map to_ascii_lowercase field) (map to_ascii_lowercase name)
@@ -36,18 +37,18 @@ is_named name field = bytes_eq (map to_ascii_lowercase field) (map to_ascii_lowe
 abbrev pub values_of : List ℕ → List Pair → List (List ℕ)
 values_of name pairs = map (λ p. p.1) (filter (λ p. is_named name p.0) pairs)
 
--- how often a field stands in a head, and its value where it stands once
+-- how often a field is in a head, and its value if it is there once
 pub data Occurrence : Type 0 where
   absent repeated : Occurrence
   once : List ℕ → Occurrence
 
--- so often and with that value, from all the values
+-- the occurrence that has these values
 abbrev pub occurs : List (List ℕ) → Occurrence
 occurs [] = absent
 occurs (value ∷ []) = once value
 occurs (value ∷ other ∷ others) = repeated
 
--- the same, of the fields of a name
+-- the occurrence of the fields of a name
 abbrev pub occurrence_of : List ℕ → List Pair → Occurrence
 occurrence_of name pairs = occurs (values_of name pairs)
 
@@ -56,7 +57,7 @@ occurrence_of name pairs = occurs (values_of name pairs)
 abbrev pub is_close : List ℕ → Bool
 is_close value = is_named (codes "close") value
 
--- what is read of the fields; every other field is ignored
+-- the fields that are read; every other field is ignored
 pub record Known : Type 0 where
   pub host : Occurrence
   pub length : Occurrence
@@ -65,7 +66,7 @@ pub record Known : Type 0 where
   pub caller : Occurrence
   pub close : Bool
 
--- the names are ASCII, in lower case
+-- the fields that are read, of a list of fields; the names here are ASCII, in lower case
 abbrev pub known_of : List Pair → Known
 known_of pairs = record {
   host = occurrence_of (codes "host") pairs;
@@ -76,7 +77,7 @@ known_of pairs = record {
   close = list_any is_close (values_of (codes "connection") pairs);
 }
 
--- one Host field, or none in version 1.0 (RFC 9112, section 3.2); its value is not looked at
+-- one Host field, or none in version 1.0 (RFC 9112, section 3.2); its value is not checked
 abbrev pub is_host_sound : ℕ → Occurrence → Bool
 is_host_sound minor absent = minor == 0
 is_host_sound minor (once value) = true
@@ -107,22 +108,23 @@ length_at absent = None
 length_at (once value) = length_of value
 length_at repeated = None
 
--- the value of a field as a text; one that is not UTF-8 is no text, and stands as the empty one
+-- the value of a field as a text; a value that is not UTF-8 gives the empty text
 unfoldable pub text_of : List ℕ → List ℕ
 text_of value = if is_utf8 value then value else []
 
--- the text of a field that stands once
+-- the text of a field that is there once
 abbrev pub text_at : Occurrence → Option (List ℕ)
 text_at absent = None
 text_at (once value) = Some (text_of value)
 text_at repeated = None
 
--- POST, a sound Host, no Transfer-Encoding (this project takes no coding; RFC 9112, section 6.1), and neither of the two
+-- POST, a sound Host, no Transfer-Encoding (this project reads no coding; RFC 9112, section 6.1), and neither of the two
 -- fields of the API twice
 abbrev pub is_sound : Method → ℕ → Known → Bool
-is_sound method minor k = is_post method && (is_host_sound minor k.host && (is_absent k.coding && (not (is_repeated k.target) && not (is_repeated k.caller))))
+is_sound method minor k =
+    is_post method && (is_host_sound minor k.host && (is_absent k.coding && (not (is_repeated k.target) && not (is_repeated k.caller))))
 
--- the length of the body behind a head with that method, version and fields; none where the head is refused
+-- the length of the body after a head with that method, version and fields; `None` if the head is refused
 abbrev pub body_length_by : Method → ℕ → Known → Option ℕ
 body_length_by method minor k = if is_sound method minor k then length_at k.length else None
 

@@ -5,15 +5,15 @@ use Rattle.httparse.specs.Spans.{RequestExceeds, RequestOverflows}
 use Rattle.api_messages.specs.declared.message.Message.{Message}
 use Rattle.api_messages.specs.Fields.{method_of, pairs_of, known_of, text_at, body_length, asks_to_close}
 
--- a head that no rule refuses: at most 16,384 bytes, the empty lines before it (RFC 9112, section 2.2) included, at most
--- 64 fields (both limits are this project's own), sound fields, and a body of that length announced
+-- a head that no rule refuses and that announces a body of that length: at most 16,384 bytes with the empty lines before it
+-- (RFC 9112, section 2.2), at most 64 fields (both limits are this project's own), and sound fields
 pub record IsServed (h : RequestHead) (body_len : ℕ) : Type 0 where
   pub short : length (print_request h) ≤ 16384
   pub few : length h.fields ≤ 64
   pub announces : body_length h ≡ Some body_len
 
--- the bytes are one whole message: a head, and behind it the body, as long as the head announces (RFC 9112, sections 2.1
--- and 6.2)
+-- the bytes are one whole message: a head, and after it a body of the length that the head announces (RFC 9112, sections
+-- 2.1 and 6.2)
 pub record IsMessage (bytes : List ℕ) (m : Message) : Type 0 where
   pub head : RequestHead
   pub reads : ReadsRequest bytes head m.body
@@ -27,20 +27,21 @@ pub record IsMessage (bytes : List ℕ) (m : Message) : Type 0 where
 pub data IsRefused (bytes : List ℕ) : Type 0 where
   -- nothing continues them to a head (RFC 9112, sections 2 to 5)
   never : NeverHasRequest bytes → IsRefused bytes
-  -- 65 whole field lines stand in them
+  -- they have 65 whole field lines
   many : RequestExceeds 64 bytes → RequestOverflows 64 bytes → IsRefused bytes
-  -- no head ends within the first 16,384 bytes, which are there
+  -- they are at least 16,384 bytes, and no head ends within the first 16,384
   long : 16384 ≤ length bytes → ((h : RequestHead) (rest : List ℕ) → ReadsRequest bytes h rest → 16384 < length (print_request h)) → IsRefused bytes
   -- a whole head breaks a rule on its fields
   unsound : (h : RequestHead) (rest : List ℕ) → ReadsRequest bytes h rest → body_length h ≡ None → IsRefused bytes
 
--- less than a message: a part of a head, or less than the body behind a head that no rule refuses. No bytes are the part
--- of a head too, so are empty lines alone. Bytes that end inside a request target are one even where nothing makes it UTF-8
+-- less than a message: a part of a head, or less than the body after a head that no rule refuses. The empty list is a part of
+-- a head too, and so are empty lines. Bytes that end inside a request target are a part of a head even if it cannot become
+-- UTF-8.
 pub data IsAwaited (bytes : List ℕ) : Type 0 where
   head_awaited : length bytes < 16384 → HasNoRequest bytes → MayBecomeRequest bytes → IsAwaited bytes
   body_awaited : (h : RequestHead) (part : List ℕ) (body_len : ℕ) → ReadsRequest bytes h part → IsServed h body_len → length part < body_len → IsAwaited bytes
 
--- a whole message is at the front of the bytes, and the rest behind it
+-- a whole message is at the front of the bytes, and the rest after it
 abbrev pub HoldsMessage : List ℕ → Message → List ℕ → Type 0
 HoldsMessage bytes m rest = (front : List ℕ) × IsMessage front m × (bytes ≡ front ++ rest)
 

@@ -1,4 +1,4 @@
--- What the calls that read a message answer.
+-- What the calls that read a message return.
 use Rattle.std.specs.Prelude.{◌≡◌, ℕ, ◌≤◌, Bool, true, false, List, length, take, drop, Option, Some, None, Result, Ok, Err}
 use Rattle.httparse.specs.Grammar.{RequestHead, print_request, ReadsRequest, HasNoRequest}
 use Rattle.api_messages.specs.declared.message.Message.{Message}
@@ -14,11 +14,11 @@ use Rattle.api_messages.specs.declared.front.InPlace.{InPlace}
 use Rattle.api_messages.specs.Fields.{Occurrence, absent, once, repeated, Known, method_of, pairs_of, known_of, text_at}
 use Rattle.api_messages.specs.Messages.{IsMessage, IsRefused, IsAwaited, HoldsMessage}
 
--- what the code notes of a field
-abbrev pub seen : Found → Occurrence
-seen Absent = absent
-seen (Once value) = once value.now
-seen Repeated = repeated
+-- the occurrence that a value of the code represents
+abbrev pub occurrence_in : Found → Occurrence
+occurrence_in Absent = absent
+occurrence_in (Once value) = once value.now
+occurrence_in Repeated = repeated
 
 -- one more field of the name, with that value
 abbrev pub and_also : Occurrence → List ℕ → Occurrence
@@ -26,9 +26,16 @@ and_also absent value = once value
 and_also (once first) value = repeated
 and_also repeated value = repeated
 
--- what the code notes of all of them
+-- the fields that a value of the code represents
 abbrev pub known : Fields → Known
-known f = record { host = seen f.host; length = seen f.length; coding = seen f.coding; target = seen f.target; caller = seen f.caller; close = f.close }
+known f = record {
+  host = occurrence_in f.host;
+  length = occurrence_in f.length;
+  coding = occurrence_in f.coding;
+  target = occurrence_in f.target;
+  caller = occurrence_in f.caller;
+  close = f.close;
+}
 
 -- the head h is at the front of the bytes, within the limits, and these are its parts
 pub record IsHeadAt (bytes : List ℕ) (head : Head) (h : RequestHead) : Type 0 where
@@ -45,34 +52,40 @@ pub record IsHeadAt (bytes : List ℕ) (head : Head) (h : RequestHead) : Type 0 
 abbrev pub IsSomeHeadAt : List ℕ → Head → Type 0
 IsSomeHeadAt bytes head = (h : RequestHead) × IsHeadAt bytes head h
 
--- the message that still lies in the bytes
+-- the message that is still in the bytes
 abbrev pub message_at : InPlace → Message
-message_at p = record { method = p.method; target = text_at (seen p.target); caller = text_at (seen p.caller); body = p.body.now; close = p.close }
+message_at p = record {
+  method = p.method;
+  target = text_at (occurrence_in p.target);
+  caller = text_at (occurrence_in p.caller);
+  body = p.body.now;
+  close = p.close;
+}
 
 -- the first p.len bytes are that message
 pub record IsMessageAt (bytes : List ℕ) (p : InPlace) : Type 0 where
   pub within : p.len ≤ length bytes
   pub message : IsMessage (take p.len bytes) (message_at p)
 
--- what stands at the front of the bytes: such a whole thing, less than that, or what is refused
+-- what is at the front of the bytes: a whole thing with the property, less than that, or refused bytes
 abbrev pub FrontIs : {A : Type 0} → List ℕ → (A → Type 0) → Front A → Type 0
 FrontIs bytes P (Whole a) = P a
 FrontIs bytes P Awaited = IsAwaited bytes
 FrontIs bytes P Refused = IsRefused bytes
 
--- where less than a head stands at the front, no head does
+-- if less than a head is at the front, no whole head is
 abbrev pub HeadIsAwaited : {A : Type 0} → List ℕ → Front A → Type 0
 HeadIsAwaited bytes (Whole a) = Unit {0}
 HeadIsAwaited bytes Awaited = HasNoRequest bytes
 HeadIsAwaited bytes Refused = Unit {0}
 
--- the bytes fed and not yet taken, whether they were refused, and how many bytes more need no memory
+-- the bytes fed that no message has taken, whether they were refused, and the number of further bytes that need no memory
 pub record Incoming : Type 0 where
   pub rest : List ℕ
   pub refused : Bool
   pub room : ℕ
 
--- what `next` answers, and what it leaves
+-- what `next` returns, and what it leaves
 abbrev pub Answers : Incoming → Incoming → Result (Option Message) WireFault → Type 0
 Answers old new (Ok (Some m)) = HoldsMessage old.rest m new.rest × (new.refused ≡ false)
 Answers old new (Ok None) = IsAwaited old.rest × (new ≡ old)

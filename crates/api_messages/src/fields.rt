@@ -2,7 +2,7 @@
 ghost use Rattle.std.specs.Prelude.{◌≡◌, List, [], ◌∷◌, ◌++◌, ◌&&◌, codes, length, map, All, if◌then◌else◌};
 ghost use Rattle.httparse.specs.Spans.{IsHeaderWithin, header_bytes};
 ghost use Rattle.api_messages.specs.Fields.{Pair, known_of, is_named, is_close, is_host_sound, is_absent, is_repeated, is_sound, length_of, length_at, body_length_by};
-ghost use Rattle.api_messages.specs.Reading.{seen, and_also, known};
+ghost use Rattle.api_messages.specs.Reading.{occurrence_in, and_also, known};
 
 use crate::method::Method;
 use httparse::spans::HeaderSpan;
@@ -11,7 +11,7 @@ const DIGITS_LIMIT: usize = 10;
 
 const BODY_LIMIT: usize = 1_048_576;
 
-/// How often a field stands in a head, and its value where it stands once.
+/// How often a field is in a head, and its value if it is there once.
 #[derive(Clone, Copy, Debug)]
 pub(crate) enum Found<'b> {
     Absent,
@@ -22,7 +22,7 @@ pub(crate) enum Found<'b> {
 impl<'b> Found<'b> {
     /// One more field, if it is there.
     fn and(self, is_there: bool, value: &'b [u8]) -> Found<'b>
-        ensures { seen result ≡ (if is_there then and_also (seen self.entry) value.now else seen self.entry) }
+        ensures { occurrence_in result ≡ (if is_there then and_also (occurrence_in self.entry) value.now else occurrence_in self.entry) }
     {
         if !is_there {
             return self;
@@ -34,7 +34,7 @@ impl<'b> Found<'b> {
     }
 
     fn is_host_sound(self, minor: u8) -> bool
-        ensures { result ≡ is_host_sound minor (seen self.entry) }
+        ensures { result ≡ is_host_sound minor (occurrence_in self.entry) }
     {
         match self {
             Found::Absent => minor == 0,
@@ -44,7 +44,7 @@ impl<'b> Found<'b> {
     }
 
     fn is_absent(self) -> bool
-        ensures { result ≡ is_absent (seen self.entry) }
+        ensures { result ≡ is_absent (occurrence_in self.entry) }
     {
         match self {
             Found::Absent => true,
@@ -53,7 +53,7 @@ impl<'b> Found<'b> {
     }
 
     fn is_repeated(self) -> bool
-        ensures { result ≡ is_repeated (seen self.entry) }
+        ensures { result ≡ is_repeated (occurrence_in self.entry) }
     {
         match self {
             Found::Absent | Found::Once(_) => false,
@@ -62,7 +62,7 @@ impl<'b> Found<'b> {
     }
 
     fn length(self) -> Option<usize>
-        ensures { result ≡ length_at (seen self.entry) }
+        ensures { result ≡ length_at (occurrence_in self.entry) }
     {
         match self {
             Found::Once(value) => length_of(value),
@@ -117,7 +117,7 @@ pub(crate) struct Fields<'b> {
 }
 
 impl<'b> Fields<'b> {
-    /// No field yet. The bytes are not read: they say for how long the fields to come may be kept.
+    /// No field yet. The bytes are not read: they give the lifetime of the fields to come.
     fn none(_bytes: &'b [u8]) -> Fields<'b>
         ensures { known result ≡ known_of [] }
     {
@@ -167,7 +167,7 @@ impl<'b> Fields<'b> {
             && !self.caller.is_repeated()
     }
 
-    /// The length of the body behind the head, where nothing in the head is refused.
+    /// The length of the body after the head. `None` if a rule refuses the head.
     pub(crate) fn body_length(&self, method: Method, minor: u8) -> Option<usize>
         ensures { result ≡ body_length_by method minor (known self.now) }
     {

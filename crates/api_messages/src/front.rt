@@ -1,8 +1,8 @@
-//! What stands at the front of the bytes: a whole message, the beginning of one, or what is refused.
+//! What is at the front of the bytes: a whole message, the beginning of one, or bytes that are refused.
 ghost use Rattle.std.specs.Prelude.{◌≡◌, ◌↔◌, ◌≤◌, length, take, drop, IfOk, IsTrue, IsFalse};
 ghost use Rattle.httparse.specs.Grammar.{HasNoRequest};
 ghost use Rattle.api_messages.specs.Fields.{text_of, text_at};
-ghost use Rattle.api_messages.specs.Reading.{IsSomeHeadAt, IsMessageAt, FrontIs, HeadIsAwaited, message_at, seen};
+ghost use Rattle.api_messages.specs.Reading.{IsSomeHeadAt, IsMessageAt, FrontIs, HeadIsAwaited, message_at, occurrence_in};
 ghost use Rattle.api_messages.specs.Messages.{IsAwaited};
 ghost use Rattle.api_messages.specs.Between.{AreEmptyLines, HasHead};
 
@@ -22,7 +22,7 @@ const FIELD_LIMIT: usize = 64;
 
 pub(crate) enum Front<T> {
     Whole(T),
-    /// What is there is the beginning of it.
+    /// The bytes are the beginning of it.
     Awaited,
     Refused,
 }
@@ -36,7 +36,7 @@ pub(crate) struct Head<'b> {
     pub len: usize,
 }
 
-/// A whole message that still lies in the bytes, and how many of them it takes.
+/// A whole message that is still in the bytes, and how many of them it takes.
 #[derive(Clone, Copy, Debug)]
 pub(crate) struct InPlace<'b> {
     pub method: Method,
@@ -66,22 +66,22 @@ fn read_head(bytes: &[u8]) -> Front<Head<'_>>
     }
 }
 
-fn read_body<'b>(bytes: &'b [u8], head: Head<'b>) -> Front<InPlace<'b>>
+fn read_message<'b>(bytes: &'b [u8], head: Head<'b>) -> Front<InPlace<'b>>
     requires { IsSomeHeadAt bytes.now head }
     ensures { FrontIs bytes.now (IsMessageAt bytes.now) result }
 {
     let Some(body_len) = head.fields.body_length(head.method, head.minor) else {
         return Front::Refused;
     };
-    let behind = &bytes[head.len..];
-    if behind.len() < body_len {
+    let after = &bytes[head.len..];
+    if after.len() < body_len {
         return Front::Awaited;
     }
     Front::Whole(InPlace {
         method: head.method,
         target: head.fields.target,
         caller: head.fields.caller,
-        body: &behind[..body_len],
+        body: &after[..body_len],
         close: head.minor == 0 || head.fields.close,
         len: head.len + body_len,
     })
@@ -91,7 +91,7 @@ pub(crate) fn read_front(bytes: &[u8]) -> Front<InPlace<'_>>
     ensures { FrontIs bytes.now (IsMessageAt bytes.now) result }
 {
     match read_head(bytes) {
-        Front::Whole(head) => read_body(bytes, head),
+        Front::Whole(head) => read_message(bytes, head),
         Front::Awaited => Front::Awaited,
         Front::Refused => Front::Refused,
     }
@@ -114,13 +114,13 @@ pub(crate) fn are_empty_lines(bytes: &[u8]) -> bool
     ensures { IsTrue result ↔ AreEmptyLines bytes.now }
 {
     let mut rest = bytes;
-    while let [b'\r', b'\n', behind @ ..] = rest {
-        rest = behind;
+    while let [b'\r', b'\n', after @ ..] = rest {
+        rest = after;
     }
     rest.is_empty()
 }
 
-/// The value as a text, empty where it is not UTF-8.
+/// The value as a text, empty if it is not UTF-8.
 fn text_of(alloc: Global, value: &[u8]) -> Result<Text, NoMemory>
     ensures { IfOk result (λ t. t ≡ text_of value.now) }
 {
@@ -131,7 +131,7 @@ fn text_of(alloc: Global, value: &[u8]) -> Result<Text, NoMemory>
 }
 
 fn text_at(alloc: Global, found: Found<'_>) -> Result<Option<Text>, NoMemory>
-    ensures { IfOk result (λ t. t ≡ text_at (seen found.entry)) }
+    ensures { IfOk result (λ t. t ≡ text_at (occurrence_in found.entry)) }
 {
     match found {
         Found::Once(value) => Ok(Some(text_of(alloc, value)?)),

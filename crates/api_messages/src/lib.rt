@@ -1,4 +1,4 @@
-//! Bytes that come in any pieces are read to the request messages that they are.
+//! Reads request messages from bytes that come in any pieces.
 #![tactic(auto)]
 
 mod fields;

@@ -1,4 +1,4 @@
-//! A request message, and why none comes.
+//! A request message, and why there is none.
 use crate::method::Method;
 use json_text::{Bytes, Text};
 use thiserror::Error;
@@ -7,16 +7,16 @@ use thiserror::Error;
 #[derive(Debug, Drop)]
 pub struct Message {
     pub method: Method,
-    /// The value of the field `X-Amz-Target`. One that is not UTF-8 stands as the empty text.
+    /// The value of the field `X-Amz-Target`. A value that is not UTF-8 is given as the empty text.
     pub target: Option<Text>,
-    /// The value of the field `x-caller-account`, in the same way.
+    /// The value of the field `x-caller-account`, by the same rule.
     pub caller: Option<Text>,
     pub body: Bytes,
-    /// The sender asks to close after this message: version 1.0, or a field `Connection` whose whole value is `close`.
+    /// The sender asks to close after this message: version 1.0, or a field `Connection` with the whole value `close`.
     pub close: bool,
 }
 
-/// Why no message is given.
+/// Why there is no message.
 #[derive(Debug, Drop, Error)]
 pub enum WireFault {
     /// No message begins with these bytes, whatever follows.

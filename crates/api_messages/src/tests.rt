@@ -81,7 +81,7 @@ fn messages_follow_one_another_in_any_pieces(rt: HostRuntime) -> Result<(), Fail
 }
 
 #[test]
-fn heads_that_break_a_rule_are_refused_at_their_last_byte_for_good(
+fn heads_that_break_a_rule_are_refused_from_their_last_byte_on(
     rt: HostRuntime,
 ) -> Result<(), Fail> {
     let heads: [(&str, &[u8]); 19] = [

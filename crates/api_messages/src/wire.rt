@@ -16,7 +16,7 @@ use std::marker::Model;
 pub struct WireIn {
     alloc: Global,
     buffer: Vec<u8>,
-    /// Where the bytes begin that no message has taken.
+    /// The place of the first byte that no message has taken.
     start: usize,
     refused: bool,
 }
@@ -51,7 +51,7 @@ impl WireIn {
         }
     }
 
-    /// Makes room for so many bytes more, so that feeding them needs no memory.
+    /// Makes room for `len` more bytes, so that feeding them needs no memory. An `Err` changes nothing.
     pub fn reserve(&mut self, len: usize) -> Result<(), NoMemory>
         ensures room { OnOk result (len ≤ self.new.room) }
         ensures err { OnErr result (self.new ≡ self.old) }
@@ -62,7 +62,7 @@ impl WireIn {
         Ok(())
     }
 
-    /// Takes the next bytes, as many as came.
+    /// Adds the next bytes of the input. An `Err` adds none.
     pub fn feed(&mut self, piece: &[u8]) -> Result<(), NoMemory>
         ensures ok { OnOk result (self.new.rest ≡ self.old.rest ++ piece.now) }
         ensures err { OnErr result (self.new.rest ≡ self.old.rest) }
@@ -73,13 +73,12 @@ impl WireIn {
         Ok(())
     }
 
-    /// The next message, if a whole one is there.
-    ///
-    /// Only the message under way is read anew at the next call. Within the buffer no more bytes are moved, over all
-    /// calls, than messages took, however many messages one piece holds.
+    /// The next message. `None` if no whole one is there; the next call then reads its beginning once more.
+    /// `BadHead` is returned by every later call too. Out of memory takes no byte.
+    /// Over all calls, at most as many bytes are moved within the buffer as messages took.
     pub fn next(&mut self) -> Result<Option<Message>, WireFault>
         ensures answers { Answers self.old self.new result }
-        ensures for_good { self.old.refused ≡ true → IsErrOf result WireFault.BadHead }
+        ensures stays_refused { self.old.refused ≡ true → IsErrOf result WireFault.BadHead }
     {
         if self.refused {
             return Err(WireFault::BadHead);
@@ -125,7 +124,7 @@ impl WireIn {
         ensures refused { self.new.refused ≡ self.old.refused }
     {
         self.start += len;
-        // A front is given up once it is the longer half, so fewer bytes are moved than are given up.
+        // A front is dropped once it is the longer half, so fewer bytes are moved than are dropped.
         if self.start > self.buffer.len() / 2 {
             self.buffer.drain(..self.start);
             self.start = 0;

@@ -14,7 +14,8 @@ returns-then-is_empty c = length_of_size_cases _ _ c.is_empty.ensures c.then-is_
 
 pub returns-then-not-is_ascii_digit : goal.returns-then-not-is_ascii_digit
 returns-then-not-is_ascii_digit c =
-    length_of_other _ (list_all_fails is_ascii_digit c.args.value.now c.loop-digit.digit-index 0 c.loop-digit-test.true (sym c.if-not-is_ascii_digit.ensures.value))
+    let other = sym c.if-not-is_ascii_digit.ensures.value in
+    length_of_other _ (list_all_fails is_ascii_digit c.args.value.now c.loop-digit.digit-index 0 c.loop-digit-test.true other)
 
 pub returns-then-number-gt-BODY_LIMIT : goal.returns-then-number-gt-BODY_LIMIT
 returns-then-number-gt-BODY_LIMIT c =

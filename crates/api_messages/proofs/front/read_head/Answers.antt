@@ -24,7 +24,10 @@ returns-in-Ok-Complete-clause-front c =
         len = at.len;
         within = omega (arith, len, size);
         short = omega (arith, len, size, c.min.ensures);
-        few = let room = c.parse_request.auto.headers in let count = few_fields (take n bytes) c.parse_request.new.headers spans.headers h.fields at.fields in omega (arith, count, within.section.count_fits, room);
+        few =
+            let room = c.parse_request.auto.headers in
+            let count = few_fields (take n bytes) c.parse_request.new.headers spans.headers h.fields at.fields in
+            omega (arith, count, within.section.count_fits, room);
         method = c.of-in-Ok-Complete.ensures ∙ ap method_of (c.of.ensures ∙ at.method);
         minor = at.version;
         fields = c.of-in-Ok-Complete-2.ensures ∙ ap known_of at.fields;
@@ -51,7 +54,8 @@ pub returns-in-Err-clause-front : goal.returns-in-Err-clause-front
 returns-in-Err-clause-front c =
     let bytes = c.args.bytes.now in
     let n = c.min.result in
-    refused_whole bytes n (refused_by (take n bytes) c.in-Err.field-0 c.in-Err.ensures.invalid (λ e. c.in-Err.ensures.too_many (ap Err e)) c.in-Err.ensures.no_room)
+    let e = c.in-Err.ensures in
+    refused_whole bytes n (refused_by (take n bytes) c.in-Err.field-0 e.invalid (λ many. e.too_many (ap Err many)) e.no_room)
 
 pub returns-in-Ok-Partial-clause-awaited : goal.returns-in-Ok-Partial-clause-awaited
 returns-in-Ok-Partial-clause-awaited c =

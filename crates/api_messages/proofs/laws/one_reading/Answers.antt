@@ -3,7 +3,7 @@ use Rattle.api_messages.proofs.laws.one_reading.Goals as goal
 
 pub returns : goal.returns
 returns c = record {
-  told_once = lemmas.told_once;
+  one_message = lemmas.one_message;
   not_refused = lemmas.not_refused;
   not_awaited = lemmas.not_awaited;
   stays = lemmas.refused_stays;

@@ -1,32 +1,32 @@
 use Rattle.std.proofs.Common.{◌≡◌, ◌||◌, length, drop, sym, refl, ap, ◌∙◌, arith, take}
 use Rattle.std.specs.Prelude.{◌==◌}
 use Rattle.api_messages.specs.Messages.{unsound, body_awaited}
-use Rattle.api_messages.proofs.FrontLemmas.{take_behind, body_length_at, served_at, message_found}
-use Rattle.api_messages.proofs.front.read_body.Goals as goal
-use Rattle.api_messages.proofs.front.read_body.Goals.{then-head-eq0, else-head-eq0}
+use Rattle.api_messages.proofs.FrontLemmas.{take_after, body_length_at, served_at, message_found}
+use Rattle.api_messages.proofs.front.read_message.Goals as goal
+use Rattle.api_messages.proofs.front.read_message.Goals.{then-head-eq0, else-head-eq0}
 
 pub returns-in_default : goal.returns-in_default
 returns-in_default c =
     let at = c.requires.1 in
     unsound c.requires.0 _ at.reads (sym (body_length_at _ _ _ at) ∙ sym c.body_length.ensures ∙ c.in_default.is)
 
-pub returns-then-behind-body_len : goal.returns-then-behind-body_len
-returns-then-behind-body_len c =
+pub returns-then-after-body_len : goal.returns-then-after-body_len
+returns-then-after-body_len c =
     let at = c.requires.1 in
-    let behind = take_behind c.args.bytes.now c.args.head.len in
+    let after = take_after c.args.bytes.now c.args.head.len in
     body_awaited c.requires.0 (drop c.args.head.len c.args.bytes.now) c.in-Some.body_len at.reads
     (served_at _ _ _ c.in-Some.body_len at (sym c.body_length.ensures ∙ c.in-Some.is))
-    (omega (arith, ap length behind, c.if-behind-body_len.true))
+    (omega (arith, ap length after, c.if-after-body_len.true))
 
 pub returns : goal.returns
 returns c =
     let at = c.requires.1 in
-    let behind = take_behind c.args.bytes.now c.args.head.len in
+    let after = take_after c.args.bytes.now c.args.head.len in
     let close : c.if-head-eq0.result ≡ ((c.args.head.minor == 0) || c.args.head.fields.close) =
     elim c.if-head-eq0.branch [ then-head-eq0 w ↦ grind arith | else-head-eq0 w ↦ grind arith ] in
     message_found c.args.bytes.now c.args.head c.requires.0 c.in-Some.body_len _ at
     (sym c.body_length.ensures ∙ c.in-Some.is)
-    (omega (arith, ap length behind, c.if-behind-body_len.false))
+    (omega (arith, ap length after, c.if-after-body_len.false))
     refl refl refl refl
-    (ap (take c.in-Some.body_len) behind)
+    (ap (take c.in-Some.body_len) after)
     close
