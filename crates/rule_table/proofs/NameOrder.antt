@@ -1,4 +1,5 @@
--- The byte order of names: `Less_trans`, `same_name`, and what each answer of a comparison says of the test of equality.
+-- The byte order of names. RowLemmas and SortedLemmas cite `Less_trans`, `Less_from_Greater`, `Greater_from_Less`, `same_name`,
+-- and what a comparison says of the test of equality (`bytes_eq_itself`, `bytes_eq_Less`, `bytes_eq_Greater`).
 use Rattle.std.proofs.Common.{◌≡◌, ℕ, true, false, List, sym, ◌∙◌, ap}
 use Rattle.std.specs.Cmp.Lexicographic.{slice_cmp}
 use Rattle.std.specs.Ordering.{nat_cmp, ordering_reverse, is_eq}
@@ -22,9 +23,6 @@ bytes_eq_itself x = sym (is_eq-slice_cmp x x) ∙ ap is_eq (tied_itself nat_list
 
 pub same_name : (x y : List ℕ) → slice_cmp nat_cmp x y ≡ Equal → x ≡ y
 same_name = exact_bytes
-
-pub bytes_eq_Equal : (x y : List ℕ) → slice_cmp nat_cmp x y ≡ Equal → bytes_eq x y ≡ true
-bytes_eq_Equal x y e = sym (is_eq-slice_cmp x y) ∙ ap is_eq e
 
 pub bytes_eq_Less : (x y : List ℕ) → slice_cmp nat_cmp x y ≡ Less → bytes_eq x y ≡ false
 bytes_eq_Less x y e = sym (is_eq-slice_cmp x y) ∙ ap is_eq e

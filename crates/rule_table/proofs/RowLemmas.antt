@@ -1,6 +1,8 @@
--- Rows by their names: what `named`, `changed` and `placed` are at a place (`named_here`, `named_before`, `changed_here`,
--- `placed_here`, `placed_before`), and a place seen through a function (`here_map`, `before_map`).
-use Rattle.std.proofs.Common.{◌≡◌, ℕ, true, false, List, [], ◌∷◌, ◌++◌, length, map, Some, None, refl, sym, ap, ◌∙◌, subst, take, drop, suc, ◌<◌, ◌≤◌, arith, length-append, get_or}
+-- Rows by their names: the values of `named`, `changed` and `placed` when the place of the name is known. Other files cite
+-- `named_here`, `named_before`, `changed_here`, `placed_here`, `placed_before`, `named_none`, `changed_none`, `others_after`,
+-- `none_greater` and `place_map`.
+use Rattle.std.proofs.Common.{◌≡◌, ℕ, true, false, List, [], ◌∷◌, ◌++◌, length, map, Some, None, refl, sym, ap, ◌∙◌, subst, take}
+use Rattle.std.proofs.Common.{drop, suc, ◌<◌, arith, get_or}
 use Rattle.std.specs.Prelude.{All}
 use Rattle.std.specs.List.{insert}
 use Rattle.std.specs.Cmp.Lexicographic.{slice_cmp}
@@ -27,11 +29,11 @@ Other f name row = bytes_eq (f row) name ≡ false
 smaller_other : {A : Type 0} (f : A → List ℕ) (name : List ℕ) (row : A) → Smaller f name row → Other f name row
 smaller_other f name row e = bytes_eq_Less (f row) name (Less_from_Greater name (f row) e)
 
-named_behind : {A : Type 0} (f : A → List ℕ) (name : List ℕ) (front back : List A) → All (Other f name) front → named f name (front ++ back) ≡ named f name back
-named_behind f name [] back all = refl
-named_behind f name (row ∷ front) back all =
+named_after : {A : Type 0} (f : A → List ℕ) (name : List ℕ) (front back : List A) → All (Other f name) front → named f name (front ++ back) ≡ named f name back
+named_after f name [] back all = refl
+named_after f name (row ∷ front) back all =
     let e = All-head (Other f name) row front all in
-    rw e (named_behind f name front back (All-tail (Other f name) row front all))
+    rw e (named_after f name front back (All-tail (Other f name) row front all))
 
 pub named_none : {A : Type 0} (f : A → List ℕ) (name : List ℕ) (rows : List A) → All (Other f name) rows → named f name rows ≡ None
 named_none f name [] all = refl
@@ -45,28 +47,28 @@ changed_none f name change (row ∷ rows) all =
     let e = All-head (Other f name) row rows all in
     rw e (ap (λ rs. row ∷ rs) (changed_none f name change rows (All-tail (Other f name) row rows all)))
 
-changed_behind : {A : Type 0} (f : A → List ℕ) (name : List ℕ) (change : A → A) (front back : List A) → All (Other f name) front
+changed_after : {A : Type 0} (f : A → List ℕ) (name : List ℕ) (change : A → A) (front back : List A) → All (Other f name) front
     → changed f name change (front ++ back) ≡ front ++ changed f name change back
-changed_behind f name change [] back all = refl
-changed_behind f name change (row ∷ front) back all =
+changed_after f name change [] back all = refl
+changed_after f name change (row ∷ front) back all =
     let e = All-head (Other f name) row front all in
-    rw e (ap (λ rs. row ∷ rs) (changed_behind f name change front back (All-tail (Other f name) row front all)))
+    rw e (ap (λ rs. row ∷ rs) (changed_after f name change front back (All-tail (Other f name) row front all)))
 
-placed_behind : {A : Type 0} (f : A → List ℕ) (joined : A → A → A) (new : A) (front back : List A) → All (Smaller f (f new)) front
+placed_after : {A : Type 0} (f : A → List ℕ) (joined : A → A → A) (new : A) (front back : List A) → All (Smaller f (f new)) front
     → placed f joined new (front ++ back) ≡ front ++ placed f joined new back
-placed_behind f joined new [] back all = refl
-placed_behind f joined new (row ∷ front) back all =
+placed_after f joined new [] back all = refl
+placed_after f joined new (row ∷ front) back all =
     let e = All-head (Smaller f (f new)) row front all in
-    rw e (ap (λ rs. row ∷ rs) (placed_behind f joined new front back (All-tail (Smaller f (f new)) row front all)))
+    rw e (ap (λ rs. row ∷ rs) (placed_after f joined new front back (All-tail (Smaller f (f new)) row front all)))
 
-pub ordered_back : {A : Type 0} (f : A → List ℕ) (front back : List A) → AreSorted f (front ++ back) → AreSorted f back
-ordered_back f [] back o = o
-ordered_back f (row ∷ front) back o = ordered_back f front back o.1
+sorted_back : {A : Type 0} (f : A → List ℕ) (front back : List A) → AreSorted f (front ++ back) → AreSorted f back
+sorted_back f [] back o = o
+sorted_back f (row ∷ front) back o = sorted_back f front back o.1
 
--- behind a row of the name none has it
-pub others_behind : {A : Type 0} (f : A → List ℕ) (name : List ℕ) (old : A) (back : List A) → f old ≡ name
+-- no row after one with the name has the name
+pub others_after : {A : Type 0} (f : A → List ℕ) (name : List ℕ) (old : A) (back : List A) → f old ≡ name
     → All (λ other. slice_cmp nat_cmp (f old) (f other) ≡ Less) back → All (Other f name) back
-others_behind f name old back e all =
+others_after f name old back e all =
     All-weaker (λ other. slice_cmp nat_cmp (f old) (f other) ≡ Less) (Other f name)
     (λ other less. rw (← e) (bytes_eq_Greater (f other) (f old) (Greater_from_Less (f old) (f other) less))) back all
 
@@ -74,7 +76,7 @@ pub named_here : {A : Type 0} (f : A → List ℕ) (name : List ℕ) (rows : Lis
 named_here f name rows at h =
     let others = All-weaker (Smaller f name) (Other f name) (smaller_other f name) h.front h.smaller in
     let is_it : bytes_eq (f h.old) name ≡ true = rw (← same_name name (f h.old) h.same) (bytes_eq_itself name) in
-    ap (named f name) h.parts ∙ named_behind f name h.front (h.old ∷ h.back) others ∙ rw is_it refl
+    ap (named f name) h.parts ∙ named_after f name h.front (h.old ∷ h.back) others ∙ rw is_it refl
 
 pub none_greater : {A : Type 0} (f : A → List ℕ) (name : List ℕ) (back : List A) → AreSorted f back → StartsGreater f name back → All (Other f name) back
 none_greater f name [] o greater = All-nil (Other f name)
@@ -83,13 +85,14 @@ none_greater f name (row ∷ rows) o greater =
     (All-weaker (λ other. slice_cmp nat_cmp (f row) (f other) ≡ Less) (Other f name)
     (λ other less. bytes_eq_Greater (f other) name (Greater_from_Less name (f other) (Less_trans name (f row) (f other) greater less))) rows o.0)
 
-pub named_before : {A : Type 0} (f : A → List ℕ) (name : List ℕ) (rows : List A) (at : ℕ) → AreSorted f rows → IsBefore f name rows at → named f name rows ≡ None
+pub named_before : {A : Type 0} (f : A → List ℕ) (name : List ℕ) (rows : List A) (at : ℕ) → AreSorted f rows → IsBefore f name rows at
+    → named f name rows ≡ None
 named_before f name rows at o h =
     let others = All-weaker (Smaller f name) (Other f name) (smaller_other f name) h.front h.smaller in
-    let behind = ordered_back f h.front h.back (subst (AreSorted f) h.parts o) in
-    ap (named f name) h.parts ∙ named_behind f name h.front h.back others ∙ named_none f name h.back (none_greater f name h.back behind h.greater)
+    let later = sorted_back f h.front h.back (subst (AreSorted f) h.parts o) in
+    ap (named f name) h.parts ∙ named_after f name h.front h.back others ∙ named_none f name h.back (none_greater f name h.back later h.greater)
 
-pub set_here : {A : Type 0} (f : A → List ℕ) (name : List ℕ) (rows : List A) (at : ℕ) (new : A) → (h : IsHere f name rows at)
+set_here : {A : Type 0} (f : A → List ℕ) (name : List ℕ) (rows : List A) (at : ℕ) (new : A) → (h : IsHere f name rows at)
     → set rows at new ≡ h.front ++ new ∷ h.back
 set_here f name rows at new h =
     ap (λ rs. set rs at new) h.parts ∙ ap (λ n. set (h.front ++ h.old ∷ h.back) n new) (sym h.at) ∙ set-append_seam h.front h.old h.back new
@@ -99,30 +102,32 @@ pub changed_here : {A : Type 0} (f : A → List ℕ) (name : List ℕ) (change :
 changed_here f name change rows at o h =
     let others = All-weaker (Smaller f name) (Other f name) (smaller_other f name) h.front h.smaller in
     let is_it : bytes_eq (f h.old) name ≡ true = rw (← same_name name (f h.old) h.same) (bytes_eq_itself name) in
-    let behind = ordered_back f h.front (h.old ∷ h.back) (subst (AreSorted f) h.parts o) in
-    let rest = changed_none f name change h.back (others_behind f name h.old h.back (sym (same_name name (f h.old) h.same)) behind.0) in
-    ap (changed f name change) h.parts ∙ changed_behind f name change h.front (h.old ∷ h.back) others
+    let later = sorted_back f h.front (h.old ∷ h.back) (subst (AreSorted f) h.parts o) in
+    let rest = changed_none f name change h.back (others_after f name h.old h.back (sym (same_name name (f h.old) h.same)) later.0) in
+    ap (changed f name change) h.parts ∙ changed_after f name change h.front (h.old ∷ h.back) others
     ∙ rw (is_it, rest) (sym (set_here f name rows at (change h.old) h))
 
 pub placed_here : {A : Type 0} (f : A → List ℕ) (joined : A → A → A) (new : A) (rows : List A) (at : ℕ)
     → (h : IsHere f (f new) rows at) → placed f joined new rows ≡ set rows at (joined h.old new)
 placed_here f joined new rows at h =
     let e = h.same in
-    ap (placed f joined new) h.parts ∙ placed_behind f joined new h.front (h.old ∷ h.back) h.smaller
+    ap (placed f joined new) h.parts ∙ placed_after f joined new h.front (h.old ∷ h.back) h.smaller
     ∙ rw e (sym (set_here f (f new) rows at (joined h.old new) h))
 
-placed_first : {A : Type 0} (f : A → List ℕ) (joined : A → A → A) (new : A) (back : List A) → StartsGreater f (f new) back → placed f joined new back ≡ new ∷ back
+placed_first : {A : Type 0} (f : A → List ℕ) (joined : A → A → A) (new : A) (back : List A) → StartsGreater f (f new) back
+    → placed f joined new back ≡ new ∷ back
 placed_first f joined new [] greater = refl
 placed_first f joined new (row ∷ rows) greater = rw greater refl
 
 pub placed_before : {A : Type 0} (f : A → List ℕ) (joined : A → A → A) (new : A) (rows : List A) (at : ℕ)
     → IsBefore f (f new) rows at → placed f joined new rows ≡ insert rows at new
 placed_before f joined new rows at h =
-    ap (placed f joined new) h.parts ∙ placed_behind f joined new h.front h.back h.smaller
+    ap (placed f joined new) h.parts ∙ placed_after f joined new h.front h.back h.smaller
     ∙ ap (λ rs. h.front ++ rs) (placed_first f joined new h.back h.greater)
     ∙ sym (ap (λ rs. insert rs at new) h.parts ∙ rw (take_at h.front h.back at h.at, drop_at h.front h.back at h.at) refl)
 
-pub here_map : {A B : Type 0} (g : A → B) (f : B → List ℕ) (name : List ℕ) (rows : List A) (at : ℕ) → IsHere (λ row. f (g row)) name rows at → IsHere f name (map g rows) at
+here_map : {A B : Type 0} (g : A → B) (f : B → List ℕ) (name : List ℕ) (rows : List A) (at : ℕ) → IsHere (λ row. f (g row)) name rows at
+    → IsHere f name (map g rows) at
 here_map g f name rows at h = record {
   front = map g h.front;
   old = g h.old;
@@ -133,11 +138,13 @@ here_map g f name rows at h = record {
   same = h.same;
 }
 
-starts_map : {A B : Type 0} (g : A → B) (f : B → List ℕ) (name : List ℕ) (rows : List A) → StartsGreater (λ row. f (g row)) name rows → StartsGreater f name (map g rows)
+starts_map : {A B : Type 0} (g : A → B) (f : B → List ℕ) (name : List ℕ) (rows : List A) → StartsGreater (λ row. f (g row)) name rows
+    → StartsGreater f name (map g rows)
 starts_map g f name [] h = tt
 starts_map g f name (row ∷ rows) h = h
 
-pub before_map : {A B : Type 0} (g : A → B) (f : B → List ℕ) (name : List ℕ) (rows : List A) (at : ℕ) → IsBefore (λ row. f (g row)) name rows at → IsBefore f name (map g rows) at
+before_map : {A B : Type 0} (g : A → B) (f : B → List ℕ) (name : List ℕ) (rows : List A) (at : ℕ)
+    → IsBefore (λ row. f (g row)) name rows at → IsBefore f name (map g rows) at
 before_map g f name rows at h = record {
   front = map g h.front;
   back = map g h.back;
@@ -147,22 +154,20 @@ before_map g f name rows at h = record {
   greater = starts_map g f name h.back h.greater;
 }
 
-pub here_within : {A : Type 0} (f : A → List ℕ) (name : List ℕ) (rows : List A) (at : ℕ) → IsHere f name rows at → at < length rows
-here_within f name rows at h = omega (arith, h.at, ap length h.parts, length-append h.front (h.old ∷ h.back))
-
 pub here_old : {A : Type 0} (f : A → List ℕ) (name : List ℕ) (rows : List A) (at : ℕ) (d : A) → (h : IsHere f name rows at) → get_or rows at d ≡ h.old
-here_old f name rows at d h = ap (λ rs. get_or rs at d) h.parts ∙ ap (λ n. get_or (h.front ++ h.old ∷ h.back) n d) (sym h.at) ∙ get_or-append_seam h.front h.old h.back d
-
-pub before_within : {A : Type 0} (f : A → List ℕ) (name : List ℕ) (rows : List A) (at : ℕ) → IsBefore f name rows at → at ≤ length rows
-before_within f name rows at h = omega (arith, h.at, ap length h.parts, length-append h.front h.back)
+here_old f name rows at d h =
+    ap (λ rs. get_or rs at d) h.parts ∙ ap (λ n. get_or (h.front ++ h.old ∷ h.back) n d) (sym h.at)
+    ∙ get_or-append_seam h.front h.old h.back d
 
 pub map_insert : {A B : Type 0} (g : A → B) (rows : List A) (at : ℕ) (new : A) → map g (insert rows at new) ≡ insert (map g rows) at (g new)
-map_insert g rows at new = map-append g (take at rows) (new ∷ drop at rows) ∙ ap (λ front. front ++ g new ∷ map g (drop at rows)) (sym (take-map g at rows)) ∙ ap (λ back. take at (map g rows) ++ g new ∷ back) (sym (drop-map g at rows))
+map_insert g rows at new =
+    map-append g (take at rows) (new ∷ drop at rows) ∙ ap (λ front. front ++ g new ∷ map g (drop at rows)) (sym (take-map g at rows))
+    ∙ ap (λ back. take at (map g rows) ++ g new ∷ back) (sym (drop-map g at rows))
 
-pub place_seen : {A B : Type 0} (g : A → B) (f : B → List ℕ) (name : List ℕ) (rows : List A) (seen : List B) (place : Place)
+pub place_map : {A B : Type 0} (g : A → B) (f : B → List ℕ) (name : List ℕ) (rows : List A) (seen : List B) (place : Place)
     → IsPlace (λ row. f (g row)) name rows place → map g rows ≡ seen → IsPlace f name seen place
-place_seen g f name rows seen (Here at) h is = subst (λ rs. IsHere f name rs at) is (here_map g f name rows at h)
-place_seen g f name rows seen (Before at) h is = subst (λ rs. IsBefore f name rs at) is (before_map g f name rows at h)
+place_map g f name rows seen (Here at) h is = subst (λ rs. IsHere f name rs at) is (here_map g f name rows at h)
+place_map g f name rows seen (Before at) h is = subst (λ rs. IsBefore f name rs at) is (before_map g f name rows at h)
 
 length-take_within : {A : Type 0} (at : ℕ) (rows : List A) → at < length rows → length (take at rows) ≡ at
 length-take_within at rows within = omega (arith, length-take at rows)

@@ -1,5 +1,6 @@
--- What a change keeps: `kept_first`, `kept_applied`.
-use Rattle.std.proofs.Common.{◌≡◌, ℕ, ◌+◌, ◌<◌, ◌≤◌, ◌⊎◌, true, false, Bool, List, [], ◌∷◌, length, Some, refl, sym, ap, ◌∙◌, subst, arith, inl, inr, is_some, suc, lit≤}
+-- An allowed change leads from a sound and sorted rule set to a sound and sorted one: `sorted_applied`. ChangeLemmas cites `All_named`.
+use Rattle.std.proofs.Common.{◌≡◌, ℕ, ◌+◌, ◌<◌, ◌≤◌, ◌⊎◌, true, false, Bool, List, [], ◌∷◌, length, Some, refl, sym, ap, ◌∙◌}
+use Rattle.std.proofs.Common.{subst, arith, inl, inr, is_some, suc}
 use Rattle.std.specs.Prelude.{All}
 use Rattle.std.specs.Cmp.Lexicographic.{slice_cmp}
 use Rattle.std.specs.Ordering.{nat_cmp}
@@ -10,13 +11,14 @@ use Rattle.std.proofs.lemmas.Bool.{false≢true}
 use Rattle.std.proofs.lemmas.List.{length-map}
 use Rattle.std.proofs.lemmas.List.Elements.{All-head, All-tail, All-cons, All-nil, All-weaker}
 use Rattle.std.proofs.lemmas.Slice.Eq.{bytes_eq-Decides}
-use Rattle.rule_table.specs.RuleSet.{Rule, Bus, RuleSet, first_set, named, changed, placed, keeping_targets, put_rule, put_target, put_targets, rules_in, rules_of, rule_at, applied, IsQueueThere, ForRule, IsAllowed}
-use Rattle.event_shape.specs.Names.{default_bus, IsShortName}
+use Rattle.rule_table.specs.RuleSet.{Rule, Bus, RuleSet, named, changed, placed, keeping_targets, put_rule, put_target}
+use Rattle.rule_table.specs.RuleSet.{put_targets, rules_in, rules_of, rule_at, applied, IsQueueThere, ForRule, IsAllowed}
+use Rattle.event_shape.specs.Names.{IsShortName}
 use Rattle.rule_table.specs.Control.{Control, rule_put, targets_put, queue_created}
 use Rattle.rule_table.specs.Sorted.{AreSorted, IsSortedSet}
 use Rattle.rule_table.specs.declared.control.Target.{Target}
 use Rattle.rule_table.proofs.NameOrder.{Less_trans, Less_from_Greater, same_name, bytes_eq_Less}
-use Rattle.rule_table.proofs.RowLemmas.{changed_none, named_none, none_greater, others_behind}
+use Rattle.rule_table.proofs.RowLemmas.{changed_none, named_none, none_greater, others_after}
 
 -- cases of a comparison
 by_cmp : {G : Type 0} (o : Ordering) → (o ≡ Less → G) → (o ≡ Equal → G) → (o ≡ Greater → G) → G
@@ -28,8 +30,8 @@ by_test : {G : Type 0} (b : Bool) → (b ≡ true → G) → (b ≡ false → G)
 by_test true t f = t refl
 by_test false t f = f refl
 
--- what holds of each row and of a new one holds of each once it is placed
-pub All_placed : {A : Type 0} (P : A → Type 0) (f : A → List ℕ) (joined : A → A → A) (new : A) (rows : List A)
+-- a fact that holds of each row and of the new one holds of each row of `placed`
+All_placed : {A : Type 0} (P : A → Type 0) (f : A → List ℕ) (joined : A → A → A) (new : A) (rows : List A)
     → P new → ((old : A) → P old → P (joined old new)) → All P rows → All P (placed f joined new rows)
 All_placed P f joined new [] p j all = All-cons P new [] p all
 All_placed P f joined new (old ∷ rest) p j all =
@@ -40,15 +42,23 @@ All_placed P f joined new (old ∷ rest) p j all =
     (λ e. rw e (All-cons P (joined old new) rest (j old first) others))
     (λ e. rw e (All-cons P old (placed f joined new rest) first (All_placed P f joined new rest p j others)))
 
-pub ordered_placed : {A : Type 0} (f : A → List ℕ) (joined : A → A → A) (new : A) (rows : List A)
+sorted_placed : {A : Type 0} (f : A → List ℕ) (joined : A → A → A) (new : A) (rows : List A)
     → ((old : A) → f (joined old new) ≡ f new) → AreSorted f rows → AreSorted f (placed f joined new rows)
-ordered_placed f joined new [] j o = (All-nil (λ other. slice_cmp nat_cmp (f new) (f other) ≡ Less), tt)
-ordered_placed {A} f joined new (old ∷ rest) j o =
+sorted_placed f joined new [] j o = (All-nil (λ other. slice_cmp nat_cmp (f new) (f other) ≡ Less), tt)
+sorted_placed {A} f joined new (old ∷ rest) j o =
     let above : List ℕ → A → Type 0 = λ name other. slice_cmp nat_cmp name (f other) ≡ Less in
     by_cmp (slice_cmp nat_cmp (f new) (f old))
-    (λ e. rw e (All-cons (above (f new)) old rest e (All-weaker (above (f old)) (above (f new)) (λ other less. Less_trans (f new) (f old) (f other) e less) rest o.0), o))
+    (λ e. rw e (
+      All-cons (above (f new)) old rest e
+          (All-weaker (above (f old)) (above (f new)) (λ other less. Less_trans (f new) (f old) (f other) e less) rest o.0),
+      o,
+    ))
     (λ e. rw e (All-weaker (above (f old)) (above (f (joined old new))) (λ other less. rw (j old, same_name (f new) (f old) e) less) rest o.0, o.1))
-    (λ e. rw e (All_placed (above (f old)) f joined new rest (Less_from_Greater (f new) (f old) e) (λ other less. rw (j other) (Less_from_Greater (f new) (f old) e)) o.0, ordered_placed f joined new rest j o.1))
+    (λ e. rw e (
+      All_placed (above (f old)) f joined new rest (Less_from_Greater (f new) (f old) e)
+          (λ other less. rw (j other) (Less_from_Greater (f new) (f old) e)) o.0,
+      sorted_placed f joined new rest j o.1,
+    ))
 
 changed_same : {A : Type 0} (f : A → List ℕ) (name : List ℕ) (change : A → A) (row : A) (rows : List A) → bytes_eq (f row) name ≡ true
     → changed f name change (row ∷ rows) ≡ change row ∷ changed f name change rows
@@ -58,7 +68,7 @@ changed_other : {A : Type 0} (f : A → List ℕ) (name : List ℕ) (change : A 
     → changed f name change (row ∷ rows) ≡ row ∷ changed f name change rows
 changed_other f name change row rows e = rw e refl
 
-pub All_changed : {A : Type 0} (P Q : A → Type 0) (f : A → List ℕ) (name : List ℕ) (change : A → A) (rows : List A)
+All_changed : {A : Type 0} (P Q : A → Type 0) (f : A → List ℕ) (name : List ℕ) (change : A → A) (rows : List A)
     → ((row : A) → P row → Q row) → ((row : A) → P row → Q (change row)) → All P rows → All Q (changed f name change rows)
 All_changed P Q f name change [] same c all = All-nil Q
 All_changed P Q f name change (row ∷ rows) same c all =
@@ -71,42 +81,44 @@ All_changed P Q f name change (row ∷ rows) same c all =
 named_same : {A : Type 0} (f : A → List ℕ) (name : List ℕ) (row : A) (rows : List A) → bytes_eq (f row) name ≡ true → named f name (row ∷ rows) ≡ Some row
 named_same f name row rows e = rw e refl
 
-named_other : {A : Type 0} (f : A → List ℕ) (name : List ℕ) (row : A) (rows : List A) → bytes_eq (f row) name ≡ false → named f name (row ∷ rows) ≡ named f name rows
+named_other : {A : Type 0} (f : A → List ℕ) (name : List ℕ) (row : A) (rows : List A) → bytes_eq (f row) name ≡ false
+    → named f name (row ∷ rows) ≡ named f name rows
 named_other f name row rows e = rw e refl
 
 bytes_same : (a b : List ℕ) → bytes_eq a b ≡ true → a ≡ b
 bytes_same a b = (bytes_eq-Decides a b).0
 
--- in order the row of the name alone changes
-pub All_changed_named : {A : Type 0} (P : A → Type 0) (f : A → List ℕ) (name : List ℕ) (change : A → A) (rows : List A)
+-- if the rows are sorted, only the row of the name changes
+All_changed_named : {A : Type 0} (P : A → Type 0) (f : A → List ℕ) (name : List ℕ) (change : A → A) (rows : List A)
     → AreSorted f rows → ((row : A) → named f name rows ≡ Some row → P row → P (change row)) → All P rows → All P (changed f name change rows)
 All_changed_named P f name change [] o c all = All-nil P
 All_changed_named P f name change (row ∷ rows) o c all =
     let first = All-head P row rows all in
     let others = All-tail P row rows all in
     by_test (bytes_eq (f row) name)
-    (λ e. let rest = changed_none f name change rows (others_behind f name row rows (bytes_same (f row) name e) o.0) in
+    (λ e. let rest = changed_none f name change rows (others_after f name row rows (bytes_same (f row) name e) o.0) in
     subst (All P) (sym (changed_same f name change row rows e ∙ ap (λ rs. change row ∷ rs) rest))
     (All-cons P (change row) rows (c row (named_same f name row rows e) first) others))
     (λ e. subst (All P) (sym (changed_other f name change row rows e))
     (All-cons P row (changed f name change rows) first
     (All_changed_named P f name change rows o.1 (λ other is. c other (named_other f name row rows e ∙ is)) others)))
 
-pub ordered_changed : {A : Type 0} (f : A → List ℕ) (name : List ℕ) (change : A → A) (rows : List A)
+pub sorted_changed : {A : Type 0} (f : A → List ℕ) (name : List ℕ) (change : A → A) (rows : List A)
     → ((row : A) → f (change row) ≡ f row) → AreSorted f rows → AreSorted f (changed f name change rows)
-ordered_changed f name change [] c o = tt
-ordered_changed {A} f name change (row ∷ rows) c o =
+sorted_changed f name change [] c o = tt
+sorted_changed {A} f name change (row ∷ rows) c o =
     let above : List ℕ → A → Type 0 = λ name other. slice_cmp nat_cmp name (f other) ≡ Less in
     let others = All_changed (above (f row)) (above (f row)) f name change rows (λ other less. less) (λ other less. rw (c other) less) o.0 in
     by_test (bytes_eq (f row) name)
-    (λ e. rw e (rw (c row) others, ordered_changed f name change rows c o.1))
-    (λ e. rw e (others, ordered_changed f name change rows c o.1))
+    (λ e. rw e (rw (c row) others, sorted_changed f name change rows c o.1))
+    (λ e. rw e (others, sorted_changed f name change rows c o.1))
 
 pub All_named : {A : Type 0} (P : A → Type 0) (f : A → List ℕ) (name : List ℕ) (rows : List A) (row : A) → named f name rows ≡ Some row → All P rows → P row
 All_named P f name [] row is all = cc
 All_named P f name (first ∷ rows) row is all =
     by_test (bytes_eq (f first) name)
-    (λ e. let both : Some first ≡ Some row = sym (named_same f name first rows e) ∙ is in let same : first ≡ row = cc in subst P same (All-head P first rows all))
+    (λ e. let both : Some first ≡ Some row = sym (named_same f name first rows e)
+    ∙ is in let same : first ≡ row = cc in subst P same (All-head P first rows all))
     (λ e. All_named P f name rows row (sym (named_other f name first rows e) ∙ is) (All-tail P first rows all))
 
 length_placed : {A : Type 0} (f : A → List ℕ) (joined : A → A → A) (new : A) (rows : List A) → length (placed f joined new rows) ≤ length rows + 1
@@ -117,7 +129,7 @@ length_placed f joined new (old ∷ rest) =
     (λ e. rw e (omega arith))
     (λ e. rw e (omega (arith, length_placed f joined new rest)))
 
--- in order a row of the name gives way
+-- if the rows are sorted and one has the name, the number of rows stays
 length_placed_same : {A : Type 0} (f : A → List ℕ) (joined : A → A → A) (new : A) (rows : List A) → AreSorted f rows → is_some (named f (f new) rows) ≡ true
     → length (placed f joined new rows) ≡ length rows
 length_placed_same f joined new [] o h = cc
@@ -130,7 +142,7 @@ length_placed_same f joined new (old ∷ rest) o h =
     let still = sym (ap is_some (named_other f (f new) old rest other)) ∙ h in
     rw e (ap suc (length_placed_same f joined new rest o.1 still)))
 
--- what has a row keeps one
+-- a name that has a row still has one
 named_placed : {A : Type 0} (f : A → List ℕ) (joined : A → A → A) (new : A) (name : List ℕ) (rows : List A)
     → ((old : A) → f (joined old new) ≡ f new) → is_some (named f name rows) ≡ true → is_some (named f name (placed f joined new rows)) ≡ true
 named_placed f joined new name [] j h = cc
@@ -142,7 +154,8 @@ named_placed f joined new name (old ∷ rest) j h =
     (λ e. let alike : f (joined old new) ≡ f old = j old ∙ same_name (f new) (f old) e in
     rw e (by_test (bytes_eq (f old) name)
     (λ same. ap is_some (named_same f name (joined old new) rest (ap (λ n. bytes_eq n name) alike ∙ same)))
-    (λ other. ap is_some (named_other f name (joined old new) rest (ap (λ n. bytes_eq n name) alike ∙ other)) ∙ sym (ap is_some (named_other f name old rest other)) ∙ h)))
+    (λ other. ap is_some (named_other f name (joined old new) rest (ap (λ n. bytes_eq n name) alike ∙ other))
+    ∙ sym (ap is_some (named_other f name old rest other)) ∙ h)))
     (λ e. rw e (by_test (bytes_eq (f old) name)
     (λ same. ap is_some (named_same f name old (placed f joined new rest) same))
     (λ other. ap is_some (named_other f name old (placed f joined new rest) other)
@@ -163,8 +176,9 @@ short_put : (new : Rule) (rules : List Rule) → AreSorted (λ rule. rule.name) 
 short_put new rules o small (inl some) = let e = length_placed_same (λ rule. rule.name) keeping_targets new rules o some in omega (arith, e)
 short_put new rules o small (inr room) = let e = length_placed (λ rule. rule.name) keeping_targets new rules in omega (arith, e, room)
 
-kept_rule : (bus name pattern : List ℕ) (enabled : Bool) (set : RuleSet) → IsAllowed (rule_put bus name pattern enabled) set → IsSortedSet set → IsSortedSet (applied (rule_put bus name pattern enabled) set)
-kept_rule bus name pattern enabled set a k =
+sorted_rule : (bus name pattern : List ℕ) (enabled : Bool) (set : RuleSet) → IsAllowed (rule_put bus name pattern enabled) set
+    → IsSortedSet set → IsSortedSet (applied (rule_put bus name pattern enabled) set)
+sorted_rule bus name pattern enabled set a k =
     let new : Rule = record { name = name; pattern = pattern; enabled = enabled; targets = [] } in
     let change : Bus → Bus = λ b. record b { rules = put_rule new b.rules } in
     let bus_name : Bus → List ℕ = λ b. b.name in
@@ -175,22 +189,25 @@ kept_rule bus name pattern enabled set a k =
     let short : (b : Bus) → named bus_name bus set.buses ≡ Some b → IsShort b → length (put_rule new b.rules) ≤ 300 =
     λ b is small.
     let there : rules_of bus set ≡ b.rules = ap rules_in is in
-    let ordered = All_named IsInOrder bus_name bus set.buses b is k.rules in
-    short_put new b.rules ordered small (subst (λ rs. (is_some (named rule_name name rs) ≡ true) ⊎ (length rs < 300)) there a.2) in
+    let sorted = All_named IsInOrder bus_name bus set.buses b is k.rules in
+    short_put new b.rules sorted small (subst (λ rs. (is_some (named rule_name name rs) ≡ true) ⊎ (length rs < 300)) there a.2) in
     record {
       sound = record {
         rules = All_changed_named IsShort bus_name bus change set.buses k.buses short k.sound.rules;
         targets = All_changed HaveTargets HaveTargets bus_name bus change set.buses (λ b h. h)
-            (λ b h. All_placed (AreTargets set) rule_name keeping_targets new b.rules (omega arith, All-nil (λ target. IsQueueThere set target.arn)) (λ old p. p) h) k.sound.targets;
+            (λ b h. All_placed (AreTargets set) rule_name keeping_targets new b.rules
+            (omega arith, All-nil (λ target. IsQueueThere set target.arn)) (λ old p. p) h) k.sound.targets;
         queues = k.sound.queues;
       };
-      buses = ordered_changed bus_name bus change set.buses (λ b. refl) k.buses;
-      rules = All_changed IsInOrder IsInOrder bus_name bus change set.buses (λ b h. h) (λ b h. ordered_placed rule_name keeping_targets new b.rules (λ old. refl) h) k.rules;
+      buses = sorted_changed bus_name bus change set.buses (λ b. refl) k.buses;
+      rules = All_changed IsInOrder IsInOrder bus_name bus change set.buses (λ b h. h)
+          (λ b h. sorted_placed rule_name keeping_targets new b.rules (λ old. refl) h) k.rules;
       queues = k.queues;
     }
 
-kept_targets : (bus rule : List ℕ) (targets : List Target) (set : RuleSet) → IsAllowed (targets_put bus rule targets) set → IsSortedSet set → IsSortedSet (applied (targets_put bus rule targets) set)
-kept_targets bus rule targets set a k =
+sorted_targets : (bus rule : List ℕ) (targets : List Target) (set : RuleSet) → IsAllowed (targets_put bus rule targets) set → IsSortedSet set
+    → IsSortedSet (applied (targets_put bus rule targets) set)
+sorted_targets bus rule targets set a k =
     let put : Rule → Rule = λ r. record r { targets = put_targets targets r.targets } in
     let bus_name : Bus → List ℕ = λ b. b.name in
     let rule_name : Rule → List ℕ = λ r. r.name in
@@ -198,15 +215,18 @@ kept_targets bus rule targets set a k =
     let IsInOrder : Bus → Type 0 = λ b. AreSorted rule_name b.rules in
     let IsShort : Bus → Type 0 = λ b. length b.rules ≤ 300 in
     let HaveTargets : Bus → Type 0 = λ b. All (AreTargets set) b.rules in
-    let Fact : Rule → Type 0 = λ r. All (λ target. IsShortName target.id × IsQueueThere set target.arn) targets × (length (put_targets targets r.targets) ≤ 5) in
+    let Fact : Rule → Type 0 =
+    λ r. All (λ target. IsShortName target.id × IsQueueThere set target.arn) targets × (length (put_targets targets r.targets) ≤ 5) in
     let have : (b : Bus) → named bus_name bus set.buses ≡ Some b → HaveTargets b → All (AreTargets set) (changed rule_name rule put b.rules) =
     λ b is h.
-    let ordered = All_named IsInOrder bus_name bus set.buses b is k.rules in
-    All_changed_named (AreTargets set) rule_name rule put b.rules ordered
+    let sorted = All_named IsInOrder bus_name bus set.buses b is k.rules in
+    All_changed_named (AreTargets set) rule_name rule put b.rules sorted
     (λ r at p.
     let there : rule_at bus rule set ≡ Some r = ap (λ o. named rule_name rule (rules_in o)) is ∙ at in
     let fact = subst (λ o. ForRule o Fact) there a in
-    let queues = All-weaker (λ target. IsShortName target.id × IsQueueThere set target.arn) (λ target. IsQueueThere set target.arn) (λ target both. both.1) targets fact.0 in
+    let queues =
+    All-weaker (λ target. IsShortName target.id × IsQueueThere set target.arn) (λ target. IsQueueThere set target.arn)
+    (λ target both. both.1) targets fact.0 in
     (fact.1, All_put_targets (λ target. IsQueueThere set target.arn) targets r.targets queues p.1)) h in
     record {
       sound = record {
@@ -214,13 +234,14 @@ kept_targets bus rule targets set a k =
         targets = All_changed_named HaveTargets bus_name bus change set.buses k.buses have k.sound.targets;
         queues = k.sound.queues;
       };
-      buses = ordered_changed bus_name bus change set.buses (λ b. refl) k.buses;
-      rules = All_changed IsInOrder IsInOrder bus_name bus change set.buses (λ b h. h) (λ b h. ordered_changed rule_name rule put b.rules (λ r. refl) h) k.rules;
+      buses = sorted_changed bus_name bus change set.buses (λ b. refl) k.buses;
+      rules = All_changed IsInOrder IsInOrder bus_name bus change set.buses (λ b h. h)
+          (λ b h. sorted_changed rule_name rule put b.rules (λ r. refl) h) k.rules;
       queues = k.queues;
     }
 
-kept_queue : (name : List ℕ) (set : RuleSet) → IsAllowed (queue_created name) set → IsSortedSet set → IsSortedSet (applied (queue_created name) set)
-kept_queue name set a k =
+sorted_queue : (name : List ℕ) (set : RuleSet) → IsAllowed (queue_created name) set → IsSortedSet set → IsSortedSet (applied (queue_created name) set)
+sorted_queue name set a k =
     let next = applied (queue_created name) set in
     let itself : List ℕ → List ℕ = λ queue. queue in
     let stays : (target : Target) → IsQueueThere set target.arn → IsQueueThere next target.arn =
@@ -236,24 +257,10 @@ kept_queue name set a k =
       };
       buses = k.buses;
       rules = k.rules;
-      queues = ordered_placed itself (λ old new. new) name set.queues (λ old. refl) k.queues;
+      queues = sorted_placed itself (λ old new. new) name set.queues (λ old. refl) k.queues;
     }
 
-pub kept_applied : (control : Control) (set : RuleSet) → IsAllowed control set → IsSortedSet set → IsSortedSet (applied control set)
-kept_applied (rule_put bus name pattern enabled) set a k = kept_rule bus name pattern enabled set a k
-kept_applied (targets_put bus rule targets) set a k = kept_targets bus rule targets set a k
-kept_applied (queue_created name) set a k = kept_queue name set a k
-
-pub kept_first : IsSortedSet first_set
-kept_first =
-    let first : Bus = record { name = default_bus; rules = [] } in
-    record {
-      sound = record {
-        rules = All-cons (λ b. length b.rules ≤ 300) first [] (lit≤ tt) (All-nil (λ b. length b.rules ≤ 300));
-        targets = All-cons (λ b. All (AreTargets first_set) b.rules) first [] (All-nil (AreTargets first_set)) (All-nil (λ b. All (AreTargets first_set) b.rules));
-        queues = lit≤ tt;
-      };
-      buses = (All-nil (λ other. slice_cmp nat_cmp default_bus other.name ≡ Less), tt);
-      rules = All-cons (λ b. AreSorted (λ rule. rule.name) b.rules) first [] tt (All-nil (λ b. AreSorted (λ rule. rule.name) b.rules));
-      queues = tt;
-    }
+pub sorted_applied : (control : Control) (set : RuleSet) → IsAllowed control set → IsSortedSet set → IsSortedSet (applied control set)
+sorted_applied (rule_put bus name pattern enabled) set a k = sorted_rule bus name pattern enabled set a k
+sorted_applied (targets_put bus rule targets) set a k = sorted_targets bus rule targets set a k
+sorted_applied (queue_created name) set a k = sorted_queue name set a k

@@ -6,7 +6,7 @@ use Rattle.std.specs.declared.cmp.Ordering.TheVariants.{Less, Equal, Greater}
 use Rattle.rule_table.specs.declared.rows.Place.{Place}
 use Rattle.rule_table.specs.declared.rows.Place.TheVariants.{Here, Before}
 
--- the row of the name stands behind so many rows, whose names are smaller
+-- the row at this index has the name, and the rows before it have smaller names
 pub record IsHere {A : Type 0} (name_of : A → List ℕ) (name : List ℕ) (rows : List A) (place : ℕ) : Type 0 where
   pub front : List A
   pub old : A
@@ -16,12 +16,12 @@ pub record IsHere {A : Type 0} (name_of : A → List ℕ) (name : List ℕ) (row
   pub smaller : All (λ row. slice_cmp nat_cmp name (name_of row) ≡ Greater) front
   pub same : slice_cmp nat_cmp name (name_of old) ≡ Equal
 
--- no row, or the first has a greater name
+-- there is no row, or the first one has a greater name
 abbrev pub StartsGreater : {A : Type 0} → (A → List ℕ) → List ℕ → List A → Type 0
 StartsGreater name_of name [] = Unit {0}
 StartsGreater name_of name (row ∷ rows) = slice_cmp nat_cmp name (name_of row) ≡ Less
 
--- a row of the name would stand behind so many rows, whose names are smaller, and before a greater one
+-- no row has the name: the rows before this index have smaller names, and the row at it, if any, a greater one
 pub record IsBefore {A : Type 0} (name_of : A → List ℕ) (name : List ℕ) (rows : List A) (place : ℕ) : Type 0 where
   pub front : List A
   pub back : List A
@@ -30,6 +30,7 @@ pub record IsBefore {A : Type 0} (name_of : A → List ℕ) (name : List ℕ) (r
   pub smaller : All (λ row. slice_cmp nat_cmp name (name_of row) ≡ Greater) front
   pub greater : StartsGreater name_of name back
 
+-- the answer is the place of the name
 abbrev pub IsPlace : {A : Type 0} → (A → List ℕ) → List ℕ → List A → Place → Type 0
 IsPlace name_of name rows (Here place) = IsHere name_of name rows place
 IsPlace name_of name rows (Before place) = IsBefore name_of name rows place

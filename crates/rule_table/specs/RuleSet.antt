@@ -1,4 +1,5 @@
--- The rule set: buses with their rules, queues, and how many changes made it.
+-- The rule set: buses with their rules, queues, and the number of changes that made it; what a change does, and which
+-- changes are allowed. The data model is the public API's; the limits are this project's own, but for that on targets.
 use Rattle.std.specs.Prelude.{◌≡◌, ℕ, ◌+◌, ◌<◌, ◌≤◌, ◌⊎◌, Bool, true, false, if◌then◌else◌, List, [], ◌∷◌, length, map, Option, Some, None, All, is_some}
 use Rattle.std.specs.declared.cmp.Ordering.{Ordering}
 use Rattle.std.specs.declared.cmp.Ordering.TheVariants.{Less, Equal, Greater}
@@ -39,7 +40,8 @@ by_order Less less equal greater = less
 by_order Equal less equal greater = equal
 by_order Greater less equal greater = greater
 
--- Rows in the byte order of their names, with this one in its place. A row of the same name gives way to `joined` of it and the new one.
+-- The rows, which are in the byte order of their names, with the new row in its place. If a row has the same name, `joined` of
+-- the old row and the new one replaces it.
 abbrev pub placed : {A : Type 0} → (A → List ℕ) → (A → A → A) → A → List A → List A
 placed name_of joined new [] = new ∷ []
 placed name_of joined new (old ∷ rest) = by_order (slice_cmp nat_cmp (name_of new) (name_of old))
@@ -47,27 +49,27 @@ placed name_of joined new (old ∷ rest) = by_order (slice_cmp nat_cmp (name_of 
     (joined old new ∷ rest)
     (old ∷ placed name_of joined new rest)
 
--- the first row of the name
+-- the first row with the name
 abbrev pub named : {A : Type 0} → (A → List ℕ) → List ℕ → List A → Option A
 named name_of name [] = None
 named name_of name (row ∷ rows) = if bytes_eq (name_of row) name then Some row else named name_of name rows
 
--- the rows, with a change of those of the name
+-- the rows, with each row of the name changed
 abbrev pub changed : {A : Type 0} → (A → List ℕ) → List ℕ → (A → A) → List A → List A
 changed name_of name change rows = map (λ row. if bytes_eq (name_of row) name then change row else row) rows
 
--- the rule put last, with the targets of the one that it replaces
+-- the new rule, with the targets of the rule that it replaces
 abbrev pub keeping_targets : Rule → Rule → Rule
 keeping_targets old new = record new { targets = old.targets }
 
 abbrev pub put_rule : Rule → List Rule → List Rule
 put_rule = placed (λ rule. rule.name) keeping_targets
 
--- a target of the same id is replaced
+-- the targets with one more, or with the target of the same id replaced
 abbrev pub put_target : Target → List Target → List Target
 put_target = placed (λ target. target.id) (λ old new. new)
 
--- targets put in this order
+-- the targets with the new ones put in this order
 abbrev pub put_targets : List Target → List Target → List Target
 put_targets [] targets = targets
 put_targets (new ∷ news) targets = put_targets news (put_target new targets)
@@ -75,12 +77,12 @@ put_targets (new ∷ news) targets = put_targets news (put_target new targets)
 abbrev pub put_queue : List ℕ → List (List ℕ) → List (List ℕ)
 put_queue = placed (λ name. name) (λ old new. new)
 
--- the rules of a bus that was found, else none
+-- the rules of the bus; none if there is no bus
 abbrev pub rules_in : Option Bus → List Rule
 rules_in None = []
 rules_in (Some bus) = bus.rules
 
--- the rules of a bus, none where there is no such bus
+-- the rules of the bus with this name; none if there is no such bus
 abbrev pub rules_of : List ℕ → RuleSet → List Rule
 rules_of bus set = rules_in (named (λ b. b.name) bus set.buses)
 
@@ -96,27 +98,29 @@ has_queue name set = is_some (named (λ queue. queue) name set.queues)
 -- the rule set after a change
 abbrev pub applied : Control → RuleSet → RuleSet
 applied (rule_put bus name pattern enabled) set = record set {
-  buses = changed (λ b. b.name) bus (λ b. record b { rules = put_rule (record { name = name; pattern = pattern; enabled = enabled; targets = [] }) b.rules }) set.buses;
+  buses = changed (λ b. b.name) bus (λ b. record b
+      { rules = put_rule (record { name = name; pattern = pattern; enabled = enabled; targets = [] }) b.rules }) set.buses;
   count = set.count + 1;
 }
 applied (targets_put bus rule targets) set = record set {
-  buses = changed (λ b. b.name) bus (λ b. record b { rules = changed (λ r. r.name) rule (λ r. record r { targets = put_targets targets r.targets }) b.rules }) set.buses;
+  buses = changed (λ b. b.name) bus (λ b. record b
+      { rules = changed (λ r. r.name) rule (λ r. record r { targets = put_targets targets r.targets }) b.rules }) set.buses;
   count = set.count + 1;
 }
 applied (queue_created name) set = record set { queues = put_queue name set.queues; count = set.count + 1 }
 
--- the text is the ARN of a queue that is there
+-- the text is the ARN of a queue of the rule set
 abbrev pub IsQueueThere : RuleSet → List ℕ → Type 0
 IsQueueThere set arn = (queue : List ℕ) × (arn ≡ queue_arn queue) × (has_queue queue set ≡ true)
 
--- of a rule that is there, the fact holds
+-- there is a rule, and the fact holds of it
 abbrev pub ForRule : Option Rule → (Rule → Type 0) → Type 0
 ForRule None fact = ⊥
 ForRule (Some rule) fact = fact rule
 
--- What a change asks for: a text that is a pattern, a bus, and fewer than 300 rules of it where the rule is new; a rule, target
--- ids of the syntax, queues that are there, and no more than five targets in the end; a name that no queue has, and fewer
--- than 1,000 queues. (All limits but that on targets are this project's own.)
+-- The change is allowed. A rule: its text is a pattern, its bus exists, and the bus has the rule already or has fewer than 300.
+-- Targets: their rule exists, their ids have the syntax, their queues exist, and the rule has at most five targets in the end.
+-- A queue: no queue has its name, and there are fewer than 1,000.
 abbrev pub IsAllowed : Control → RuleSet → Type 0
 IsAllowed (rule_put bus name pattern enabled) set =
     ((p : Pattern) × IsPatternText pattern p) × (has_bus bus set ≡ true)
@@ -126,7 +130,7 @@ IsAllowed (targets_put bus rule targets) set =
     × (length (put_targets targets r.targets) ≤ 5))
 IsAllowed (queue_created name) set = (has_queue name set ≡ false) × (length set.queues < 1000)
 
--- what holds of each rule set that changes made of the first one
+-- the limits that hold of every rule set that allowed changes made from the first one
 pub record IsSound (set : RuleSet) : Type 0 where
   pub rules : All (λ bus. length bus.rules ≤ 300) set.buses
   pub targets : All (λ bus. All (λ rule. (length rule.targets ≤ 5) × All (λ target. IsQueueThere set target.arn) rule.targets) bus.rules) set.buses

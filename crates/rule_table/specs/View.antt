@@ -1,4 +1,4 @@
--- What contracts see of the code's changes.
+-- The view of a configuration change in contracts.
 use Rattle.rule_table.specs.Control.{Control, rule_put, targets_put, queue_created}
 use Rattle.rule_table.specs.declared.control.Control.{Control as CodeControl}
 use Rattle.rule_table.specs.declared.control.Control.TheVariants.{RulePut, TargetsPut, QueueCreated}

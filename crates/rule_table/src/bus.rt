@@ -15,10 +15,10 @@ use std::alloc::Global;
 use std::marker::Model;
 use std::sync::Arc;
 
-/// How many rules a bus can have.
+/// The greatest number of rules of a bus.
 const MOST_RULES: usize = 300;
 
-/// How many targets a rule can have.
+/// The greatest number of targets of a rule.
 const MOST_TARGETS: usize = 5;
 
 /// A bus.
@@ -52,7 +52,7 @@ impl Bus {
         self.rules.as_slice()
     }
 
-    /// The bus with the rule put to it; refused where it is one rule too many.
+    /// The bus with the rule created or replaced. `NotBuilt` if the rule is new and the bus has 300 rules.
     pub(crate) fn with_rule(
         &self,
         alloc: Global,
@@ -83,7 +83,8 @@ impl Bus {
         }
     }
 
-    /// The bus with the targets put to the rule; refused where there is no such rule, or one target too many.
+    /// The bus with the targets put to the rule. `NotBuilt` if the bus has no such rule, or the rule would have more than
+    /// five targets.
     pub(crate) fn with_targets(
         &self,
         alloc: Global,

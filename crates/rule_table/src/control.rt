@@ -27,29 +27,29 @@ impl Target {
 /// A change of the configuration.
 #[derive(Debug, Drop)]
 pub enum Control {
-    /// A rule is put on a bus.
+    /// Creates a rule on a bus, or replaces its pattern and state.
     RulePut {
         bus: Text,
         name: Text,
         pattern: Text,
         enabled: bool,
     },
-    /// Targets are put to a rule.
+    /// Adds targets to a rule, or replaces those with the same ids.
     TargetsPut {
         bus: Text,
         rule: Text,
         targets: Vec<Target>,
     },
-    /// A queue is made.
+    /// Creates a queue.
     QueueCreated {
         name: Text,
     },
 }
 
-/// Why a change is not made.
+/// Why a change was not made.
 #[derive(Debug, Drop, Error)]
 pub enum ControlFault {
-    #[error("the change is refused")]
+    #[error("the change is not allowed")]
     NotBuilt,
     #[error("out of memory")]
     NoMemory,

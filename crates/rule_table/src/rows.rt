@@ -1,4 +1,4 @@
-//! Rows in the byte order of their names.
+//! Lists of rows, each with a name, in the byte order of the names.
 ghost use Rattle.std.specs.Prelude.{◌≡◌, ◌<◌, ◌≤◌, ℕ, List, None, Some, length, map, slice_index_or, slice_set, IfOk, MatchOption};
 ghost use Rattle.std.specs.List.{insert};
 ghost use Rattle.std.specs.Arc.{arc_value};
@@ -13,7 +13,7 @@ use std::alloc::Global;
 use std::cmp::Ordering;
 use std::sync::Arc;
 
-/// What stands in a list under a name.
+/// A value that has a name.
 pub(crate) trait Row {
     ghost name_of: { Self → List ℕ };
 
@@ -64,16 +64,16 @@ impl<T: Row> Row for Arc<T> {
     }
 }
 
-/// The place of a name in rows in the byte order of their names.
+/// The place of a name in a list of rows that is in the byte order of their names.
 #[derive(Clone, Copy)]
 pub(crate) enum Place {
-    /// The row of the name stands behind so many rows.
+    /// The index of the row with this name.
     Here(usize),
-    /// A row of the name would stand behind so many rows.
+    /// No row has this name; a new one belongs at this index.
     Before(usize),
 }
 
-/// The place of the name.
+/// The place of the name in the rows.
 pub(crate) fn place_of<R: Row>(rows: &[R], name: &str) -> Place
     ensures { IsPlace R.name_of name.now rows.now result }
 {
@@ -87,7 +87,7 @@ pub(crate) fn place_of<R: Row>(rows: &[R], name: &str) -> Place
     Place::Before(rows.len())
 }
 
-/// The first row of the name.
+/// The first row with this name.
 pub(crate) fn find<'a, T: Row>(rows: &'a [Arc<T>], name: &str) -> Option<&'a T>
     ensures { MatchOption result
         (named T.name_of name.now (map arc_value rows.now) ≡ None)
@@ -102,7 +102,7 @@ pub(crate) fn find<'a, T: Row>(rows: &'a [Arc<T>], name: &str) -> Option<&'a T>
     None
 }
 
-/// The row at the place.
+/// The row at this index.
 pub(crate) fn row_at<T>(rows: &[Arc<T>], at: usize) -> &T
     requires { at < length rows.now }
     ensures { result.now ≡ slice_index_or (map arc_value rows.now) at result.now }
@@ -110,7 +110,7 @@ pub(crate) fn row_at<T>(rows: &[Arc<T>], at: usize) -> &T
     &rows[at]
 }
 
-/// The same rows, shared.
+/// A list of the same rows. The rows are shared; only their pointers are copied.
 fn shared<T: Drop>(alloc: Global, rows: &[Arc<T>]) -> Result<Vec<Arc<T>>, NoMemory>
     ensures { IfOk result (λ copies. map arc_value copies.items ≡ map arc_value rows.now) }
 {
@@ -121,7 +121,7 @@ fn shared<T: Drop>(alloc: Global, rows: &[Arc<T>]) -> Result<Vec<Arc<T>>, NoMemo
     Ok(copies)
 }
 
-/// The rows, with this one in place of the one at the place.
+/// The rows, with this row in place of the row at index `at`.
 pub(crate) fn replaced<T: Drop>(
     alloc: Global,
     rows: &[Arc<T>],
@@ -136,7 +136,7 @@ pub(crate) fn replaced<T: Drop>(
     Ok(copies)
 }
 
-/// The rows, with this one before the one at the place.
+/// The rows, with this row inserted at index `at`.
 pub(crate) fn inserted<T: Drop>(
     alloc: Global,
     rows: &[Arc<T>],

@@ -12,7 +12,7 @@ use std::alloc::Global;
 use std::marker::Model;
 use std::sync::Arc;
 
-/// A pattern's text, and the pattern that it is.
+/// A pattern with its text.
 #[derive(Debug, Drop)]
 pub(crate) struct RulePattern {
     text: Text,
@@ -33,7 +33,7 @@ impl Model for RulePattern {
 }
 
 impl RulePattern {
-    /// Refuses a text that is no pattern.
+    /// Reads the text of a pattern. `NotBuilt` if the text is not a pattern.
     pub(crate) fn read(alloc: Global, text: &Text) -> Result<RulePattern, ControlFault>
         ensures same { IfOk result (λ p. p ≡ text.now) }
         ensures read { IfOk result (λ p. (meaning : Meaning) × IsPatternText text.now meaning) }
@@ -122,7 +122,7 @@ impl Rule {
         self.pattern.pattern()
     }
 
-    /// The rule, with these targets in place of its own.
+    /// The rule with these targets in place of its own. Shares the pattern.
     pub(crate) fn with_targets(&self, alloc: Global, targets: Vec<Target>) -> Result<Rule, NoMemory>
         ensures { IfOk result (λ rule. rule ≡ record self.now { targets = targets.items }) }
     {

@@ -1,4 +1,4 @@
-//! Rule sets, and what a change makes of one.
+//! Rule sets, and the rule set after a change.
 ghost use Rattle.std.specs.Prelude.{◌≡◌, ◌↔◌, ◌+◌, ◌^◌, ◌<◌, ◌≤◌, false, Some, length, map, slice_set, All, IfOk, IsErrOf, IsTrue, MatchOption};
 ghost use Rattle.std.specs.List.{insert};
 ghost use Rattle.std.specs.Arc.{arc_value};
@@ -19,10 +19,10 @@ use std::alloc::Global;
 use std::marker::Model;
 use std::sync::Arc;
 
-/// How many queues there can be.
+/// The greatest number of queues.
 const MOST_QUEUES: usize = 1000;
 
-/// Buses with their rules, and queues. A change makes a new one, which shares with the old one what does not change.
+/// Buses with their rules, and queues. A change makes a new rule set, which shares unchanged parts with the old one.
 #[derive(Debug, Drop)]
 pub struct RuleSet {
     buses: Arc<Vec<Arc<Bus>>>,
@@ -52,7 +52,7 @@ impl Model for RuleSet {
 }
 
 impl RuleSet {
-    /// The set before any change.
+    /// The rule set before any change: the bus `default`, with no rule and no queue.
     pub fn first(alloc: Global) -> Result<RuleSet, NoMemory>
         ensures { IfOk result (λ set. set ≡ spec.first_set) }
     {
@@ -69,7 +69,8 @@ impl RuleSet {
         })
     }
 
-    /// The set after the change. What does not change is shared; of the list that changes the pointers are copied.
+    /// The rule set after the change. Shares the parts that do not change, and copies the pointers of the list that does.
+    /// `NotBuilt` if the change is not allowed (`IsAllowed`). After an error the old set is unchanged.
     pub fn apply(&self, alloc: Global, control: &Control) -> Result<RuleSet, ControlFault>
         requires { self.now.count < 2 ^ 63 }
         ensures applied { IfOk result (λ set. spec.IsAllowed (control_of control.now) self.now × (set ≡ spec.applied (control_of control.now) self.now)) }
@@ -89,7 +90,7 @@ impl RuleSet {
         }
     }
 
-    /// The bus of the name.
+    /// The bus with this name.
     pub fn bus(&self, name: &str) -> Option<&Bus>
         ensures { MatchOption result
             (spec.has_bus name.now self.now ≡ false)
@@ -98,14 +99,14 @@ impl RuleSet {
         find(&self.buses, name)
     }
 
-    /// Whether there is a queue of the name.
+    /// Whether a queue has this name.
     pub fn queue(&self, name: &str) -> bool
         ensures { result ≡ spec.has_queue name.now self.now }
     {
         find(&self.queues, name).is_some()
     }
 
-    /// How many changes made the set.
+    /// The number of changes that made this rule set.
     pub fn control_count(&self) -> u64
         ensures count { result ≡ self.now.count }
         ensures sound { spec.IsSound self.now }
@@ -174,7 +175,7 @@ impl RuleSet {
         ensures found { MatchOption result
             (spec.has_bus name.now self.now ≡ false)
             (λ found. (here : IsHere (λ bus. bus.name) name.now self.now.buses found.0) × (found.1.now ≡ here.old)) }
-        ensures kept { IsSortedSet self.now }
+        ensures sorted { IsSortedSet self.now }
     {
         match place_of(&self.buses, name) {
             Place::Here(at) => Some((at, row_at(&self.buses, at))),
@@ -182,11 +183,11 @@ impl RuleSet {
         }
     }
 
-    /// The set with this bus in place of the one at the place.
+    /// The set with this bus in place of the bus at index `at`.
     fn with_bus(&self, alloc: Global, at: usize, bus: Bus) -> Result<RuleSet, NoMemory>
         requires place { at < length self.now.buses }
         requires count { self.now.count < 2 ^ 63 }
-        requires kept { IsSortedSet (record self.now { buses = slice_set self.now.buses at bus; count = self.now.count + 1 }) }
+        requires sorted { IsSortedSet (record self.now { buses = slice_set self.now.buses at bus; count = self.now.count + 1 }) }
         ensures { IfOk result (λ set. set ≡ record self.now { buses = slice_set self.now.buses at bus; count = self.now.count + 1 }) }
     {
         let buses = replaced(alloc, &self.buses, at, bus)?;
@@ -195,26 +196,26 @@ impl RuleSet {
 
     fn queue_place(&self, name: &str) -> Place
         ensures place { IsPlace (λ queue. queue) name.now self.now.queues result }
-        ensures kept { IsSortedSet self.now }
+        ensures sorted { IsSortedSet self.now }
     {
         place_of(&self.queues, name)
     }
 
-    /// The set with this queue before the one at the place.
+    /// The set with this queue inserted at index `at`.
     fn with_queue(&self, alloc: Global, at: usize, queue: Text) -> Result<RuleSet, NoMemory>
         requires place { at ≤ length self.now.queues }
         requires count { self.now.count < 2 ^ 63 }
-        requires kept { IsSortedSet (record self.now { queues = insert self.now.queues at queue; count = self.now.count + 1 }) }
+        requires sorted { IsSortedSet (record self.now { queues = insert self.now.queues at queue; count = self.now.count + 1 }) }
         ensures { IfOk result (λ set. set ≡ record self.now { queues = insert self.now.queues at queue; count = self.now.count + 1 }) }
     {
         let queues = inserted(alloc, &self.queues, at, queue)?;
         Ok(self.next(Arc::try_clone(&self.buses)?, Arc::new(alloc, queues)?))
     }
 
-    /// The set after one change more.
+    /// The set with these buses and queues, after one more change.
     fn next(&self, buses: Arc<Vec<Arc<Bus>>>, queues: Arc<Vec<Arc<Text>>>) -> RuleSet
         requires count { self.now.count < 2 ^ 63 }
-        requires kept { IsSortedSet (record {
+        requires sorted { IsSortedSet (record {
           buses = map arc_value (arc_value buses).items;
           queues = map arc_value (arc_value queues).items;
           count = self.now.count + 1;
@@ -232,7 +233,7 @@ impl RuleSet {
         }
     }
 
-    /// Whether each id has the syntax, and each ARN is that of a queue that is there.
+    /// Whether each id has the syntax of a target id, and each ARN is that of an existing queue.
     fn are_targets(&self, targets: &[Target]) -> bool
         ensures { IsTrue result ↔ All (λ target. IsShortName target.id × spec.IsQueueThere self.now target.arn) targets.now }
     {

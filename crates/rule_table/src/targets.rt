@@ -28,7 +28,7 @@ fn put_target(targets: &mut Vec<Target>, new: Target) -> Result<(), NoMemory>
     Ok(())
 }
 
-/// The targets, with these put to them.
+/// The targets, with the new ones put in their order; a target with the same id is replaced.
 pub(crate) fn with_targets(
     alloc: Global,
     targets: &[Target],

@@ -18,7 +18,7 @@ enum Step {
 
 const X: &str = "{\"source\":[\"x\"]}";
 
-/// Changes in turn, whether each is accepted, and the rules of the bus `default` afterwards. Worked by hand.
+/// Changes in turn, whether each is allowed, and the rules of the bus `default` afterwards. Worked by hand.
 const STEPS: [(Step, bool, &str); 24] = [
     (Step::Queue("q"), true, ""),
     (Step::Queue("p"), true, ""),
@@ -90,7 +90,7 @@ fn control(alloc: Global, step: Step) -> Result<Control, Fail> {
     })
 }
 
-/// The set after the change, or none where it is refused.
+/// The set after the change; none if it is not allowed.
 fn after(alloc: Global, set: &RuleSet, step: Step) -> Result<Option<RuleSet>, Fail> {
     if set.control_count() >= 1000 {
         return Err(Fail::from("too many changes"));
@@ -102,7 +102,7 @@ fn after(alloc: Global, set: &RuleSet, step: Step) -> Result<Option<RuleSet>, Fa
     }
 }
 
-/// Each rule with its targets' ids and queues; `+` where it is enabled.
+/// Each rule with its targets' ids and queues; `+` if it is enabled.
 fn shown(alloc: Global, set: &RuleSet) -> Result<String, Fail> {
     let mut out = String::new(alloc);
     let Some(bus) = set.bus("default") else {

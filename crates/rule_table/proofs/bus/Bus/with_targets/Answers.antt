@@ -15,8 +15,10 @@ returns-then-len-gt-MOST_TARGETS-clause-refused c =
     let rules = c.args.self.now.rules in
     let news = c.args.targets.now in
     let here = c.in-Here.ensures in
-    let old : c.rule-old.result.now ≡ here.old = c.rule-old.ensures ∙ here_old (λ rule. rule.name) c.args.rule.now rules c.in-Here.at c.rule-old.result.now here in
-    let targets : c.in_ok-targets.targets.items ≡ put_targets news here.old.targets = c.in_ok-targets.ensures ∙ ap (put_targets news) (c.targets.ensures ∙ ap (λ r. r.targets) old) in
+    let old : c.rule-old.result.now ≡ here.old =
+    c.rule-old.ensures ∙ here_old (λ rule. rule.name) c.args.rule.now rules c.in-Here.at c.rule-old.result.now here in
+    let targets : c.in_ok-targets.targets.items ≡ put_targets news here.old.targets =
+    c.in_ok-targets.ensures ∙ ap (put_targets news) (c.targets.ensures ∙ ap (λ r. r.targets) old) in
     let long = ap length targets in
     let many = c.if-len-gt-MOST_TARGETS.true in
     let counted = c.len.ensures in
@@ -31,9 +33,11 @@ returns-clause-put c =
     let news = c.args.targets.now in
     let change : Rule → Rule = λ r. record r { targets = put_targets news r.targets } in
     let here = c.in-Here.ensures in
-    let old : c.rule-old.result.now ≡ here.old = c.rule-old.ensures ∙ here_old (λ rule. rule.name) c.args.rule.now rules c.in-Here.at c.rule-old.result.now here in
+    let old : c.rule-old.result.now ≡ here.old =
+    c.rule-old.ensures ∙ here_old (λ rule. rule.name) c.args.rule.now rules c.in-Here.at c.rule-old.result.now here in
     let made : c.in_ok-rule.rule ≡ record c.rule-old.result.now { targets = c.in_ok-targets.targets.items } = c.in_ok-rule.ensures in
-    let targets : c.in_ok-targets.targets.items ≡ put_targets news c.rule-old.result.now.targets = c.in_ok-targets.ensures ∙ ap (put_targets news) c.targets.ensures in
+    let targets : c.in_ok-targets.targets.items ≡ put_targets news c.rule-old.result.now.targets =
+    c.in_ok-targets.ensures ∙ ap (put_targets news) c.targets.ensures in
     let rule : c.in_ok-rule.rule ≡ change here.old = made ∙ ap (λ ts. record c.rule-old.result.now { targets = ts }) targets ∙ ap change old in
     c.in_ok-with_replaced.ensures
     ∙ ap (λ rs. record c.args.self.now { rules = rs })
@@ -44,8 +48,10 @@ returns-clause-few c =
     let rules = c.args.self.now.rules in
     let news = c.args.targets.now in
     let here = c.in-Here.ensures in
-    let old : c.rule-old.result.now ≡ here.old = c.rule-old.ensures ∙ here_old (λ rule. rule.name) c.args.rule.now rules c.in-Here.at c.rule-old.result.now here in
-    let targets : c.in_ok-targets.targets.items ≡ put_targets news here.old.targets = c.in_ok-targets.ensures ∙ ap (put_targets news) (c.targets.ensures ∙ ap (λ r. r.targets) old) in
+    let old : c.rule-old.result.now ≡ here.old =
+    c.rule-old.ensures ∙ here_old (λ rule. rule.name) c.args.rule.now rules c.in-Here.at c.rule-old.result.now here in
+    let targets : c.in_ok-targets.targets.items ≡ put_targets news here.old.targets =
+    c.in_ok-targets.ensures ∙ ap (put_targets news) (c.targets.ensures ∙ ap (λ r. r.targets) old) in
     let long = ap length targets in
     let few = c.if-len-gt-MOST_TARGETS.false in
     let counted = c.len.ensures in

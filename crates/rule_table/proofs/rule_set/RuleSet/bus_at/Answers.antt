@@ -4,7 +4,7 @@ use Rattle.std.specs.Arc.{arc_value}
 use Rattle.rule_table.specs.RuleSet.{Bus, RuleSet}
 use Rattle.rule_table.specs.Sorted.{AreSorted}
 use Rattle.rule_table.specs.declared.rows.Place.TheVariants.{Here, Before}
-use Rattle.rule_table.proofs.RowLemmas.{place_seen, here_old, named_before}
+use Rattle.rule_table.proofs.RowLemmas.{place_map, here_old, named_before}
 use Rattle.rule_table.proofs.rule_set.RuleSet.bus_at.Goals as goal
 
 pub returns-in-Here-clause-found : goal.returns-in-Here-clause-found
@@ -15,7 +15,7 @@ returns-in-Here-clause-found c =
     let seen : map arc_value (arc_value c.self.inside.buses).items ≡ buses = ap (λ (s : RuleSet). s.buses) c.self.view_is in
     let first = ap (map arc_value) (c.deref-2.ensures.value ∙ ap (λ v. v.items) c.deref.ensures) ∙ seen in
     let second = ap (map arc_value) (c.deref-in-Here-2.ensures.value ∙ ap (λ v. v.items) c.deref-in-Here.ensures) ∙ seen in
-    let here = place_seen arc_value name_of name c.deref-2.result.now buses (Here c.in-Here.at) c.in-Here.ensures first in
+    let here = place_map arc_value name_of name c.deref-2.result.now buses (Here c.in-Here.at) c.in-Here.ensures first in
     (here, c.row_at.ensures ∙ ap (λ rs. get_or rs c.in-Here.at c.row_at.result.now) second ∙ here_old name_of name buses c.in-Here.at c.row_at.result.now here)
 
 pub returns-in-Before-clause-found : goal.returns-in-Before-clause-found
@@ -25,6 +25,6 @@ returns-in-Before-clause-found c =
     let buses = c.args.self.now.buses in
     let seen : map arc_value (arc_value c.self.inside.buses).items ≡ buses = ap (λ (s : RuleSet). s.buses) c.self.view_is in
     let first = ap (map arc_value) (c.deref-2.ensures.value ∙ ap (λ v. v.items) c.deref.ensures) ∙ seen in
-    let before = place_seen arc_value name_of name c.deref-2.result.now buses (Before c.in-Before.field-0) c.in-Before.ensures first in
-    let ordered = subst (AreSorted name_of) seen c.self.invariant.buses in
-    ap is_some (named_before name_of name buses c.in-Before.field-0 ordered before)
+    let before = place_map arc_value name_of name c.deref-2.result.now buses (Before c.in-Before.field-0) c.in-Before.ensures first in
+    let sorted = subst (AreSorted name_of) seen c.self.invariant.buses in
+    ap is_some (named_before name_of name buses c.in-Before.field-0 sorted before)

@@ -9,18 +9,19 @@ use Rattle.rule_table.specs.RuleSet.{RuleSet, has_queue}
 use Rattle.rule_table.specs.Sorted.{IsSortedSet}
 use Rattle.rule_table.specs.Place.{IsHere, IsBefore}
 use Rattle.rule_table.proofs.RowLemmas.{named_here}
-use Rattle.rule_table.proofs.SortedLemmas.{kept_applied}
-use Rattle.rule_table.proofs.ChangeLemmas.{queue_accepted, queue_applied}
+use Rattle.rule_table.proofs.SortedLemmas.{sorted_applied}
+use Rattle.rule_table.proofs.ChangeLemmas.{queue_allowed, queue_applied}
 use Rattle.rule_table.proofs.rule_set.RuleSet.create_queue.Goals as goal
 
 pub returns-in_default-clause-refused : goal.returns-in_default-clause-refused
 returns-in_default-clause-refused c =
     let here = subst (λ name. IsHere (λ queue. queue) name c.args.self.now.queues c.in_default.field-0) c.as_str.ensures c.in_default.ensures.place in
-    let there : has_queue c.args.name.now c.args.self.now ≡ true = ap is_some (named_here (λ queue. queue) c.args.name.now c.args.self.now.queues c.in_default.field-0 here) in
+    let there : has_queue c.args.name.now c.args.self.now ≡ true =
+    ap is_some (named_here (λ queue. queue) c.args.name.now c.args.self.now.queues c.in_default.field-0 here) in
     λ e a. false≢true (sym a.0 ∙ there)
 
-pub with_queue-requires-clause-kept : goal.with_queue-requires-clause-kept
-with_queue-requires-clause-kept c =
+pub with_queue-requires-clause-sorted : goal.with_queue-requires-clause-sorted
+with_queue-requires-clause-sorted c =
     let rules = c.args.self.now in
     let at = c.in-Before.at in
     let before = subst (λ name. IsBefore (λ queue. queue) name rules.queues at) c.as_str.ensures c.in-Before.ensures.place in
@@ -29,10 +30,11 @@ with_queue-requires-clause-kept c =
     let same = length-map c.deref.result.now.items arc_value in
     let few = c.if-len-ge-MOST_QUEUES.false in
     let room : length rules.queues < 1000 = omega (arith, counted, long, same, few) in
-    let kept = c.in-Before.ensures.kept in
-    let accepted = queue_accepted c.args.name.now rules at before kept room in
-    subst IsSortedSet (sym (queue_applied c.args.name.now rules at before) ∙ ap (λ name. record rules { queues = insert rules.queues at name; count = rules.count + 1 }) (sym c.in_ok-copy.ensures))
-    (kept_applied (queue_created c.args.name.now) rules accepted kept)
+    let sorted = c.in-Before.ensures.sorted in
+    let allowed = queue_allowed c.args.name.now rules at before sorted room in
+    subst IsSortedSet (sym (queue_applied c.args.name.now rules at before)
+    ∙ ap (λ name. record rules { queues = insert rules.queues at name; count = rules.count + 1 }) (sym c.in_ok-copy.ensures))
+    (sorted_applied (queue_created c.args.name.now) rules allowed sorted)
 
 pub returns-clause-applied : goal.returns-clause-applied
 returns-clause-applied c =
@@ -44,7 +46,7 @@ returns-clause-applied c =
     let same = length-map c.deref.result.now.items arc_value in
     let few = c.if-len-ge-MOST_QUEUES.false in
     let room : length rules.queues < 1000 = omega (arith, counted, long, same, few) in (
-      queue_accepted c.args.name.now rules at before c.in-Before.ensures.kept room,
+      queue_allowed c.args.name.now rules at before c.in-Before.ensures.sorted room,
       c.in_ok-with_queue.ensures ∙ ap (λ name. record rules { queues = insert rules.queues at name; count = rules.count + 1 }) c.in_ok-copy.ensures
           ∙ queue_applied c.args.name.now rules at before,
     )

@@ -4,19 +4,19 @@ use Rattle.rule_table.specs.Control.{rule_put}
 use Rattle.rule_table.specs.RuleSet.{Rule, Bus, put_rule}
 use Rattle.rule_table.specs.Sorted.{IsSortedSet}
 use Rattle.rule_table.specs.declared.control.ControlFault.TheVariants.{NotBuilt}
-use Rattle.rule_table.proofs.SortedLemmas.{kept_applied}
-use Rattle.rule_table.proofs.ChangeLemmas.{IsFound, found_ordered, found_changed, rule_accepted, rule_has_room}
+use Rattle.rule_table.proofs.SortedLemmas.{sorted_applied}
+use Rattle.rule_table.proofs.ChangeLemmas.{IsFound, found_sorted, found_changed, rule_allowed, rule_has_room}
 use Rattle.rule_table.proofs.rule_set.RuleSet.put_rule.Goals as goal
 
 pub returns-in_err-pattern-clause-refused : goal.returns-in_err-pattern-clause-refused
 returns-in_err-pattern-clause-refused c =
     let p = err_from_is_err_and c.from_residual.result c.from_residual.ensures.1 in
-    rw (p.1, p.2) (λ e a.
+    rw (p.1, p.2) (λ e ((meaning, read), there, room).
     let same : c.in_err-pattern.field-0.0 ≡ NotBuilt = cc in
-    c.in_err-pattern.ensures.refused (ap Err same) a.0.0 a.0.1)
+    c.in_err-pattern.ensures.refused (ap Err same) meaning read)
 
 pub with_rule-requires : goal.with_rule-requires
-with_rule-requires c = found_ordered c.args.self.now c.as_str.result.now c.in-Some.at c.in-Some.old.now c.in-Some.ensures.found c.in-Some.ensures.kept
+with_rule-requires c = found_sorted c.args.self.now c.as_str.result.now c.in-Some.at c.in-Some.old.now c.in-Some.ensures.found c.in-Some.ensures.sorted
 
 pub returns-in_err-new-clause-refused : goal.returns-in_err-new-clause-refused
 returns-in_err-new-clause-refused c =
@@ -27,20 +27,22 @@ returns-in_err-new-clause-refused c =
     c.in_err-new.ensures.refused (ap Err same)
     (rule_has_room c.args.bus.now c.args.name.now c.args.pattern.now c.args.enabled c.args.self.now c.in-Some.at c.in-Some.old.now found a))
 
-pub with_bus-requires-clause-kept : goal.with_bus-requires-clause-kept
-with_bus-requires-clause-kept c =
+pub with_bus-requires-clause-sorted : goal.with_bus-requires-clause-sorted
+with_bus-requires-clause-sorted c =
     let bus = c.args.bus.now in
     let set = c.args.self.now in
     let at = c.in-Some.at in
     let old = c.in-Some.old.now in
-    let kept = c.in-Some.ensures.kept in
+    let sorted = c.in-Some.ensures.sorted in
     let found = subst (λ name. IsFound set name at old) c.as_str.ensures c.in-Some.ensures.found in
     let rule : List ℕ → Rule = λ pattern. record { name = c.args.name.now; pattern = pattern; enabled = c.args.enabled; targets = [] } in
     let change : Bus → Bus = λ b. record b { rules = put_rule (rule c.args.pattern.now) b.rules } in
-    let new : c.in_ok-new.new ≡ change old = c.in_ok-new.ensures.put ∙ ap (λ pattern. record old { rules = put_rule (rule pattern) old.rules }) c.in_ok-pattern.ensures.same in
-    let accepted = rule_accepted bus c.args.name.now c.args.pattern.now c.args.enabled set at old found c.in_ok-pattern.ensures.read c.in_ok-new.ensures.room in
-    subst (λ buses. IsSortedSet (record set { buses = buses; count = set.count + 1 })) (sym (found_changed set bus at old change c.in_ok-new.new found kept new))
-    (kept_applied (rule_put bus c.args.name.now c.args.pattern.now c.args.enabled) set accepted kept)
+    let new : c.in_ok-new.new ≡ change old =
+    c.in_ok-new.ensures.put ∙ ap (λ pattern. record old { rules = put_rule (rule pattern) old.rules }) c.in_ok-pattern.ensures.same in
+    let allowed = rule_allowed bus c.args.name.now c.args.pattern.now c.args.enabled set at old found c.in_ok-pattern.ensures.read c.in_ok-new.ensures.room in
+    subst (λ buses. IsSortedSet (record set { buses = buses; count = set.count + 1 }))
+    (sym (found_changed set bus at old change c.in_ok-new.new found sorted new))
+    (sorted_applied (rule_put bus c.args.name.now c.args.pattern.now c.args.enabled) set allowed sorted)
 
 pub returns-clause-applied : goal.returns-clause-applied
 returns-clause-applied c =
@@ -51,7 +53,9 @@ returns-clause-applied c =
     let found = subst (λ name. IsFound set name at old) c.as_str.ensures c.in-Some.ensures.found in
     let rule : List ℕ → Rule = λ pattern. record { name = c.args.name.now; pattern = pattern; enabled = c.args.enabled; targets = [] } in
     let change : Bus → Bus = λ b. record b { rules = put_rule (rule c.args.pattern.now) b.rules } in
-    let new : c.in_ok-new.new ≡ change old = c.in_ok-new.ensures.put ∙ ap (λ pattern. record old { rules = put_rule (rule pattern) old.rules }) c.in_ok-pattern.ensures.same in (
-      rule_accepted bus c.args.name.now c.args.pattern.now c.args.enabled set at old found c.in_ok-pattern.ensures.read c.in_ok-new.ensures.room,
-      c.in_ok-with_bus.ensures ∙ ap (λ buses. record set { buses = buses; count = set.count + 1 }) (found_changed set bus at old change c.in_ok-new.new found c.in-Some.ensures.kept new),
+    let new : c.in_ok-new.new ≡ change old =
+    c.in_ok-new.ensures.put ∙ ap (λ pattern. record old { rules = put_rule (rule pattern) old.rules }) c.in_ok-pattern.ensures.same in (
+      rule_allowed bus c.args.name.now c.args.pattern.now c.args.enabled set at old found c.in_ok-pattern.ensures.read c.in_ok-new.ensures.room,
+      c.in_ok-with_bus.ensures ∙ ap (λ buses. record set { buses = buses; count = set.count + 1 })
+          (found_changed set bus at old change c.in_ok-new.new found c.in-Some.ensures.sorted new),
     )

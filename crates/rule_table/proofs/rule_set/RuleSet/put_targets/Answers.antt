@@ -4,12 +4,12 @@ use Rattle.rule_table.specs.Control.{targets_put}
 use Rattle.rule_table.specs.RuleSet.{Rule, Bus, changed, put_targets}
 use Rattle.rule_table.specs.Sorted.{IsSortedSet, HasFew}
 use Rattle.rule_table.specs.declared.control.ControlFault.TheVariants.{NotBuilt}
-use Rattle.rule_table.proofs.SortedLemmas.{kept_applied}
-use Rattle.rule_table.proofs.ChangeLemmas.{IsFound, found_ordered, found_changed, targets_accepted, targets_few}
+use Rattle.rule_table.proofs.SortedLemmas.{sorted_applied}
+use Rattle.rule_table.proofs.ChangeLemmas.{IsFound, found_sorted, found_changed, targets_allowed, targets_few}
 use Rattle.rule_table.proofs.rule_set.RuleSet.put_targets.Goals as goal
 
 pub with_targets-requires : goal.with_targets-requires
-with_targets-requires c = found_ordered c.args.self.now c.as_str.result.now c.in-Some.at c.in-Some.old.now c.in-Some.ensures.found c.in-Some.ensures.kept
+with_targets-requires c = found_sorted c.args.self.now c.as_str.result.now c.in-Some.at c.in-Some.old.now c.in-Some.ensures.found c.in-Some.ensures.sorted
 
 pub returns-in_err-new-clause-refused : goal.returns-in_err-new-clause-refused
 returns-in_err-new-clause-refused c =
@@ -21,23 +21,25 @@ returns-in_err-new-clause-refused c =
     let few = targets_few c.args.bus.now c.args.rule.now c.args.targets.now c.args.self.now c.in-Some.at old found a in
     c.in_err-new.ensures.refused (ap Err same) (subst (λ rule. HasFew rule c.args.targets.now old.rules) (sym c.as_str-2.ensures) few))
 
-pub with_bus-requires-clause-kept : goal.with_bus-requires-clause-kept
-with_bus-requires-clause-kept c =
+pub with_bus-requires-clause-sorted : goal.with_bus-requires-clause-sorted
+with_bus-requires-clause-sorted c =
     let bus = c.args.bus.now in
     let rule = c.args.rule.now in
     let targets = c.args.targets.now in
     let set = c.args.self.now in
     let at = c.in-Some.at in
     let old = c.in-Some.old.now in
-    let kept = c.in-Some.ensures.kept in
+    let sorted = c.in-Some.ensures.sorted in
     let found = subst (λ name. IsFound set name at old) c.as_str.ensures c.in-Some.ensures.found in
     let put : Rule → Rule = λ r. record r { targets = put_targets targets r.targets } in
     let change : Bus → Bus = λ b. record b { rules = changed (λ r. r.name) rule put b.rules } in
-    let new : c.in_ok-new.new ≡ change old = c.in_ok-new.ensures.put ∙ ap (λ name. record old { rules = changed (λ r. r.name) name put old.rules }) c.as_str-2.ensures in
+    let new : c.in_ok-new.new ≡ change old =
+    c.in_ok-new.ensures.put ∙ ap (λ name. record old { rules = changed (λ r. r.name) name put old.rules }) c.as_str-2.ensures in
     let few = subst (λ name. HasFew name targets old.rules) c.as_str-2.ensures c.in_ok-new.ensures.few in
-    let accepted = targets_accepted bus rule targets set at old found (c.if-not-are_targets.ensures.0 refl) few in
-    subst (λ buses. IsSortedSet (record set { buses = buses; count = set.count + 1 })) (sym (found_changed set bus at old change c.in_ok-new.new found kept new))
-    (kept_applied (targets_put bus rule targets) set accepted kept)
+    let allowed = targets_allowed bus rule targets set at old found (c.if-not-are_targets.ensures.0 refl) few in
+    subst (λ buses. IsSortedSet (record set { buses = buses; count = set.count + 1 }))
+    (sym (found_changed set bus at old change c.in_ok-new.new found sorted new))
+    (sorted_applied (targets_put bus rule targets) set allowed sorted)
 
 pub returns-clause-applied : goal.returns-clause-applied
 returns-clause-applied c =
@@ -50,8 +52,10 @@ returns-clause-applied c =
     let found = subst (λ name. IsFound set name at old) c.as_str.ensures c.in-Some.ensures.found in
     let put : Rule → Rule = λ r. record r { targets = put_targets targets r.targets } in
     let change : Bus → Bus = λ b. record b { rules = changed (λ r. r.name) rule put b.rules } in
-    let new : c.in_ok-new.new ≡ change old = c.in_ok-new.ensures.put ∙ ap (λ name. record old { rules = changed (λ r. r.name) name put old.rules }) c.as_str-2.ensures in
+    let new : c.in_ok-new.new ≡ change old =
+    c.in_ok-new.ensures.put ∙ ap (λ name. record old { rules = changed (λ r. r.name) name put old.rules }) c.as_str-2.ensures in
     let few = subst (λ name. HasFew name targets old.rules) c.as_str-2.ensures c.in_ok-new.ensures.few in (
-      targets_accepted bus rule targets set at old found (c.if-not-are_targets.ensures.0 refl) few,
-      c.in_ok-with_bus.ensures ∙ ap (λ buses. record set { buses = buses; count = set.count + 1 }) (found_changed set bus at old change c.in_ok-new.new found c.in-Some.ensures.kept new),
+      targets_allowed bus rule targets set at old found (c.if-not-are_targets.ensures.0 refl) few,
+      c.in_ok-with_bus.ensures ∙ ap (λ buses. record set { buses = buses; count = set.count + 1 })
+          (found_changed set bus at old change c.in_ok-new.new found c.in-Some.ensures.sorted new),
     )
