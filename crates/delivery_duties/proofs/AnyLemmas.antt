@@ -1,4 +1,4 @@
--- Lists that hold an element of a kind: longer ones, changed ones and filtered ones (`any_`).
+-- `Any` of longer, changed and filtered lists: the `any_` lemmas.
 use Rattle.std.proofs.Common.{◌≡◌, Bool, true, false, cond, List, [], ◌∷◌, ◌++◌, map, refl, sym, ◌∙◌, subst, inl, inr, arith, length-append}
 use Rattle.std.specs.Prelude.{Any, Contains, filter, ◌⊎◌, zero, suc}
 use Rattle.std.proofs.lemmas.List.{get_or_append_left}
@@ -9,9 +9,9 @@ any_here P x xs p = (0, x, omega arith, refl, p)
 pub any_there : {X : Type 0} (P : X → Type 0) (x : X) (xs : List X) → Any P xs → Any P (x ∷ xs)
 any_there P x xs (k, y, l, e, p) = (suc k, y, omega arith, e, p)
 
-pub any_behind : {X : Type 0} (P : X → Type 0) (front : List X) (x : X) (xs : List X) → P x → Any P (front ++ x ∷ xs)
-any_behind P [] x xs p = any_here P x xs p
-any_behind P (y ∷ ys) x xs p = any_there P y (ys ++ x ∷ xs) (any_behind P ys x xs p)
+pub any_middle : {X : Type 0} (P : X → Type 0) (front : List X) (x : X) (xs : List X) → P x → Any P (front ++ x ∷ xs)
+any_middle P [] x xs p = any_here P x xs p
+any_middle P (y ∷ ys) x xs p = any_there P y (ys ++ x ∷ xs) (any_middle P ys x xs p)
 
 pub any_cases : {X : Type 0} (P : X → Type 0) (x : X) (xs : List X) → Any P (x ∷ xs) → P x ⊎ Any P xs
 any_cases P x xs (zero, y, l, e, p) = inl (subst P (sym e) p)
@@ -31,10 +31,12 @@ any_filter P p passes [] h = h
 any_filter P p passes (x ∷ xs) h =
     elim (any_cases P x xs h) [
       | inl q ↦ let e : p x ≡ true = passes x q in rw e (any_here P x (filter p xs) q)
-      | inr r ↦ let rest = any_filter P p passes xs r in elim (p x) as (λ b. Any P (cond b (x ∷ filter p xs) (filter p xs))) [ true ↦ any_there P x (filter p xs) rest | false ↦ rest ]
+      | inr r ↦ let rest = any_filter P p passes xs r in
+          elim (p x) as (λ b. Any P (cond b (x ∷ filter p xs) (filter p xs)))
+          [ true ↦ any_there P x (filter p xs) rest | false ↦ rest ]
     ]
 
-pub any_none : {X : Type 0} (P : X → Type 0) → Any P [] → ⊥
+any_none : {X : Type 0} (P : X → Type 0) → Any P [] → ⊥
 any_none P (k, x, l, e, p) = omega arith
 
 pub any_push_cases : {X : Type 0} (P : X → Type 0) (xs : List X) (y : X) → Any P (xs ++ y ∷ []) → Any P xs ⊎ P y

@@ -1,5 +1,6 @@
--- What the cuts of a list of duties, and of a list of queues, give.
-use Rattle.std.proofs.Common.{◌≡◌, ℕ, ◌<◌, ◌≤◌, ◌==◌, true, false, not, List, [], ◌∷◌, ◌++◌, Some, None, length, take, drop, get_or, set, sym, ap, ◌∙◌, subst, inr, arith}
+-- Lists of duties and of queues, cut in two and joined again.
+use Rattle.std.proofs.Common.{◌≡◌, ℕ, ◌<◌, ◌≤◌, ◌==◌, true, false, not, List, [], ◌∷◌, ◌++◌, Some, None, length, take, drop}
+use Rattle.std.proofs.Common.{get_or, set, sym, ap, ◌∙◌, subst, inr, arith}
 use Rattle.std.specs.Prelude.{All, Option, filter, find, position, MatchOption, IfSome, IfNone, ◌⊎◌}
 use Rattle.std.proofs.lemmas.List.{take-append-drop}
 use Rattle.std.proofs.lemmas.List.Elements.{All-weaker, All-head, All-tail}
@@ -46,8 +47,8 @@ cut_free at rows h =
       k.2,
     )
 
--- what the claim of the first of them makes of the rows
-abbrev pub ClaimsFirst : ℕ → DutyRow → List DutyRow → Option Claim → List DutyRow → Type 0
+-- the rows after the first of them is claimed, if it is due
+abbrev ClaimsFirst : ℕ → DutyRow → List DutyRow → Option Claim → List DutyRow → Type 0
 ClaimsFirst moment row rest r new =
     MatchOption r ((moment < row.due) × (new ≡ row ∷ rest))
     (λ c. (row.due ≤ moment) × (c.number ≡ row.number) × (new ≡ record row { claimed = true } ∷ rest))
@@ -59,7 +60,8 @@ claims_length moment row rest (Some c) new h = ap length h.2
 
 pub claims_first : (moment : ℕ) (rows front : List DutyRow) (row : DutyRow) (rest : List DutyRow) (r : Option Claim) (new : List DutyRow) →
     IsFirstFree rows front row rest → ClaimsFirst moment row rest r new →
-    IfSome r (λ c. (front : List DutyRow) × (row : DutyRow) × (rest : List DutyRow) × IsFirstFree rows front row rest × (row.due ≤ moment) × (c.number ≡ row.number))
+    IfSome r (λ c. (front : List DutyRow) × (row : DutyRow) × (rest : List DutyRow) × IsFirstFree rows front row rest × (row.due ≤ moment)
+    × (c.number ≡ row.number))
 claims_first moment rows front row rest None new f h = tt
 claims_first moment rows front row rest (Some c) new f h = (front, row, rest, f, h.0, h.1)
 
@@ -78,7 +80,8 @@ claims_none moment rows front row rest (Some c) new joined f h j = tt
 
 pub claims_none_due : (moment : ℕ) (rows front : List DutyRow) (row : DutyRow) (rest : List DutyRow) (r : Option Claim) (new : List DutyRow) →
     IsFirstFree rows front row rest → ClaimsFirst moment row rest r new →
-    IfNone r (All (λ row. row.claimed ≡ true) rows ⊎ ((front : List DutyRow) × (row : DutyRow) × (rest : List DutyRow) × IsFirstFree rows front row rest × (moment < row.due)))
+    IfNone r (All (λ row. row.claimed ≡ true) rows
+    ⊎ ((front : List DutyRow) × (row : DutyRow) × (rest : List DutyRow) × IsFirstFree rows front row rest × (moment < row.due)))
 claims_none_due moment rows front row rest None new f h = inr (front, row, rest, f, h.0)
 claims_none_due moment rows front row rest (Some c) new f h = tt
 
@@ -111,8 +114,8 @@ taken_rest number rows front row rest back owed left joined o at b e j =
     ∙ ap (λ n. filter (λ (r : DutyRow). not (r.number == n)) (front ++ row ∷ rest)) at.named
     ∙ ap (λ ys. filter (λ (r : DutyRow). not (r.number == number)) ys) (sym at.split)
 
--- the queues, where the first whose ARN is the endpoint stands behind the front
-pub taken_in_at : (endpoint body : List ℕ) (front : List Queue) (m : Queue) (rest : List Queue) →
+-- the queues after a delivery to the first queue after the front
+taken_in_at : (endpoint body : List ℕ) (front : List Queue) (m : Queue) (rest : List Queue) →
     All (λ o. bytes_eq endpoint (queue_arn o.name) ≡ false) front → bytes_eq endpoint (queue_arn m.name) ≡ true →
     taken_in endpoint body (front ++ m ∷ rest) ≡ front ++ with_next body m ∷ rest
 taken_in_at endpoint body [] m rest a h = rw h

@@ -1,5 +1,7 @@
--- Each step keeps what is true of the duties that ended: the `accounted_` lemmas.
-use Rattle.std.proofs.Common.{◌≡◌, ◌≢◌, ℕ, ◌+◌, ◌≤◌, ◌==◌, Bool, true, false, not, cond, List, [], ◌∷◌, ◌++◌, length, refl, sym, ap, ◌∙◌, subst, inl, inr, arith, length-append}
+-- Each step keeps the account of numbers and fates (`IsAccounted`): the `accounted_` lemmas, one for each step. SoundLemmas cites
+-- also `ended_length`.
+use Rattle.std.proofs.Common.{◌≡◌, ◌≢◌, ℕ, ◌+◌, ◌≤◌, ◌==◌, Bool, true, false, not, cond, List, [], ◌∷◌, ◌++◌, length, refl, sym}
+use Rattle.std.proofs.Common.{ap, ◌∙◌, subst, inl, inr, arith, length-append}
 use Rattle.std.specs.Prelude.{All, Any, filter, ◌⊎◌}
 use Rattle.std.proofs.lemmas.List.Elements.{All-push, All-weaker, All-contains, Contains-push_cases, filter-append}
 use Rattle.std.proofs.lemmas.List.Filters.{length-filter_both}
@@ -10,7 +12,7 @@ use Rattle.delivery_duties.specs.declared.fate.SettledDuty.{SettledDuty}
 use Rattle.delivery_duties.specs.declared.fate.Fate.TheVariants.{Delivered, Dropped}
 use Rattle.delivery_duties.specs.Duties.{IsPending, HasEnded, was_delivered, delivered_of, dropped_of, marked, marked_row, begun}
 use Rattle.delivery_duties.specs.Sound.{IsAccounted}
-use Rattle.delivery_duties.proofs.AnyLemmas.{any_behind, any_left, any_map, any_unmap, any_filter, any_passed, any_push_cases, any_weaker, contains_any}
+use Rattle.delivery_duties.proofs.AnyLemmas.{any_middle, any_left, any_map, any_unmap, any_filter, any_passed, any_push_cases, any_weaker, contains_any}
 
 -- the row has the number
 abbrev Named : ℕ → DutyRow → Type 0
@@ -21,8 +23,9 @@ abbrev NamedSo : ℕ → SettledDuty → Type 0
 NamedSo n d = d.number ≡ n
 
 -- the same numbers are pending
-pub accounted_rows : {created delivered dropped : ℕ} {pending : List DutyRow} {ended : List SettledDuty} (rows : List DutyRow) →
-    IsAccounted created delivered dropped pending ended → ((n : ℕ) → IsPending n pending → IsPending n rows) → ((n : ℕ) → IsPending n rows → IsPending n pending) →
+accounted_rows : {created delivered dropped : ℕ} {pending : List DutyRow} {ended : List SettledDuty} (rows : List DutyRow) →
+    IsAccounted created delivered dropped pending ended → ((n : ℕ) → IsPending n pending → IsPending n rows)
+    → ((n : ℕ) → IsPending n rows → IsPending n pending) →
     IsAccounted created delivered dropped rows ended
 accounted_rows rows h to from = record {
   given = h.given;
@@ -47,7 +50,7 @@ accounted_marked {pending = pending} mark number h =
 one_more : (n m : ℕ) → n ≤ m + 1 → (n ≤ m) ⊎ (n ≡ m + 1)
 one_more n m h = grind arith
 
--- another duty is made and pending
+-- another duty is added and pending
 pub accounted_begun : {created delivered dropped : ℕ} {pending : List DutyRow} {ended : List SettledDuty} (moment : ℕ) (duty : NewDuty) →
     IsAccounted created delivered dropped pending ended → IsAccounted (created + 1) delivered dropped (pending ++ begun (created + 1) moment duty ∷ []) ended
 accounted_begun {created} {delivered} {dropped} {pending} {ended} moment duty h =
@@ -58,7 +61,7 @@ accounted_begun {created} {delivered} {dropped} {pending} {ended} moment duty h 
       given = All-weaker P Q (λ d k. omega (arith, k)) ended h.given;
       each = λ n l m. elim (one_more n created m) [
         | inl k ↦ elim (h.each n l k) [ inl p ↦ inl (any_left (Named n) pending (row ∷ []) p) | inr e ↦ inr e ]
-        | inr e ↦ inl (any_behind (Named n) pending row [] (sym e))
+        | inr e ↦ inl (any_middle (Named n) pending row [] (sym e))
       ];
       apart = λ n p (k, d, l, e, q). elim (any_push_cases (Named n) pending row p) [
         | inl r ↦ h.apart n r (k, d, l, e, q)
@@ -69,15 +72,17 @@ accounted_begun {created} {delivered} {dropped} {pending} {ended} moment duty h 
       dropped_so = h.dropped_so;
     }
 
-pub delivered_more : (ended : List SettledDuty) (d : SettledDuty) → delivered_of (ended ++ d ∷ []) ≡ delivered_of ended + delivered_of (d ∷ [])
-delivered_more ended d = ap (length {A = SettledDuty}) (filter-append was_delivered ended (d ∷ [])) ∙ length-append (filter was_delivered ended) (filter was_delivered (d ∷ []))
+delivered_more : (ended : List SettledDuty) (d : SettledDuty) → delivered_of (ended ++ d ∷ []) ≡ delivered_of ended + delivered_of (d ∷ [])
+delivered_more ended d =
+    ap (length {A = SettledDuty}) (filter-append was_delivered ended (d ∷ []))
+    ∙ length-append (filter was_delivered ended) (filter was_delivered (d ∷ []))
 
-pub dropped_more : (ended : List SettledDuty) (d : SettledDuty) → dropped_of (ended ++ d ∷ []) ≡ dropped_of ended + dropped_of (d ∷ [])
+dropped_more : (ended : List SettledDuty) (d : SettledDuty) → dropped_of (ended ++ d ∷ []) ≡ dropped_of ended + dropped_of (d ∷ [])
 dropped_more ended d =
     let q : SettledDuty → Bool = λ d. not (was_delivered d) in
     ap (length {A = SettledDuty}) (filter-append q ended (d ∷ [])) ∙ length-append (filter q ended) (filter q (d ∷ []))
 
--- those that ended are the delivered and the dropped ones
+-- the ended duties are the delivered and the dropped ones
 pub ended_length : {created delivered dropped : ℕ} {pending : List DutyRow} {ended : List SettledDuty} → IsAccounted created delivered dropped pending ended →
     length ended ≡ delivered + dropped
 ended_length {ended = ended} h =
@@ -85,8 +90,9 @@ ended_length {ended = ended} h =
     let both : delivered_of ended + dropped_of ended ≡ length ended = length-filter_both was_delivered q (λ d. refl) ended in
     omega (arith, both, h.delivered_so, h.dropped_so)
 
--- a number that had not ended ends, and is not pending any more
-accounted_more : {created delivered dropped : ℕ} {pending : List DutyRow} {ended : List SettledDuty} (more : ℕ) (rows : List DutyRow) (d : SettledDuty) (delivered_now dropped_now : ℕ) →
+-- a duty that had not ended ends, and is not pending any more
+accounted_more : {created delivered dropped : ℕ} {pending : List DutyRow} {ended : List SettledDuty} (more : ℕ) (rows : List DutyRow)
+    (d : SettledDuty) (delivered_now dropped_now : ℕ) →
     IsAccounted created delivered dropped pending ended → created ≤ more → d.number ≤ more → (HasEnded d.number ended → ⊥) →
     ((n : ℕ) → IsPending n rows → IsPending n pending) → (IsPending d.number rows → ⊥) →
     ((n : ℕ) → 1 ≤ n → n ≤ more → (n ≡ d.number) ⊎ (IsPending n rows ⊎ HasEnded n ended)) →
@@ -98,7 +104,7 @@ accounted_more {created} {delivered} {dropped} {pending} {ended} more rows d del
     record {
       given = All-push Q ended d (All-weaker P Q (λ x k. omega (arith, k, c)) ended h.given) l;
       each = λ n a b. elim (each n a b) [
-        | inl same ↦ inr (any_behind (NamedSo n) ended d [] (sym same))
+        | inl same ↦ inr (any_middle (NamedSo n) ended d [] (sym same))
         | inr r ↦ elim r [ inl p ↦ inl p | inr q ↦ inr (any_left (NamedSo n) ended (d ∷ []) q) ]
       ];
       apart = λ n p q. elim (any_push_cases (NamedSo n) ended d q) [
@@ -119,18 +125,18 @@ accounted_more {created} {delivered} {dropped} {pending} {ended} more rows d del
       dropped_so = f;
     }
 
--- a duty is dropped at its making
+-- a duty is dropped when it is added
 pub accounted_too_long : {created delivered dropped : ℕ} {pending : List DutyRow} {ended : List SettledDuty} →
     IsAccounted created delivered dropped pending ended → All (λ row. row.number ≤ created) pending →
     IsAccounted (created + 1) delivered (dropped + 1) pending (ended ++ record { number = created + 1; fate = Dropped } ∷ [])
-accounted_too_long {created} {delivered} {dropped} {pending} {ended} h kept =
+accounted_too_long {created} {delivered} {dropped} {pending} {ended} h stored =
     let d : SettledDuty = record { number = created + 1; fate = Dropped } in
     let e : delivered_of (ended ++ d ∷ []) ≡ delivered_of ended + 0 = delivered_more ended d in
     let f : dropped_of (ended ++ d ∷ []) ≡ dropped_of ended + 1 = dropped_more ended d in
     accounted_more (created + 1) pending d delivered (dropped + 1) h (omega arith) (omega arith)
     (λ (k, x, l, g, q). let b : x.number ≤ created = All-contains (λ (x : SettledDuty). x.number ≤ created) ended x h.given (k, l, g) in omega (arith, b, q))
     (λ n p. p)
-    (λ (k, x, l, g, q). let b : x.number ≤ created = All-contains (λ (x : DutyRow). x.number ≤ created) pending x kept (k, l, g) in omega (arith, b, q))
+    (λ (k, x, l, g, q). let b : x.number ≤ created = All-contains (λ (x : DutyRow). x.number ≤ created) pending x stored (k, l, g) in omega (arith, b, q))
     (λ n l m. elim (one_more n created m) [ inl k ↦ inr (h.each n l k) | inr same ↦ inl same ])
     (omega (arith, e, h.delivered_so)) (omega (arith, f, h.dropped_so))
 
@@ -151,20 +157,24 @@ pending_without : (n number : ℕ) (rows : List DutyRow) → n ≢ number → Is
 pending_without n number rows ne h =
     any_filter (Named n) (λ row. not (row.number == number)) (λ row e. not_number row.number number (λ same. ne (sym e ∙ same))) rows h
 
+none_without : (number : ℕ) (rows : List DutyRow) → Any (λ row. Named number row × (not (row.number == number) ≡ true)) rows → ⊥
+none_without number rows (k, row, below, is, (same, other)) = is_not row.number number other same
+
 -- a pending duty ends
-pub accounted_settled : {created delivered dropped : ℕ} {pending : List DutyRow} {ended : List SettledDuty} (d : SettledDuty) (delivered_now dropped_now : ℕ) →
+accounted_settled : {created delivered dropped : ℕ} {pending : List DutyRow} {ended : List SettledDuty} (d : SettledDuty) (delivered_now dropped_now : ℕ) →
     IsAccounted created delivered dropped pending ended → All (λ row. row.number ≤ created) pending → IsPending d.number pending →
     delivered_now ≡ delivered_of (ended ++ d ∷ []) → dropped_now ≡ dropped_of (ended ++ d ∷ []) →
     IsAccounted created delivered_now dropped_now (without d.number pending) (ended ++ d ∷ [])
-accounted_settled {created} {delivered} {dropped} {pending} {ended} d delivered_now dropped_now h kept (k, x, l, g, q) e f =
+accounted_settled {created} {delivered} {dropped} {pending} {ended} d delivered_now dropped_now h stored (k, x, l, g, q) e f =
     let there : IsPending d.number pending = (k, x, l, g, q) in
-    let b : x.number ≤ created = All-contains (λ (x : DutyRow). x.number ≤ created) pending x kept (k, l, g) in
+    let b : x.number ≤ created = All-contains (λ (x : DutyRow). x.number ≤ created) pending x stored (k, l, g) in
     let p : DutyRow → Bool = λ row. not (row.number == d.number) in
-    let passed : (n : ℕ) → IsPending n (without d.number pending) → Any (λ row. Named n row × (p row ≡ true)) pending = λ n r. any_passed (Named n) p pending r in
+    let passed : (n : ℕ) → IsPending n (without d.number pending) → Any (λ row. Named n row × (p row ≡ true)) pending =
+    λ n r. any_passed (Named n) p pending r in
     accounted_more created (without d.number pending) d delivered_now dropped_now h (omega arith) (omega (arith, b, q))
     (λ r. h.apart d.number there r)
     (λ n r. any_weaker (λ row. Named n row × (p row ≡ true)) (Named n) (λ row k. k.0) pending (passed n r))
-    (λ r. let a = passed d.number r in is_not a.1.number d.number a.4.1 a.4.0)
+    (λ r. none_without d.number pending (passed d.number r))
     (λ n a c. elim (same_or_not n d.number) [
       | inl same ↦ inl same
       | inr ne ↦ inr (elim (h.each n a c) [ inl r ↦ inl (pending_without n d.number pending ne r) | inr r ↦ inr r ])
@@ -174,17 +184,17 @@ accounted_settled {created} {delivered} {dropped} {pending} {ended} d delivered_
 pub accounted_delivered : {created delivered dropped : ℕ} {pending : List DutyRow} {ended : List SettledDuty} (number : ℕ) →
     IsAccounted created delivered dropped pending ended → All (λ row. row.number ≤ created) pending → IsPending number pending →
     IsAccounted created (delivered + 1) dropped (without number pending) (ended ++ record { number = number; fate = Delivered } ∷ [])
-accounted_delivered {delivered = delivered} {dropped = dropped} {ended = ended} number h kept there =
+accounted_delivered {delivered = delivered} {dropped = dropped} {ended = ended} number h stored there =
     let d : SettledDuty = record { number = number; fate = Delivered } in
     let e : delivered_of (ended ++ d ∷ []) ≡ delivered_of ended + 1 = delivered_more ended d in
     let f : dropped_of (ended ++ d ∷ []) ≡ dropped_of ended + 0 = dropped_more ended d in
-    accounted_settled d (delivered + 1) dropped h kept there (omega (arith, e, h.delivered_so)) (omega (arith, f, h.dropped_so))
+    accounted_settled d (delivered + 1) dropped h stored there (omega (arith, e, h.delivered_so)) (omega (arith, f, h.dropped_so))
 
 pub accounted_dropped : {created delivered dropped : ℕ} {pending : List DutyRow} {ended : List SettledDuty} (number : ℕ) →
     IsAccounted created delivered dropped pending ended → All (λ row. row.number ≤ created) pending → IsPending number pending →
     IsAccounted created delivered (dropped + 1) (without number pending) (ended ++ record { number = number; fate = Dropped } ∷ [])
-accounted_dropped {delivered = delivered} {dropped = dropped} {ended = ended} number h kept there =
+accounted_dropped {delivered = delivered} {dropped = dropped} {ended = ended} number h stored there =
     let d : SettledDuty = record { number = number; fate = Dropped } in
     let e : delivered_of (ended ++ d ∷ []) ≡ delivered_of ended + 0 = delivered_more ended d in
     let f : dropped_of (ended ++ d ∷ []) ≡ dropped_of ended + 1 = dropped_more ended d in
-    accounted_settled d delivered (dropped + 1) h kept there (omega (arith, e, h.delivered_so)) (omega (arith, f, h.dropped_so))
+    accounted_settled d delivered (dropped + 1) h stored there (omega (arith, e, h.delivered_so)) (omega (arith, f, h.dropped_so))

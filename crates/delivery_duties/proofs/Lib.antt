@@ -1,6 +1,6 @@
 pub mod RowLemmas
-pub mod CutLemmas
 pub mod AnyLemmas
+pub mod CutLemmas
 pub mod EndLemmas
 pub mod SoundLemmas
 pub mod StepLemmas

@@ -1,4 +1,4 @@
--- Duties whose claim is out: which steps keep them so (`still_out_`), and that a new claim was not out.
+-- Claims that are out: they stay out in each step (`still_out_` lemmas), and a new claim was not out before (`claimed_not_out`).
 use Rattle.std.proofs.Common.{◌≡◌, ◌≢◌, ℕ, ◌+◌, ◌≤◌, ◌==◌, Bool, true, false, not, cond, List, [], ◌∷◌, ◌++◌, Some, None, refl, sym, subst, inl, inr, arith}
 use Rattle.std.specs.Prelude.{Any, Contains, Option, filter, IfSome, IfNone}
 use Rattle.std.proofs.lemmas.List.Elements.{All-contains, Contains-append_cases}
@@ -19,7 +19,7 @@ use Rattle.delivery_duties.proofs.StepLemmas.{contains_cases}
 abbrev pub Out : ℕ → DutyRow → Type 0
 Out n row = (row.number ≡ n) × (row.claimed ≡ true)
 
-pub still_out_claimed : (number : ℕ) (rows : List DutyRow) (n : ℕ) → Any (Out n) rows → Any (Out n) (marked true number rows)
+still_out_claimed : (number : ℕ) (rows : List DutyRow) (n : ℕ) → Any (Out n) rows → Any (Out n) (marked true number rows)
 still_out_claimed number rows n h = any_map (Out n) (marked_row true number) (λ row o. marked_kept (Out n) true number row o (o.0, refl)) rows h
 
 other_number : (n m r : ℕ) → n ≢ m → r ≡ n → (r == m) ≡ false
@@ -36,13 +36,20 @@ still_out_unclaimed number rows n ne h =
 not_false : (b : Bool) → b ≡ false → not b ≡ true
 not_false b h = rw h
 
-pub still_out_settled : (number : ℕ) (rows : List DutyRow) (n : ℕ) → n ≢ number → Any (Out n) rows → Any (Out n) (filter (λ row. not (row.number == number)) rows)
+pub still_out_settled : (number : ℕ) (rows : List DutyRow) (n : ℕ) → n ≢ number → Any (Out n) rows
+    → Any (Out n) (filter (λ row. not (row.number == number)) rows)
 still_out_settled number rows n ne h =
     any_filter (Out n) (λ row. not (row.number == number)) (λ row o. not_false (row.number == number) (other_number n number row.number ne o.0)) rows h
 
 still_out_one : (duty : NewDuty) (moment : ℕ) (s : Duties) (n : ℕ) → IsOut n s → IsOut n (added_one duty moment s)
 still_out_one duty moment s n h =
-    elim duty.too_long as (λ b. IsOut n (cond b (record s { created = s.created + 1; ended = s.ended ++ record { number = s.created + 1; fate = Dropped } ∷ []; dropped = s.dropped + 1; latest = moment }) (record s {
+    elim duty.too_long as (λ b. IsOut n (cond b
+    (record s {
+      created = s.created + 1;
+      ended = s.ended ++ record { number = s.created + 1; fate = Dropped } ∷ [];
+      dropped = s.dropped + 1;
+      latest = moment;
+    }) (record s {
       created = s.created + 1;
       pending = s.pending ++ begun (s.created + 1) moment duty ∷ [];
       latest = moment;
@@ -56,7 +63,8 @@ still_out_added [] moment s n h = h
 still_out_added (duty ∷ duties) moment s n h = still_out_added duties moment (added_one duty moment s) n (still_out_one duty moment s n h)
 
 -- the claim of the first row that is free was not out
-free_not_out : (rows front : List DutyRow) (row : DutyRow) (rest : List DutyRow) → IsOrdered rows → IsFirstFree rows front row rest → Any (Out row.number) rows → ⊥
+free_not_out : (rows front : List DutyRow) (row : DutyRow) (rest : List DutyRow) → IsOrdered rows → IsFirstFree rows front row rest
+    → Any (Out row.number) rows → ⊥
 free_not_out rows front row rest o f (k, other, l, e, p) =
     let F : List DutyRow → Type 0 = λ ys. Contains ys other in
     let s = ordered_split front row rest (subst IsOrdered f.split o) in
@@ -70,7 +78,8 @@ free_not_out rows front row rest o f (k, other, l, e, p) =
     ]
 
 pub claimed_not_out : {s : Duties} (v : Duties) (moment : ℕ) (r : Option Claim) → s ≡ v → IsOrdered s.pending →
-    IfSome r (λ c. (front : List DutyRow) × (row : DutyRow) × (rest : List DutyRow) × IsFirstFree s.pending front row rest × (row.due ≤ moment) × (c.number ≡ row.number)) →
+    IfSome r (λ c. (front : List DutyRow) × (row : DutyRow) × (rest : List DutyRow) × IsFirstFree s.pending front row rest
+    × (row.due ≤ moment) × (c.number ≡ row.number)) →
     IfSome r (λ c. IsOut c.number v → ⊥)
 claimed_not_out v moment None e o first = tt
 claimed_not_out {s} v moment (Some c) e o first =
@@ -79,7 +88,7 @@ claimed_not_out {s} v moment (Some c) e o first =
     let at_s : F s = λ out. free_not_out s.pending first.0 first.1 first.2 o first.3 (subst G first.5 out) in
     subst F e at_s
 
--- whether a claim is made or not, those that were out stay so
+-- whether a claim is made or not, the claims that were out stay out
 pub still_out_next : (r : Option Claim) (rows new : List DutyRow) → IfSome r (λ c. new ≡ marked true c.number rows) → IfNone r (new ≡ rows) →
     (n : ℕ) → Any (Out n) rows → Any (Out n) new
 still_out_next None rows new some none n h = subst (Any (Out n)) (sym none) h

@@ -1,5 +1,6 @@
--- Lists of duties in order, when one is changed or taken out: `marked_at`, `without_at`, `found_at`, and the `ordered_` lemmas.
-use Rattle.std.proofs.Common.{◌≡◌, ℕ, ◌+◌, ◌<◌, ◌≤◌, ◌==◌, Bool, true, false, not, List, [], ◌∷◌, ◌++◌, Some, None, length, take, drop, get_or, refl, ap, ◌∙◌, subst, arith}
+-- Lists of duties in order, when one row changes or is removed: `marked_at`, `without_at`, `found_at`, and the `ordered_` lemmas.
+use Rattle.std.proofs.Common.{◌≡◌, ℕ, ◌+◌, ◌<◌, ◌≤◌, ◌==◌, Bool, true, false, not, List, [], ◌∷◌, ◌++◌, Some, None, length, take}
+use Rattle.std.proofs.Common.{drop, get_or, refl, ap, ◌∙◌, subst, arith}
 use Rattle.std.specs.Prelude.{All, filter, find, position}
 use Rattle.std.proofs.lemmas.List.{take_at, drop_at, drop_more, get_or-take, length-take, map-append}
 use Rattle.std.proofs.lemmas.List.Elements.{All-nil, All-cons, All-head, All-tail, All-append, All-take, All-drop, All-weaker, filter-append}
@@ -10,35 +11,36 @@ use Rattle.delivery_duties.specs.declared.duty.DutyRow.{DutyRow}
 use Rattle.delivery_duties.specs.Duties.{marked, marked_row}
 use Rattle.delivery_duties.specs.Sound.{ComesBefore, IsOrdered}
 
-pub All-left : {X : Type 0} (P : X → Type 0) (xs ys : List X) → All P (xs ++ ys) → All P xs
+All-left : {X : Type 0} (P : X → Type 0) (xs ys : List X) → All P (xs ++ ys) → All P xs
 All-left {X} P xs ys h = let F : List X → Type 0 = All P in subst F (take_at xs ys (length xs) refl) (All-take P (length xs) (xs ++ ys) h)
 
-pub All-right : {X : Type 0} (P : X → Type 0) (xs ys : List X) → All P (xs ++ ys) → All P ys
+All-right : {X : Type 0} (P : X → Type 0) (xs ys : List X) → All P (xs ++ ys) → All P ys
 All-right {X} P xs ys h = let F : List X → Type 0 = All P in subst F (drop_at xs ys (length xs) refl) (All-drop P (length xs) (xs ++ ys) h)
 
 -- an element between the others
 pub All-middle : {X : Type 0} (P : X → Type 0) (front : List X) (x : X) (back : List X) → All P (front ++ x ∷ back) → P x
 All-middle P front x back h = All-head P x back (All-right P front (x ∷ back) h)
 
-pub All-without : {X : Type 0} (P : X → Type 0) (front : List X) (x : X) (back : List X) → All P (front ++ x ∷ back) → All P (front ++ back)
+All-without : {X : Type 0} (P : X → Type 0) (front : List X) (x : X) (back : List X) → All P (front ++ x ∷ back) → All P (front ++ back)
 All-without P front x back h = All-append P front back (All-left P front (x ∷ back) h) (All-tail P x back (All-right P front (x ∷ back) h))
 
-pub All-changed : {X : Type 0} (P : X → Type 0) (front : List X) (x y : X) (back : List X) → All P (front ++ x ∷ back) → P y → All P (front ++ y ∷ back)
-All-changed P front x y back h p = All-append P front (y ∷ back) (All-left P front (x ∷ back) h) (All-cons P y back p (All-tail P x back (All-right P front (x ∷ back) h)))
+All-changed : {X : Type 0} (P : X → Type 0) (front : List X) (x y : X) (back : List X) → All P (front ++ x ∷ back) → P y → All P (front ++ y ∷ back)
+All-changed P front x y back h p =
+    All-append P front (y ∷ back) (All-left P front (x ∷ back) h) (All-cons P y back p (All-tail P x back (All-right P front (x ∷ back) h)))
 
-pub filter_all : {X : Type 0} (p : X → Bool) (xs : List X) → All (λ x. p x ≡ true) xs → filter p xs ≡ xs
+filter_all : {X : Type 0} (p : X → Bool) (xs : List X) → All (λ x. p x ≡ true) xs → filter p xs ≡ xs
 filter_all p [] h = refl
 filter_all p (x ∷ xs) h =
     let e : p x ≡ true = All-head (λ y. p y ≡ true) x xs h in
     rw e (ap (λ ys. x ∷ ys) (filter_all p xs (All-tail (λ y. p y ≡ true) x xs h)))
 
-pub find_none : {X : Type 0} (p : X → Bool) (xs : List X) → All (λ x. p x ≡ false) xs → find p xs ≡ None
+find_none : {X : Type 0} (p : X → Bool) (xs : List X) → All (λ x. p x ≡ false) xs → find p xs ≡ None
 find_none p [] h = refl
 find_none p (x ∷ xs) h =
     let e : p x ≡ false = All-head (λ y. p y ≡ false) x xs h in
     rw e (find_none p xs (All-tail (λ y. p y ≡ false) x xs h))
 
--- the list at the first place that passes
+-- the list, cut at the first element that passes
 pub cut_at : {X : Type 0} (p : X → Bool) (xs : List X) (at : ℕ) → position p xs ≡ Some at →
     (x : X) × (rest : List X) × (drop at xs ≡ x ∷ rest) × (p x ≡ true) × All (λ y. p y ≡ false) (take at xs) × (at ≤ length xs)
 cut_at p [] at h = absurd (cc)
@@ -59,14 +61,17 @@ ordered_split (o ∷ front) row back h =
     let r = ordered_split front row back h.1 in
     (All-cons (λ o. ComesBefore o row) o front (All-middle (ComesBefore o) front row back h.0) r.0, r.1)
 
-pub ordered_without : (front : List DutyRow) (row : DutyRow) (back : List DutyRow) → IsOrdered (front ++ row ∷ back) → IsOrdered (front ++ back)
+ordered_without : (front : List DutyRow) (row : DutyRow) (back : List DutyRow) → IsOrdered (front ++ row ∷ back) → IsOrdered (front ++ back)
 ordered_without [] row back h = h.1
 ordered_without (o ∷ front) row back h = (All-without (ComesBefore o) front row back h.0, ordered_without front row back h.1)
 
-pub ordered_changed : (mark : Bool) (front : List DutyRow) (row : DutyRow) (back : List DutyRow) → IsOrdered (front ++ row ∷ back) → IsOrdered (front ++ record row { claimed = mark } ∷ back)
+pub ordered_changed : (mark : Bool) (front : List DutyRow) (row : DutyRow) (back : List DutyRow) → IsOrdered (front ++ row ∷ back)
+    → IsOrdered (front ++ record row { claimed = mark } ∷ back)
 ordered_changed mark [] row back h = h
-ordered_changed mark (o ∷ front) row back h =
-    (All-changed (ComesBefore o) front row (record row { claimed = mark }) back h.0 (All-middle (ComesBefore o) front row back h.0), ordered_changed mark front row back h.1)
+ordered_changed mark (o ∷ front) row back h = (
+  All-changed (ComesBefore o) front row (record row { claimed = mark }) back h.0 (All-middle (ComesBefore o) front row back h.0),
+  ordered_changed mark front row back h.1,
+)
 
 pub ordered_push : (rows : List DutyRow) (row : DutyRow) → IsOrdered rows → All (λ o. ComesBefore o row) rows → IsOrdered (rows ++ row ∷ [])
 ordered_push [] row h a = (All-nil (ComesBefore row), tt)

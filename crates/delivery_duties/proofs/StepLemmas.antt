@@ -1,5 +1,8 @@
--- What the public calls say of the duties that were and that are.
-use Rattle.std.proofs.Common.{◌≡◌, ℕ, ◌+◌, ◌<◌, ◌≤◌, ◌^◌, ◌==◌, Bool, true, false, not, cond, List, [], ◌∷◌, ◌++◌, Some, None, length, take, drop, map, refl, sym, ap, ◌∙◌, subst, inl, inr, arith}
+-- How the public calls change the duties: queues found by name (`has_queue_found`, `queue_decides`, `messages_some`,
+-- `messages_none`), claims (`claimed_next`, `none_due`), numbers (`only_row`, `in_one_state`), fates (`settled_accepted`, `settled_dropped`), additions
+-- (`all_left`, `one_made`, `none_left`, `added_created`, `added_queues`) and the settled form (`stored_named`).
+use Rattle.std.proofs.Common.{◌≡◌, ℕ, ◌+◌, ◌<◌, ◌≤◌, ◌^◌, ◌==◌, Bool, true, false, not, cond, List, [], ◌∷◌, ◌++◌, Some, None}
+use Rattle.std.proofs.Common.{length, take, drop, map, refl, sym, ap, ◌∙◌, subst, inl, inr, arith}
 use Rattle.std.specs.Prelude.{All, Any, Contains, Option, filter, find, ◌⊎◌, zero, suc, codes, IsTrue, ◌↔◌, is_some, option_map, IfSome, IfNone, MatchOption}
 use Rattle.std.specs.Str.{bytes_eq}
 use Rattle.std.proofs.lemmas.List.{length-map, append_cancel_left}
@@ -11,14 +14,16 @@ use Rattle.delivery_duties.specs.declared.duty.NewDuty.{NewDuty}
 use Rattle.delivery_duties.specs.declared.duty.DutyRow.{DutyRow}
 use Rattle.delivery_duties.specs.declared.fate.Outcome.{Outcome}
 use Rattle.delivery_duties.specs.declared.fate.Outcome.TheVariants.{Accepted, TooOld}
-use Rattle.delivery_duties.specs.Duties.{Duties, Queue, HasEndpoint, IsNoLater, IsNext, NoneDue, IsOut, IsInOneState, has_queue, messages_of, marked, claimed, settled, begun, added, added_one, with_next, taken_in, taken_of}
+use Rattle.delivery_duties.specs.Duties.{Duties, Queue, HasEndpoint, IsNoLater, IsNext, NoneDue, IsOut, IsInOneState, has_queue}
+use Rattle.delivery_duties.specs.Duties.{messages_of, marked, claimed, settled, begun, added, added_one, with_next, taken_in}
+use Rattle.delivery_duties.specs.Duties.{taken_of}
 use Rattle.delivery_duties.specs.Cuts.{IsFirstFree}
 use Rattle.delivery_duties.specs.Sound.{ComesBefore, IsOrdered, IsSound}
 use Rattle.delivery_duties.proofs.RowLemmas.{marked_at, ordered_split}
 use Rattle.delivery_duties.specs.declared.fate.SettledDuty.{SettledDuty}
 use Rattle.delivery_duties.specs.declared.fate.Fate.TheVariants.{Delivered, Dropped}
 use Rattle.delivery_duties.specs.declared.fate.Fate.{Fate}
-use Rattle.delivery_duties.proofs.AnyLemmas.{any_here, any_there, any_cases, any_behind}
+use Rattle.delivery_duties.proofs.AnyLemmas.{any_here, any_there, any_cases, any_middle}
 use Rattle.delivery_duties.proofs.SoundLemmas.{found_named}
 
 -- ---- queues by name
@@ -51,14 +56,16 @@ queue_has queue [] (k, m, l, e, p) = absurd (omega arith)
 queue_has queue (o ∷ ms) h =
     let P : Queue → Type 0 = λ m. queue_arn queue ≡ queue_arn m.name in
     elim (any_cases P o ms h) [
-      | inl p ↦ let e : bytes_eq o.name queue ≡ true = (bytes_eq-Decides o.name queue).1 (sym (append_cancel_left (codes "arn:aws:sqs:us-east-1:111122223333:") queue o.name p)) in rw e
+      | inl p ↦ let e : bytes_eq o.name queue ≡ true =
+          (bytes_eq-Decides o.name queue).1 (sym (append_cancel_left (codes "arn:aws:sqs:us-east-1:111122223333:") queue o.name p)) in rw e
       | inr r ↦ let rest = queue_has queue ms r in elim (bytes_eq o.name queue) as (λ b. cond b true (has_queue queue ms) ≡ true) [ true ↦ refl | false ↦ rest ]
     ]
 
 pub queue_decides : (queue : List ℕ) (queues : List Queue) (b : Bool) → b ≡ has_queue queue queues → IsTrue b ↔ HasEndpoint (queue_arn queue) queues
 queue_decides queue queues b e = (λ t. queue_there queue queues (sym e ∙ t), λ h. e ∙ queue_has queue queues h)
 
-pub messages_some : (queue : List ℕ) (queues : List Queue) (m : Queue) → find (λ m. bytes_eq m.name queue) queues ≡ Some m → messages_of queue queues ≡ m.messages
+pub messages_some : (queue : List ℕ) (queues : List Queue) (m : Queue) → find (λ m. bytes_eq m.name queue) queues ≡ Some m
+    → messages_of queue queues ≡ m.messages
 messages_some queue [] m f = absurd (cc)
 messages_some queue (o ∷ ms) m f =
     let p : Queue → Bool = λ m. bytes_eq m.name queue in
@@ -96,7 +103,7 @@ no_later : (row other : DutyRow) → ComesBefore row other → IsNoLater row oth
 no_later row other h =
     elim (later_or_same row.due other.due h.1) [ inl l ↦ inl l | inr e ↦ inr (e, omega (arith, h.0)) ]
 
--- a row that is not claimed is the first such one, or comes behind it
+-- an unclaimed row is the first unclaimed one, or comes after it
 free_cases : (rows front : List DutyRow) (row : DutyRow) (rest : List DutyRow) → IsOrdered rows → IsFirstFree rows front row rest →
     (other : DutyRow) → Contains rows other → other.claimed ≡ false → (row ≡ other) ⊎ ComesBefore row other
 free_cases rows front row rest o f other t free =
@@ -107,7 +114,8 @@ free_cases rows front row rest o f other t free =
       | inr b ↦ elim (contains_cases row rest other b) [ inl e ↦ inl e | inr d ↦ inr (All-contains (ComesBefore row) rest other s.1 d) ]
     ]
 
-is_next : (s : Duties) (moment : ℕ) (front : List DutyRow) (row : DutyRow) (rest : List DutyRow) → IsOrdered s.pending → IsFirstFree s.pending front row rest → row.due ≤ moment →
+is_next : (s : Duties) (moment : ℕ) (front : List DutyRow) (row : DutyRow) (rest : List DutyRow) → IsOrdered s.pending
+    → IsFirstFree s.pending front row rest → row.due ≤ moment →
     IsNext s moment row.number
 is_next s moment front row rest o f due =
     let F : List DutyRow → Type 0 = λ ys. Contains ys row in
@@ -124,17 +132,22 @@ is_next s moment front row rest o f due =
     }
 
 pub claimed_next : {s : Duties} (v : Duties) (moment : ℕ) (r : Option Claim) (pending : List DutyRow) → s ≡ v → IsSound s →
-    IfSome r (λ c. (front : List DutyRow) × (row : DutyRow) × (rest : List DutyRow) × IsFirstFree s.pending front row rest × (row.due ≤ moment) × (c.number ≡ row.number)) →
+    IfSome r (λ c. (front : List DutyRow) × (row : DutyRow) × (rest : List DutyRow) × IsFirstFree s.pending front row rest
+    × (row.due ≤ moment) × (c.number ≡ row.number)) →
     IfSome r (λ c. pending ≡ marked true c.number s.pending) →
     IfSome r (λ c. IsNext v moment c.number × (record s { pending = pending } ≡ claimed c.number v))
 claimed_next v moment None pending e h first m = tt
 claimed_next {s} v moment (Some c) pending e h first m =
     let F : Duties → Type 0 = λ v. IsNext v moment c.number × (record s { pending = pending } ≡ claimed c.number v) in
-    let at_s : F s = (subst (IsNext s moment) (sym first.5) (is_next s moment first.0 first.1 first.2 h.ordered first.3 first.4), ap (λ rows. record s { pending = rows }) m) in
+    let at_s : F s = (
+      subst (IsNext s moment) (sym first.5) (is_next s moment first.0 first.1 first.2 h.ordered first.3 first.4),
+      ap (λ rows. record s { pending = rows }) m,
+    ) in
     subst F e at_s
 
 pub claimed_out : {s : Duties} (moment : ℕ) (r : Option Claim) (pending : List DutyRow) → IsSound s →
-    IfSome r (λ c. (front : List DutyRow) × (row : DutyRow) × (rest : List DutyRow) × IsFirstFree s.pending front row rest × (row.due ≤ moment) × (c.number ≡ row.number)) →
+    IfSome r (λ c. (front : List DutyRow) × (row : DutyRow) × (rest : List DutyRow) × IsFirstFree s.pending front row rest
+    × (row.due ≤ moment) × (c.number ≡ row.number)) →
     IfSome r (λ c. pending ≡ marked true c.number s.pending) →
     IfSome r (λ c. IsOut c.number (record s { pending = pending }))
 claimed_out moment None pending h first m = tt
@@ -144,10 +157,11 @@ claimed_out {s} moment (Some c) pending h first m =
     let p = marked_at true first.0 first.1 first.2 (subst IsOrdered first.3.split h.ordered) in
     let e : pending ≡ first.0 ++ row ∷ first.2 =
     m ∙ ap (λ n. marked true n s.pending) first.5 ∙ ap (λ rows. marked true first.1.number rows) first.3.split ∙ p in
-    subst (Any P) (sym e) (any_behind P first.0 row first.2 (sym first.5, refl))
+    subst (Any P) (sym e) (any_middle P first.0 row first.2 (sym first.5, refl))
 
 pub none_due : {s : Duties} (v : Duties) (moment : ℕ) (r : Option Claim) (pending : List DutyRow) → s ≡ v → IsSound s →
-    IfNone r (All (λ row. row.claimed ≡ true) s.pending ⊎ ((front : List DutyRow) × (row : DutyRow) × (rest : List DutyRow) × IsFirstFree s.pending front row rest × (moment < row.due))) →
+    IfNone r (All (λ row. row.claimed ≡ true) s.pending
+    ⊎ ((front : List DutyRow) × (row : DutyRow) × (rest : List DutyRow) × IsFirstFree s.pending front row rest × (moment < row.due))) →
     IfNone r (pending ≡ s.pending) →
     IfNone r (NoneDue v moment × (record s { pending = pending } ≡ v))
 none_due v moment (Some c) pending e h n u = tt
@@ -165,14 +179,16 @@ none_due {s} v moment None pending e h n u =
 
 -- ---- numbers
 
--- numbers rise, so each is that of one row
-ordered_once : (rows : List DutyRow) → IsOrdered rows → (row other : DutyRow) → Contains rows row → Contains rows other → other.number ≡ row.number → other ≡ row
+-- numbers rise, so no two rows have the same number
+ordered_once : (rows : List DutyRow) → IsOrdered rows → (row other : DutyRow) → Contains rows row → Contains rows other
+    → other.number ≡ row.number → other ≡ row
 ordered_once [] o row other (k, l, e) t same = absurd (omega arith)
 ordered_once (x ∷ xs) o row other s t same =
     elim (contains_cases x xs row s) [
       | inl a ↦ elim (contains_cases x xs other t) [
         | inl b ↦ sym b ∙ a
-        | inr b ↦ let c : ComesBefore x other = All-contains (ComesBefore x) xs other o.0 b in absurd (omega (arith, c.0, same, ap (λ (r : DutyRow). r.number) a))
+        | inr b ↦ let c : ComesBefore x other =
+            All-contains (ComesBefore x) xs other o.0 b in absurd (omega (arith, c.0, same, ap (λ (r : DutyRow). r.number) a))
       ]
       | inr a ↦ elim (contains_cases x xs other t) [
         | inl b ↦ let c : ComesBefore x row = All-contains (ComesBefore x) xs row o.0 a in absurd (omega (arith, c.0, same, ap (λ (r : DutyRow). r.number) b))
@@ -199,7 +215,8 @@ in_one_state {s} v e h =
 
 -- ---- fates
 
-pub settled_accepted : {s : Duties} (v : Duties) (number : ℕ) (outcome : Outcome) (owed : DutyRow) (pending : List DutyRow) (queues : List Queue) (ended : List SettledDuty) → s ≡ v → outcome ≡ Accepted →
+pub settled_accepted : {s : Duties} (v : Duties) (number : ℕ) (outcome : Outcome) (owed : DutyRow) (pending : List DutyRow)
+    (queues : List Queue) (ended : List SettledDuty) → s ≡ v → outcome ≡ Accepted →
     find (λ row. row.number == number) s.pending ≡ Some owed → pending ≡ filter (λ row. not (row.number == number)) s.pending →
     queues ≡ taken_in owed.duty.endpoint owed.duty.text s.queues → ended ≡ s.ended ++ record { number = number; fate = Delivered } ∷ [] →
     record s { pending = pending; ended = ended; queues = queues; delivered = s.delivered + 1 } ≡ settled number outcome v
@@ -221,27 +238,34 @@ settled_accepted {s} v number outcome owed pending queues ended e o f p t k =
 pub queues_taken : (endpoint body : List ℕ) (queues : List Queue) → map (λ m. m.name) (taken_in endpoint body queues) ≡ map (λ m. m.name) queues
 queues_taken endpoint body [] = refl
 queues_taken endpoint body (m ∷ ms) =
-    elim (bytes_eq endpoint (queue_arn m.name)) as (λ b. map (λ (o : Queue). o.name) (cond b (with_next body m ∷ ms) (m ∷ taken_in endpoint body ms)) ≡ m.name ∷ map (λ (o : Queue). o.name) ms) [
+    elim (bytes_eq endpoint (queue_arn m.name)) as (λ b. map (λ (o : Queue). o.name)
+    (cond b (with_next body m ∷ ms) (m ∷ taken_in endpoint body ms)) ≡ m.name ∷ map (λ (o : Queue). o.name) ms) [
       | true ↦ refl
       | false ↦ ap (λ names. m.name ∷ names) (queues_taken endpoint body ms)
     ]
 
--- ---- makings
+-- ---- additions
 
 pub single : {X : Type 0} (xs : List X) → length xs ≡ 1 → (x : X) × (xs ≡ x ∷ [])
 single [] h = absurd (omega arith)
 single (x ∷ []) h = (x, refl)
 single (x ∷ y ∷ ys) h = absurd (omega arith)
 
--- what the making of one duty does to the number of duties, the moment and the queues
-pub record Counted (s : Duties) (moment : ℕ) (t : Duties) : Type 0 where
+-- one addition: the number of duties rises by one, the moment is the last one, the queues stay
+record Counted (s : Duties) (moment : ℕ) (t : Duties) : Type 0 where
   pub created : t.created ≡ s.created + 1
   pub latest : t.latest ≡ moment
   pub queues : t.queues ≡ s.queues
 
-pub one_counted : (duty : NewDuty) (moment : ℕ) (s : Duties) → Counted s moment (added_one duty moment s)
+one_counted : (duty : NewDuty) (moment : ℕ) (s : Duties) → Counted s moment (added_one duty moment s)
 one_counted duty moment s =
-    elim duty.too_long as (λ b. Counted s moment (cond b (record s { created = s.created + 1; ended = s.ended ++ record { number = s.created + 1; fate = Dropped } ∷ []; dropped = s.dropped + 1; latest = moment }) (record s {
+    elim duty.too_long as (λ b. Counted s moment
+    (cond b (record s {
+      created = s.created + 1;
+      ended = s.ended ++ record { number = s.created + 1; fate = Dropped } ∷ [];
+      dropped = s.dropped + 1;
+      latest = moment;
+    }) (record s {
       created = s.created + 1;
       pending = s.pending ++ begun (s.created + 1) moment duty ∷ [];
       latest = moment;
@@ -255,7 +279,7 @@ added_created [] moment s = omega arith
 added_created (duty ∷ duties) moment s =
     omega (arith, added_created duties moment (added_one duty moment s), (one_counted duty moment s).created)
 
-pub added_latest : (duties : List NewDuty) (moment : ℕ) (s : Duties) → s.latest ≤ moment → (added duties moment s).latest ≤ moment
+added_latest : (duties : List NewDuty) (moment : ℕ) (s : Duties) → s.latest ≤ moment → (added duties moment s).latest ≤ moment
 added_latest [] moment s h = h
 added_latest (duty ∷ duties) moment s h = added_latest duties moment (added_one duty moment s) (omega (arith, (one_counted duty moment s).latest))
 
@@ -263,7 +287,7 @@ pub added_queues : (duties : List NewDuty) (moment : ℕ) (s : Duties) → (adde
 added_queues [] moment s = refl
 added_queues (duty ∷ duties) moment s = added_queues duties moment (added_one duty moment s) ∙ (one_counted duty moment s).queues
 
--- the rows are left to be made: when they are made too, all duties of the call are
+-- the rows are still to be added; with them, all duties of the call are added
 pub record IsLeft (duties : List NewDuty) (moment : ℕ) (s : Duties) (rows : List DutyRow) (t : Duties) : Type 0 where
   pub made : added (map (λ row. row.duty) rows) moment t ≡ added duties moment s
   pub order : t.latest ≤ moment
@@ -307,13 +331,15 @@ all_left duties moment s rows e order room there =
       there = rows_there s.queues rows (subst (All P) (sym e) there);
     }
 
-pub none_left : {duties : List NewDuty} {moment : ℕ} {s : Duties} (rows : List DutyRow) (t : Duties) → IsLeft duties moment s rows t → length rows ≡ 0 → t ≡ added duties moment s
+pub none_left : {duties : List NewDuty} {moment : ℕ} {s : Duties} (rows : List DutyRow) (t : Duties) → IsLeft duties moment s rows t
+    → length rows ≡ 0 → t ≡ added duties moment s
 none_left [] t h l = h.made
 none_left (row ∷ rows) t h l = absurd (omega arith)
 
--- ---- what is kept of those that end
+-- ---- the settled form
 
-pub settled_dropped : {s : Duties} (v : Duties) (number : ℕ) (outcome : Outcome) (pending : List DutyRow) (ended : List SettledDuty) → s ≡ v → outcome ≡ TooOld →
+pub settled_dropped : {s : Duties} (v : Duties) (number : ℕ) (outcome : Outcome) (pending : List DutyRow) (ended : List SettledDuty) → s ≡ v
+    → outcome ≡ TooOld →
     pending ≡ filter (λ row. not (row.number == number)) s.pending → ended ≡ s.ended ++ record { number = number; fate = Dropped } ∷ [] →
     record s { pending = pending; ended = ended; dropped = s.dropped + 1 } ≡ settled number outcome v
 settled_dropped {s} v number outcome pending ended e o p k =
@@ -323,11 +349,13 @@ settled_dropped {s} v number outcome pending ended e o p k =
     ∙ ap (λ ds. record s { pending = filter (λ row. not (row.number == number)) s.pending; ended = ds; dropped = s.dropped + 1 }) k in
     subst F e at_s ∙ ap (λ out. settled number out v) (sym o)
 
-pub delivered_text : (before now : List Queue) (duty ended : NewDuty) → ended ≡ duty → now ≡ taken_in ended.endpoint ended.text before → now ≡ taken_in duty.endpoint duty.text before
+pub delivered_text : (before now : List Queue) (duty ended : NewDuty) → ended ≡ duty → now ≡ taken_in ended.endpoint ended.text before
+    → now ≡ taken_in duty.endpoint duty.text before
 delivered_text before now duty ended e t = t ∙ ap (λ (d : NewDuty). taken_in d.endpoint d.text before) e
 
--- what is kept of the duty that was taken out has the number that was asked for
-pub kept_named : (number : ℕ) (rows : List DutyRow) (owed : DutyRow) (ended now kept : List SettledDuty) (fate : Fate) → find (λ row. row.number == number) rows ≡ Some owed →
-    kept ≡ record { number = owed.number; fate = fate } ∷ [] → now ≡ ended ++ kept → now ≡ ended ++ record { number = number; fate = fate } ∷ []
-kept_named number rows owed ended now kept fate f k j =
+-- the settled form of the duty that was found has the number that was asked for
+pub stored_named : (number : ℕ) (rows : List DutyRow) (owed : DutyRow) (ended now stored : List SettledDuty) (fate : Fate)
+    → find (λ row. row.number == number) rows ≡ Some owed →
+    stored ≡ record { number = owed.number; fate = fate } ∷ [] → now ≡ ended ++ stored → now ≡ ended ++ record { number = number; fate = fate } ∷ []
+stored_named number rows owed ended now stored fate f k j =
     j ∙ ap (λ ds. ended ++ ds) k ∙ ap (λ n. ended ++ record { number = n; fate = fate } ∷ []) (found_named number rows owed f)

@@ -1,4 +1,4 @@
--- Lists of duties that are cut in two.
+-- For private clauses alone: lists of duties that are cut in two.
 use Rattle.std.specs.Prelude.{◌≡◌, ℕ, true, false, List, ◌∷◌, ◌++◌, All}
 use Rattle.delivery_duties.specs.declared.duty.DutyRow.{DutyRow}
 

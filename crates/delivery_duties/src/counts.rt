@@ -1,6 +1,6 @@
-//! Counts.
+//! Counts of duties.
 
-/// How many duties were made so far, and how many of them are in each state.
+/// The number of duties made so far, and the number in each state.
 #[derive(Clone, Copy, Debug, PartialEq, Eq)]
 pub struct Counts {
     pub created: u64,

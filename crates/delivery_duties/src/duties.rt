@@ -19,7 +19,7 @@ use std::alloc::Global;
 use std::collections::LinkedList;
 use std::marker::Model;
 
-/// The pending duties, the numbers and fates of those that ended, the queues with their messages, and how many duties there were.
+/// The pending duties, the numbers and fates of those that ended, the queues with their messages, and the counts.
 #[derive(Debug, Drop)]
 pub struct Duties {
     pending: LinkedList<Owed>,
@@ -59,7 +59,7 @@ impl Model for Duties {
 }
 
 impl Duties {
-    /// No duties and no queues, which take no memory.
+    /// No duties and no queues. Takes no memory.
     pub fn new(alloc: Global) -> Duties
         ensures { result ≡ spec.no_duties }
     {
@@ -74,7 +74,7 @@ impl Duties {
         }
     }
 
-    /// Creates the queue, with no message.
+    /// Creates the queue, with no message. Takes no memory.
     pub fn create_queue(&mut self, queue: NewQueue)
         requires { length self.old.queues < 2 ^ 62 }
         ensures { self.new ≡ spec.with_queue queue self.old }
@@ -82,7 +82,7 @@ impl Duties {
         join(&mut self.queues, queue.into_made());
     }
 
-    /// Whether there is a queue of this name.
+    /// Whether a queue has this name.
     pub fn has_queue(&self, queue: &str) -> bool
         ensures value { result ≡ spec.has_queue queue.now self.now.queues }
         ensures arn { IsTrue result ↔ spec.HasEndpoint (queue_arn queue.now) self.now.queues }
@@ -90,7 +90,7 @@ impl Duties {
         named(&self.queues, queue).is_some()
     }
 
-    /// Makes the duties, in their order, at the moment; it takes no memory.
+    /// Adds the duties in their order, due at the moment (seconds since 1970-01-01T00:00:00Z). Takes no memory.
     pub fn add(&mut self, duties: NewDuties, moment: u64)
         requires order { self.old.latest ≤ moment }
         requires room { self.old.created + length duties < 2 ^ 63 }
@@ -109,7 +109,7 @@ impl Duties {
         }
     }
 
-    /// Makes the one duty at the moment.
+    /// Adds the duty at the moment.
     fn add_one(&mut self, mut one: LinkedList<Owed>, moment: u64)
         requires one { length one ≡ 1 }
         requires order { self.old.latest ≤ moment }
@@ -127,7 +127,8 @@ impl Duties {
         }
     }
 
-    /// Claims the duty that is due first, in as many steps as duties are claimed before it.
+    /// Claims the duty that is due first; none if no unclaimed duty is due. Takes as many steps as there are claimed duties
+    /// before it.
     pub fn claim_next(&mut self, moment: u64) -> Option<Claim>
         ensures out { IfSome result (λ c. spec.IsOut c.number self.new) }
         ensures not_out_before { IfSome result (λ c. ¬ (spec.IsOut c.number self.old)) }
@@ -138,7 +139,7 @@ impl Duties {
         claim_due(&mut self.pending, moment)
     }
 
-    /// Ends the claimed duty: delivered, its text is the next message of its queue.
+    /// Ends the claimed duty. If it was accepted, its text becomes the next message of its queue. Takes no memory.
     pub fn settle(&mut self, claim: Claim, outcome: Outcome) -> Fate
         requires { spec.IsOut claim.number self.old }
         ensures fate { result ≡ spec.fate_of outcome }
@@ -153,23 +154,23 @@ impl Duties {
         let owed = take_out(&mut self.pending, number);
         match outcome {
             Outcome::Accepted => {
-                let (ended, kept) = owed.end(Fate::Delivered);
+                let (ended, settled) = owed.end(Fate::Delivered);
                 self.delivered += 1;
                 deliver(&mut self.queues, ended);
-                join(&mut self.ended, kept);
+                join(&mut self.ended, settled);
                 Fate::Delivered
             }
             Outcome::TooOld => {
-                let (ended, kept) = owed.end(Fate::Dropped);
+                let (ended, settled) = owed.end(Fate::Dropped);
                 drop(ended);
                 self.dropped += 1;
-                join(&mut self.ended, kept);
+                join(&mut self.ended, settled);
                 Fate::Dropped
             }
         }
     }
 
-    /// Gives the claim back: the duty may be claimed again.
+    /// Releases the claim: the duty can be claimed again.
     pub fn unclaim(&mut self, claim: Claim)
         requires { spec.IsOut claim.number self.old }
         ensures unclaimed { self.new ≡ spec.unclaimed claim.number self.old }
@@ -179,7 +180,7 @@ impl Duties {
         free(&mut self.pending, number);
     }
 
-    /// How many duties were made, and how many are in each state.
+    /// The number of duties made so far, and the number in each state.
     pub fn counts(&self) -> Counts
         ensures created { result.created ≡ self.now.created }
         ensures pending { result.pending ≡ length self.now.pending }
@@ -198,7 +199,7 @@ impl Duties {
         }
     }
 
-    /// The pending duty of this number.
+    /// The pending duty of this number; none if no pending duty has it.
     pub fn pending(&self, number: u64) -> Option<&DutyRow>
         ensures found { MatchOption result
             ((row : DutyRow) → Contains self.now.pending row → ¬ (row.number ≡ number))
@@ -211,7 +212,7 @@ impl Duties {
             .map(|owed| owed.row())
     }
 
-    /// Copies of the oldest messages of the queue, as many as the limit at most.
+    /// Copies of the oldest messages of the queue, at most `limit`; none if there is no such queue.
     pub fn peek(
         &self,
         alloc: Global,

@@ -3,7 +3,7 @@
 /// How an attempt ended.
 #[derive(Clone, Copy, Debug, PartialEq, Eq)]
 pub enum Outcome {
-    /// The target takes the text.
+    /// The target accepted the text.
     Accepted,
     /// The event was too old to be attempted.
     TooOld,
@@ -16,10 +16,10 @@ pub enum Fate {
     Dropped,
 }
 
-/// What is kept of a duty that ended.
+/// The number and fate of a duty that ended. Nothing else of it is stored.
 #[derive(Clone, Copy, Debug, PartialEq, Eq)]
 pub struct SettledDuty {
-    /// The place among all duties that were made, from 1.
+    /// The place among all duties made so far, from 1.
     pub number: u64,
     pub fate: Fate,
 }

@@ -1,9 +1,9 @@
-//! Linked lists are cut and joined; nodes move, and no memory is taken.
+//! Cuts and joins linked lists by moving nodes, without memory.
 ghost use Rattle.std.specs.Prelude.{◌≡◌, ◌+◌, ◌^◌, ◌<◌, ◌≤◌, ◌++◌, length, take, drop};
 
 use std::collections::LinkedList;
 
-/// Cuts off the elements from the place on and answers them, in as many steps as the shorter part has elements.
+/// Cuts off and returns the elements from index `at` on. Takes as many steps as the shorter part has elements.
 pub(crate) fn cut<T>(list: &mut LinkedList<T>, at: usize) -> LinkedList<T>
     requires { at ≤ length list.old }
     ensures front { list.new ≡ take at list.old }
@@ -15,7 +15,7 @@ pub(crate) fn cut<T>(list: &mut LinkedList<T>, at: usize) -> LinkedList<T>
     }
 }
 
-/// Puts the elements at the end.
+/// Appends the elements of `back`.
 pub(crate) fn join<T>(list: &mut LinkedList<T>, mut back: LinkedList<T>)
     requires { length list.old + length back < 2 ^ 63 }
     ensures { list.new ≡ list.old ++ back }

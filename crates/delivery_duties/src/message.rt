@@ -8,7 +8,7 @@ use std::collections::LinkedList;
 /// A message of a queue.
 #[derive(Debug, Drop)]
 pub struct QueueMessage {
-    /// The place among all messages that the queue took, from 1.
+    /// The place among all messages of the queue so far, from 1.
     pub number: u64,
     pub body: Text,
 }
@@ -25,7 +25,7 @@ impl QueueMessage {
     }
 }
 
-/// Copies of the first messages, as many as the limit at most.
+/// Copies of the first messages, at most `limit`.
 pub(crate) fn first_copies(
     alloc: Global,
     messages: &LinkedList<QueueMessage>,

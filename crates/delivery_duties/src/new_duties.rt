@@ -1,4 +1,4 @@
-//! Duties that are to be made together.
+//! Duties that are to be added together.
 ghost use Rattle.std.specs.Prelude.{◌≡◌, ◌++◌, [], ◌∷◌, ◌↔◌, IsTrue, OnOk, OnErr, length, map};
 
 use crate::duty::NewDuty;
@@ -8,7 +8,7 @@ use std::alloc::Global;
 use std::collections::LinkedList;
 use std::marker::Model;
 
-/// Duties with all the memory that joining the others and being delivered will take.
+/// Duties with all the memory that adding and delivering them takes.
 #[derive(Debug, Drop)]
 pub struct NewDuties {
     rows: LinkedList<Owed>,
@@ -24,7 +24,7 @@ impl Model for NewDuties {
 }
 
 impl NewDuties {
-    /// No duties, which take no memory.
+    /// An empty list. Takes no memory.
     pub fn new(alloc: Global) -> NewDuties
         ensures { result ≡ [] }
     {
@@ -33,7 +33,7 @@ impl NewDuties {
         }
     }
 
-    /// Puts the duty at the end.
+    /// Appends the duty. After an error the list is unchanged.
     pub fn push(&mut self, alloc: Global, duty: NewDuty) -> Result<(), NoMemory>
         ensures ok { OnOk result (self.new ≡ self.old ++ duty ∷ []) }
         ensures err { OnErr result (self.new ≡ self.old) }

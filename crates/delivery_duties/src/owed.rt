@@ -1,4 +1,4 @@
-//! Duties as they are kept: each with the room for the message that its delivery makes, and for what is kept when it ends.
+//! Duties as they are stored: each with the memory for its message and for its settled form.
 ghost use Rattle.std.specs.Prelude.{◌≡◌, not, [], ◌∷◌, IfOk};
 ghost use Rattle.delivery_duties.specs.declared.duty.DutyRow.{DutyRow};
 ghost use Rattle.delivery_duties.specs.Duties.{begun};
@@ -13,7 +13,8 @@ use std::alloc::Global;
 use std::collections::LinkedList;
 use std::marker::Model;
 
-/// A duty, with one message that has its text only at its delivery, and one node that has its number and fate only at its end.
+/// A duty with two nodes that are allocated with it, so that no end of a duty takes memory: its message, which gets the text
+/// at delivery, and its settled form, which gets number and fate when the duty ends.
 #[derive(Debug, Drop)]
 pub(crate) struct Owed {
     row: DutyRow,
@@ -33,7 +34,7 @@ impl Model for Owed {
 }
 
 impl Owed {
-    /// The duty, neither numbered nor dated yet.
+    /// The duty, without a number and moments yet.
     pub(crate) fn new(alloc: Global, duty: NewDuty) -> Result<Owed, NoMemory>
         ensures { IfOk result (λ row. row.duty ≡ duty) }
     {
@@ -97,7 +98,7 @@ impl Owed {
         self.row.claimed = claimed;
     }
 
-    /// Gives the duty its number, from which moment on it is due.
+    /// Gives the duty its number and makes it due at the moment.
     pub(crate) fn begin(&mut self, number: u64, moment: u64)
         ensures { self.new ≡ begun number moment self.old.duty }
     {
@@ -107,10 +108,10 @@ impl Owed {
         self.row.claimed = false;
     }
 
-    /// The duty that ends so, and what is kept of it.
+    /// Ends the duty with this fate. Returns the duty with its message, and its settled form.
     pub(crate) fn end(self, fate: Fate) -> (Ended, LinkedList<SettledDuty>)
         ensures duty { result.0 ≡ self.duty }
-        ensures kept { result.1 ≡ record { number = self.number; fate = fate } ∷ [] }
+        ensures settled { result.1 ≡ record { number = self.number; fate = fate } ∷ [] }
     {
         let Owed {
             row,
@@ -129,7 +130,7 @@ impl Owed {
     }
 }
 
-/// A duty that ended, with the message that its delivery makes.
+/// A duty that ended, with the node for its message.
 #[derive(Debug, Drop)]
 pub(crate) struct Ended {
     duty: NewDuty,
@@ -155,7 +156,7 @@ impl Ended {
         self.duty.endpoint.as_str()
     }
 
-    /// The message of this number that the delivery makes.
+    /// The message with this number and the duty's text.
     pub(crate) fn into_letter(self, number: u64) -> LinkedList<QueueMessage>
         ensures { result ≡ record { number = number; body = self.text } ∷ [] }
     {

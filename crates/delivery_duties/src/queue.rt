@@ -43,7 +43,7 @@ impl Queue {
         is_queue_arn(arn, self.name.as_str())
     }
 
-    /// Takes the duty's text as the next message.
+    /// Appends the duty's text as the next message.
     pub(crate) fn take_in(&mut self, ended: Ended)
         requires room { self.old.sent + 1 < 2 ^ 63 }
         requires fewer { length self.old.messages ≤ self.old.sent }
@@ -53,7 +53,7 @@ impl Queue {
         join(&mut self.messages, ended.into_letter(self.sent));
     }
 
-    /// Copies of the oldest messages, as many as the limit at most.
+    /// Copies of the oldest messages, at most `limit`.
     pub(crate) fn peek(&self, alloc: Global, limit: usize) -> Result<Vec<QueueMessage>, NoMemory>
         ensures { IfOk result (λ ms. ms.items ≡ take limit self.now.messages) }
     {
@@ -61,7 +61,7 @@ impl Queue {
     }
 }
 
-/// A queue with no message that is to be created, with all the memory that joining the others takes.
+/// A queue that is to be created, with no message and all the memory that adding it takes.
 #[derive(Debug, Drop)]
 pub struct NewQueue {
     made: LinkedList<Queue>,
@@ -81,7 +81,7 @@ impl Model for NewQueue {
 impl NewQueue {
     ghost use Rattle.delivery_duties.specs.NewQueue.{empty_queue};
 
-    /// The queue of this name.
+    /// A queue with this name.
     pub fn new(alloc: Global, name: &str) -> Result<NewQueue, NoMemory>
         ensures { IfOk result (λ m. m ≡ name.now) }
     {
@@ -103,7 +103,7 @@ impl NewQueue {
     }
 }
 
-/// The first queue of this name.
+/// The first queue with this name.
 pub(crate) fn named<'a>(queues: &'a LinkedList<Queue>, name: &str) -> Option<&'a Queue>
     ensures { option_map (λ m. m.now) result ≡ find (λ m. bytes_eq m.name name.now) queues.now }
 {
@@ -119,7 +119,7 @@ fn place_of(queues: &LinkedList<Queue>, arn: &str) -> Option<usize>
     queues.iter().position(|queue| queue.has_arn(arn))
 }
 
-/// Puts the duty's text into the queue that its endpoint is the ARN of.
+/// Appends the duty's text to the first queue whose ARN is its endpoint.
 pub(crate) fn deliver(queues: &mut LinkedList<Queue>, ended: Ended)
     requires there { HasEndpoint ended.endpoint queues.old }
     requires room { All (λ m. (length m.messages ≤ m.sent) × (m.sent + 1 < 2 ^ 63)) queues.old }

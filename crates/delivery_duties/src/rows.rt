@@ -12,7 +12,7 @@ use crate::lists::{cut, join};
 use crate::owed::Owed;
 use std::collections::LinkedList;
 
-/// Gives the one duty its number, from which moment on it is due, and answers whether its text is too long.
+/// Gives the duty its number and makes it due at the moment. Returns whether its text is too long.
 pub(crate) fn begin(one: &mut LinkedList<Owed>, number: u64, moment: u64) -> bool
     requires { length one.old ≡ 1 }
     ensures { (row : DutyRow) → one.old ≡ row ∷ [] → (result ≡ row.duty.too_long) × (one.new ≡ begun number moment row.duty ∷ []) }
@@ -26,22 +26,22 @@ pub(crate) fn begin(one: &mut LinkedList<Owed>, number: u64, moment: u64) -> boo
     }
 }
 
-/// What is kept of the one duty, which is dropped.
+/// The settled form of the duty, which is dropped.
 pub(crate) fn drop_one(mut one: LinkedList<Owed>) -> LinkedList<SettledDuty>
     requires { length one ≡ 1 }
     ensures { (row : DutyRow) → one ≡ row ∷ [] → result ≡ record { number = row.number; fate = Dropped } ∷ [] }
 {
     match one.pop_front() {
         Some(owed) => {
-            let (ended, kept) = owed.end(Fate::Dropped);
+            let (ended, settled) = owed.end(Fate::Dropped);
             drop(ended);
-            kept
+            settled
         }
         None => unreachable!(),
     }
 }
 
-/// Claims the first duty, if it is due.
+/// Claims the first duty if it is due.
 pub(crate) fn claim_first(rows: &mut LinkedList<Owed>, moment: u64) -> Option<Claim>
     ensures { (row : DutyRow) (rest : List DutyRow) → rows.old ≡ row ∷ rest → MatchOption result
         ((moment < row.due) × (rows.new ≡ row ∷ rest))
@@ -58,7 +58,7 @@ pub(crate) fn claim_first(rows: &mut LinkedList<Owed>, moment: u64) -> Option<Cl
     }
 }
 
-/// Claims the first duty that is not claimed, if it is due.
+/// Claims the first unclaimed duty if it is due.
 pub(crate) fn claim_due(rows: &mut LinkedList<Owed>, moment: u64) -> Option<Claim>
     requires { IsOrdered rows.old }
     ensures first { IfSome result (λ c. (front : List DutyRow) × (row : DutyRow) × (rest : List DutyRow)
@@ -75,7 +75,7 @@ pub(crate) fn claim_due(rows: &mut LinkedList<Owed>, moment: u64) -> Option<Clai
     claim
 }
 
-/// Gives the duty of this number free again.
+/// Makes the duty of this number unclaimed.
 pub(crate) fn free(rows: &mut LinkedList<Owed>, number: u64)
     requires ordered { IsOrdered rows.old }
     requires there { Any (λ row. row.number ≡ number) rows.old }
@@ -89,7 +89,7 @@ pub(crate) fn free(rows: &mut LinkedList<Owed>, number: u64)
     join(rows, back);
 }
 
-/// Takes the duty of this number out.
+/// Removes and returns the duty of this number.
 pub(crate) fn take_out(rows: &mut LinkedList<Owed>, number: u64) -> Owed
     requires ordered { IsOrdered rows.old }
     requires there { Any (λ row. row.number ≡ number) rows.old }
@@ -106,7 +106,7 @@ pub(crate) fn take_out(rows: &mut LinkedList<Owed>, number: u64) -> Owed
     }
 }
 
-/// Cuts off the duties from the one of this number on.
+/// Cuts off and returns the duties from the one of this number on.
 fn cut_before(rows: &mut LinkedList<Owed>, number: u64) -> LinkedList<Owed>
     requires { Any (λ row. row.number ≡ number) rows.old }
     ensures cut { (row : DutyRow) × (rest : List DutyRow) × IsAt number rows.old rows.new row rest × (result ≡ row ∷ rest) }
@@ -118,7 +118,7 @@ fn cut_before(rows: &mut LinkedList<Owed>, number: u64) -> LinkedList<Owed>
     }
 }
 
-/// Where the duty of this number stands.
+/// The index of the duty of this number.
 fn place_of(rows: &LinkedList<Owed>, number: u64) -> Option<usize>
     ensures place { result ≡ position (λ row. row.number == number) rows.now }
     ensures none { IfNone result (All (λ row. row.number ≢ number) rows.now) }
@@ -127,7 +127,7 @@ fn place_of(rows: &LinkedList<Owed>, number: u64) -> Option<usize>
     rows.iter().position(|owed| owed.number() == number)
 }
 
-/// Where the first duty stands that is not claimed.
+/// The index of the first unclaimed duty.
 fn free_place(rows: &LinkedList<Owed>) -> Option<usize>
     ensures place { result ≡ position (λ row. not row.claimed) rows.now }
     ensures none { IfNone result (All (λ row. row.claimed ≡ true) rows.now) }

@@ -32,7 +32,7 @@ fn queues(alloc: Global) -> Result<Duties, NoMemory>
     Ok(duties)
 }
 
-/// Puts a duty for the queue into the batch, if there is that queue.
+/// Appends a duty for the queue to the batch if the queue exists.
 fn push(
     alloc: Global,
     duties: &Duties,
@@ -51,7 +51,7 @@ fn push(
     Ok(())
 }
 
-/// Makes a duty of a text for each of the two queues, and one whose text is too long between them.
+/// Adds three duties: one for each of the two queues, and between them one whose text is too long.
 fn add_three(alloc: Global, duties: &mut Duties, moment: u64) -> Result<(), NoMemory>
     requires order { duties.old.latest ≤ moment }
     requires room { duties.old.created + 3 < 2 ^ 63 }
@@ -66,7 +66,7 @@ fn add_three(alloc: Global, duties: &mut Duties, moment: u64) -> Result<(), NoMe
     Ok(())
 }
 
-/// Claims the next duty, gives it back, claims it again and settles it; answers the two numbers and the fate.
+/// Claims the next duty, releases the claim, claims again and settles. Returns the two numbers and the fate.
 fn settle_next(duties: &mut Duties, moment: u64, outcome: Outcome) -> Option<(u64, u64, Fate)> {
     let claim = duties.claim_next(moment)?;
     let number = claim.number;

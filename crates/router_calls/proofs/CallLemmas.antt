@@ -1,5 +1,6 @@
 -- Replies, duties and events as a request goes through them. Callers cite each `pub` lemma.
-use Rattle.std.proofs.Common.{◌≡◌, ℕ, ◌+◌, ◌≤◌, false, List, [], ◌∷◌, ◌++◌, length, map, Option, Some, sym, refl, ap, ◌∙◌, subst, arith, codes, append_assoc, length-append}
+use Rattle.std.proofs.Common.{◌≡◌, ℕ, ◌+◌, ◌≤◌, false, List, [], ◌∷◌, ◌++◌, length, map, Option, Some, sym, refl, ap, ◌∙◌, subst}
+use Rattle.std.proofs.Common.{arith, codes, append_assoc, length-append}
 use Rattle.std.specs.Prelude.{Result, Ok, Err, IfOk, All}
 use Rattle.std.proofs.lemmas.Bool.{cond-false}
 use Rattle.std.proofs.lemmas.List.{append-nil, length-map, map-append}
@@ -16,7 +17,7 @@ use Rattle.rule_table.specs.Control.{Control}
 use Rattle.rule_table.specs.RuleSet.{RuleSet, IsSound, IsQueueThere, rules_of}
 use Rattle.delivery_duties.specs.declared.duty.NewDuty.{NewDuty}
 use Rattle.delivery_duties.specs.Duties.{Queue, HasEndpoint}
-use Rattle.delivery_duties.proofs.AnyLemmas.{any_behind}
+use Rattle.delivery_duties.proofs.AnyLemmas.{any_middle}
 use Rattle.router_core.specs.Batch as batch
 use Rattle.router_core.specs.Reply.{Reply, served, limit_reply}
 use Rattle.router_core.specs.Request.{Action}
@@ -36,7 +37,8 @@ use Rattle.router_calls.specs.Answer.{Answer, IsAnswerAt, IsControlled, event_re
 use Rattle.router_calls.specs.Decided.{answer_of}
 
 -- the same change with the same reply
-pub controlled_so : {E : Type 0} (r : Result (Option Ready × CodeReply) E) (t : Tables) (moment : ℕ) {c d : Control} {reply other : Reply} → c ≡ d → reply ≡ other
+pub controlled_so : {E : Type 0} (r : Result (Option Ready × CodeReply) E) (t : Tables) (moment : ℕ) {c d : Control} {reply other : Reply}
+    → c ≡ d → reply ≡ other
     → IfOk r (λ p. IsControlled t moment c reply (answer_of p)) → IfOk r (λ p. (reading : ℕ) → IsControlled t moment d other (answer_of p))
 controlled_so (Ok p) t moment {c} {d} {reply} {other} same is h =
     λ reading. subst (λ (x : Control). IsControlled t moment x other (answer_of p)) same (subst (λ (x : Reply). IsControlled t moment c x (answer_of p)) is h)
@@ -78,14 +80,18 @@ taken_matched set bus event seen (x ∷ rest) entry h cut =
     absurd (omega (arith, both, length-append rest (entry ∷ [])))
 
 -- the duties for the targets that were seen are few, and each goes to a queue that takes messages
-pub owed_fits : (t : Tables) (set : RuleSet) (bus : List ℕ) (event : Tree) (text : List ℕ) (seen : Seen) (rest : List SeenEntry) (entry : SeenEntry) (duties : List NewDuty)
-    → set ≡ t.set → IsSound t.set → IsConsistent t → IsSeen set bus event seen → seen.entries.items ≡ rest ++ entry ∷ [] → duties ≡ map (duty_of text) entry.targets.items
+pub owed_fits : (t : Tables) (set : RuleSet) (bus : List ℕ) (event : Tree) (text : List ℕ) (seen : Seen) (rest : List SeenEntry)
+    (entry : SeenEntry) (duties : List NewDuty)
+    → set ≡ t.set → IsSound t.set → IsConsistent t → IsSeen set bus event seen → seen.entries.items ≡ rest ++ entry ∷ []
+    → duties ≡ map (duty_of text) entry.targets.items
     → (length duties ≤ 1500) × All (λ (d : NewDuty). HasEndpoint d.endpoint t.duties.queues) duties
 owed_fits t set bus event text seen rest entry duties same sound consistent is_seen cut owed =
     let P : SeenTarget → Type 0 = λ s. IsQueueThere t.set s.target.arn in
     let Q : SeenTarget → Type 0 = λ s. HasEndpoint s.target.arn t.duties.queues in
     let R : NewDuty → Type 0 = λ d. HasEndpoint d.endpoint t.duties.queues in
-    let matched = subst (λ (s : RuleSet). AreMatched bus (rules_of bus s) event entry.targets.items) same (taken_matched set bus event seen rest entry is_seen cut) in
+    let matched =
+    subst (λ (s : RuleSet). AreMatched bus (rules_of bus s) event entry.targets.items) same
+    (taken_matched set bus event seen rest entry is_seen cut) in
     let fit = matched_fits bus t.set event entry.targets.items sound matched in
     let there : (s : SeenTarget) → P s → Q s = λ s p. subst (λ (arn : List ℕ). HasEndpoint arn t.duties.queues) (sym p.1) (consistent.queues p.0 p.2) in (
       omega (arith, fit.0, ap length owed, length-map entry.targets.items (duty_of text)),
@@ -122,8 +128,10 @@ deliverable_more : (queues : List Queue) (events : List AcceptedEvent) (e : Acce
 deliverable_more queues [] e h few there = (few, there, tt)
 deliverable_more queues (x ∷ events) e h few there = (h.0, h.1, deliverable_more queues events e h.2 few there)
 
-pub taken_more : (t : Tables) (reading : ℕ) (all left rest : List EventEntry) (events new : List AcceptedEvent) (latest : ℕ) (entry : EventEntry) (checked : Checked) (e : AcceptedEvent)
-    → AreTaken t reading all left events latest → left ≡ entry ∷ rest → IsCheckedOf (entry_of entry) checked → IsAcceptedAs t.set reading (latest + 1) checked (accepted_of e)
+pub taken_more : (t : Tables) (reading : ℕ) (all left rest : List EventEntry) (events new : List AcceptedEvent) (latest : ℕ)
+    (entry : EventEntry) (checked : Checked) (e : AcceptedEvent)
+    → AreTaken t reading all left events latest → left ≡ entry ∷ rest → IsCheckedOf (entry_of entry) checked
+    → IsAcceptedAs t.set reading (latest + 1) checked (accepted_of e)
     → length e.duties ≤ 1500 → All (λ (d : NewDuty). HasEndpoint d.endpoint t.duties.queues) e.duties → new ≡ events ++ e ∷ []
     → AreTaken t reading all rest new (latest + 1)
 taken_more t reading all left rest events new latest entry checked e h cut is_checked accepted few there put =
@@ -135,29 +143,34 @@ taken_more t reading all left rest events new latest entry checked e h cut is_ch
       done = h.done ++ entry ∷ [];
       parts = h.parts ∙ ap (λ (es : List EventEntry). h.done ++ es) cut ∙ sym (append_assoc h.done (entry ∷ []) rest);
       last = omega (arith, h.last, length-append h.done (entry ∷ []));
-      accepted = subst (λ (xs : List Entry). AreAccepted t.set reading (t.events + 1) xs (map accepted_of (events ++ e ∷ []))) (sym (map-append entry_of h.done (entry ∷ [])))
+      accepted = subst (λ (xs : List Entry). AreAccepted t.set reading (t.events + 1) xs (map accepted_of (events ++ e ∷ [])))
+          (sym (map-append entry_of h.done (entry ∷ [])))
           (subst (AreAccepted t.set reading (t.events + 1) (map entry_of h.done ++ entry_of entry ∷ [])) (sym (map-append accepted_of events (e ∷ []))) more);
       deliverable = deliverable_more t.duties.queues events e h.deliverable few there;
     } in
     subst (λ (es : List AcceptedEvent). AreTaken t reading all rest es (latest + 1)) (sym put) whole
 
 -- an entry that is left has a fault
-pub faulty_left : (t : Tables) (reading : ℕ) (all left rest : List EventEntry) (events : List AcceptedEvent) (latest : ℕ) (entry : EventEntry) (fault : EntryFault)
+pub faulty_left : (t : Tables) (reading : ℕ) (all left rest : List EventEntry) (events : List AcceptedEvent) (latest : ℕ)
+    (entry : EventEntry) (fault : EntryFault)
     → AreTaken t reading all left events latest → left ≡ entry ∷ rest → HasFault (entry_of entry) fault → HasFaulty (map entry_of all)
 faulty_left t reading all left rest events latest entry fault h cut has =
     let P : Entry → Type 0 = λ x. (f : EntryFault) × HasFault x f in
-    let here : HasFaulty (map entry_of h.done ++ entry_of entry ∷ map entry_of rest) = any_behind P (map entry_of h.done) (entry_of entry) (map entry_of rest) (fault, has) in
+    let here : HasFaulty (map entry_of h.done ++ entry_of entry ∷ map entry_of rest) =
+    any_middle P (map entry_of h.done) (entry_of entry) (map entry_of rest) (fault, has) in
     subst HasFaulty (sym (ap (map entry_of) (h.parts ∙ ap (λ (es : List EventEntry). h.done ++ es) cut) ∙ map-append entry_of h.done (entry ∷ rest))) here
 
 -- one event an entry
-pub accepted_count : (set : RuleSet) (reading n : ℕ) (entries : List Entry) (events : List batch.Accepted) → AreAccepted set reading n entries events → length events ≡ length entries
+pub accepted_count : (set : RuleSet) (reading n : ℕ) (entries : List Entry) (events : List batch.Accepted)
+    → AreAccepted set reading n entries events → length events ≡ length entries
 accepted_count set reading n [] events none = ap length none
 accepted_count set reading n (x ∷ entries) events (y, ys, parts, one, more) =
     let counted = ap length parts in
     let rest = accepted_count set reading (n + 1) entries ys more in
     omega (arith, counted, rest)
 
-entries_of_events : (events : List AcceptedEvent) → map (λ (e : AcceptedEvent). batch.accepted (accepted_of e)) events ≡ map batch.accepted (map accepted_of events)
+entries_of_events : (events : List AcceptedEvent) → map (λ (e : AcceptedEvent). batch.accepted (accepted_of e)) events
+    ≡ map batch.accepted (map accepted_of events)
 entries_of_events [] = refl
 entries_of_events (e ∷ es) = ap (λ (rest : List batch.Entry). batch.accepted (accepted_of e) ∷ rest) (entries_of_events es)
 
@@ -166,7 +179,11 @@ pub written : (t : Tables) (moment : ℕ) (events : List AcceptedEvent) (reply :
     → record { batch = Some (record { moment = moment; entries = map (λ (e : AcceptedEvent). batch.accepted (accepted_of e)) events }); reply = reply }
     ≡ writes t moment (map batch.accepted (map accepted_of events)) (events_reply (map accepted_of events))
 written t moment events reply numbered is =
-    let one : Answer = record { batch = Some (record { moment = moment; entries = map batch.accepted (map accepted_of events) }); reply = events_reply (map accepted_of events) } in
+    let one : Answer =
+    record {
+      batch = Some (record { moment = moment; entries = map batch.accepted (map accepted_of events) });
+      reply = events_reply (map accepted_of events);
+    } in
     ap (λ (es : List batch.Entry). record { batch = Some (record { moment = moment; entries = es }); reply = reply }) (entries_of_events events)
     ∙ ap (λ (r : Reply). record { batch = Some (record { moment = moment; entries = map batch.accepted (map accepted_of events) }); reply = r }) is
     ∙ sym (cond-false (is_full t) (reply_alone limit_reply) one numbered)

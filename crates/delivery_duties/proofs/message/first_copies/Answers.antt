@@ -5,5 +5,7 @@ use Rattle.delivery_duties.proofs.message.first_copies.Goals as goal
 
 pub returns : goal.returns
 returns c =
-    let t = YieldsList-end (YieldsList-from_take {v = λ b. b.now} {s = c.into_iter-message-iterator.result} c.args.limit (YieldsList-from_rest c.args.messages.now (cc)) (cc)) c.loop-message.yielded _ c.loop-message.yielded_by _ _ c.in-None.is c.next.ensures.steps in
+    let t = YieldsList-end (YieldsList-from_take {v = λ b. b.now} {s = c.into_iter-message-iterator.result} c.args.limit
+    (YieldsList-from_rest c.args.messages.now (cc)) (cc)) c.loop-message.yielded _ c.loop-message.yielded_by _ _ c.in-None.is
+    c.next.ensures.steps in
     c.loop-message.invariant ∙ t.0

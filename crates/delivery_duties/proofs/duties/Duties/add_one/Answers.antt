@@ -9,16 +9,18 @@ use Rattle.delivery_duties.proofs.SoundLemmas.{sound_too_long, sound_begun, ende
 use Rattle.delivery_duties.proofs.StepLemmas.{single}
 use Rattle.delivery_duties.proofs.duties.Duties.add_one.Goals as goal
 
-kept_one : (number moment : ℕ) (one begun_one : List DutyRow) (kept : List SettledDuty) (b : Bool) → length one ≡ 1 →
+stored_one : (number moment : ℕ) (one begun_one : List DutyRow) (stored : List SettledDuty) (b : Bool) → length one ≡ 1 →
     ((row : DutyRow) → one ≡ row ∷ [] → (b ≡ row.duty.too_long) × (begun_one ≡ begun number moment row.duty ∷ [])) →
-    ((row : DutyRow) → begun_one ≡ row ∷ [] → kept ≡ record { number = row.number; fate = Dropped } ∷ []) → kept ≡ record { number = number; fate = Dropped } ∷ []
-kept_one number moment one begun_one kept b l begins drops = let k = single one l in drops (begun number moment k.0.duty) (begins k.0 k.1).1
+    ((row : DutyRow) → begun_one ≡ row ∷ [] → stored ≡ record { number = row.number; fate = Dropped } ∷ [])
+    → stored ≡ record { number = number; fate = Dropped } ∷ []
+stored_one number moment one begun_one stored b l begins drops = let k = single one l in drops (begun number moment k.0.duty) (begins k.0 k.1).1
 
 pub join-requires : goal.join-requires
 join-requires c =
     let created = ap (λ (s : Duties). s.created) c.self.view_is in
     ended_room_too c.drop_one.result c.self.invariant (omega (arith, c.requires.room, created))
-    (ap (length {A = SettledDuty}) (kept_one (c.self.inside.created + 1) c.args.moment c.args.one c.begin.new.one c.drop_one.result c.begin.result c.requires.one c.begin.ensures c.drop_one.ensures))
+    (ap (length {A = SettledDuty}) (stored_one (c.self.inside.created + 1) c.args.moment c.args.one c.begin.new.one c.drop_one.result
+    c.begin.result c.requires.one c.begin.ensures c.drop_one.ensures))
 
 pub invariant_of-self : goal.invariant_of-self
 invariant_of-self c =
@@ -26,7 +28,8 @@ invariant_of-self c =
     let created = ap (λ (s : Duties). s.created) c.self.view_is in
     sound_too_long c.args.moment c.join.new.list c.self.invariant (omega (arith, c.requires.order, latest)) (omega (arith, c.requires.room, created))
     (c.join.ensures ∙ ap (λ ds. c.self.inside.ended ++ ds)
-    (kept_one (c.self.inside.created + 1) c.args.moment c.args.one c.begin.new.one c.drop_one.result c.begin.result c.requires.one c.begin.ensures c.drop_one.ensures))
+    (stored_one (c.self.inside.created + 1) c.args.moment c.args.one c.begin.new.one c.drop_one.result c.begin.result c.requires.one
+    c.begin.ensures c.drop_one.ensures))
 
 pub invariant_of-self-else-begin : goal.invariant_of-self-else-begin
 invariant_of-self-else-begin c =
@@ -38,5 +41,6 @@ invariant_of-self-else-begin c =
     let G : List DutyRow → Type 0 = λ one. All (λ row. HasEndpoint row.duty.endpoint c.args.self.now.queues) one in
     let there = All-head P k.0 [] (subst F (sym c.self.view_is) (subst G k.1 c.requires.there)) in
     let b = c.begin.ensures k.0 k.1 in
-    sound_begun k.0.duty c.args.moment c.join-else-begin.new.list c.self.invariant (omega (arith, c.requires.order, latest)) (omega (arith, c.requires.room, created)) there
+    sound_begun k.0.duty c.args.moment c.join-else-begin.new.list c.self.invariant (omega (arith, c.requires.order, latest))
+    (omega (arith, c.requires.room, created)) there
     (c.join-else-begin.ensures ∙ ap (λ ys. c.self.inside.pending ++ ys) b.1)

@@ -12,14 +12,20 @@ pub returns-clause-out : goal.returns-clause-out
 returns-clause-out c = claimed_out c.args.moment c.claim_due.result c.claim_due.new.rows c.self.invariant c.claim_due.ensures.first c.claim_due.ensures.marked
 
 pub returns-clause-some : goal.returns-clause-some
-returns-clause-some c = claimed_next c.args.self.now c.args.moment c.claim_due.result c.claim_due.new.rows c.self.view_is c.self.invariant c.claim_due.ensures.first c.claim_due.ensures.marked
+returns-clause-some c =
+    claimed_next c.args.self.now c.args.moment c.claim_due.result c.claim_due.new.rows c.self.view_is c.self.invariant
+    c.claim_due.ensures.first c.claim_due.ensures.marked
 
 pub returns-clause-none : goal.returns-clause-none
-returns-clause-none c = none_due c.args.self.now c.args.moment c.claim_due.result c.claim_due.new.rows c.self.view_is c.self.invariant c.claim_due.ensures.none_due c.claim_due.ensures.unchanged
+returns-clause-none c =
+    none_due c.args.self.now c.args.moment c.claim_due.result c.claim_due.new.rows c.self.view_is c.self.invariant
+    c.claim_due.ensures.none_due c.claim_due.ensures.unchanged
 
 pub returns-clause-not_out_before : goal.returns-clause-not_out_before
-returns-clause-not_out_before c = claimed_not_out c.args.self.now c.args.moment c.claim_due.result c.self.view_is c.self.invariant.ordered c.claim_due.ensures.first
+returns-clause-not_out_before c =
+    claimed_not_out c.args.self.now c.args.moment c.claim_due.result c.self.view_is c.self.invariant.ordered c.claim_due.ensures.first
 
 pub returns-clause-still_out : goal.returns-clause-still_out
 returns-clause-still_out c = λ n h.
-    still_out_next c.claim_due.result c.self.inside.pending c.claim_due.new.rows c.claim_due.ensures.marked c.claim_due.ensures.unchanged n (subst (IsOut n) (sym c.self.view_is) h)
+    still_out_next c.claim_due.result c.self.inside.pending c.claim_due.new.rows c.claim_due.ensures.marked c.claim_due.ensures.unchanged n
+    (subst (IsOut n) (sym c.self.view_is) h)
