@@ -1,0 +1,165 @@
+use crate::first_run::{
+    CREATE_QUEUE, CREATE_QUEUE_REPLY, DELIVER_DUE, DELIVER_DUE_REPLY, DROPPED_REPLY,
+    NO_MESSAGES_REPLY, PEEK_MESSAGES, PEEK_MESSAGES_REPLY, PUT_EVENTS, PUT_EVENTS_REPLY, PUT_RULE,
+    PUT_RULE_REPLY, PUT_TARGETS, PUT_TARGETS_REPLY,
+};
+use bus_server::{Book, SessionEnd, run_session};
+use json_text::NoMemory;
+use router_disk::{Clock, Failing, MemClock, MemSink, MemSource, Sink, Source};
+use std::alloc::{AllocError, Global};
+use std::test::Fail;
+
+/// The reading of the first run's clock, in seconds: 2023-11-14T22:13:20Z.
+const NOW: u64 = 1_700_000_000;
+
+/// The texts, one after the other.
+fn joined(alloc: Global, texts: &[&str]) -> Result<Vec<u8>, AllocError> {
+    let mut bytes = Vec::new(alloc);
+    for text in texts {
+        bytes.extend_from_slice(text.as_bytes())?;
+    }
+    Ok(bytes)
+}
+
+/// The messages of the first run.
+fn messages(alloc: Global) -> Result<Vec<u8>, AllocError> {
+    joined(
+        alloc,
+        &[
+            CREATE_QUEUE,
+            PUT_RULE,
+            PUT_TARGETS,
+            PUT_EVENTS,
+            DELIVER_DUE,
+            PEEK_MESSAGES,
+        ],
+    )
+}
+
+/// The replies of the first run.
+fn replies(alloc: Global) -> Result<Vec<u8>, AllocError> {
+    joined(
+        alloc,
+        &[
+            CREATE_QUEUE_REPLY,
+            PUT_RULE_REPLY,
+            PUT_TARGETS_REPLY,
+            PUT_EVENTS_REPLY,
+            DELIVER_DUE_REPLY,
+            PEEK_MESSAGES_REPLY,
+        ],
+    )
+}
+
+/// How a session over the first tables ends.
+fn session<S: Source, K: Sink, C: Clock>(
+    alloc: Global,
+    input: &mut S,
+    output: &mut K,
+    clock: &mut C,
+) -> Result<SessionEnd, NoMemory> {
+    let mut book = Book::first(alloc)?;
+    Ok(run_session(alloc, &mut book, input, output, clock))
+}
+
+#[test]
+fn the_first_run_has_its_replies(rt: HostRuntime) -> Result<(), Fail> {
+    let mut input = MemSource::new(messages(rt.alloc())?);
+    let mut output = MemSink::new(rt.alloc());
+    let mut clock = MemClock::always(rt.alloc(), NOW);
+    let end = session(rt.alloc(), &mut input, &mut output, &mut clock)?;
+    assert_eq!(rt; end, SessionEnd::Closed);
+    assert_eq!(rt; output.bytes(), replies(rt.alloc())?.as_slice());
+    assert_eq!(rt; Sink::faults(&output), 0);
+    Ok(())
+}
+
+#[test]
+fn input_cut_inside_a_message_gets_the_replies_before_it(rt: HostRuntime) -> Result<(), Fail> {
+    let cut = &CREATE_QUEUE[..CREATE_QUEUE.len() - 1];
+    let mut input = MemSource::new(joined(rt.alloc(), &[CREATE_QUEUE, cut])?);
+    let mut output = MemSink::new(rt.alloc());
+    let mut clock = MemClock::always(rt.alloc(), NOW);
+    let end = session(rt.alloc(), &mut input, &mut output, &mut clock)?;
+    assert_eq!(rt; end, SessionEnd::Cut);
+    assert_eq!(rt; output.bytes(), CREATE_QUEUE_REPLY.as_bytes());
+    Ok(())
+}
+
+#[test]
+fn a_failed_read_ends_the_session_after_the_replies(rt: HostRuntime) -> Result<(), Fail> {
+    let bytes = joined(rt.alloc(), &[CREATE_QUEUE, PUT_RULE])?;
+    let pieces = MemSource::new(bytes).in_pieces(CREATE_QUEUE.len());
+    let mut input = Failing::after(1, pieces);
+    let mut output = MemSink::new(rt.alloc());
+    let mut clock = MemClock::always(rt.alloc(), NOW);
+    let end = session(rt.alloc(), &mut input, &mut output, &mut clock)?;
+    assert_eq!(rt; end, SessionEnd::ReadFault);
+    assert_eq!(rt; Source::faults(&input), 1);
+    assert_eq!(rt; output.bytes(), CREATE_QUEUE_REPLY.as_bytes());
+    Ok(())
+}
+
+#[test]
+fn a_failed_first_write_ends_the_session_before_the_next_read(rt: HostRuntime) -> Result<(), Fail> {
+    let bytes = joined(rt.alloc(), &[CREATE_QUEUE, PUT_RULE])?;
+    let pieces = MemSource::new(bytes).in_pieces(CREATE_QUEUE.len());
+    // A second read would fail.
+    let mut input = Failing::after(1, pieces);
+    let mut output = Failing::after(0, MemSink::new(rt.alloc()));
+    let mut clock = MemClock::always(rt.alloc(), NOW);
+    let end = session(rt.alloc(), &mut input, &mut output, &mut clock)?;
+    assert_eq!(rt; end, SessionEnd::WriteFault);
+    assert_eq!(rt; Source::faults(&input), 0);
+    assert_eq!(rt; Sink::faults(&output), 1);
+    assert_eq!(rt; output.inner.bytes(), b"".as_slice());
+    Ok(())
+}
+
+#[test]
+fn a_failed_third_write_leaves_two_replies(rt: HostRuntime) -> Result<(), Fail> {
+    let mut input = MemSource::new(messages(rt.alloc())?);
+    let mut output = Failing::after(2, MemSink::new(rt.alloc()));
+    let mut clock = MemClock::always(rt.alloc(), NOW);
+    let end = session(rt.alloc(), &mut input, &mut output, &mut clock)?;
+    assert_eq!(rt; end, SessionEnd::WriteFault);
+    assert_eq!(rt; Sink::faults(&output), 1);
+    let want = joined(rt.alloc(), &[CREATE_QUEUE_REPLY, PUT_RULE_REPLY])?;
+    assert_eq!(rt; output.inner.bytes(), want.as_slice());
+    Ok(())
+}
+
+#[test]
+fn an_event_has_the_reading_of_its_own_request(rt: HostRuntime) -> Result<(), Fail> {
+    let mut input = MemSource::new(messages(rt.alloc())?);
+    let mut output = MemSink::new(rt.alloc());
+    // The fourth message puts the event.
+    let mut clock = MemClock::new(0, [1, 2, NOW].to_vec(rt.alloc())?);
+    let end = session(rt.alloc(), &mut input, &mut output, &mut clock)?;
+    assert_eq!(rt; end, SessionEnd::Closed);
+    assert_eq!(rt; output.bytes(), replies(rt.alloc())?.as_slice());
+    Ok(())
+}
+
+#[test]
+fn a_delivery_has_the_reading_of_its_own_step(rt: HostRuntime) -> Result<(), Fail> {
+    let mut input = MemSource::new(messages(rt.alloc())?);
+    let mut output = MemSink::new(rt.alloc());
+    // The event is older than 86,400 seconds when its delivery is due, so it is dropped.
+    let mut clock = MemClock::new(NOW, [NOW, NOW, NOW, NOW + 86_401].to_vec(rt.alloc())?);
+    let end = session(rt.alloc(), &mut input, &mut output, &mut clock)?;
+    assert_eq!(rt; end, SessionEnd::Closed);
+    let want = joined(
+        rt.alloc(),
+        &[
+            CREATE_QUEUE_REPLY,
+            PUT_RULE_REPLY,
+            PUT_TARGETS_REPLY,
+            PUT_EVENTS_REPLY,
+            DROPPED_REPLY,
+            NO_MESSAGES_REPLY,
+        ],
+    )?;
+    assert_eq!(rt; output.bytes(), want.as_slice());
+    Ok(())
+}
