@@ -1,6 +1,7 @@
--- The targets of the rules that match an event. Callers cite `one_pattern`, `matched_more`, `matched_same`, `rules_grown`,
--- `matched_of_bus`, and `matched_fits`: they are few, and their queues are there.
-use Rattle.std.proofs.Common.{◌≡◌, ℕ, ◌+◌, ◌*◌, ◌<◌, ◌≤◌, ◌⊎◌, inl, inr, true, false, cond, List, [], ◌∷◌, ◌++◌, length, map, take, get_or, Option, Some, None, sym, refl, ap, ◌∙◌, subst, arith, append_assoc, length-append}
+-- The targets of the rules that match an event. Other files cite `one_pattern`, `matched_more`, `matched_same`, `rules_grown`,
+-- `matched_of_bus`, and `matched_fits`: they are few, and their queues exist.
+use Rattle.std.proofs.Common.{◌≡◌, ℕ, ◌+◌, ◌*◌, ◌<◌, ◌≤◌, ◌⊎◌, inl, inr, true, false, cond, List, [], ◌∷◌, ◌++◌, length, map}
+use Rattle.std.proofs.Common.{take, get_or, Option, Some, None, sym, refl, ap, ◌∙◌, subst, arith, append_assoc, length-append}
 use Rattle.std.specs.Prelude.{All, bytes_eq}
 use Rattle.std.specs.declared.sync.Arc.{Arc}
 use Rattle.std.specs.Arc.{arc_value}
@@ -45,7 +46,8 @@ one_more bus (r ∷ rules) rule event targets more (rest, are, which) step = (
 pub matched_more : (bus : List ℕ) (rules : List Rule) (rule : Rule) (event : Tree) (targets new : List SeenTarget) → AreMatched bus rules event targets
     → Matches rule event → new ≡ targets ++ map (seen_target bus rule) rule.targets → AreMatched bus (rules ++ rule ∷ []) event new
 matched_more bus rules rule event targets new are m e =
-    subst (AreMatched bus (rules ++ rule ∷ []) event) (sym e) (one_more bus rules rule event targets (map (seen_target bus rule) rule.targets) are (inl (m, refl)))
+    subst (AreMatched bus (rules ++ rule ∷ []) event) (sym e)
+    (one_more bus rules rule event targets (map (seen_target bus rule) rule.targets) are (inl (m, refl)))
 
 -- with a further rule that does not match
 pub matched_same : (bus : List ℕ) (rules : List Rule) (rule : Rule) (event : Tree) (targets new : List SeenTarget) → AreMatched bus rules event targets
@@ -53,7 +55,7 @@ pub matched_same : (bus : List ℕ) (rules : List Rule) (rule : Rule) (event : T
 matched_same bus rules rule event targets new are n e =
     subst (AreMatched bus (rules ++ rule ∷ []) event) (append-nil targets ∙ sym e) (one_more bus rules rule event targets [] are (inr (n, refl)))
 
--- one rule more of the code's list
+-- one more rule of the code's list
 pub rules_grown : {Z : Type 0} (rules : List (Arc Rule Z)) (i : ℕ) (d : Arc Rule Z) (rule : Rule) → i < length rules → d ≡ get_or rules i d → rule ≡ arc_value d
     → map arc_value (take (i + 1) rules) ≡ map arc_value (take i rules) ++ rule ∷ []
 rules_grown rules i d rule within is value =
@@ -61,13 +63,14 @@ rules_grown rules i d rule within is value =
     ∙ map-append (arc_value {X = Rule}) (take i rules) (get_or rules i d ∷ [])
     ∙ ap (λ (r : Rule). map (arc_value {X = Rule}) (take i rules) ++ r ∷ []) (sym (value ∙ ap (arc_value {X = Rule}) is))
 
--- what all the rules of the bus have
+-- the targets of all rules of the bus
 pub matched_of_bus : (bus : List ℕ) (set : RuleSet) (found : Bus) (rules : List Rule) (event : Tree) (targets : List SeenTarget)
-    → named (λ (b : Bus). b.name) bus set.buses ≡ Some found → rules ≡ found.rules → AreMatched bus rules event targets → AreMatched bus (rules_of bus set) event targets
+    → named (λ (b : Bus). b.name) bus set.buses ≡ Some found → rules ≡ found.rules → AreMatched bus rules event targets
+    → AreMatched bus (rules_of bus set) event targets
 matched_of_bus bus set found rules event targets e same are =
     subst (λ (rs : List Rule). AreMatched bus rs event targets) (same ∙ sym (ap rules_in e)) are
 
--- the row that is found is one of the rows
+-- a row that is found is one of the rows
 named_all : {A : Type 0} (P : A → Type 0) (f : A → List ℕ) (name : List ℕ) (rows : List A) (row : A) → All P rows → named f name rows ≡ Some row → P row
 named_all P f name [] row all e = cc
 named_all P f name (r ∷ rows) row all e =
@@ -76,11 +79,12 @@ named_all P f name (r ∷ rows) row all e =
       | false ↦ λ g. named_all P f name rows row (All-tail P r rows all) g
     ]) e
 
--- a rule of a rule set has at most five targets, all of them queues that are there
+-- a rule of a rule set has at most five targets, each of an existing queue
 abbrev Fits : RuleSet → Rule → Type 0
 Fits set rule = (length rule.targets ≤ 5) × All (λ (t : Target). IsQueueThere set t.arn) rule.targets
 
-fits_all : (set : RuleSet) (bus : List ℕ) (rules : List Rule) (event : Tree) (targets : List SeenTarget) → All (Fits set) rules → AreMatched bus rules event targets
+fits_all : (set : RuleSet) (bus : List ℕ) (rules : List Rule) (event : Tree) (targets : List SeenTarget) → All (Fits set) rules
+    → AreMatched bus rules event targets
     → (length targets ≤ 5 * length rules) × All (λ (t : SeenTarget). IsQueueThere set t.target.arn) targets
 fits_all set bus [] event targets all none = (
   omega (arith, ap length none),
@@ -99,7 +103,7 @@ fits_all set bus (rule ∷ rules) event targets all (rest, are, which) =
       | inr (n, e) ↦ (omega (arith, others.0, ap length e), subst (All P) (sym e) others.1)
     ]
 
--- an event has at most 1,500 targets, all of them queues that are there
+-- an event has at most 1,500 targets, each of an existing queue
 pub matched_fits : (bus : List ℕ) (set : RuleSet) (event : Tree) (targets : List SeenTarget) → IsSound set → AreMatched bus (rules_of bus set) event targets
     → (length targets ≤ 1500) × All (λ (t : SeenTarget). IsQueueThere set t.target.arn) targets
 matched_fits bus set event targets sound =
@@ -112,5 +116,6 @@ matched_fits bus set event targets sound =
         (omega (arith, fit.0), fit.1)
     by_bus (Some b) e are =
         let few = named_all (λ (b : Bus). length b.rules ≤ 300) (λ (b : Bus). b.name) bus set.buses b sound.rules e in
-        let fit = fits_all set bus b.rules event targets (named_all (λ (b : Bus). All (Fits set) b.rules) (λ (b : Bus). b.name) bus set.buses b sound.targets e) are in
+        let fit = fits_all set bus b.rules event targets
+        (named_all (λ (b : Bus). All (Fits set) b.rules) (λ (b : Bus). b.name) bus set.buses b sound.targets e) are in
         (omega (arith, fit.0, few), fit.1)

@@ -1,6 +1,7 @@
--- What a change that was made ready does to the tables. Callers cite `queues_take`, `counts_stay`, `endpoint_by_names`, `queues_of_accepted`,
--- `after_control`, `after_events` and `not_full`.
-use Rattle.std.proofs.Common.{◌≡◌, ℕ, ◌+◌, ◌<◌, ◌≤◌, ◌⊎◌, inl, inr, Bool, true, false, ◌||◌, cond, List, [], ◌∷◌, ◌++◌, length, map, Option, Some, None, sym, refl, ap, ◌∙◌, arith, length-append}
+-- The tables after a change that is ready. The answers of `Tables` cite `queues_take`, `counts_stay`, `endpoint_by_names`,
+-- `queues_of_allowed`, `after_events` and `not_full`.
+use Rattle.std.proofs.Common.{◌≡◌, ℕ, ◌+◌, ◌<◌, ◌≤◌, ◌⊎◌, inl, inr, Bool, true, false, ◌||◌, cond, List, [], ◌∷◌, ◌++◌, length}
+use Rattle.std.proofs.Common.{map, Option, Some, None, sym, refl, ap, ◌∙◌, arith, length-append}
 use Rattle.std.specs.Prelude.{nat_le, is_some, bytes_eq}
 use Rattle.std.specs.declared.cmp.Ordering.TheVariants.{Less, Equal, Greater}
 use Rattle.std.specs.Cmp.Lexicographic.{slice_cmp}
@@ -20,7 +21,7 @@ use Rattle.router_core.specs.Ready.{accepted_of, added_all, with_new_queue, HasP
 receives : List ℕ → Queue → Type 0
 receives endpoint m = endpoint ≡ queue_arn m.name
 
-pub endpoint_append : (endpoint : List ℕ) (ms more : List Queue) → HasEndpoint endpoint ms → HasEndpoint endpoint (ms ++ more)
+endpoint_append : (endpoint : List ℕ) (ms more : List Queue) → HasEndpoint endpoint ms → HasEndpoint endpoint (ms ++ more)
 unfolding receives
 endpoint_append endpoint [] more (k, m, below, is, here) = absurd (omega arith)
 endpoint_append endpoint (m ∷ ms) more has = elim (any_cases (receives endpoint) m ms has) [
@@ -28,20 +29,22 @@ endpoint_append endpoint (m ∷ ms) more has = elim (any_cases (receives endpoin
   | inr there ↦ any_there (receives endpoint) m (ms ++ more) (endpoint_append endpoint ms more there)
 ]
 
-pub endpoint_last : (queue : List ℕ) (ms : List Queue) (m : Queue) → m.name ≡ queue → HasEndpoint (queue_arn queue) (ms ++ m ∷ [])
+endpoint_last : (queue : List ℕ) (ms : List Queue) (m : Queue) → m.name ≡ queue → HasEndpoint (queue_arn queue) (ms ++ m ∷ [])
 unfolding receives
 endpoint_last queue [] m is = any_here (receives (queue_arn queue)) m [] (ap queue_arn (sym is))
 endpoint_last queue (n ∷ ms) m is = any_there (receives (queue_arn queue)) n (ms ++ m ∷ []) (endpoint_last queue ms m is)
 
-endpoint_stays : (new_queue : Option (List ℕ)) (duties : Duties) (endpoint : List ℕ) → HasEndpoint endpoint duties.queues → HasEndpoint endpoint (with_new_queue new_queue duties).queues
+endpoint_stays : (new_queue : Option (List ℕ)) (duties : Duties) (endpoint : List ℕ) → HasEndpoint endpoint duties.queues
+    → HasEndpoint endpoint (with_new_queue new_queue duties).queues
 endpoint_stays None duties endpoint there = there
 endpoint_stays (Some queue) duties endpoint there = endpoint_append endpoint duties.queues _ there
 
-endpoint_comes : (new_queue : Option (List ℕ)) (duties : Duties) (queue : List ℕ) → new_queue ≡ Some queue → HasEndpoint (queue_arn queue) (with_new_queue new_queue duties).queues
+endpoint_comes : (new_queue : Option (List ℕ)) (duties : Duties) (queue : List ℕ) → new_queue ≡ Some queue
+    → HasEndpoint (queue_arn queue) (with_new_queue new_queue duties).queues
 endpoint_comes None duties queue is = cc
 endpoint_comes (Some name) duties queue is = let same : name ≡ queue = cc in endpoint_last queue duties.queues _ same
 
--- each queue of the new rule set takes messages
+-- each queue of the new rule set has a place for messages
 pub queues_take : (new_queue : Option (List ℕ)) (duties : Duties) (old new : RuleSet)
     → ((queue : List ℕ) → has_queue queue new ≡ true → (has_queue queue old ≡ true) ⊎ (new_queue ≡ Some queue))
     → ((queue : List ℕ) → has_queue queue old ≡ true → HasEndpoint (queue_arn queue) duties.queues)
@@ -54,7 +57,8 @@ queues_take new_queue duties old new from before queue there =
     by_source (inr is) = endpoint_comes new_queue duties queue is
 
 pub counts_stay : (new_queue : Option (List ℕ)) (duties : Duties)
-    → ((with_new_queue new_queue duties).created ≡ duties.created) × ((with_new_queue new_queue duties).latest ≡ duties.latest) × (length (with_new_queue new_queue duties).queues ≤ length duties.queues + 1)
+    → ((with_new_queue new_queue duties).created ≡ duties.created) × ((with_new_queue new_queue duties).latest ≡ duties.latest)
+    × (length (with_new_queue new_queue duties).queues ≤ length duties.queues + 1)
 counts_stay None duties = (refl, refl, omega arith)
 counts_stay (Some queue) duties = (refl, refl, omega (arith, length-append duties.queues (record { name = queue; sent = 0; messages = [] } ∷ [])))
 
@@ -79,7 +83,8 @@ has_first : (name row : List ℕ) (rows : List (List ℕ)) → has name (row ∷
 unfolding has
 has_first name row rows is =
     let d = bytes_eq-Decides row name in
-    (elim (bytes_eq row name) as (λ b. bytes_eq row name ≡ b → is_some (cond b (Some row) (named (λ (queue : List ℕ). queue) name rows)) ≡ true → (name ≡ row) ⊎ (has name rows ≡ true)) [
+    (elim (bytes_eq row name) as (λ b. bytes_eq row name ≡ b
+    → is_some (cond b (Some row) (named (λ (queue : List ℕ). queue) name rows)) ≡ true → (name ≡ row) ⊎ (has name rows ≡ true)) [
       | true ↦ λ e _. inl (sym (d.0 e))
       | false ↦ λ _ later. inr later
     ]) refl is
@@ -93,11 +98,12 @@ has_behind name row rows which =
       | false ↦ λ e. elim which [ inl same ↦ let is : bytes_eq row name ≡ true = d.1 (sym same) in cc | inr later ↦ later ]
     ]) refl
 
--- a queue that is there once another was put is that other, or was there
+-- a queue that exists after another was put is the other one, or existed before
 has_put : (name new : List ℕ) (rows : List (List ℕ)) → has name (put_queue new rows) ≡ true → (name ≡ new) ⊎ (has name rows ≡ true)
 has_put name new [] is = has_first name new [] is
 has_put name new (row ∷ rows) is =
-    (elim (slice_cmp nat_cmp new row) as (λ o. has name (by_order o (new ∷ row ∷ rows) (new ∷ rows) (row ∷ put_queue new rows)) ≡ true → (name ≡ new) ⊎ (has name (row ∷ rows) ≡ true)) [
+    (elim (slice_cmp nat_cmp new row) as (λ o. has name (by_order o (new ∷ row ∷ rows) (new ∷ rows) (row ∷ put_queue new rows)) ≡ true
+    → (name ≡ new) ⊎ (has name (row ∷ rows) ≡ true)) [
       | Less ↦ λ e. has_first name new (row ∷ rows) e
       | Equal ↦ λ e. elim (has_first name new rows e) [ inl same ↦ inl same | inr later ↦ inr (has_behind name row rows (inr later)) ]
       | Greater ↦ λ e. elim (has_first name row (put_queue new rows) e) [
@@ -106,32 +112,42 @@ has_put name new (row ∷ rows) is =
       ]
     ]) is
 
--- the queues that are there after a change
-pub queues_of_accepted : (c : Control) (new_queue : Option (List ℕ)) (set : RuleSet) → HasPlace c new_queue
+-- a queue that exists after an allowed change existed before, or is the new one
+pub queues_of_allowed : (c : Control) (new_queue : Option (List ℕ)) (set : RuleSet) → HasPlace c new_queue
     → (queue : List ℕ) → has_queue queue (applied c set) ≡ true → (has_queue queue set ≡ true) ⊎ (new_queue ≡ Some queue)
 unfolding has
-queues_of_accepted (rule_put bus name pattern enabled) new_queue set place queue there = inl there
-queues_of_accepted (targets_put bus rule targets) new_queue set place queue there = inl there
-queues_of_accepted (queue_created name) new_queue set place queue there = elim (has_put queue name set.queues there) [
+queues_of_allowed (rule_put bus name pattern enabled) new_queue set place queue there = inl there
+queues_of_allowed (targets_put bus rule targets) new_queue set place queue there = inl there
+queues_of_allowed (queue_created name) new_queue set place queue there = elim (has_put queue name set.queues there) [
   | inl same ↦ inr (place ∙ ap Some (sym same))
   | inr before ↦ inl before
 ]
 
-pub count_of_accepted : (c : Control) (set : RuleSet) → (applied c set).count ≡ set.count + 1
-count_of_accepted (rule_put bus name pattern enabled) set = refl
-count_of_accepted (targets_put bus rule targets) set = refl
-count_of_accepted (queue_created name) set = refl
-
 -- the tables after a change of the configuration
-pub after_control : (c : Control) (new_queue : Option (List ℕ)) (moment : ℕ) (t : Tables) → HasPlace c new_queue
+after_control : (c : Control) (new_queue : Option (List ℕ)) (moment : ℕ) (t : Tables) → HasPlace c new_queue
     → record t { set = applied c t.set; duties = with_new_queue new_queue t.duties; entries = t.entries + 1; moment = moment }
     ≡ after_batch (record { moment = moment; entries = batch.control c ∷ [] }) t
 after_control (rule_put bus name pattern enabled) new_queue moment t place =
-    ap (λ (m : Option (List ℕ)). record t { set = applied (rule_put bus name pattern enabled) t.set; duties = with_new_queue m t.duties; entries = t.entries + 1; moment = moment }) place
+    ap (λ (m : Option (List ℕ)). record t {
+      set = applied (rule_put bus name pattern enabled) t.set;
+      duties = with_new_queue m t.duties;
+      entries = t.entries + 1;
+      moment = moment;
+    }) place
 after_control (targets_put bus rule targets) new_queue moment t place =
-    ap (λ (m : Option (List ℕ)). record t { set = applied (targets_put bus rule targets) t.set; duties = with_new_queue m t.duties; entries = t.entries + 1; moment = moment }) place
+    ap (λ (m : Option (List ℕ)). record t {
+      set = applied (targets_put bus rule targets) t.set;
+      duties = with_new_queue m t.duties;
+      entries = t.entries + 1;
+      moment = moment;
+    }) place
 after_control (queue_created name) new_queue moment t place =
-    ap (λ (m : Option (List ℕ)). record t { set = applied (queue_created name) t.set; duties = with_new_queue m t.duties; entries = t.entries + 1; moment = moment }) place
+    ap (λ (m : Option (List ℕ)). record t {
+      set = applied (queue_created name) t.set;
+      duties = with_new_queue m t.duties;
+      entries = t.entries + 1;
+      moment = moment;
+    }) place
 
 -- the tables after events
 events_after : (events : List AcceptedEvent) (moment : ℕ) (t : Tables)

@@ -1,11 +1,11 @@
--- Batches: what one turn of the router changes, as a journal records it.
+-- Batches: the changes of one turn of the router, as a journal records them.
 use Rattle.std.specs.Prelude.{ℕ, List}
 use Rattle.delivery_duties.specs.declared.duty.NewDuty.{NewDuty}
 use Rattle.delivery_duties.specs.declared.fate.Outcome.{Outcome}
 use Rattle.rule_table.specs.Control.{Control}
 
--- an accepted event: its number, its bus, the number of configuration changes before it that it was matched on, the moment of
--- its member `time`, its text, and the duties that it makes
+-- an accepted event: its number, its bus, the configuration version `k` at which it was matched, the moment of its member `time`,
+-- its text, and its duties
 pub record Accepted : Type 0 where
   pub number : ℕ
   pub bus : List ℕ
@@ -14,13 +14,13 @@ pub record Accepted : Type 0 where
   pub text : List ℕ
   pub duties : List NewDuty
 
--- what is recorded: a change of the configuration, an event, or how an attempt of the duty of this number ended
+-- one entry: a change of the configuration, an accepted event, or the outcome of an attempt of the duty with this number
 pub data Entry : Type 0 where
   control : Control → Entry
   accepted : Accepted → Entry
   attempt : (duty : ℕ) (outcome : Outcome) → Entry
 
--- one turn: its moment, and its entries in the order in which they are made
+-- one turn: its moment, and its entries in order
 pub record Batch : Type 0 where
   pub moment : ℕ
   pub entries : List Entry

@@ -1,4 +1,4 @@
--- Which rules match an event, and which duties it makes.
+-- Which rules match an event, and the duties of the event.
 use Rattle.std.specs.Prelude.{◌≡◌, ℕ, ◌⊎◌, Bool, true, not, nat_le, if◌then◌else◌, List, [], ◌∷◌, ◌++◌, length, map, codes}
 use Rattle.json_text.specs.Tree.{Tree}
 use Rattle.event_shape.specs.Names.{rule_arn}
@@ -12,18 +12,18 @@ use Rattle.router_core.specs.declared.seen.SeenTarget.{SeenTarget}
 use Rattle.router_core.specs.declared.seen.SeenEntry.{SeenEntry}
 use Rattle.router_core.specs.declared.seen.Seen.{Seen}
 
--- the rule is enabled, and the pattern that its text is holds of the event
+-- the rule is enabled, and the pattern of its text matches the event
 pub record Matches (rule : Rule) (event : Tree) : Type 0 where
   pub enabled : rule.enabled ≡ true
   pub pattern : Pattern
   pub read : IsPatternText rule.pattern pattern
   pub holds : PatternHolds pattern event
 
--- a target of a rule of the bus
+-- a target of a rule of the bus, with the ARN of the rule
 abbrev pub seen_target : List ℕ → Rule → Target → SeenTarget
 seen_target bus rule target = record { rule_arn = rule_arn bus rule.name; target = target }
 
--- For each rule that matches, in their order, its targets, in theirs.
+-- the targets of the rules that match the event, in the order of the rules, and in the order of targets within a rule
 abbrev pub AreMatched : List ℕ → List Rule → Tree → List SeenTarget → Type 0
 AreMatched bus [] event targets = targets ≡ []
 AreMatched bus (rule ∷ rules) event targets =
@@ -31,18 +31,19 @@ AreMatched bus (rule ∷ rules) event targets =
     × ((Matches rule event × (targets ≡ map (seen_target bus rule) rule.targets ++ rest))
     ⊎ ((¬ Matches rule event) × (targets ≡ rest)))
 
--- what is seen of one event on the rule set: how many changes made the set, and the targets of the rules of the bus that match
+-- the result of matching one event against the rule set: the configuration version, and the targets of the rules of the bus that
+-- match
 pub record IsSeen (set : RuleSet) (bus : List ℕ) (event : Tree) (seen : Seen) : Type 0 where
   pub k : seen.k ≡ set.count
   pub entry : SeenEntry
   pub alone : seen.entries.items ≡ entry ∷ []
   pub matched : AreMatched bus (rules_of bus set) event entry.targets.items
 
--- the text has more bytes than one that a target gets (this project's own limit)
+-- the text has more bytes than a target accepts (this project's own limit)
 abbrev pub is_too_long : List ℕ → Bool
 is_too_long text = not (nat_le (length text) 1048576)
 
--- the duty of one target: the event's text, or `{}` in place of one that is too long; by default 185 retries within a day
+-- the duty of one target: it has the event's text, or `{}` if the text is too long; by default 185 retries within a day
 abbrev pub duty_of : List ℕ → SeenTarget → NewDuty
 duty_of text seen = record {
   rule = seen.rule_arn;

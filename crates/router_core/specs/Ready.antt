@@ -1,4 +1,4 @@
--- A change that is ready to be made: all its memory is taken.
+-- A change that is ready to be applied: all memory that it needs is allocated.
 use Rattle.std.specs.Prelude.{◌≡◌, ℕ, ◌+◌, ◌^◌, ◌<◌, ◌≤◌, true, false, List, [], ◌∷◌, length, map, Option, Some, None, All}
 use Rattle.json_text.specs.Moment.{IsMoment}
 use Rattle.event_shape.specs.Names.{queue_arn}
@@ -26,17 +26,17 @@ entries_of (Events events) = map (λ e. batch.accepted (accepted_of e)) events.i
 abbrev pub batch_of : Ready → batch.Batch
 batch_of r = record { moment = r.moment; entries = entries_of r.change }
 
--- the duties with the queue of this name, if there is one to make; it has no message
+-- the duties with the new queue, if there is one; it has no message
 abbrev pub with_new_queue : Option (List ℕ) → Duties → Duties
 with_new_queue None duties = duties
 with_new_queue (Some queue) duties = with_queue queue duties
 
--- the duties of events, made one after the other
+-- the duties after those of the events are added, one event after the other
 abbrev pub added_all : List AcceptedEvent → ℕ → Duties → Duties
 added_all [] moment duties = duties
 added_all (e ∷ es) moment duties = added_all es moment (added e.duties moment duties)
 
--- a change that makes a queue comes with that queue's place, and any other with none
+-- a change that creates a queue comes with the new queue, and any other change with none
 abbrev pub HasPlace : Control → Option (List ℕ) → Type 0
 HasPlace (rule_put bus name pattern enabled) new_queue = new_queue ≡ None
 HasPlace (targets_put bus rule targets) new_queue = new_queue ≡ None
@@ -47,22 +47,23 @@ abbrev pub AreDeliverable : List Queue → List AcceptedEvent → Type 0
 AreDeliverable queues [] = Unit {0}
 AreDeliverable queues (e ∷ es) = (length e.duties ≤ 1500) × All (λ d. HasEndpoint d.endpoint queues) e.duties × AreDeliverable queues es
 
--- what was made ready for these tables: an accepted change with the rule set after it; or at most ten events whose duties go to their queues
+-- the change fits these tables: it is an allowed change of the configuration with the rule set after it, or at most ten events
+-- whose duties go to existing queues
 abbrev pub IsMadeAt : Tables → Change → Type 0
 IsMadeAt t (Configuration control set new_queue) =
     IsAllowed (control_of control) t.set × (set ≡ applied (control_of control) t.set) × HasPlace (control_of control) new_queue
 IsMadeAt t (Events events) = (length events.items ≤ 10) × AreDeliverable t.duties.queues events.items
 
--- the change may be made of these tables: its moment is no earlier than the last batch's, and a further batch is numbered
+-- the change can be applied to these tables: its moment is not before the last batch's, and the number limit is not reached
 pub record IsReadyAt (t : Tables) (r : Ready) : Type 0 where
   pub moment : IsMoment r.moment
   pub later : t.moment ≤ r.moment
   pub numbered : is_full t ≡ false
   pub made : IsMadeAt t r.change
 
--- what holds of all tables that batches made of the first ones
+-- the invariant of tables: it holds of all tables that batches make from the first ones
 pub record IsConsistent (t : Tables) : Type 0 where
-  -- each queue takes messages
+  -- each queue of the rule set has a place for messages
   pub queues : (queue : List ℕ) → has_queue queue t.set ≡ true → HasEndpoint (queue_arn queue) t.duties.queues
   pub latest : t.duties.latest ≤ t.moment
   pub moment : IsMoment t.moment

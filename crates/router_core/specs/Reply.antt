@@ -7,7 +7,7 @@ pub record Reply : Type 0 where
   pub status : ℕ
   pub body : Tree
 
--- the reply to a request that was served, with these members
+-- the reply to a request that was carried out, with these members
 abbrev pub served : List (List ℕ × Tree) → Reply
 served members = record { status = 200; body = object (members_of members) }
 
@@ -18,33 +18,33 @@ refusal status kind message = record {
   body = object (members_of ((codes "__type", text kind) ∷ (codes "message", text message) ∷ []));
 }
 
--- no operation of the name is served
+-- the operation is unknown
 abbrev pub unknown_operation : Reply
 unknown_operation = refusal 400 (codes "UnknownOperationException") (codes "Unknown operation.")
 
--- the operation is served, but not in this form
+-- the request uses a feature that is not built yet
 abbrev pub not_built : Reply
 not_built = refusal 400 (codes "NotBuilt") (codes "Not built yet.")
 
--- no further batch is numbered
+-- the number limit is reached
 abbrev pub limit_reply : Reply
 limit_reply = refusal 400 (codes "LimitExceededException") (codes "Number limit 281474976710656 reached.")
 
--- memory was refused
+-- out of memory
 abbrev pub no_memory : Reply
 no_memory = refusal 503 (codes "NoMemory") (codes "Out of memory.")
 
--- the bytes of a request have no head that is served
+-- the bytes do not begin with an HTTP head that the server accepts
 abbrev pub bad_head : Reply
 bad_head = refusal 400 (codes "BadHead") (codes "The head is not HTTP.")
 
--- what one DeliverDue did: how many duties it attempted, and how many of them were delivered and dropped
+-- the counts of one DeliverDue: duties attempted, delivered and dropped
 pub record Counts : Type 0 where
   pub attempts : ℕ
   pub delivered : ℕ
   pub dropped : ℕ
 
--- the reply to a DeliverDue; nothing goes to a dead-letter queue yet
+-- the reply to a DeliverDue; dead-letter queues are not built yet, so `DeadLettered` is 0
 abbrev pub counted : Counts → Reply
 counted n = served (
     (codes "Attempts", number (decimal n.attempts))

@@ -1,12 +1,12 @@
--- The tables of the router: a fold over batches.
+-- The tables of the router, as a fold over batches.
 use Rattle.std.specs.Prelude.{ℕ, ◌+◌, ◌^◌, Bool, ◌||◌, nat_le, List, [], ◌∷◌}
 use Rattle.rule_table.specs.Control.{Control, rule_put, targets_put, queue_created}
 use Rattle.rule_table.specs.RuleSet.{RuleSet, first_set, applied}
 use Rattle.delivery_duties.specs.Duties.{Duties, no_duties, with_queue, added, settled}
 use Rattle.router_core.specs.Batch.{Entry, control, accepted, attempt, Batch}
 
--- the rule set, the duties with the queues' messages, how many events were accepted and how many entries made so far, and
--- the moment of the last batch
+-- the rule set, the duties with the queues' messages, the numbers of accepted events and of entries so far, and the moment of the
+-- last batch
 pub record Tables : Type 0 where
   pub set : RuleSet
   pub duties : Duties
@@ -18,19 +18,19 @@ pub record Tables : Type 0 where
 abbrev pub first_tables : Tables
 first_tables = record { set = first_set; duties = no_duties; events = 0; entries = 0; moment = 0 }
 
--- the duties after a change of the configuration: a queue that is made takes messages, and has none
+-- the duties after a change of the configuration: a created queue is added, with no message
 abbrev pub duties_after : Control → Duties → Duties
 duties_after (rule_put bus name pattern enabled) duties = duties
 duties_after (targets_put bus rule targets) duties = duties
 duties_after (queue_created name) duties = with_queue name duties
 
--- the tables after an entry that was made at the moment; an event's duties are due at once
+-- the tables after an entry at the moment; the duties of an event are due at once
 abbrev pub after_entry : ℕ → Entry → Tables → Tables
 after_entry moment (control c) t = record t { set = applied c t.set; duties = duties_after c t.duties; entries = t.entries + 1 }
 after_entry moment (accepted e) t = record t { duties = added e.duties moment t.duties; events = t.events + 1; entries = t.entries + 1 }
 after_entry moment (attempt duty outcome) t = record t { duties = settled duty outcome t.duties; entries = t.entries + 1 }
 
--- the tables after entries that were made at the moment, in their order
+-- the tables after entries at the moment, in their order
 abbrev pub after_entries : ℕ → List Entry → Tables → Tables
 after_entries moment [] t = t
 after_entries moment (e ∷ es) t = after_entries moment es (after_entry moment e t)
@@ -44,10 +44,10 @@ abbrev pub tables_after : List Batch → Tables → Tables
 tables_after [] t = t
 tables_after (b ∷ bs) t = tables_after bs (after_batch b t)
 
--- at so many entries or so many duties no new batch begins (this project's own limit)
+-- no further batch is made once there are this many entries or duties (this project's own limit)
 abbrev pub number_limit : ℕ
 number_limit = 2 ^ 48
 
--- no further batch is numbered: there are as many entries, or as many duties, as the limit
+-- the number limit is reached: there are at least that many entries, or duties
 abbrev pub is_full : Tables → Bool
 is_full t = nat_le number_limit t.entries || nat_le number_limit t.duties.created

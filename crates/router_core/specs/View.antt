@@ -1,4 +1,4 @@
--- What contracts see of the code's requests and replies.
+-- The views of requests and replies in contracts.
 use Rattle.std.specs.Prelude.{map}
 use Rattle.json_text.specs.View.{tree_of}
 use Rattle.event_shape.specs.Entry.{entry_of}
@@ -9,7 +9,7 @@ use Rattle.router_core.specs.declared.reply.Reply.{Reply}
 use Rattle.router_core.specs.Request as request
 use Rattle.router_core.specs.Reply as replies
 
--- what is asked for, with its lists
+-- the action, with its vectors as lists
 abbrev pub action_of : Action → request.Action
 action_of (CreateQueue name) = request.create_queue name
 action_of (PutRule name pattern) = request.put_rule name pattern
@@ -18,7 +18,7 @@ action_of (PutEvents entries) = request.put_events (map entry_of entries.items)
 action_of (PeekMessages queue) = request.peek_messages queue
 action_of DeliverDue = request.deliver_due
 
--- the request, with its action so
+-- the request, with the view of its action
 abbrev pub request_of : Request → request.Request
 request_of r = record { action = action_of r.action; reading = r.reading }
 

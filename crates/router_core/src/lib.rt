@@ -1,4 +1,4 @@
-//! The router's tables: a batch of changes leads from tables to tables; requests, replies, matching and delivery steps.
+//! The router's tables, which change by batches; requests, replies, matching and delivery steps.
 #![tactic(auto)]
 
 mod matching;

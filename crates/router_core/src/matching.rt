@@ -1,4 +1,4 @@
-//! Which rules match an event, and which duties it makes.
+//! Which rules match an event, and the duties of the event.
 ghost use Rattle.std.specs.Prelude.{◌≡◌, ◌++◌, map, IsTrue, IsFalse, IfOk, OnOk};
 ghost use Rattle.std.specs.Option.{option_copied};
 ghost use Rattle.json_text.specs.View.{tree_of};
@@ -16,15 +16,16 @@ use rule_table::{Rule, RuleSet, Target};
 use std::alloc::Global;
 use std::collections::VecDeque;
 
-/// How many bytes a target gets at most.
+/// The greatest number of bytes that a target accepts.
 const TEXT_LIMIT: usize = 1_048_576;
 
-/// How often a delivery is tried again by default, and how old its event may become, in seconds.
+/// The default number of retries of a delivery, and the default maximum age of its event, in seconds.
 const ATTEMPTS: u16 = 185;
 
 const AGE: u32 = 86_400;
 
-/// What is seen of one event: each rule of its bus is asked in turn. A replayed event has the replay's name.
+/// Matches one event against the rules of its bus, one rule after the other. `replay` is the name of the replay that sends the
+/// event, if one does.
 pub fn see_plain_event(
     alloc: Global,
     set: &RuleSet,
@@ -44,7 +45,7 @@ pub fn see_plain_event(
     })
 }
 
-/// The targets of the rules that match.
+/// The targets of the rules of the bus that match the event; none if there is no such bus.
 fn matched(alloc: Global, set: &RuleSet, bus: &str, event: &Json) -> Result<SeenTargets, NoMemory>
     requires { IsValue (tree_of event.now) }
     ensures { IfOk result (λ targets. AreMatched bus.now (rules_of bus.now set.now) (tree_of event.now) targets.items) }
@@ -62,7 +63,7 @@ fn matched(alloc: Global, set: &RuleSet, bus: &str, event: &Json) -> Result<Seen
     Ok(targets)
 }
 
-/// Whether the rule is enabled and its pattern holds of the event.
+/// Whether the rule is enabled and its pattern matches the event.
 fn matches(rule: &Rule, event: &Json) -> bool
     requires { IsValue (tree_of event.now) }
     ensures yes { IsTrue result → Matches rule.now (tree_of event.now) }
@@ -71,7 +72,7 @@ fn matches(rule: &Rule, event: &Json) -> bool
     rule.is_enabled() && plain_holds(rule.pattern(), event)
 }
 
-/// Puts the rule's targets at the end.
+/// Appends the targets of the rule.
 fn push_targets(
     alloc: Global,
     bus: &str,
@@ -100,7 +101,8 @@ fn seen_target(
     })
 }
 
-/// One duty for each target, in their order. A text of more than 1,048,576 bytes is owed as `{}`.
+/// One duty for each target, in their order. If the text has more than 1,048,576 bytes, each duty has the text `{}` instead
+/// and is marked too long.
 pub fn duties_of(alloc: Global, mut targets: SeenTargets, text: &str) -> Result<NewDuties, NoMemory>
     ensures { IfOk result (λ duties. duties ≡ map (duty_of text.now) targets.items) }
 {

@@ -1,11 +1,9 @@
-//! Replies.
-ghost use Rattle.std.specs.Prelude.{◌≡◌, ◌++◌, ◌∷◌, [], IfOk, OnOk};
-ghost use Rattle.json_text.specs.Tree.{text};
-ghost use Rattle.json_text.specs.View.{pairs_of, tree_of};
+//! Replies, and the refusals that several calls share.
+ghost use Rattle.std.specs.Prelude.{◌≡◌, IfOk};
 ghost use Rattle.router_core.specs.View.{reply_of};
 ghost use Rattle.router_core.specs.Reply as replies;
 
-use json_text::{Json, Members, NoMemory, Text};
+use json_text::{Json, Members, NoMemory, push_text};
 use std::alloc::Global;
 
 /// A reply: its HTTP status, and its body.
@@ -15,7 +13,7 @@ pub struct Reply {
     pub body: Json,
 }
 
-/// A refusal: its type and its message are the two members.
+/// A refusal with this status. Its body has the members `__type` and `message`.
 fn refusal(alloc: Global, status: u16, kind: &str, message: &str) -> Result<Reply, NoMemory>
     ensures { IfOk result (λ reply. reply_of reply ≡ replies.refusal status kind.now message.now) }
 {
@@ -28,17 +26,7 @@ fn refusal(alloc: Global, status: u16, kind: &str, message: &str) -> Result<Repl
     })
 }
 
-/// Puts a member whose value is a text at the end.
-fn push_text(alloc: Global, members: &mut Members, key: &str, value: &str) -> Result<(), NoMemory>
-    ensures { OnOk result (pairs_of members.new.items ≡ pairs_of members.old.items ++ (key.now, text value.now) ∷ []) }
-{
-    let key = Text::from_str(alloc, key)?;
-    let value = Text::from_str(alloc, value)?;
-    members.push((key, Json::Str(value)))?;
-    Ok(())
-}
-
-/// No operation of this name is served.
+/// The reply to an operation that is unknown.
 pub fn unknown_operation(alloc: Global) -> Result<Reply, NoMemory>
     ensures { IfOk result (λ reply. reply_of reply ≡ replies.unknown_operation) }
 {
@@ -50,14 +38,14 @@ pub fn unknown_operation(alloc: Global) -> Result<Reply, NoMemory>
     )
 }
 
-/// The operation is served, but not in this form.
+/// The reply to a request that uses a feature that is not built yet.
 pub fn not_built(alloc: Global) -> Result<Reply, NoMemory>
     ensures { IfOk result (λ reply. reply_of reply ≡ replies.not_built) }
 {
     refusal(alloc, 400, "NotBuilt", "Not built yet.")
 }
 
-/// So many entries or deliveries were made that no further one can be numbered.
+/// The reply when the number limit is reached: no further entry or delivery can be numbered.
 pub fn limit_reply(alloc: Global) -> Result<Reply, NoMemory>
     ensures { IfOk result (λ reply. reply_of reply ≡ replies.limit_reply) }
 {

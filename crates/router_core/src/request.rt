@@ -3,20 +3,20 @@ use event_shape::EventEntry;
 use json_text::Text;
 use rule_table::Target;
 
-/// What is asked for.
+/// What a request asks for.
 #[derive(Debug, Drop)]
 pub enum Action {
-    /// A queue is to be made.
+    /// Create a queue.
     CreateQueue { name: Text },
-    /// A rule is to be put on the default bus, with the text of its pattern.
+    /// Create or replace a rule of the bus `default`, with the text of its pattern.
     PutRule { name: Text, pattern: Text },
-    /// Targets are to be put to a rule of the default bus.
+    /// Add targets to a rule of the bus `default`, or replace them.
     PutTargets { rule: Text, targets: Vec<Target> },
-    /// Events are to be published.
+    /// Publish events.
     PutEvents { entries: Vec<EventEntry> },
-    /// The oldest messages of a queue are to be shown.
+    /// Show the oldest messages of a queue.
     PeekMessages { queue: Text },
-    /// The duties that are due are to be attempted.
+    /// Attempt the duties that are due.
     DeliverDue,
 }
 
@@ -24,6 +24,6 @@ pub enum Action {
 #[derive(Debug, Drop)]
 pub struct Request {
     pub action: Action,
-    /// The reading of the clock when the message was whole, in seconds since 1970-01-01T00:00:00Z.
+    /// The clock's reading when the request had been read whole, in seconds since 1970-01-01T00:00:00Z.
     pub reading: u64,
 }

@@ -1,9 +1,9 @@
-//! What is seen of events on a rule set.
+//! The result of matching events against a rule set.
 use json_text::Text;
 use rule_table::Target;
 use std::collections::VecDeque;
 
-/// A target of a rule that matches.
+/// A target of a rule that matches the event.
 #[derive(Debug, Drop)]
 pub struct SeenTarget {
     pub rule_arn: Text,
@@ -13,20 +13,20 @@ pub struct SeenTarget {
 /// Targets, in the order of their rules.
 pub type SeenTargets = VecDeque<SeenTarget>;
 
-/// What is seen of one event.
+/// The result of matching one event.
 #[derive(Debug, Drop)]
 pub struct SeenEntry {
-    /// The targets of the rules that match it, in the order of the rule set.
+    /// The targets of the rules that match the event, in the order of the rule set.
     pub targets: SeenTargets,
 }
 
-/// What is seen of each of some events.
+/// The result of matching each of some events, in their order.
 pub type SeenEntries = Vec<SeenEntry>;
 
-/// What is seen of events on one rule set.
+/// The result of matching events against one rule set.
 #[derive(Debug, Drop)]
 pub struct Seen {
-    /// How many changes of the configuration made the rule set.
+    /// The configuration version: the number of changes that made the rule set.
     pub k: u64,
     pub entries: SeenEntries,
 }

@@ -1,4 +1,4 @@
-//! The router's tables.
+//! The router's tables, and the calls that change them.
 ghost use Rattle.std.specs.Prelude.{◌≡◌, ◌+◌, ◌*◌, ◌^◌, ◌<◌, ◌≤◌, ◌⊎◌, ℕ, List, IfOk, IfSome, IfNone, Some, true, false, length};
 ghost use Rattle.rule_table.specs.RuleSet.{has_queue};
 ghost use Rattle.json_text.specs.Moment.{IsMoment};
@@ -15,10 +15,10 @@ use std::alloc::Global;
 use std::collections::VecDeque;
 use std::marker::Model;
 
-/// At so many entries or so many duties no new batch begins.
+/// No further batch is made once there are this many entries or duties.
 const NUMBER_LIMIT: u64 = 1 << 48;
 
-/// The rule set, the duties with the queues' messages, and how much came so far.
+/// The rule set, the duties and the queues' messages, and the numbers of events and entries so far.
 #[derive(Drop)]
 pub struct Tables {
     set: RuleSet,
@@ -53,7 +53,7 @@ impl Tables {
         })
     }
 
-    /// Whether no further batch is numbered.
+    /// Whether the number limit is reached, so that no further batch can be made.
     pub fn full(&self) -> bool
         ensures full { result ≡ is_full self.now }
         ensures consistent { IsConsistent self.now }
@@ -61,7 +61,7 @@ impl Tables {
         self.entries >= NUMBER_LIMIT || self.duties.counts().created >= NUMBER_LIMIT
     }
 
-    /// The rule set, as the last change of the configuration left it.
+    /// The current rule set.
     pub fn set(&self) -> &RuleSet
         ensures { result.now ≡ self.now.set }
     {
@@ -75,7 +75,7 @@ impl Tables {
         &self.duties
     }
 
-    /// How many events were accepted so far.
+    /// The number of events accepted so far.
     pub fn events(&self) -> u64
         ensures { result ≡ self.now.events }
     {
@@ -89,7 +89,7 @@ impl Tables {
         self.moment
     }
 
-    /// Makes the change, as one batch. It takes no memory.
+    /// Applies the change, as one batch. Takes no memory.
     pub fn apply(&mut self, ready: Ready)
         requires { IsReadyAt self.old ready }
         ensures { self.new ≡ after_batch (batch_of ready) self.old }
@@ -113,8 +113,14 @@ impl Tables {
         requires later { self.old.moment ≤ moment }
         requires numbered { is_full self.old ≡ false }
         requires count { set.count ≡ self.old.set.count + 1 }
-        requires queues { (queue : List ℕ) → has_queue queue set ≡ true → (has_queue queue self.old.set ≡ true) ⊎ (new_queue ≡ Some queue) }
-        ensures { self.new ≡ record self.old { set = set; duties = with_new_queue new_queue self.old.duties; entries = self.old.entries + 1; moment = moment } }
+        requires queues { (queue : List ℕ) → has_queue queue set ≡ true
+            → (has_queue queue self.old.set ≡ true) ⊎ (new_queue ≡ Some queue) }
+        ensures { self.new ≡ record self.old {
+          set = set;
+          duties = with_new_queue new_queue self.old.duties;
+          entries = self.old.entries + 1;
+          moment = moment;
+        } }
     {
         self.set = set;
         create_queue(&mut self.duties, new_queue);
@@ -142,7 +148,7 @@ impl Tables {
         self.moment = moment;
     }
 
-    /// Claims the duty that is due first. No batch records it.
+    /// Claims the duty that is due first; none if no unclaimed duty is due. No batch records it.
     pub fn claim(&mut self, moment: u64) -> Option<Claim>
         ensures some { IfSome result (λ c. IsNext self.old.duties moment c.number × IsOut c.number self.new.duties × (self.new ≡ claiming c.number self.old)) }
         ensures none { IfNone result (NoneDue self.old.duties moment × (self.new ≡ self.old)) }
@@ -150,7 +156,7 @@ impl Tables {
         self.duties.claim_next(moment)
     }
 
-    /// Attempts the claimed duty: its queue takes its text, unless it is too old; the batch records which.
+    /// Attempts the claimed duty: delivers it to its queue, or drops it if it is too old. One batch records the outcome.
     pub fn record(&mut self, claim: Claim, moment: u64) -> Outcome
         requires out { IsOut claim.number self.old.duties }
         requires numbered { is_full self.old ≡ false }
@@ -169,7 +175,7 @@ impl Tables {
         outcome
     }
 
-    /// Gives the claim back: the duty may be claimed again.
+    /// Releases the claim: the duty can be claimed again.
     pub fn put_back(&mut self, claim: Claim)
         requires { IsOut claim.number self.old.duties }
         ensures { self.new ≡ putting_back claim.number self.old }
@@ -178,7 +184,7 @@ impl Tables {
     }
 }
 
-/// Makes the queue, if one is made.
+/// Creates the queue, if there is one to create.
 fn create_queue(duties: &mut Duties, new_queue: Option<NewQueue>)
     requires { length duties.old.queues < 2 ^ 62 }
     ensures { duties.new ≡ with_new_queue new_queue duties.old }
@@ -188,7 +194,7 @@ fn create_queue(duties: &mut Duties, new_queue: Option<NewQueue>)
     }
 }
 
-/// How an attempt of the duty ends at the moment.
+/// The outcome of an attempt of the duty at the moment.
 fn outcome_at(row: &DutyRow, moment: u64) -> Outcome
     ensures { result ≡ outcome_of moment row.now }
 {
@@ -199,7 +205,7 @@ fn outcome_at(row: &DutyRow, moment: u64) -> Outcome
     }
 }
 
-/// Makes the duties of the events, in their order.
+/// Adds the duties of the events, in their order.
 fn accept(duties: &mut Duties, mut events: VecDeque<AcceptedEvent>, moment: u64)
     requires latest { duties.old.latest ≤ moment }
     requires room { duties.old.created + 1500 * length events.items < 2 ^ 63 }

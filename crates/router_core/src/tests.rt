@@ -13,7 +13,7 @@ use std::alloc::Global;
 use std::collections::VecDeque;
 use std::test::Fail;
 
-/// Makes the queue `q` at moment 0.
+/// Creates the queue `q` at moment 0.
 fn create_queue(alloc: Global, tables: &mut Tables) -> Result<(), Fail> {
     if tables.full() || tables.moment() > 0 {
         return Err(Fail::from("no change can be made"));
@@ -82,7 +82,7 @@ fn with_duty(alloc: Global) -> Result<Tables, Fail> {
     Ok(tables)
 }
 
-/// Claims the next duty, and gives it back; answers its number.
+/// Claims the next duty and releases the claim. Returns its number.
 fn next_due(tables: &mut Tables, moment: u64) -> Option<u64> {
     let claim = tables.claim(moment)?;
     let number = claim.number;
@@ -90,7 +90,7 @@ fn next_due(tables: &mut Tables, moment: u64) -> Option<u64> {
     Some(number)
 }
 
-/// Claims the next duty, and attempts it; answers its number, and how that ended.
+/// Claims the next duty and attempts it. Returns its number and the outcome.
 fn attempt_next(tables: &mut Tables, moment: u64) -> Option<(u64, Outcome)> {
     if tables.full() || tables.moment() > moment || moment > 250_000_000_000 {
         return None;
@@ -121,7 +121,7 @@ fn sums(tables: &Tables) -> (u64, u64, u64, u64, u64) {
 }
 
 #[test]
-fn a_duty_is_made_claimed_and_delivered(rt: HostRuntime) -> Result<(), Fail> {
+fn a_duty_is_added_claimed_and_delivered(rt: HostRuntime) -> Result<(), Fail> {
     let alloc = rt.alloc();
     let first = Tables::first(alloc)?;
     assert!(rt; !first.full() && !first.set().queue("q"));
@@ -223,8 +223,8 @@ fn with_rule(
     changed(alloc, set, put)
 }
 
-/// Rules of which `a` is not enabled, `b` asks for the source, `c` for a text in a list of the detail, `d` for another source
-/// and `e` for a replay's name.
+/// Five rules: `a` is not enabled, `b` tests the source, `c` a text in a list of the detail, `d` another source and `e` the
+/// name of a replay.
 fn rules(alloc: Global) -> Result<RuleSet, Fail> {
     let queue = Control::QueueCreated {
         name: Text::from_str(alloc, "q")?,
@@ -253,7 +253,7 @@ fn event(alloc: Global) -> Result<Event, Fail> {
     }
 }
 
-/// The targets that the rules of the bus have for the event.
+/// The targets of the rules of the bus that match the event.
 fn targets_seen(alloc: Global, bus: &str, replay: Option<&str>) -> Result<SeenTargets, Fail> {
     let mut seen = see_plain_event(alloc, &rules(alloc)?, bus, &event(alloc)?, replay)?;
     if seen.k != 11 {
@@ -261,7 +261,7 @@ fn targets_seen(alloc: Global, bus: &str, replay: Option<&str>) -> Result<SeenTa
     }
     match seen.entries.pop() {
         Some(entry) => Ok(entry.targets),
-        None => Err(Fail::from("nothing is seen of the event")),
+        None => Err(Fail::from("the result has no entry")),
     }
 }
 

@@ -30,5 +30,6 @@ pub returns : goal.returns
 returns c =
     let rules = c.rules-rule-items.result.now in
     let same = ap (map (arc_value {X = Rule})) (take_all c.loop-rule.rule-index rules c.loop-rule-test.false) ∙ c.rules-rule-items.ensures in
-    matched_of_bus c.args.bus.now c.args.set.now c.in-Some.found.now (map arc_value (take c.loop-rule.rule-index rules)) (tree_of c.args.event.now) c.loop-rule.targets.items
+    matched_of_bus c.args.bus.now c.args.set.now c.in-Some.found.now (map arc_value (take c.loop-rule.rule-index rules))
+    (tree_of c.args.event.now) c.loop-rule.targets.items
     c.in-Some.ensures same c.loop-rule.invariant

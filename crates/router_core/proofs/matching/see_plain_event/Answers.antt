@@ -12,5 +12,6 @@ returns c =
       k = c.control_count.ensures.count;
       entry = entry;
       alone = c.in_ok-push.ensures.items ∙ ap (λ (es : List SeenEntry). es ++ entry ∷ []) c.in_ok-entries.ensures.items;
-      matched = subst (λ (t : Tree). AreMatched c.args.bus.now (rules_of c.args.bus.now c.args.set.now) t c.in_ok-targets.targets.items) c.in_ok-tree.ensures.tree c.in_ok-targets.ensures;
+      matched = subst (λ (t : Tree). AreMatched c.args.bus.now (rules_of c.args.bus.now c.args.set.now) t c.in_ok-targets.targets.items)
+          c.in_ok-tree.ensures.tree c.in_ok-targets.ensures;
     }

@@ -18,7 +18,8 @@ invariant_of-self c =
     let counts = counts_stay c.args.new_queue i.duties in
     let new_duties : c.create_queue.new.duties ≡ with_new_queue c.args.new_queue i.duties = c.create_queue.ensures in
     let from : (queue : List ℕ) → has_queue queue c.args.set ≡ true → (has_queue queue i.set ≡ true) ⊎ (c.args.new_queue ≡ Some queue) =
-    λ queue there. subst (λ (t : Tables). (has_queue queue t.set ≡ true) ⊎ (c.args.new_queue ≡ Some queue)) (sym c.self.view_is) (c.requires.queues queue there) in
+    λ queue there. subst (λ (t : Tables). (has_queue queue t.set ≡ true) ⊎ (c.args.new_queue ≡ Some queue)) (sym c.self.view_is)
+    (c.requires.queues queue there) in
     let latest : c.create_queue.new.duties.latest ≡ i.duties.latest = ap (λ (d : Duties). d.latest) new_duties ∙ counts.1 in
     let created : c.create_queue.new.duties.created ≡ i.duties.created = ap (λ (d : Duties). d.created) new_duties ∙ counts.0 in
     let queues : length c.create_queue.new.duties.queues ≤ length i.duties.queues + 1 =

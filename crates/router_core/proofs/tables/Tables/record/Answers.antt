@@ -1,15 +1,22 @@
-use Rattle.std.proofs.Common.{◌≡◌, map, length, ap, sym, ◌∙◌, subst, arith}
+use Rattle.std.proofs.Common.{◌≡◌, ℕ, List, true, map, length, ap, sym, ◌∙◌, subst, arith}
+use Rattle.std.specs.Prelude.{Any, Contains}
 use Rattle.std.proofs.lemmas.List.{length-map}
+use Rattle.delivery_duties.specs.declared.duty.DutyRow.{DutyRow}
 use Rattle.delivery_duties.specs.Duties.{Queue, IsOut}
 use Rattle.router_core.specs.Tables.{Tables}
 use Rattle.router_core.specs.Steps.{EndsSo, outcome_of}
 use Rattle.router_core.proofs.ReadyLemmas.{endpoint_by_names, not_full}
 use Rattle.router_core.proofs.tables.Tables.record.Goals as goal
 
+none_out : (number : ℕ) (rows : List DutyRow) → ((row : DutyRow) → Contains rows row → ¬ (row.number ≡ number))
+    → Any (λ row. (row.number ≡ number) × (row.claimed ≡ true)) rows → ⊥
+none_out number rows none (k, row, below, is, (same, out)) = none row (k, below, is) same
+
 pub unreachable-requires : goal.unreachable-requires
 unreachable-requires c =
-    let out : IsOut c.args.claim.number c.self.inside.duties = subst (λ (t : Tables). IsOut c.args.claim.number t.duties) (sym c.self.view_is) c.requires.out in
-    c.in-None.ensures.found out.1 (out.0, out.2, out.3) out.4.0
+    let out : IsOut c.args.claim.number c.self.inside.duties =
+    subst (λ (t : Tables). IsOut c.args.claim.number t.duties) (sym c.self.view_is) c.requires.out in
+    none_out c.args.claim.number c.self.inside.duties.pending c.in-None.ensures.found out
 
 pub invariant_of-self : goal.invariant_of-self
 invariant_of-self c =
@@ -27,7 +34,14 @@ invariant_of-self c =
       events = omega (arith, was.events);
       entries = omega (arith, limits.0, entries);
       created = omega (arith, was.created, c.settle.ensures.created);
-      queue_count = omega (arith, was.queue_count, ap length names, length-map c.settle.new.self.queues (λ (m : Queue). m.name), length-map i.duties.queues (λ (m : Queue). m.name));
+      queue_count =
+          omega (
+            arith,
+            was.queue_count,
+            ap length names,
+            length-map c.settle.new.self.queues (λ (m : Queue). m.name),
+            length-map i.duties.queues (λ (m : Queue). m.name),
+          );
     }
 
 pub returns-clause-ends : goal.returns-clause-ends
