@@ -30,4 +30,4 @@
 #    clause with that label. A law (`pub ghost fn` or a lemma of a public proof) counts as a call.
 # 4. docs/ARCHITECTURE.md names each crate of crates.txt in backticks or at the start of a table cell.
 cd "$(dirname "$0")/../.." || exit 1
-exec python3 .ci/checks/docs.py
+exec python3 -B .ci/checks/docs.py
