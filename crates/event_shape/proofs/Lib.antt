@@ -7,6 +7,8 @@ pub mod MakeLemmas
 pub mod EventLemmas
 pub mod ValidLemmas
 pub mod OnceLemmas
-pub mod HasParts
+pub mod CheckedOnce
+pub mod MadeLemmas
+pub mod SpelledLemmas
 pub mod PartLemmas
 pub mod WrittenLemmas

@@ -1,11 +1,16 @@
--- What makes an event: `moment_fits`, `event_at`.
-use Rattle.std.proofs.Common.{◌≡◌, ℕ, ◌<◌, ◌^◌, List, Option, Some, None, sym, subst, refl, unwrap_or}
+-- What an entry without a fault becomes: `checked_members` (what is left of it), `made_at` and `event_at` (the event).
+use Rattle.std.proofs.Common.{◌≡◌, ℕ, ◌<◌, ◌≤◌, ◌^◌, List, Option, Some, None, All, IfSome, sym, subst, refl, unwrap_or}
 use Rattle.std.specs.Str.{IsUtf8}
 use Rattle.json_text.specs.Moment.{IsMoment}
 use Rattle.json_text.specs.Tree.{Tree, null, truth, number, text, list, object}
+use Rattle.json_text.specs.Compact.{IsValue, tree_levels}
+use Rattle.json_text.proofs.ValueLemmas.{text_is_value, text_within}
 use Rattle.event_time.specs.Time.{IsIso}
+use Rattle.event_shape.specs.declared.entry.EntryFault.TheVariants.{Source, DetailType, NotAuthorized}
 use Rattle.event_shape.specs.Time.{IsTime}
-use Rattle.event_shape.specs.Event.{Checked, IsTimeOf, IsChecked, IsMade, IsEventAt}
+use Rattle.event_shape.specs.Entry.{Entry}
+use Rattle.event_shape.specs.Fault.{LacksText, IsReserved, IsDetail}
+use Rattle.event_shape.specs.Event.{Checked, IsTimeOf, IsUtf8IfGiven, HasTexts, IsCheckedOf, IsChecked, IsMade, IsEventAt}
 
 time_is_moment : (tree : Tree) (n : ℕ) → IsTime tree n → IsMoment n
 time_is_moment null n h = absurd h
@@ -15,12 +20,41 @@ time_is_moment (text t) n h = h.0
 time_is_moment (list inside) n h = absurd h
 time_is_moment (object inside) n h = absurd h
 
-or_reading : (given : Option Tree) (time : Option ℕ) (reading : ℕ) → IsTimeOf given time → IsMoment reading → IsMoment (unwrap_or time reading)
-or_reading None time reading is fits = subst (λ t. IsMoment (unwrap_or t reading)) (sym is) fits
-or_reading (Some tree) time reading is fits = subst (λ t. IsMoment (unwrap_or t reading)) (sym is.1) (time_is_moment tree is.0 is.2)
+given_moment : (given : Option Tree) (time : Option ℕ) → IsTimeOf given time → IfSome time IsMoment
+given_moment None time is = subst (λ t. IfSome t IsMoment) (sym is) tt
+given_moment (Some tree) time (moment, is, shown) = subst (λ t. IfSome t IsMoment) (sym is) (time_is_moment tree moment shown)
+
+value_of_detail : (bytes : List ℕ) (detail : Tree) → IsDetail bytes detail → IsValue detail
+value_of_detail bytes detail (n, spelled, is, inside) = subst IsValue (sym is) (text_is_value 99 bytes n spelled)
+
+detail_within : (bytes : List ℕ) (detail : Tree) → IsDetail bytes detail → tree_levels detail ≤ 99
+detail_within bytes detail (n, spelled, is, inside) = subst (λ d. tree_levels d ≤ 99) (sym is) (text_within 99 bytes n spelled)
+
+-- what is left of an entry of UTF-8 texts without a fault
+pub checked_members : (entry : Entry) (c : Checked) → HasTexts entry → IsCheckedOf entry c → IsChecked c
+checked_members entry c texts is =
+    let (bytes, given, detail) = is.detail in
+    record {
+      content = record {
+        source_some = λ e. is.faultless Source (subst LacksText (sym is.source) e);
+        source_utf8 = subst IsUtf8IfGiven is.source texts.source;
+        unreserved = λ r. is.faultless NotAuthorized (subst IsReserved (sym is.source) r);
+        detail_type_some = λ e. is.faultless DetailType (subst LacksText (sym is.detail_type) e);
+        detail_type_utf8 = subst IsUtf8IfGiven is.detail_type texts.detail_type;
+        resources_utf8 = subst (All IsUtf8) is.resources texts.resources;
+        detail_value = value_of_detail bytes c.detail detail;
+        detail_object = detail.3;
+        detail_levels = detail_within bytes c.detail detail;
+      };
+      time = given_moment entry.time c.time is.time;
+    }
+
+or_reading : (time : Option ℕ) (reading : ℕ) → IfSome time IsMoment → IsMoment reading → IsMoment (unwrap_or time reading)
+or_reading None reading given fits = fits
+or_reading (Some moment) reading given fits = given
 
 pub moment_fits : (c : Checked) (reading : ℕ) → IsChecked c → IsMoment reading → IsMoment (unwrap_or c.time reading)
-moment_fits c reading is fits = or_reading is.0.time c.time reading is.1.checked.time fits
+moment_fits c reading is fits = or_reading c.time reading is.time fits
 
 pub made_at : (c : Checked) (n reading moment : ℕ) (caller account time : List ℕ) → account ≡ caller → moment ≡ unwrap_or c.time reading → IsIso moment time
     → IsMade c n reading caller (record { number = n; detail_type = c.detail_type; source = c.source; account = account; time = time; resources = c.resources; detail = c.detail })
@@ -38,12 +72,9 @@ pub event_at : (c : Checked) (n reading moment : ℕ) (caller account time : Lis
     → moment ≡ unwrap_or c.time reading → IsIso moment time
     → IsEventAt moment (record { number = n; detail_type = c.detail_type; source = c.source; account = account; time = time; resources = c.resources; detail = c.detail })
 event_at c n reading moment caller account time checked fits read utf8 same is shown = record {
-  checked = c;
-  reading = reading;
-  is_checked = checked;
-  number_fits = fits;
-  is_reading = read;
-  is_moment = is;
-  is_account_text = subst IsUtf8 (sym same) utf8;
-  is_made = made_at c n reading moment account account time refl is shown;
+  number = fits;
+  account = subst IsUtf8 (sym same) utf8;
+  is_moment = subst IsMoment (sym is) (moment_fits c reading checked read);
+  time = shown;
+  content = checked.content;
 }

@@ -1,17 +1,19 @@
--- No two events have one text: `event_once`; nor have two values or two ids: `compact_once`, `id_once`.
-use Rattle.std.proofs.Common.{◌≡◌, ℕ, zero, suc, ◌+◌, ◌<◌, ◌≤◌, ◌^◌, inl, Some, None, Ok, List, [], ◌∷◌, All, map, sym, ap, ◌∙◌, subst, refl, arith}
+-- An event's text is no other event's: `event_once`. The same for a value's compact text, an id, a detail and a record of event members:
+-- `compact_once`, `id_once`, `detail_once`, `same_event`.
+use Rattle.std.proofs.Common.{◌≡◌, ℕ, zero, suc, ◌+◌, ◌<◌, ◌≤◌, ◌^◌, inl, Some, None, List, [], ◌∷◌, All, map, sym, ap, ◌∙◌, subst, refl, arith}
 use Rattle.std.specs.Int.{w128, to_be_bytes, from_be_bytes}
 use Rattle.uuid.specs.Text.{lower, parsed}
 use Rattle.uuid.proofs.RoundTrips.{parses_hyphenated}
 use Rattle.uuid.proofs.OrderLemmas.{from_be_bytes-to_be_bytes_16}
 use Rattle.json_text.specs.Tree.{Tree, text, items_of}
-use Rattle.json_text.specs.Node.{Node, value_of}
+use Rattle.json_text.specs.Node.{value_of}
 use Rattle.json_text.specs.Grammar.{IsText}
 use Rattle.json_text.specs.Compact.{compact_text, IsValue, tree_levels}
 use Rattle.json_text.proofs.SpelledBack.{compact_spelled}
 use Rattle.json_text.proofs.OneValue.{one_value}
 use Rattle.event_shape.specs.Id.{event_id, id_base}
-use Rattle.event_shape.specs.Fault.{IsDetail, IsObject}
+use Rattle.json_text.specs.Access.{IsObject}
+use Rattle.event_shape.specs.Fault.{IsDetail}
 use Rattle.event_shape.specs.Event.{Event, event_tree, IsEventText}
 use Rattle.event_shape.proofs.ValidLemmas.{event_value}
 
@@ -45,10 +47,7 @@ detail_spelled d v o l = let s = compact_spelled d v in (s.0, record { spelled =
 pub detail_once : (bytes : List ℕ) (d e : Tree) → IsDetail bytes d → IsDetail bytes e → d ≡ e
 detail_once bytes d e p q = p.2 ∙ ap value_of (one_value 99 99 bytes p.0 q.0 p.1 q.1) ∙ sym q.2
 
-pub deeper : (a b : ℕ) (bytes : List ℕ) (n : Node) → a ≤ b → IsText a bytes n → IsText b bytes n
-deeper a b bytes n le is = record { spelled = is.spelled; within = let w = is.within in omega (arith, w, le) }
-
--- two values have one compact text only where they are one
+-- unequal values have unequal compact texts
 pub compact_once : (t u : Tree) → IsValue t → IsValue u → compact_text t ≡ compact_text u → t ≡ u
 compact_once t u v w e =
     let s = compact_spelled t v in
@@ -88,9 +87,11 @@ parts_once e f a b trees =
     let detail : e.detail ≡ f.detail = cc in
     same_event e f number detail_type source account time resources detail
 
--- no two events have one text
+-- an event's text is no other event's
 pub event_once : (bytes : List ℕ) (e f : Event) → IsEventText bytes e → IsEventText bytes f → e ≡ f
 event_once bytes e f p q =
-    let v = event_value p.is_event.0 e None p.is_event.1 tt in
-    let w = event_value q.is_event.0 f None q.is_event.1 tt in
-    parts_once e f p.is_event.1.number_fits q.is_event.1.number_fits (compact_once (event_tree e None) (event_tree f None) v w (sym p.written ∙ q.written))
+    let (m, at) = p.is_event in
+    let (n, so) = q.is_event in
+    let v = event_value e None p.is_event tt in
+    let w = event_value f None q.is_event tt in
+    parts_once e f at.number so.number (compact_once (event_tree e None) (event_tree f None) v w (sym p.written ∙ q.written))

@@ -1,5 +1,5 @@
 -- The tree of an event is a JSON value: `event_value`.
-use Rattle.std.proofs.Common.{◌≡◌, ◌≢◌, ℕ, suc, ◌+◌, ◌<◌, Bool, true, false, not, if◌then◌else◌, ◌&&◌, ◌==◌, nat_lt, List, [], ◌∷◌, ◌++◌, Option, Some, None, All, map, refl, sym, subst, arith, codes}
+use Rattle.std.proofs.Common.{◌≡◌, ◌≢◌, ℕ, suc, ◌+◌, ◌<◌, Bool, true, false, not, if◌then◌else◌, ◌&&◌, ◌==◌, nat_lt, List, [], ◌∷◌, ◌++◌, Option, Some, None, All, map, refl, subst, arith, codes}
 use Rattle.std.specs.List.{list_all}
 use Rattle.std.specs.Str.{IsUtf8, bytes_eq}
 use Rattle.std.specs.Int.{w128, to_be_bytes}
@@ -10,12 +10,10 @@ use Rattle.uuid.specs.Text.{hex_digit, nibble, lower, is_hyphen_place, digit_pla
 use Rattle.uuid.proofs.TextLemmas.{by_index_ascii, nibble_small}
 use Rattle.json_text.specs.Tree.{Tree, text, items_of, members_of}
 use Rattle.json_text.specs.Compact.{LacksKey, IsValue, AreItems, AreMembers}
-use Rattle.json_text.proofs.ValueLemmas.{text_is_value}
 use Rattle.json_text.proofs.WrittenUtf8.{small_utf8}
 use Rattle.event_shape.specs.Names.{region}
-use Rattle.event_time.specs.Time.{IsIso}
 use Rattle.event_shape.specs.Id.{event_id, id_base}
-use Rattle.event_shape.specs.Event.{Event, Checked, IsChecked, IsEventAt, event_members, event_tree, replay_member, IsReplayText}
+use Rattle.event_shape.specs.Event.{Event, IsEvent, event_members, event_tree, replay_member, IsUtf8IfGiven}
 use Rattle.event_time.proofs.Utf8Lemmas.{iso_utf8}
 
 abbrev AreValues : List (List ℕ × Tree) → Type 0
@@ -70,42 +68,32 @@ id_utf8 n =
     IsUtf8-from_ascii (event_id n) (by_index_ascii 36 (λ k. if is_hyphen_place k then 45 else hex_digit lower (nibble xs (digit_place k)))
     (λ k below. by_test (is_hyphen_place k) (hex_digit lower (nibble xs (digit_place k))) (hex_small (nibble xs (digit_place k)) (nibble_small xs (digit_place k)))))
 
-pub detail_value : (c : Checked) → IsChecked c → IsValue c.detail
-detail_value c is =
-    let detail = is.1.checked.detail.2 in
-    subst IsValue (sym detail.2) (text_is_value 99 is.1.checked.detail.0 detail.0 detail.1)
-
-values : (m : ℕ) (e : Event) → IsEventAt m e → AreValues (event_members e)
-values m e at =
-    let texts = at.is_checked.1 in (
-      small_utf8 (codes "0") refl,
+values : (e : Event) → IsEvent e → AreValues (event_members e)
+values e (m, at) = (
+  small_utf8 (codes "0") refl,
+  (
+    id_utf8 e.number,
+    (
+      at.content.detail_type_utf8,
       (
-        id_utf8 e.number,
+        at.content.source_utf8,
         (
-          subst IsUtf8 (sym at.is_made.detail_type) texts.detail_type,
+          at.account,
           (
-            subst IsUtf8 (sym at.is_made.source) texts.source,
-            (
-              at.is_account_text,
-              (
-                iso_utf8 m e.time (subst (λ n. IsIso n e.time) (sym at.is_moment) at.is_made.time),
-                (
-                  small_utf8 region refl,
-                  (
-                    texts_valid e.resources (subst (All IsUtf8) (sym at.is_made.resources) texts.resources),
-                    (subst IsValue (sym at.is_made.detail) (detail_value at.checked at.is_checked), tt),
-                  ),
-                ),
-              ),
-            ),
+            iso_utf8 m e.time at.time,
+            (small_utf8 region refl, (texts_valid e.resources at.content.resources_utf8, (at.content.detail_value, tt))),
           ),
         ),
       ),
-    )
+    ),
+  ),
+)
 
-pub event_value : (m : ℕ) (e : Event) (replay : Option (List ℕ)) → IsEventAt m e → IsReplayText replay → IsValue (event_tree e replay)
-event_value m e None at is = members_valid (event_members e) refl refl (values m e at)
-event_value m e (Some name) at is =
-    let v = values m e at in
-    members_valid (event_members e ++ replay_member (Some name)) refl refl
-    (v.0, (v.1.0, (v.1.1.0, (v.1.1.1.0, (v.1.1.1.1.0, (v.1.1.1.1.1.0, (v.1.1.1.1.1.1.0, (v.1.1.1.1.1.1.1.0, (v.1.1.1.1.1.1.1.1.0, (is, tt))))))))))
+and_value : (key : List ℕ) (t : Tree) (ms : List (List ℕ × Tree)) → IsValue t → AreValues ms → AreValues (ms ++ (key, t) ∷ [])
+and_value key t [] v vs = (v, tt)
+and_value key t (m ∷ ms) v vs = (vs.0, and_value key t ms v vs.1)
+
+pub event_value : (e : Event) (replay : Option (List ℕ)) → IsEvent e → IsUtf8IfGiven replay → IsValue (event_tree e replay)
+event_value e None is given = members_valid (event_members e) refl refl (values e is)
+event_value e (Some name) is given =
+    members_valid (event_members e ++ replay_member (Some name)) refl refl (and_value (codes "replay-name") (text name) (event_members e) given (values e is))

@@ -1,21 +1,22 @@
--- An event: its members, its tree, and which events there are.
-use Rattle.std.specs.Prelude.{◌≡◌, ◌<◌, ◌^◌, ℕ, List, [], ◌∷◌, ◌++◌, Option, Some, None, unwrap_or, All, codes, map}
+-- An event: its members, its tree and its text; and how an entry becomes one.
+use Rattle.std.specs.Prelude.{◌≡◌, ◌≢◌, ◌<◌, ◌≤◌, ◌^◌, ℕ, List, [], ◌∷◌, ◌++◌, Option, Some, None, IfSome, unwrap_or, All, codes, map}
 use Rattle.std.specs.Prelude.{refl}
 use Rattle.std.specs.Coded.{Coded, code_by, coded×, coded_ℕ, coded_list, coded_option}
 use Rattle.std.specs.Str.{IsUtf8}
 use Rattle.json_text.specs.Code.{tree_code}
 use Rattle.json_text.specs.Moment.{IsMoment}
 use Rattle.json_text.specs.Tree.{Tree, text, list, object, items_of, members_of}
-use Rattle.json_text.specs.Compact.{compact_text}
+use Rattle.json_text.specs.Compact.{compact_text, IsValue, tree_levels}
+use Rattle.json_text.specs.Access.{IsObject}
 use Rattle.event_shape.specs.declared.entry.EntryFault.{EntryFault}
 use Rattle.event_shape.specs.Names.{default_bus, region, IsBusGiven}
 use Rattle.event_time.specs.Time.{IsIso}
 use Rattle.event_shape.specs.Time.{IsTime}
 use Rattle.event_shape.specs.Id.{event_id}
 use Rattle.event_shape.specs.Entry.{Entry}
-use Rattle.event_shape.specs.Fault.{HasFault, IsDetail}
+use Rattle.event_shape.specs.Fault.{HasFault, IsDetail, IsReserved}
 
--- The members of an event but `version` and `region`, which are the same in each. Of the id it is the number.
+-- The members of an event. `version` and `region` are left out, since they are the same in every event; the number gives the id.
 pub record Event : Type 0 where
   pub number : ℕ
   pub detail_type : List ℕ
@@ -29,7 +30,7 @@ abbrev pub event_code : Coded Event
 event_code = code_by (ℕ × (List ℕ × (List ℕ × (List ℕ × (List ℕ × (List (List ℕ) × Tree))))))
     (coded× coded_ℕ (coded× (coded_list coded_ℕ) (coded× (coded_list coded_ℕ) (coded× (coded_list coded_ℕ) (coded× (coded_list coded_ℕ) (coded× (coded_list (coded_list coded_ℕ)) tree_code))))))
     (λ e. (e.number, (e.detail_type, (e.source, (e.account, (e.time, (e.resources, e.detail)))))))
-    (λ p. record { number = p.0; detail_type = p.1.0; source = p.1.1.0; account = p.1.1.1.0; time = p.1.1.1.1.0; resources = p.1.1.1.1.1.0; detail = p.1.1.1.1.1.1 })
+    (λ (n, (dt, (s, (a, (t, (r, d)))))). record { number = n; detail_type = dt; source = s; account = a; time = t; resources = r; detail = d })
     (λ _. refl)
 
 abbrev pub replay_member : Option (List ℕ) → List (List ℕ × Tree)
@@ -50,10 +51,10 @@ event_members e =
     ∷ (codes "detail", e.detail)
     ∷ []
 
--- a replay's name is a text, which is UTF-8
-abbrev pub IsReplayText : Option (List ℕ) → Type 0
-IsReplayText None = Unit {0}
-IsReplayText (Some name) = IsUtf8 name
+-- absent, or UTF-8
+abbrev pub IsUtf8IfGiven : Option (List ℕ) → Type 0
+IsUtf8IfGiven None = Unit {0}
+IsUtf8IfGiven (Some t) = IsUtf8 t
 
 -- a replayed event has the replay's name last
 abbrev pub event_tree : Event → Option (List ℕ) → Tree
@@ -68,25 +69,25 @@ pub record Checked : Type 0 where
   pub detail : Tree
   pub bus : List ℕ
 
--- by which a proof tells the values of a struct apart that contracts see so
+-- for proofs: unequal values of the code's type have unequal codes
 abbrev pub checked_code : Coded Checked
 checked_code = code_by (List ℕ × (List ℕ × (List (List ℕ) × (Option ℕ × (Tree × List ℕ)))))
     (coded× (coded_list coded_ℕ) (coded× (coded_list coded_ℕ) (coded× (coded_list (coded_list coded_ℕ)) (coded× (coded_option coded_ℕ) (coded× tree_code (coded_list coded_ℕ))))))
     (λ c. (c.source, (c.detail_type, (c.resources, (c.time, (c.detail, c.bus))))))
-    (λ p. record { source = p.0; detail_type = p.1.0; resources = p.1.1.0; time = p.1.1.1.0; detail = p.1.1.1.1.0; bus = p.1.1.1.1.1 })
+    (λ (s, (dt, (r, (t, (d, b))))). record { source = s; detail_type = dt; resources = r; time = t; detail = d; bus = b })
     (λ _. refl)
 
--- the moment of a Time, where one is given
+-- the moment of the Time, if one is given
 abbrev pub IsTimeOf : Option Tree → Option ℕ → Type 0
 IsTimeOf None time = time ≡ None
 IsTimeOf (Some tree) time = (moment : ℕ) × (time ≡ Some moment) × IsTime tree moment
 
--- the bus that is named, `default` where none is
+-- the bus that is given, or else `default`
 abbrev pub IsBusOf : Option (List ℕ) → List ℕ → Type 0
 IsBusOf None bus = bus ≡ default_bus
 IsBusOf (Some t) bus = IsBusGiven t bus
 
--- the entry has none of the faults, and these are its members as they were read
+-- the entry has no fault, and these are its members as they were read
 pub record IsCheckedOf (entry : Entry) (c : Checked) : Type 0 where
   pub faultless : (fault : EntryFault) → ¬ HasFault entry fault
   pub source : entry.source ≡ Some c.source
@@ -97,7 +98,7 @@ pub record IsCheckedOf (entry : Entry) (c : Checked) : Type 0 where
   pub only : (bytes : List ℕ) (tree : Tree) → entry.detail ≡ Some bytes → IsDetail bytes tree → tree ≡ c.detail
   pub bus : IsBusOf entry.bus c.bus
 
--- each member is the entry's, but number and account, and the time where the entry has none
+-- Each member is the entry's, except the number and the account. The time is the entry's, or else the reading of the clock.
 pub record IsMade (c : Checked) (n reading : ℕ) (caller : List ℕ) (e : Event) : Type 0 where
   pub number : e.number ≡ n
   pub detail_type : e.detail_type ≡ c.detail_type
@@ -107,27 +108,36 @@ pub record IsMade (c : Checked) (n reading : ℕ) (caller : List ℕ) (e : Event
   pub resources : e.resources ≡ c.resources
   pub detail : e.detail ≡ c.detail
 
--- an entry of texts, which are UTF-8
-pub record HasTexts (entry : Entry) (c : Checked) : Type 0 where
-  pub source : IsUtf8 c.source
-  pub detail_type : IsUtf8 c.detail_type
-  pub resources : All IsUtf8 c.resources
-  pub checked : IsCheckedOf entry c
+-- the source, the detail type and the resources are UTF-8
+pub record HasTexts (entry : Entry) : Type 0 where
+  pub source : IsUtf8IfGiven entry.source
+  pub detail_type : IsUtf8IfGiven entry.detail_type
+  pub resources : All IsUtf8 entry.resources
 
--- some entry without a fault has these members
-abbrev pub IsChecked : Checked → Type 0
-IsChecked c = (entry : Entry) × HasTexts entry c
+-- what holds of the members that an event takes over from an entry without a fault
+pub record IsContent (source detail_type : List ℕ) (resources : List (List ℕ)) (detail : Tree) : Type 0 where
+  pub source_some : source ≢ []
+  pub source_utf8 : IsUtf8 source
+  pub unreserved : ¬ IsReserved (Some source)
+  pub detail_type_some : detail_type ≢ []
+  pub detail_type_utf8 : IsUtf8 detail_type
+  pub resources_utf8 : All IsUtf8 resources
+  pub detail_value : IsValue detail
+  pub detail_object : IsObject detail
+  pub detail_levels : tree_levels detail ≤ 99
 
--- Some entry without a fault, some number, some reading of the clock and some account make it, at this moment.
+-- what is left of an entry without a fault: such members, and a moment if the entry gives a Time
+pub record IsChecked (c : Checked) : Type 0 where
+  pub content : IsContent c.source c.detail_type c.resources c.detail
+  pub time : IfSome c.time IsMoment
+
+-- an event whose time is the text of this moment
 pub record IsEventAt (moment : ℕ) (e : Event) : Type 0 where
-  pub checked : Checked
-  pub reading : ℕ
-  pub is_checked : IsChecked checked
-  pub number_fits : e.number < 2 ^ 64
-  pub is_reading : IsMoment reading
-  pub is_moment : moment ≡ unwrap_or checked.time reading
-  pub is_account_text : IsUtf8 e.account
-  pub is_made : IsMade checked e.number reading e.account e
+  pub number : e.number < 2 ^ 64
+  pub account : IsUtf8 e.account
+  pub is_moment : IsMoment moment
+  pub time : IsIso moment e.time
+  pub content : IsContent e.source e.detail_type e.resources e.detail
 
 abbrev pub IsEvent : Event → Type 0
 IsEvent e = (moment : ℕ) × IsEventAt moment e

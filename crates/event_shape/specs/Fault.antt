@@ -1,8 +1,9 @@
 -- The faults of an entry that it shows by itself, in the order in which they are told.
 use Rattle.std.specs.Prelude.{◌≡◌, ◌<◌, ℕ, List, [], ◌++◌, Option, Some, None, codes}
-use Rattle.json_text.specs.Tree.{Tree, null, truth, number, text, list, object}
+use Rattle.json_text.specs.Tree.{Tree}
 use Rattle.json_text.specs.Node.{Node, value_of}
 use Rattle.json_text.specs.Grammar.{IsText}
+use Rattle.json_text.specs.Access.{IsObject}
 use Rattle.event_shape.specs.declared.entry.EntryFault.{EntryFault}
 use Rattle.event_shape.specs.declared.entry.EntryFault.TheVariants.{Source, DetailType, Detail, Time, Bus, Malformed, NotAuthorized}
 use Rattle.event_shape.specs.declared.entry.CheckFault.{CheckFault}
@@ -25,14 +26,6 @@ IsNoTime (Some tree) = (moment : ℕ) → ¬ IsTime tree moment
 abbrev pub IsNoBus : Option (List ℕ) → Type 0
 IsNoBus None = ⊥
 IsNoBus (Some t) = (bus : List ℕ) → ¬ IsBusGiven t bus
-
-abbrev pub IsObject : Tree → Type 0
-IsObject null = ⊥
-IsObject (truth b) = ⊥
-IsObject (number spelling) = ⊥
-IsObject (text t) = ⊥
-IsObject (list inside) = ⊥
-IsObject (object inside) = Unit {0}
 
 -- the text spells this object, within 99 levels: in the event the object stands one level deeper
 abbrev pub IsDetail : List ℕ → Tree → Type 0

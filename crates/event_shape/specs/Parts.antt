@@ -1,7 +1,9 @@
 -- For private clauses alone: the members of an event's text, taken apart.
-use Rattle.std.specs.Prelude.{◌≡◌, ℕ, List, ◌∷◌, map}
+use Rattle.std.specs.Prelude.{◌≡◌, ◌≤◌, ℕ, List, ◌∷◌, map}
+use Rattle.std.specs.Str.{IsUtf8}
 use Rattle.json_text.specs.Tree.{Tree, text, list, items_of}
 use Rattle.json_text.specs.View.{tree_of, trees_of, pairs_of}
+use Rattle.json_text.specs.Compact.{IsValue, AreItems, tree_levels}
 use Rattle.json_text.specs.declared.value.Json.{Json}
 use Rattle.event_shape.specs.declared.parts.Parts.{Parts}
 use Rattle.event_shape.specs.Id.{event_id}
@@ -26,3 +28,12 @@ pub record ArePartsOf (p : Parts) (e : Event) : Type 0 where
   pub time : p.time ≡ e.time
   pub resources : trees_of p.resources.items ≡ map text e.resources
   pub detail : tree_of p.detail ≡ e.detail
+
+-- the parts come from a JSON value of at most 100 levels
+pub record AreValid (p : Parts) : Type 0 where
+  pub detail_type : IsUtf8 p.detail_type
+  pub source : IsUtf8 p.source
+  pub account : IsUtf8 p.account
+  pub resources : AreItems (items_of (trees_of p.resources.items))
+  pub detail : IsValue (tree_of p.detail)
+  pub detail_levels : tree_levels (tree_of p.detail) ≤ 99

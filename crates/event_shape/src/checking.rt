@@ -1,11 +1,11 @@
-//! The faults that an entry shows by itself.
-ghost use Rattle.std.specs.Prelude.{◌≡◌, ◌≢◌, ◌↔◌, [], ℕ, All, IsTrue, IfOk, MatchResult, Some, None};
+//! The faults that an entry has by itself, whatever buses and policies there are.
+ghost use Rattle.std.specs.Prelude.{◌≡◌, ◌≢◌, ◌↔◌, ◌≤◌, [], ℕ, All, IsTrue, IfOk, MatchResult, Some, None};
 ghost use Rattle.std.specs.Option.{option_map};
 ghost use Rattle.std.specs.Str.{IsUtf8};
 ghost use Rattle.json_text.specs.Tree.{Tree};
 ghost use Rattle.json_text.specs.View.{tree_of};
 ghost use Rattle.event_shape.specs.Entry.{entry_of};
-ghost use Rattle.event_shape.specs.Fault.{LacksText, IsNoTime, IsNoBus, IsObject, IsDetail, IsNoDetail, IsReserved, IsMemoryOr, IsFirstFault};
+ghost use Rattle.event_shape.specs.Fault.{LacksText, IsNoTime, IsNoBus, IsDetail, IsNoDetail, IsReserved, IsMemoryOr, IsFirstFault, place_of};
 ghost use Rattle.event_shape.specs.Event.{IsTimeOf, IsBusOf, IsCheckedOf};
 ghost use Rattle.event_shape.specs.declared.entry.EntryFault.{EntryFault};
 
@@ -16,10 +16,10 @@ use json_text::{Json, JsonFault, Text, read};
 use std::alloc::Global;
 use std::marker::Model;
 
-/// How many levels of lists and objects a detail may have. In the event it stands one level deeper.
+/// The number of levels of lists and objects that a detail may have. In the event it is one level deeper.
 const DETAIL_LEVELS: u32 = 99;
 
-/// Sources that begin so are the cloud's own.
+/// Sources with this prefix are reserved for the cloud's own events.
 const RESERVED: &str = "aws.";
 
 /// An entry without a fault.
@@ -35,9 +35,9 @@ pub struct Checked {
 
 impl Model for Checked {
     ghost use Rattle.json_text.specs.View.{tree_of};
-    ghost use Rattle.event_shape.specs.Event.{Checked as Seen, IsChecked, checked_code};
+    ghost use Rattle.event_shape.specs.Event.{Checked as View, IsChecked, checked_code};
 
-    ghost Value = { Seen };
+    ghost Value = { View };
 
     ghost coded = { checked_code };
 
@@ -61,7 +61,7 @@ impl Model for Checked {
 }
 
 impl Checked {
-    /// The name of the bus, `default` where the entry names none.
+    /// The name of the bus, which is `default` if the entry gives none.
     pub fn bus(&self) -> &str
         ensures { result.now ≡ self.now.bus }
     {
@@ -69,12 +69,14 @@ impl Checked {
     }
 }
 
-/// The entry's members as they were read, if it has none of the faults; else the first one, in the order of
-/// `EntryFault`. Whether the bus is there, and whether its policy allows the entry, is not asked here. After a fault the
-/// entry is gone.
+/// The members of the entry as they were read, if it has no fault; else its first fault, in the order of `EntryFault`. The
+/// faults up to `Bus` are found without memory. Does not check that the bus exists or that its policy allows the entry.
+/// After an `Err` the entry is dropped.
 pub fn check(alloc: Global, entry: EventEntry) -> Result<Checked, CheckFault>
     ensures checked { IfOk result (λ c. IsCheckedOf (entry_of entry) c) }
     ensures fault { (f : EntryFault) → result ≡ Err (CheckFault.Entry f) → IsFirstFault (entry_of entry) f }
+    ensures before_memory { (f : EntryFault) → place_of f ≤ 5 → IsFirstFault (entry_of entry) f
+        → result ≡ Err (CheckFault.Entry f) }
 {
     let EventEntry {
         time,
@@ -93,7 +95,7 @@ pub fn check(alloc: Global, entry: EventEntry) -> Result<Checked, CheckFault>
     if is_reserved(&source) {
         return Err(CheckFault::Entry(EntryFault::NotAuthorized));
     }
-    read_each(&resources);
+    know_utf8(&resources);
     Ok(Checked {
         source,
         detail_type,
@@ -146,7 +148,8 @@ fn moment_given(time: Option<Json>) -> Result<Option<u64>, EntryFault>
 }
 
 fn bus_given(alloc: Global, bus: Option<Text>) -> Result<Text, CheckFault>
-    ensures { MatchResult result (λ name. IsBusOf bus name) (λ e. IsMemoryOr e EntryFault.Bus (IsNoBus bus)) }
+    ensures given { MatchResult result (λ name. IsBusOf bus name) (λ e. IsMemoryOr e EntryFault.Bus (IsNoBus bus)) }
+    ensures before_memory { IsNoBus bus → result ≡ Err (CheckFault.Entry EntryFault.Bus) }
 {
     match bus {
         Some(text) => match bus_of(text.as_str()) {
@@ -165,7 +168,7 @@ fn detail_given(alloc: Global, detail: Text) -> Result<Json, CheckFault>
 {
     match read(alloc, detail.as_str().as_bytes(), DETAIL_LEVELS) {
         Ok(json) => {
-            if is_object(&json) {
+            if json.is_object() {
                 Ok(json)
             } else {
                 Err(CheckFault::Entry(EntryFault::Malformed))
@@ -173,19 +176,6 @@ fn detail_given(alloc: Global, detail: Text) -> Result<Json, CheckFault>
         }
         Err(JsonFault::NoMemory) => Err(CheckFault::NoMemory),
         Err(_) => Err(CheckFault::Entry(EntryFault::Malformed)),
-    }
-}
-
-pub(crate) fn is_object(json: &Json) -> bool
-    ensures { IsTrue result ↔ IsObject (tree_of json.now) }
-{
-    match json {
-        Json::Null => false,
-        Json::Truth(_) => false,
-        Json::Num(_) => false,
-        Json::Str(_) => false,
-        Json::List(_) => false,
-        Json::Obj(_) => true,
     }
 }
 
@@ -198,8 +188,9 @@ pub(crate) fn is_reserved(source: &Text) -> bool
     }
 }
 
-/// A contract knows that a text's bytes are UTF-8 only where the text is read.
-pub(crate) fn read_each(texts: &[Text])
+/// Makes it known to the caller's contract that each text is UTF-8. The type `Text` keeps this of every text, but a contract
+/// learns it only when the code reads the text.
+fn know_utf8(texts: &[Text])
     ensures { All IsUtf8 texts.now }
 {
     for text in texts {

@@ -11,17 +11,17 @@ ghost use Rattle.event_shape.specs.Event.{IsEventText};
 use crate::checking::Checked;
 use crate::id::event_id;
 use crate::names::REGION;
-use crate::reading::{event_of, if_written_so, none_unless_short};
+use crate::reading::{event_of, if_written_as, none_unless_memory};
 use crate::time::iso;
-use crate::writing::{push_member, push_replay, push_text, text_items, text_of_bytes, write_open};
-use json_text::{Bytes, Json, Members, NoMemory, Text, copy, read, write};
+use crate::writing::{push_replay, text_items, text_of_bytes, write_open};
+use json_text::{Bytes, Json, Members, NoMemory, Text, copy, push_member, push_text, read, write};
 use std::alloc::Global;
 use std::marker::Model;
 
-/// How many levels of lists and objects an event's text may have: its own and those of its detail.
+/// The number of levels of lists and objects that an event's text may have: one more than its detail.
 const LEVELS: u32 = 100;
 
-/// An event, as it is matched, sent and kept. Its bus is no member of it.
+/// An event, as it is matched, delivered and archived. Its bus is not one of its members.
 #[derive(Debug, Drop)]
 pub struct Event {
     pub(crate) number: u64,
@@ -36,9 +36,9 @@ pub struct Event {
 
 impl Model for Event {
     ghost use Rattle.json_text.specs.View.{tree_of};
-    ghost use Rattle.event_shape.specs.Event.{Event as Seen, event_code, IsEventAt};
+    ghost use Rattle.event_shape.specs.Event.{Event as View, event_code, IsEventAt};
 
-    ghost Value = { Seen };
+    ghost Value = { View };
 
     ghost coded = { event_code };
 
@@ -64,9 +64,9 @@ impl Model for Event {
 }
 
 impl Event {
-    ghost use Rattle.event_shape.specs.Event.{Event as Seen, event_members, event_tree, IsMade, IsEvent, IsEventText};
+    ghost use Rattle.event_shape.specs.Event.{Event as View, event_members, event_tree, IsMade, IsEvent, IsEventText};
 
-    /// The event of the entry, with this number, at the entry's time or else at the time given, of this account.
+    /// The event of the entry, with this number and this account. Its time is the entry's, or else the `time` given.
     pub fn make(
         alloc: Global,
         checked: Checked,
@@ -100,28 +100,27 @@ impl Event {
         })
     }
 
-    /// The event whose text, without a replay's name, the bytes are, if they are one's.
+    /// The event whose text the bytes are, without a replay's name. `None` if they are no event's text.
     pub fn read(alloc: Global, text: &[u8]) -> Result<Option<Event>, NoMemory>
         ensures found { IfOk result (λ o. MatchOption o
-            ((e : Seen) → ¬ IsEventText text.now e)
+            ((e : View) → ¬ IsEventText text.now e)
             (λ e. IsEventText text.now e)) }
-        ensures only { (e : Seen) → IsEventText text.now e → IfOk result (λ o. o ≡ Some e) }
+        ensures only { (e : View) → IsEventText text.now e → IfOk result (λ o. o ≡ Some e) }
     {
         match read(alloc, text, LEVELS) {
             Ok(json) => match event_of(alloc, json)? {
-                Some(event) => if_written_so(alloc, event, text),
+                Some(event) => if_written_as(alloc, event, text),
                 None => Ok(None),
             },
-            Err(fault) => none_unless_short(fault),
+            Err(fault) => none_unless_memory(fault),
         }
     }
 
-    /// The event as a JSON object; a replayed one has the replay's name as its last member.
+    /// The event as a JSON object. The event of a replay has the replay's name as its last member.
     pub fn tree(&self, alloc: Global, replay: Option<&str>) -> Result<Json, NoMemory>
         ensures tree { IfOk result (λ json. tree_of json ≡ event_tree self.now (option_copied replay.entry)) }
         ensures value { IfOk result (λ json. IsValue (tree_of json)) }
     {
-        let _number = self.number;
         let mut members = self.own_members(alloc)?;
         match replay {
             Some(name) => {
@@ -142,13 +141,12 @@ impl Event {
         text_of_bytes(alloc, &written)
     }
 
-    /// The text's bytes. The detail is written as it stands, with no copy.
+    /// The bytes of the text. The detail is written without a copy.
     pub(crate) fn written(&self, alloc: Global, replay: Option<&str>) -> Result<Bytes, NoMemory>
         ensures bytes { IfOk result (λ out. out ≡ compact_text (event_tree self.now (option_copied replay.entry))) }
         ensures event { IsEvent self.now }
         ensures utf8 { IfOk result (λ out. IsUtf8 out) }
     {
-        let _number = self.number;
         let mut out = Bytes::new(alloc);
         write_open(self.front_members(alloc)?, &mut out)?;
         out.extend(b",\"detail\":")?;
@@ -159,7 +157,8 @@ impl Event {
     }
 
     fn own_members(&self, alloc: Global) -> Result<Members, NoMemory>
-        ensures { IfOk result (λ members. pairs_of members.items ≡ event_members self.now) }
+        ensures members { IfOk result (λ members. pairs_of members.items ≡ event_members self.now) }
+        ensures event { IsEvent self.now }
     {
         let mut members = self.front_members(alloc)?;
         let detail = copy(alloc, &self.detail)?;
@@ -169,7 +168,8 @@ impl Event {
 
     /// The members before the detail.
     fn front_members(&self, alloc: Global) -> Result<Members, NoMemory>
-        ensures { IfOk result (λ members. pairs_of members.items ≡ take 8 (event_members self.now)) }
+        ensures members { IfOk result (λ members. pairs_of members.items ≡ take 8 (event_members self.now)) }
+        ensures event { IsEvent self.now }
     {
         let id = event_id(alloc, self.number)?;
         let mut members = Vec::with_capacity(alloc, 10)?;

@@ -6,6 +6,7 @@ mod digits;
 mod entry;
 mod event;
 mod id;
+mod laws;
 mod names;
 mod parts;
 mod reading;
@@ -16,6 +17,7 @@ pub use checking::{Checked, check};
 pub use entry::{CheckFault, EntryFault, EventEntry, size};
 pub use event::Event;
 pub use id::event_id;
+pub use laws::{events_are_made, one_event};
 pub use names::{
     DEFAULT_BUS, OWNER, REGION, archive_arn, bus_arn, bus_of, is_account, is_archive_name,
     is_bus_arn, is_bus_name, is_queue_arn, is_queue_name, is_replay_name, is_rule_name,

@@ -1,16 +1,16 @@
 //! The members of an event's text, taken apart.
 ghost use Rattle.std.specs.Prelude.{◌≡◌, ◌∷◌, ℕ, List, None, map, MatchOption};
 ghost use Rattle.std.specs.Vec.Iter.{into_iter_items};
-ghost use Rattle.json_text.specs.Tree.{Tree, Items as SeenItems, text, list, items_of};
+ghost use Rattle.json_text.specs.Tree.{Tree, Items as TreeItems, text, list, items_of};
 ghost use Rattle.json_text.specs.View.{tree_of, trees_of};
-ghost use Rattle.event_shape.specs.Event.{Event as Seen, event_members};
+ghost use Rattle.event_shape.specs.Event.{Event as View, event_members};
 ghost use Rattle.event_shape.specs.Parts.{values_in, BeginsWith};
 
 use json_text::{Items, Json, Members, Text};
 use std::alloc::Global;
 use std::vec::IntoIter;
 
-/// What is not the same in every event's text.
+/// The members of an event's text that are not the same in every event.
 #[derive(Drop)]
 pub(crate) struct Parts {
     pub(crate) id: Text,
@@ -22,10 +22,10 @@ pub(crate) struct Parts {
     pub(crate) detail: Json,
 }
 
-/// The members of an event, by their order alone.
+/// The members of an event, by their order alone. `None` if their values do not begin as an event's.
 pub(crate) fn parts_of(members: Members) -> Option<Parts>
     ensures { MatchOption result
-        ((e : Seen) → ¬ (values_in members.items ≡ map (λ m. m.1) (event_members e)))
+        ((e : View) → ¬ (values_in members.items ≡ map (λ m. m.1) (event_members e)))
         (λ p. BeginsWith (values_in members.items) p) }
 {
     let mut members = members.into_iter();
@@ -83,7 +83,7 @@ pub(crate) fn text_of(value: Json) -> Option<Text>
 
 fn next_list(members: &mut IntoIter<(Text, Json), Global>) -> Option<Items>
     ensures { MatchOption result
-        ((inside : SeenItems) (rest : List Tree) → ¬ (values_in (into_iter_items members.old) ≡ list inside ∷ rest))
+        ((inside : TreeItems) (rest : List Tree) → ¬ (values_in (into_iter_items members.old) ≡ list inside ∷ rest))
         (λ items. values_in (into_iter_items members.old)
         ≡ list (items_of (trees_of items.items)) ∷ values_in (into_iter_items members.new)) }
 {

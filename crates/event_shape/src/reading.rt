@@ -1,13 +1,14 @@
-//! What an event's text is read to, before it is compared with that event's text.
+//! The event that a text is read to, before the text is compared with that event's own text.
 ghost use Rattle.std.specs.Prelude.{◌≡◌, ◌↔◌, ◌≢◌, ◌≤◌, [], ℕ, List, None, Some, map, IsTrue, IfOk, MatchOption, MatchResult};
 ghost use Rattle.json_text.specs.Tree.{text};
 ghost use Rattle.json_text.specs.View.{tree_of, trees_of};
 ghost use Rattle.json_text.specs.Compact.{IsValue, tree_levels};
-ghost use Rattle.event_shape.specs.Event.{Event as Seen, IsEvent, IsEventText, event_tree};
-ghost use Rattle.event_shape.specs.Fault.{IsObject, IsReserved};
-ghost use Rattle.event_shape.specs.Parts.{ArePartsOf};
+ghost use Rattle.event_shape.specs.Event.{Event as View, IsEvent, IsEventText, event_tree};
+ghost use Rattle.json_text.specs.Access.{IsObject};
+ghost use Rattle.event_shape.specs.Fault.{IsReserved};
+ghost use Rattle.event_shape.specs.Parts.{ArePartsOf, AreValid};
 
-use crate::checking::{is_object, is_reserved, read_each};
+use crate::checking::is_reserved;
 use crate::event::Event;
 use crate::id::number_of;
 use crate::parts::{Parts, parts_of, text_of};
@@ -15,11 +16,11 @@ use crate::time::{iso, text_moment};
 use json_text::{Items, Json, JsonFault, NoMemory, Text};
 use std::alloc::Global;
 
-/// The event whose tree the value is. Of other values it may make some event, too.
+/// The event whose tree the value is. For other values it may return some event, too.
 pub(crate) fn event_of(alloc: Global, json: Json) -> Result<Option<Event>, NoMemory>
     requires value { IsValue (tree_of json) }
     requires levels { tree_levels (tree_of json) ≤ 100 }
-    ensures { IfOk result (λ o. (e : Seen) → IsEvent e → tree_of json ≡ event_tree e None → o ≡ Some e) }
+    ensures { IfOk result (λ o. (e : View) → IsEvent e → tree_of json ≡ event_tree e None → o ≡ Some e) }
 {
     match json {
         Json::Obj(members) => match parts_of(members) {
@@ -32,9 +33,8 @@ pub(crate) fn event_of(alloc: Global, json: Json) -> Result<Option<Event>, NoMem
 
 /// The event that has these parts.
 fn event_with(alloc: Global, parts: Parts) -> Result<Option<Event>, NoMemory>
-    requires value { IsValue (tree_of parts.detail) }
-    requires levels { tree_levels (tree_of parts.detail) ≤ 99 }
-    ensures { IfOk result (λ o. (e : Seen) → IsEvent e → ArePartsOf parts e → o ≡ Some e) }
+    requires { AreValid parts }
+    ensures { IfOk result (λ o. (e : View) → IsEvent e → ArePartsOf parts e → o ≡ Some e) }
 {
     let Parts {
         id,
@@ -45,11 +45,7 @@ fn event_with(alloc: Global, parts: Parts) -> Result<Option<Event>, NoMemory>
         resources,
         detail,
     } = parts;
-    // A contract knows that a text's bytes are UTF-8 only where the text is read.
-    let _source = source.as_str();
-    let _detail_type = detail_type.as_str();
-    let _account = account.as_str();
-    if !may_stand(&source, &detail_type, &detail) {
+    if !are_allowed(&source, &detail_type, &detail) {
         return Ok(None);
     }
     let Some(number) = number_of(id.as_str()) else {
@@ -61,7 +57,6 @@ fn event_with(alloc: Global, parts: Parts) -> Result<Option<Event>, NoMemory>
     let Some(resources) = texts_of(alloc, resources)? else {
         return Ok(None);
     };
-    read_each(&resources);
     let time = iso(alloc, moment)?;
     Ok(Some(Event {
         number,
@@ -76,14 +71,14 @@ fn event_with(alloc: Global, parts: Parts) -> Result<Option<Event>, NoMemory>
 }
 
 /// Whether an event may have these members.
-fn may_stand(source: &Text, detail_type: &Text, detail: &Json) -> bool
+fn are_allowed(source: &Text, detail_type: &Text, detail: &Json) -> bool
     ensures { IsTrue result
         ↔ ((source.now ≢ []) × (detail_type.now ≢ []) × ¬ IsReserved (Some source.now) × IsObject (tree_of detail.now)) }
 {
     !source.as_str().is_empty()
         && !detail_type.as_str().is_empty()
         && !is_reserved(source)
-        && is_object(detail)
+        && detail.is_object()
 }
 
 /// The texts that the values are, if all are texts.
@@ -102,8 +97,8 @@ fn texts_of(alloc: Global, items: Items) -> Result<Option<Vec<Text>>, NoMemory>
     Ok(Some(texts))
 }
 
-/// What the fault of a text says of events: that it is none's, but where memory was refused.
-pub(crate) fn none_unless_short(fault: JsonFault) -> Result<Option<Event>, NoMemory>
+/// A text with this fault is no event's text, unless the fault is out of memory.
+pub(crate) fn none_unless_memory(fault: JsonFault) -> Result<Option<Event>, NoMemory>
     ensures { MatchResult result
         (λ o. (o ≡ None) × (fault ≢ JsonFault.NoMemory))
         (λ _. fault ≡ JsonFault.NoMemory) }
@@ -116,8 +111,8 @@ pub(crate) fn none_unless_short(fault: JsonFault) -> Result<Option<Event>, NoMem
     }
 }
 
-/// The event, if the bytes are its text.
-pub(crate) fn if_written_so(
+/// The event, if the bytes are its text; else `None`.
+pub(crate) fn if_written_as(
     alloc: Global,
     event: Event,
     text: &[u8],

@@ -1,16 +1,15 @@
 //! The pieces of an event's tree and of its text.
-ghost use Rattle.std.specs.Prelude.{◌≡◌, ◌++◌, ◌∷◌, [], map, Some, IfOk, OnOk};
+ghost use Rattle.std.specs.Prelude.{◌≡◌, ◌++◌, ◌∷◌, map, Some, IfOk, OnOk};
 ghost use Rattle.std.specs.Option.{option_copied};
 ghost use Rattle.std.specs.Str.{IsUtf8};
 ghost use Rattle.json_text.specs.Tree.{text, members_of};
-ghost use Rattle.json_text.specs.View.{tree_of, trees_of, pairs_of};
+ghost use Rattle.json_text.specs.View.{trees_of, pairs_of};
 ghost use Rattle.json_text.specs.Compact.{members_text, more_members_text};
-ghost use Rattle.event_shape.specs.Event.{IsReplayText, replay_member};
+ghost use Rattle.event_shape.specs.Event.{IsUtf8IfGiven, replay_member};
 
 use json_text::{Bytes, Items, Json, Members, NoMemory, Text, write};
 use std::alloc::Global;
 
-/// The text of bytes that are UTF-8.
 pub(crate) fn text_of_bytes(alloc: Global, bytes: &Bytes) -> Result<Text, NoMemory>
     requires { IsUtf8 bytes.now }
     ensures { IfOk result (λ t. t ≡ bytes.now) }
@@ -21,7 +20,7 @@ pub(crate) fn text_of_bytes(alloc: Global, bytes: &Bytes) -> Result<Text, NoMemo
     }
 }
 
-/// Writes the object of these members, but for its end.
+/// Writes the object of these members without its last byte.
 pub(crate) fn write_open(members: Members, out: &mut Bytes) -> Result<(), NoMemory>
     ensures { OnOk result (out.new ≡ out.old ++ 123 ∷ members_text (members_of (pairs_of members.items))) }
 {
@@ -30,14 +29,14 @@ pub(crate) fn write_open(members: Members, out: &mut Bytes) -> Result<(), NoMemo
     Ok(())
 }
 
-/// Writes the member that tells the replay, behind others.
+/// Writes the member with the replay's name, if there is one, after other members.
 pub(crate) fn push_replay(
     alloc: Global,
     replay: Option<&str>,
     out: &mut Bytes,
 ) -> Result<(), NoMemory>
     ensures pushed { OnOk result (out.new ≡ out.old ++ more_members_text (members_of (replay_member (option_copied replay.entry)))) }
-    ensures utf8 { OnOk result (IsReplayText (option_copied replay.entry)) }
+    ensures utf8 { OnOk result (IsUtf8IfGiven (option_copied replay.entry)) }
 {
     match replay {
         Some(name) => push_replay_name(alloc, name, out),
@@ -52,32 +51,6 @@ fn push_replay_name(alloc: Global, name: &str, out: &mut Bytes) -> Result<(), No
     let name = Json::Str(Text::from_str(alloc, name)?);
     out.extend(b",\"replay-name\":")?;
     write(&name, out)
-}
-
-pub(crate) fn push_text(
-    alloc: Global,
-    members: &mut Members,
-    key: &str,
-    value: &str,
-) -> Result<(), NoMemory>
-    ensures utf8 { IsUtf8 value.now }
-    ensures pushed { OnOk result (pairs_of members.new.items ≡ pairs_of members.old.items ++ (key.now, text value.now) ∷ []) }
-{
-    let value = Text::from_str(alloc, value)?;
-    push_member(alloc, members, key, Json::Str(value))
-}
-
-pub(crate) fn push_member(
-    alloc: Global,
-    members: &mut Members,
-    key: &str,
-    value: Json,
-) -> Result<(), NoMemory>
-    ensures { OnOk result (pairs_of members.new.items ≡ pairs_of members.old.items ++ (key.now, tree_of value) ∷ []) }
-{
-    let key = Text::from_str(alloc, key)?;
-    members.push((key, value))?;
-    Ok(())
 }
 
 pub(crate) fn text_items(alloc: Global, texts: &[Text]) -> Result<Items, NoMemory>

@@ -3,16 +3,14 @@ use Rattle.std.proofs.lemmas.Result.{IfOk-weaker}
 use Rattle.json_text.specs.View.{tree_of}
 use Rattle.json_text.specs.Compact.{IsValue, tree_levels}
 use Rattle.json_text.proofs.ViewLemmas.{tree_of_object}
-use Rattle.event_shape.proofs.PartLemmas.{values_are, parts_are, ninth_valid, ninth_within}
+use Rattle.event_shape.proofs.PartLemmas.{values_are, parts_are, parts_valid}
 use Rattle.event_shape.proofs.reading.event_of.Goals as goal
 
-pub event_with-requires-clause-value : goal.event_with-requires-clause-value
-event_with-requires-clause-value c =
-    ninth_valid c.in-Obj.members.items c.in-Some.parts c.in-Some.ensures (subst IsValue (ap tree_of c.in-Obj.is ∙ tree_of_object c.in-Obj.members) c.requires.value)
-
-pub event_with-requires-clause-levels : goal.event_with-requires-clause-levels
-event_with-requires-clause-levels c =
-    ninth_within c.in-Obj.members.items c.in-Some.parts c.in-Some.ensures (subst (λ t. tree_levels t ≤ 100) (ap tree_of c.in-Obj.is ∙ tree_of_object c.in-Obj.members) c.requires.levels)
+pub event_with-requires : goal.event_with-requires
+event_with-requires c =
+    let tree = ap tree_of c.in-Obj.is ∙ tree_of_object c.in-Obj.members in
+    parts_valid c.in-Obj.members.items c.in-Some.parts c.in-Some.ensures
+    (subst IsValue tree c.requires.value) (subst (λ t. tree_levels t ≤ 100) tree c.requires.levels)
 
 pub returns-in-Some : goal.returns-in-Some
 returns-in-Some c =

@@ -2,7 +2,7 @@ use Rattle.std.proofs.Common.{◌∙◌, subst, All}
 use Rattle.std.specs.Str.{IsUtf8}
 use Rattle.std.proofs.lemmas.List.{take_all}
 use Rattle.std.proofs.lemmas.List.Elements.{All-more}
-use Rattle.event_shape.proofs.checking.read_each.Goals as goal
+use Rattle.event_shape.proofs.checking.know_utf8.Goals as goal
 
 pub loop-text-preserved : goal.loop-text-preserved
 loop-text-preserved c =
