@@ -1,4 +1,4 @@
--- An entry that passes all tests but the last is `checked`, or `reserved`. A fault that an early test finds is the first: `exit_told`,
+-- An entry that passes all tests but the last is `checked`, or `reserved`. A fault that an early test finds is the first: `exit_first`,
 -- with `below_source`, `below_detail_type`, `below_detail` and `below_time` for the tests before it.
 use Rattle.std.proofs.Common.{◌≡◌, ◌≢◌, ℕ, ◌+◌, ◌<◌, ◌≤◌, ◌==◌, inl, inr, if◌then◌else◌, List, [], Option, Some, None, Result, Err, refl, sym, ap, ◌∙◌, subst, arith}
 use Rattle.std.specs.Result.{IsErrAnd}
@@ -75,10 +75,10 @@ pub below_time : (e : Entry) (s t d : List ℕ) → e.source ≡ Some s → s �
 below_time e s t d is some so any given = one_more e Detail (below_detail e s t is some so any) (λ none. let same : None ≡ Some d = sym none ∙ given in cc)
 
 -- a test that finds the fault after none before it
-pub exit_told : {X : Type 0} (e : Entry) (g found : EntryFault) (r : Result X CheckFault) → IsErrAnd r (λ y. y ≡ fault.Entry found) → found ≡ g
+pub exit_first : {X : Type 0} (e : Entry) (g found : EntryFault) (r : Result X CheckFault) → IsErrAnd r (λ y. y ≡ fault.Entry found) → found ≡ g
     → NoneBelow (place_of g) e → HasFault e g → (f : EntryFault) → place_of f ≤ 5 → IsFirstFault e f → r ≡ Err (fault.Entry f)
-exit_told e g found r told is none has f low first =
-    let (y, gives, same) = err_from_is_err_and r told in
+exit_first e g found r exit is none has f low first =
+    let (y, gives, same) = err_from_is_err_and r exit in
     gives ∙ ap Err same ∙ ap (λ x. Err (fault.Entry x)) (is ∙ first_once e g f (record { there = has; first = none }) first)
 
 -- ---- an entry that passes the tests

@@ -14,7 +14,8 @@ use Rattle.event_shape.proofs.NameLemmas.{bus_by_arn}
 use Rattle.event_shape.proofs.NumberLemmas.{whole_with_places, minus_number}
 use Rattle.event_shape.proofs.OnceLemmas.{same_event}
 
-whole_once : (spelling f g : List ℕ) (n m : ℕ) → n < 2 ^ 64 → m < 2 ^ 64 → IsFraction f → IsFraction g → spelling ≡ decimal n ++ f → spelling ≡ decimal m ++ g → decimal n ≡ decimal m
+whole_once : (spelling f g : List ℕ) (n m : ℕ) → n < 2 ^ 64 → m < 2 ^ 64 → IsFraction f → IsFraction g
+    → spelling ≡ decimal n ++ f → spelling ≡ decimal m ++ g → decimal n ≡ decimal m
 whole_once spelling [] [] n m a b is so e h = sym (append-nil (decimal n)) ∙ sym e ∙ h ∙ append-nil (decimal m)
 whole_once spelling f (y ∷ ys) n m a b is so e h =
     sym (whole_with_places spelling (decimal m) ys n (h ∙ ap (λ (d : ℕ). decimal m ++ d ∷ ys) so.0) a (f, is, e)).0
@@ -53,7 +54,8 @@ some_once {x = x} {y = y} e f = let same : Some x ≡ Some y = sym e ∙ f in cc
 abbrev checked_from : List ℕ → List ℕ → List (List ℕ) → Option ℕ → Tree → List ℕ → Checked
 checked_from s dt r t d b = record { source = s; detail_type = dt; resources = r; time = t; detail = d; bus = b }
 
-same_checked : (c d : Checked) → c.source ≡ d.source → c.detail_type ≡ d.detail_type → c.resources ≡ d.resources → c.time ≡ d.time → c.detail ≡ d.detail → c.bus ≡ d.bus → c ≡ d
+same_checked : (c d : Checked) → c.source ≡ d.source → c.detail_type ≡ d.detail_type → c.resources ≡ d.resources
+    → c.time ≡ d.time → c.detail ≡ d.detail → c.bus ≡ d.bus → c ≡ d
 same_checked c d h0 h1 h2 h3 h4 h5 =
     let whole : checked_from c.source c.detail_type c.resources c.time c.detail c.bus ≡ checked_from d.source d.detail_type d.resources d.time d.detail d.bus =
     rw (h0, h1, h2, h3, h4, h5) refl in
@@ -61,8 +63,9 @@ same_checked c d h0 h1 h2 h3 h4 h5 =
 
 pub checked_once : (entry : Entry) (c d : Checked) → IsCheckedOf entry c → IsCheckedOf entry d → c ≡ d
 checked_once entry c d p q =
-    same_checked c d (some_once p.source q.source) (some_once p.detail_type q.detail_type) (sym p.resources ∙ q.resources) (time_of_once entry.time c.time d.time p.time q.time)
-    (q.only p.detail.0 c.detail p.detail.1 p.detail.2) (bus_of_once entry.bus c.bus d.bus p.bus q.bus)
+    let (bytes, given, detail) = p.detail in
+    same_checked c d (some_once p.source q.source) (some_once p.detail_type q.detail_type) (sym p.resources ∙ q.resources)
+    (time_of_once entry.time c.time d.time p.time q.time) (q.only bytes c.detail given detail) (bus_of_once entry.bus c.bus d.bus p.bus q.bus)
 
 pub made_once : (c : Checked) (n reading : ℕ) (caller : List ℕ) (e f : Event) → IsMade c n reading caller e → IsMade c n reading caller f → e ≡ f
 made_once c n reading caller e f p q =

@@ -13,7 +13,14 @@ use Rattle.event_shape.proofs.MakeLemmas.{checked_members, moment_fits}
 use Rattle.event_shape.proofs.OnceLemmas.{detail_spelled, detail_once}
 
 abbrev entry_with : Event → Entry
-entry_with e = record { time = None; source = Some e.source; resources = e.resources; detail_type = Some e.detail_type; detail = Some (compact_text e.detail); bus = None }
+entry_with e = record {
+  time = None;
+  source = Some e.source;
+  resources = e.resources;
+  detail_type = Some e.detail_type;
+  detail = Some (compact_text e.detail);
+  bus = None;
+}
 
 abbrev checked_with : Event → Checked
 checked_with e = record { source = e.source; detail_type = e.detail_type; resources = e.resources; time = None; detail = e.detail; bus = default_bus }
@@ -59,7 +66,8 @@ event_is_made e (moment, at) = (
   record { number = refl; detail_type = refl; source = refl; account = refl; time = at.time; resources = refl; detail = refl },
 )
 
-content_of : (c : Checked) (n reading : ℕ) (account : List ℕ) (e : Event) → IsMade c n reading account e → IsContent c.source c.detail_type c.resources c.detail → Content e
+content_of : (c : Checked) (n reading : ℕ) (account : List ℕ) (e : Event) → IsMade c n reading account e
+    → IsContent c.source c.detail_type c.resources c.detail → Content e
 content_of c n reading account e made h = rw (made.source, made.detail_type, made.resources, made.detail) h
 
 pub made_is_event : (entry : Entry) (c : Checked) (n reading : ℕ) (account : List ℕ) (e : Event)

@@ -10,7 +10,7 @@ use Rattle.event_shape.specs.declared.entry.EntryFault.TheVariants.{Source, Deta
 use Rattle.event_shape.specs.Time.{IsTime}
 use Rattle.event_shape.specs.Entry.{Entry}
 use Rattle.event_shape.specs.Fault.{LacksText, IsReserved, IsDetail}
-use Rattle.event_shape.specs.Event.{Checked, IsTimeOf, IsUtf8IfGiven, HasTexts, IsCheckedOf, IsChecked, IsMade, IsEventAt}
+use Rattle.event_shape.specs.Event.{Event, Checked, IsTimeOf, IsUtf8IfGiven, HasTexts, IsCheckedOf, IsChecked, IsMade, IsEventAt}
 
 time_is_moment : (tree : Tree) (n : ℕ) → IsTime tree n → IsMoment n
 time_is_moment null n h = absurd h
@@ -56,8 +56,12 @@ or_reading (Some moment) reading given fits = given
 pub moment_fits : (c : Checked) (reading : ℕ) → IsChecked c → IsMoment reading → IsMoment (unwrap_or c.time reading)
 moment_fits c reading is fits = or_reading c.time reading is.time fits
 
+abbrev event_with : Checked → ℕ → List ℕ → List ℕ → Event
+event_with c n account time =
+    record { number = n; detail_type = c.detail_type; source = c.source; account = account; time = time; resources = c.resources; detail = c.detail }
+
 pub made_at : (c : Checked) (n reading moment : ℕ) (caller account time : List ℕ) → account ≡ caller → moment ≡ unwrap_or c.time reading → IsIso moment time
-    → IsMade c n reading caller (record { number = n; detail_type = c.detail_type; source = c.source; account = account; time = time; resources = c.resources; detail = c.detail })
+    → IsMade c n reading caller (event_with c n account time)
 made_at c n reading moment caller account time same is shown = record {
   number = refl;
   detail_type = refl;
@@ -68,9 +72,10 @@ made_at c n reading moment caller account time same is shown = record {
   detail = refl;
 }
 
-pub event_at : (c : Checked) (n reading moment : ℕ) (caller account time : List ℕ) → IsChecked c → n < 2 ^ 64 → IsMoment reading → IsUtf8 caller → account ≡ caller
+pub event_at : (c : Checked) (n reading moment : ℕ) (caller account time : List ℕ) → IsChecked c → n < 2 ^ 64 → IsMoment reading → IsUtf8 caller
+    → account ≡ caller
     → moment ≡ unwrap_or c.time reading → IsIso moment time
-    → IsEventAt moment (record { number = n; detail_type = c.detail_type; source = c.source; account = account; time = time; resources = c.resources; detail = c.detail })
+    → IsEventAt moment (event_with c n account time)
 event_at c n reading moment caller account time checked fits read utf8 same is shown = record {
   number = fits;
   account = subst IsUtf8 (sym same) utf8;

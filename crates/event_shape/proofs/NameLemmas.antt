@@ -1,4 +1,4 @@
--- Which bus a text names: as an ARN `bus_by_arn`, and else `bus_by_name`; what stands behind the front of a bus's ARN: `bus_resource`.
+-- Which bus a text names: as an ARN `bus_by_arn`, and else `bus_by_name`; the name in a bus's ARN: `bus_resource`.
 use Rattle.std.proofs.Common.{Option, Some, None, MatchOption, Bor, ◌≡◌, ℕ, List, ◌++◌, codes, inl, inr, sym, ap, ◌∙◌, subst, refl}
 use Rattle.std.proofs.lemmas.Bool.{false≢true}
 use Rattle.std.proofs.lemmas.List.{append_cancel_left}
@@ -10,7 +10,7 @@ bus_prefix = codes "arn:aws:events:us-east-1:111122223333:event-bus/"
 arn_is : (bus : List ℕ) → bus_arn bus ≡ bus_prefix ++ bus
 arn_is bus = refl
 
--- a colon stands in no name
+-- no name has a colon
 no_name : (rest : List ℕ) → ¬ IsBusName (bus_prefix ++ rest)
 no_name rest h = false≢true h.2
 

@@ -71,7 +71,7 @@ unfolding NoDot
 no_dot_seam [] ys h = h.0 refl
 no_dot_seam (x ∷ xs) ys h = no_dot_seam xs ys h.1
 
--- two cuts at a dot are one, where one of them leaves no other dot
+-- two cuts at a dot are the same if one of them leaves no other dot
 one_cut : (xs ys us vs : List ℕ) → NoDot us → NoDot vs → xs ++ 46 ∷ ys ≡ us ++ 46 ∷ vs → (xs ≡ us) × (ys ≡ vs)
 unfolding NoDot
 one_cut [] ys [] vs n m e = (refl, cc)
@@ -84,11 +84,13 @@ one_cut (x ∷ xs) ys (u ∷ us) vs n m e =
     (ap (λ t. x ∷ t) cut.0 ∙ ap (λ b. b ∷ us) same, cut.1)
 
 -- a whole part, a dot and places
-pub whole_with_places : (spelling whole places : List ℕ) (n : ℕ) → spelling ≡ whole ++ 46 ∷ places → n < 2 ^ 64 → HasWhole spelling n → (whole ≡ decimal n) × IsDigits places
+pub whole_with_places : (spelling whole places : List ℕ) (n : ℕ) → spelling ≡ whole ++ 46 ∷ places → n < 2 ^ 64 → HasWhole spelling n
+    → (whole ≡ decimal n) × IsDigits places
 whole_with_places spelling whole places n e small ([], is, written) =
     absurd (no_dot_seam whole places (subst NoDot (sym (written ∙ append-nil (decimal n)) ∙ e) (NoDot-decimal n small)))
 whole_with_places spelling whole places n e small (b ∷ bs, is, written) =
-    let cut = one_cut whole places (decimal n) bs (NoDot-decimal n small) (NoDot-digits bs (digits_are bs is.1)) (sym e ∙ written ∙ ap (λ d. decimal n ++ d ∷ bs) is.0) in
+    let same = sym e ∙ written ∙ ap (λ d. decimal n ++ d ∷ bs) is.0 in
+    let cut = one_cut whole places (decimal n) bs (NoDot-decimal n small) (NoDot-digits bs (digits_are bs is.1)) same in
     (cut.0, subst IsDigits (sym cut.1) is.1)
   where
     digits_are : (bs : List ℕ) → IsDigits bs → AreDigits bs
@@ -108,7 +110,7 @@ no_sign n rest bytes small e =
     let same : get_or (decimal n ++ bytes) 0 0 ≡ 45 = sym (ap (λ xs. get_or xs 0 0) e) in
     omega (arith, begins, same, first.0)
 
--- behind a minus only zero stands
+-- after a minus sign there is only zero
 pub minus_number : (spelling rest : List ℕ) (n : ℕ) → spelling ≡ 45 ∷ rest → n < 2 ^ 64 → IsTimeNumber spelling n ↔ (HasWhole rest n × (n ≡ 0))
 minus_number spelling rest n e small = (forth, back)
   where

@@ -1,5 +1,5 @@
--- An event's text is no other event's: `event_once`. The same for a value's compact text, an id, a detail and a record of event members:
--- `compact_once`, `id_once`, `detail_once`, `same_event`.
+-- An event's text is no other event's: `event_once`. The same for an id, a detail's text and the members of an event:
+-- `id_once`, `detail_once`, `same_event`.
 use Rattle.std.proofs.Common.{◌≡◌, ℕ, zero, suc, ◌+◌, ◌<◌, ◌≤◌, ◌^◌, inl, Some, None, List, [], ◌∷◌, All, map, sym, ap, ◌∙◌, subst, refl, arith}
 use Rattle.std.specs.Int.{w128, to_be_bytes, from_be_bytes}
 use Rattle.uuid.specs.Text.{lower, parsed}
@@ -27,7 +27,8 @@ all_bytes (x ∷ xs) h zero d lt = h.0
 all_bytes (x ∷ xs) h (suc k) d lt = all_bytes xs h.1 k d (omega (arith, lt))
 
 id_bytes : (n : ℕ) → AreBytes (to_be_bytes w128 n)
-id_bytes n = (omega arith, (omega arith, (omega arith, (omega arith, (omega arith, (omega arith, (omega arith, (omega arith, (omega arith, (omega arith, (omega arith, (omega arith, (omega arith, (omega arith, (omega arith, (omega arith, tt))))))))))))))))
+id_bytes n =
+    (omega arith, (omega arith, (omega arith, (omega arith, (omega arith, (omega arith, (omega arith, (omega arith, (omega arith, (omega arith, (omega arith, (omega arith, (omega arith, (omega arith, (omega arith, (omega arith, tt))))))))))))))))
 
 pub id_parsed : (n : ℕ) → Some (to_be_bytes w128 (id_base + n)) ≡ parsed (event_id n)
 id_parsed n = parses_hyphenated lower (to_be_bytes w128 (id_base + n)) (inl refl) refl (all_bytes (to_be_bytes w128 (id_base + n)) (id_bytes (id_base + n)))
@@ -48,14 +49,14 @@ pub detail_once : (bytes : List ℕ) (d e : Tree) → IsDetail bytes d → IsDet
 detail_once bytes d e p q = p.2 ∙ ap value_of (one_value 99 99 bytes p.0 q.0 p.1 q.1) ∙ sym q.2
 
 -- unequal values have unequal compact texts
-pub compact_once : (t u : Tree) → IsValue t → IsValue u → compact_text t ≡ compact_text u → t ≡ u
+compact_once : (t u : Tree) → IsValue t → IsValue u → compact_text t ≡ compact_text u → t ≡ u
 compact_once t u v w e =
     let s = compact_spelled t v in
     let r = compact_spelled u w in
     let q = subst (λ b. IsText (tree_levels u) b r.0) (sym e) r.1 in
     sym s.2 ∙ ap value_of (one_value (tree_levels t) (tree_levels u) (compact_text t) s.0 r.0 s.1 q) ∙ r.2
 
-pub texts_once : (a b : List (List ℕ)) → items_of (map text a) ≡ items_of (map text b) → a ≡ b
+texts_once : (a b : List (List ℕ)) → items_of (map text a) ≡ items_of (map text b) → a ≡ b
 texts_once [] [] e = refl
 texts_once [] (y ∷ ys) e = absurd cc
 texts_once (x ∷ xs) [] e = absurd cc
@@ -70,7 +71,8 @@ event_from n dt s a t r d = record { number = n; detail_type = dt; source = s; a
 pub same_event : (e f : Event) → e.number ≡ f.number → e.detail_type ≡ f.detail_type → e.source ≡ f.source → e.account ≡ f.account → e.time ≡ f.time
     → e.resources ≡ f.resources → e.detail ≡ f.detail → e ≡ f
 same_event e f h0 h1 h2 h3 h4 h5 h6 =
-    let whole : event_from e.number e.detail_type e.source e.account e.time e.resources e.detail ≡ event_from f.number f.detail_type f.source f.account f.time f.resources f.detail =
+    let whole : event_from e.number e.detail_type e.source e.account e.time e.resources e.detail
+    ≡ event_from f.number f.detail_type f.source f.account f.time f.resources f.detail =
     rw (h0, h1, h2, h3, h4, h5, h6) refl in
     whole
 

@@ -1,4 +1,5 @@
--- From an event's tree to its parts and back: `values_are`, `parts_are`, `parts_valid`; what `Event::read` returns: `read_as`, `found_as`, `only_as`, `none_as`.
+-- From an event's tree to its parts and back: `values_are`, `parts_are`, `parts_valid`.
+-- What `Event::read` returns: `read_as`, `found_as`, `only_as`, `none_as`.
 use Rattle.std.proofs.Common.{◌≡◌, ◌≢◌, ℕ, ◌≤◌, Option, Some, None, Result, Ok, Err, IfOk, MatchOption, MatchResult, All, List, [], ◌∷◌, ◌++◌, map, sym, ap, ◌∙◌, subst, refl, arith}
 use Rattle.std.proofs.lemmas.List.Elements.{All-nil, All-cons}
 use Rattle.json_text.specs.Tree.{Tree, text, list, object, items_of, members_of}
@@ -29,7 +30,7 @@ members_once (m ∷ ms) (n ∷ ns) e =
     let heads : (m.0, m.1) ≡ (n.0, n.1) = rw (keys, values) refl in
     ap (λ x. x ∷ ms) heads ∙ ap (λ xs. n ∷ xs) (members_once ms ns tails)
 
-pub items_once : (ts us : List Tree) → items_of ts ≡ items_of us → ts ≡ us
+items_once : (ts us : List Tree) → items_of ts ≡ items_of us → ts ≡ us
 items_once [] [] e = refl
 items_once [] (u ∷ us) e = absurd cc
 items_once (t ∷ ts) [] e = absurd cc
@@ -38,7 +39,7 @@ items_once (t ∷ ts) (u ∷ us) e =
     let tails : items_of ts ≡ items_of us = cc in
     ap (λ x. x ∷ ts) heads ∙ ap (λ xs. u ∷ xs) (items_once ts us tails)
 
-pub texts_same : (a b : List (List ℕ)) → map text a ≡ map text b → a ≡ b
+texts_same : (a b : List (List ℕ)) → map text a ≡ map text b → a ≡ b
 texts_same [] [] e = refl
 texts_same [] (y ∷ ys) e = absurd cc
 texts_same (x ∷ xs) [] e = absurd cc
@@ -48,12 +49,14 @@ texts_same (x ∷ xs) (y ∷ ys) e =
     ap (λ t. t ∷ xs) heads ∙ ap (λ ts. y ∷ ts) (texts_same xs ys tails)
 
 -- the values of the event's members, if the tree is the event's
-pub values_are : (ms : List (List ℕ × Json)) (e : Event) → object (members_of (pairs_of ms)) ≡ event_tree e None → values_in ms ≡ map (λ m. m.1) (event_members e)
+pub values_are : (ms : List (List ℕ × Json)) (e : Event) → object (members_of (pairs_of ms)) ≡ event_tree e None
+    → values_in ms ≡ map (λ m. m.1) (event_members e)
 values_are ms e trees =
     let members : members_of (pairs_of ms) ≡ members_of (event_members e) = cc in
     ap (map (λ m. m.1)) (members_once (pairs_of ms) (event_members e) members)
 
-pub parts_are : (ms : List (List ℕ × Json)) (p : Parts) (e : Event) → BeginsWith (values_in ms) p → object (members_of (pairs_of ms)) ≡ event_tree e None → ArePartsOf p e
+pub parts_are : (ms : List (List ℕ × Json)) (p : Parts) (e : Event) → BeginsWith (values_in ms) p
+    → object (members_of (pairs_of ms)) ≡ event_tree e None → ArePartsOf p e
 parts_are ms p e begins trees = shown (sym begins.3 ∙ values_are ms e trees)
   where
     shown : text begins.0 ∷ text p.id ∷ text p.detail_type ∷ text p.source ∷ text p.account ∷ text p.time ∷ text begins.1
@@ -123,25 +126,30 @@ made_as p e n time resources is are number shown texts =
     (texts_same resources e.resources (sym texts ∙ are.resources)) are.detail)
 
 -- the event that was made is the one whose text the bytes are
-pub read_as : (bytes : List ℕ) (tree : Tree) (o : Option Event) → ((n : Node) → IsText 100 bytes n → tree ≡ value_of n) → ((e : Event) → IsEvent e → tree ≡ event_tree e None → o ≡ Some e)
+pub read_as : (bytes : List ℕ) (tree : Tree) (o : Option Event) → ((n : Node) → IsText 100 bytes n → tree ≡ value_of n)
+    → ((e : Event) → IsEvent e → tree ≡ event_tree e None → o ≡ Some e)
     → (e : Event) → IsEventText bytes e → o ≡ Some e
 read_as bytes tree o only made e p = let s = event_spelled bytes e p in made e p.is_event (only s.0 s.1 ∙ s.2)
 
 pub found_as : {X : Type 0} (bytes : List ℕ) (event : Event) (r : Result (Option Event) X)
-    → IfOk r (λ o. MatchOption o (¬ (IsEventText bytes event)) (λ e. (e ≡ event) × IsEventText bytes e)) → ((e : Event) → IsEventText bytes e → Some event ≡ Some e)
+    → IfOk r (λ o. MatchOption o (¬ (IsEventText bytes event)) (λ e. (e ≡ event) × IsEventText bytes e))
+    → ((e : Event) → IsEventText bytes e → Some event ≡ Some e)
     → IfOk r (λ o. MatchOption o ((e : Event) → ¬ (IsEventText bytes e)) (λ e. IsEventText bytes e))
 found_as bytes event (Ok None) h same = λ e p. let is : event ≡ e = (let whole = same e p in cc) in h (subst (IsEventText bytes) (sym is) p)
 found_as bytes event (Ok (Some e)) h same = h.1
 found_as bytes event (Err x) h same = tt
 
-pub only_as : {X : Type 0} (bytes : List ℕ) (r : Result (Option Event) X) → IfOk r (λ o. MatchOption o ((e : Event) → ¬ (IsEventText bytes e)) (λ e. IsEventText bytes e))
+pub only_as : {X : Type 0} (bytes : List ℕ) (r : Result (Option Event) X)
+    → IfOk r (λ o. MatchOption o ((e : Event) → ¬ (IsEventText bytes e)) (λ e. IsEventText bytes e))
     → (e : Event) → IsEventText bytes e → IfOk r (λ o. o ≡ Some e)
 only_as bytes (Ok None) h e p = absurd (h e p)
 only_as bytes (Ok (Some f)) h e p = ap Some (event_once bytes f e h p)
 only_as bytes (Err x) h e p = tt
 
-pub none_as : {X : Type 0} (bytes : List ℕ) (fault : JsonFault) (r : Result (Option Event) X) → MatchResult r (λ o. (o ≡ None) × (fault ≢ NoMemory)) (λ _. fault ≡ NoMemory)
-    → ((n : Node) → IsText 100 bytes n → fault ≡ NoMemory) → IfOk r (λ o. MatchOption o ((e : Event) → ¬ (IsEventText bytes e)) (λ e. IsEventText bytes e))
-none_as bytes fault (Ok None) h refused = λ e p. let s = event_spelled bytes e p in h.1 (refused s.0 s.1)
-none_as bytes fault (Ok (Some e)) h refused = let no = h.0 in absurd cc
-none_as bytes fault (Err x) h refused = tt
+pub none_as : {X : Type 0} (bytes : List ℕ) (fault : JsonFault) (r : Result (Option Event) X)
+    → MatchResult r (λ o. (o ≡ None) × (fault ≢ NoMemory)) (λ _. fault ≡ NoMemory)
+    → ((n : Node) → IsText 100 bytes n → fault ≡ NoMemory)
+    → IfOk r (λ o. MatchOption o ((e : Event) → ¬ (IsEventText bytes e)) (λ e. IsEventText bytes e))
+none_as bytes fault (Ok None) h only = λ e p. let s = event_spelled bytes e p in h.1 (only s.0 s.1)
+none_as bytes fault (Ok (Some e)) h only = let no = h.0 in absurd cc
+none_as bytes fault (Err x) h only = tt

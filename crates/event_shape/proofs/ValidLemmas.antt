@@ -62,11 +62,13 @@ by_test : (b : Bool) (x : ℕ) → x < 128 → (if b then 45 else x) < 128
 by_test true x h = omega arith
 by_test false x h = h
 
-pub id_utf8 : (n : ℕ) → IsUtf8 (event_id n)
+id_utf8 : (n : ℕ) → IsUtf8 (event_id n)
 id_utf8 n =
     let xs = to_be_bytes w128 (id_base + n) in
     IsUtf8-from_ascii (event_id n) (by_index_ascii 36 (λ k. if is_hyphen_place k then 45 else hex_digit lower (nibble xs (digit_place k)))
-    (λ k below. by_test (is_hyphen_place k) (hex_digit lower (nibble xs (digit_place k))) (hex_small (nibble xs (digit_place k)) (nibble_small xs (digit_place k)))))
+    (λ k below.
+    let digit = nibble xs (digit_place k) in
+    by_test (is_hyphen_place k) (hex_digit lower digit) (hex_small digit (nibble_small xs (digit_place k)))))
 
 values : (e : Event) → IsEvent e → AreValues (event_members e)
 values e (m, at) = (

@@ -1,11 +1,11 @@
--- An entry of a publisher as contracts see it, and its size.
+-- An entry of a request to put events, as contracts see it, and its size.
 use Rattle.std.specs.Prelude.{ℕ, ◌+◌, List, Option, Some, None, length, sum_by}
 use Rattle.std.specs.Option.{option_map}
 use Rattle.json_text.specs.Tree.{Tree}
 use Rattle.json_text.specs.View.{tree_of}
 use Rattle.event_shape.specs.declared.entry.EventEntry.{EventEntry}
 
--- each member as it was given, or none
+-- each member as it was given, or `None`
 pub record Entry : Type 0 where
   pub time : Option Tree
   pub source : Option (List ℕ)

@@ -26,9 +26,13 @@ pub record Event : Type 0 where
   pub resources : List (List ℕ)
   pub detail : Tree
 
+-- for proofs: unequal texts, events and records of an entry's members have unequal codes
+abbrev pub text_code : Coded (List ℕ)
+text_code = coded_list coded_ℕ
+
 abbrev pub event_code : Coded Event
 event_code = code_by (ℕ × (List ℕ × (List ℕ × (List ℕ × (List ℕ × (List (List ℕ) × Tree))))))
-    (coded× coded_ℕ (coded× (coded_list coded_ℕ) (coded× (coded_list coded_ℕ) (coded× (coded_list coded_ℕ) (coded× (coded_list coded_ℕ) (coded× (coded_list (coded_list coded_ℕ)) tree_code))))))
+    (coded× coded_ℕ (coded× text_code (coded× text_code (coded× text_code (coded× text_code (coded× (coded_list text_code) tree_code))))))
     (λ e. (e.number, (e.detail_type, (e.source, (e.account, (e.time, (e.resources, e.detail)))))))
     (λ (n, (dt, (s, (a, (t, (r, d)))))). record { number = n; detail_type = dt; source = s; account = a; time = t; resources = r; detail = d })
     (λ _. refl)
@@ -69,10 +73,9 @@ pub record Checked : Type 0 where
   pub detail : Tree
   pub bus : List ℕ
 
--- for proofs: unequal values of the code's type have unequal codes
 abbrev pub checked_code : Coded Checked
 checked_code = code_by (List ℕ × (List ℕ × (List (List ℕ) × (Option ℕ × (Tree × List ℕ)))))
-    (coded× (coded_list coded_ℕ) (coded× (coded_list coded_ℕ) (coded× (coded_list (coded_list coded_ℕ)) (coded× (coded_option coded_ℕ) (coded× tree_code (coded_list coded_ℕ))))))
+    (coded× text_code (coded× text_code (coded× (coded_list text_code) (coded× (coded_option coded_ℕ) (coded× tree_code text_code)))))
     (λ c. (c.source, (c.detail_type, (c.resources, (c.time, (c.detail, c.bus))))))
     (λ (s, (dt, (r, (t, (d, b))))). record { source = s; detail_type = dt; resources = r; time = t; detail = d; bus = b })
     (λ _. refl)

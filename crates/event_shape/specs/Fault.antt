@@ -1,4 +1,4 @@
--- The faults of an entry that it shows by itself, in the order in which they are told.
+-- The faults that an entry has by itself, in the order in which they are reported.
 use Rattle.std.specs.Prelude.{◌≡◌, ◌<◌, ℕ, List, [], ◌++◌, Option, Some, None, codes}
 use Rattle.json_text.specs.Tree.{Tree}
 use Rattle.json_text.specs.Node.{Node, value_of}
@@ -27,7 +27,7 @@ abbrev pub IsNoBus : Option (List ℕ) → Type 0
 IsNoBus None = ⊥
 IsNoBus (Some t) = (bus : List ℕ) → ¬ IsBusGiven t bus
 
--- the text spells this object, within 99 levels: in the event the object stands one level deeper
+-- the text spells this object, with at most 99 levels: in the event the object is one level deeper
 abbrev pub IsDetail : List ℕ → Tree → Type 0
 IsDetail bytes tree = (n : Node) × IsText 99 bytes n × (tree ≡ value_of n) × IsObject tree
 
@@ -36,7 +36,7 @@ abbrev pub IsNoDetail : Option (List ℕ) → Type 0
 IsNoDetail None = ⊥
 IsNoDetail (Some bytes) = (tree : Tree) → ¬ IsDetail bytes tree
 
--- sources that begin so are the cloud's own
+-- sources with this prefix are reserved for the cloud's own events
 abbrev pub IsReserved : Option (List ℕ) → Type 0
 IsReserved None = ⊥
 IsReserved (Some t) = (rest : List ℕ) × (t ≡ codes "aws." ++ rest)
@@ -60,7 +60,7 @@ place_of Bus = 5
 place_of Malformed = 6
 place_of NotAuthorized = 7
 
--- memory was refused, or the entry has this fault and so its condition holds (no public clause names this)
+-- out of memory, or the entry has this fault and its condition holds (no public clause names this)
 abbrev pub IsMemoryOr : CheckFault → EntryFault → Type 0 → Type 0
 IsMemoryOr NoMemory fault condition = Unit {0}
 IsMemoryOr (Entry f) fault condition = (f ≡ fault) × condition

@@ -1,4 +1,4 @@
--- The id of an event holds its number: below 2 ^ 62 it is a UUID of version 8 (RFC 9562, section 5.8), above the sum runs into the variant.
+-- The id of an event has its number. Below 2 ^ 62 it is a UUID of version 8 (RFC 9562, section 5.8); from 2 ^ 62 on the sum changes the variant bits.
 use Rattle.std.specs.Prelude.{ℕ, ◌+◌, List}
 use Rattle.std.specs.Int.{w128, to_be_bytes}
 use Rattle.uuid.specs.Text.{hyphenated_text, lower}

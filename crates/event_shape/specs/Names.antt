@@ -16,7 +16,7 @@ is_queue_byte b = is_alphanumeric b || ((b == 45) || (b == 95))
 abbrev pub is_name_byte : ℕ → Bool
 is_name_byte b = is_queue_byte b || (b == 46)
 
--- 1 to so many bytes, each of which passes the test
+-- from 1 to `most` bytes, each of which passes the test
 abbrev pub IsNameOf : (ℕ → Bool) → ℕ → List ℕ → Type 0
 IsNameOf test most name = (1 ≤ length name) × (length name ≤ most) × IsTrue (list_all test name)
 
@@ -57,7 +57,7 @@ events_arn resource = codes "arn:aws:events:us-east-1:111122223333:" ++ resource
 abbrev pub bus_arn : List ℕ → List ℕ
 bus_arn bus = events_arn (codes "event-bus/" ++ bus)
 
--- a rule's ARN names its bus only where that isn't `default`
+-- a rule's ARN names its bus only if that is not `default`
 abbrev pub rule_arn : List ℕ → List ℕ → List ℕ
 rule_arn bus rule =
     if bytes_eq bus default_bus then events_arn (codes "rule/" ++ rule)

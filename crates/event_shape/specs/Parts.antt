@@ -1,4 +1,4 @@
--- For private clauses alone: the members of an event's text, taken apart.
+-- For private clauses only: the members of an event's text, taken apart.
 use Rattle.std.specs.Prelude.{◌≡◌, ◌≤◌, ℕ, List, ◌∷◌, map}
 use Rattle.std.specs.Str.{IsUtf8}
 use Rattle.json_text.specs.Tree.{Tree, text, list, items_of}

@@ -10,7 +10,7 @@ ghost use Rattle.event_shape.specs.Event.{IsTimeOf, IsBusOf, IsCheckedOf};
 ghost use Rattle.event_shape.specs.declared.entry.EntryFault.{EntryFault};
 
 use crate::entry::{CheckFault, EntryFault, EventEntry};
-use crate::names::{DEFAULT_BUS, behind, bus_of};
+use crate::names::{DEFAULT_BUS, after_prefix, bus_of};
 use crate::time::read_time;
 use json_text::{Json, JsonFault, Text, read};
 use std::alloc::Global;
@@ -182,7 +182,7 @@ fn detail_given(alloc: Global, detail: Text) -> Result<Json, CheckFault>
 pub(crate) fn is_reserved(source: &Text) -> bool
     ensures { IsTrue result ↔ IsReserved (Some source.now) }
 {
-    match behind(source.as_str(), RESERVED) {
+    match after_prefix(source.as_str(), RESERVED) {
         Some(_) => true,
         None => false,
     }

@@ -1,4 +1,4 @@
-//! What a publisher hands in.
+//! An entry of a request to put events.
 ghost use Rattle.std.specs.Prelude.{◌≡◌, ◌+◌, ◌-◌, ◌^◌, ℕ, List, Option, min, length, sum_by};
 ghost use Rattle.event_shape.specs.Entry.{entry_of, size_of, text_size};
 
@@ -17,7 +17,7 @@ pub struct EventEntry {
     pub bus: Option<Text>,
 }
 
-/// What makes an entry no event, in the order in which it is told.
+/// Why an entry is no event. If several faults are there, the first in this order is reported.
 #[derive(Clone, Copy, Debug, PartialEq, Eq, Error)]
 pub enum EntryFault {
     #[error("the source is absent or empty")]
@@ -36,7 +36,7 @@ pub enum EntryFault {
     NotAuthorized,
 }
 
-/// Why an entry was not taken.
+/// Why `check` refuses an entry.
 #[derive(Debug, Drop, Error)]
 pub enum CheckFault {
     #[error("{0}")]
@@ -47,9 +47,9 @@ pub enum CheckFault {
 
 impl From<NoMemory> for CheckFault {
     ghost use Rattle.std.specs.Prelude.{◌≡◌};
-    ghost use Rattle.event_shape.specs.declared.entry.CheckFault.TheVariants.{NoMemory as refused};
+    ghost use Rattle.event_shape.specs.declared.entry.CheckFault.TheVariants.{NoMemory as out_of_memory};
 
-    ghost from_gives = { λ _ e. e ≡ refused };
+    ghost from_gives = { λ _ e. e ≡ out_of_memory };
 
     fn from(_refused: NoMemory) -> CheckFault {
         CheckFault::NoMemory
@@ -67,8 +67,8 @@ impl From<EntryFault> for CheckFault {
     }
 }
 
-/// The size of the entry, in bytes: 14 for a time, and the UTF-8 of its texts but the bus. A sum past the type's end
-/// stands at that end.
+/// The size of the entry, in bytes: 14 for a time, and the lengths in UTF-8 of its texts except the bus. A sum above
+/// `u64::MAX` is `u64::MAX`.
 pub fn size(entry: &EventEntry) -> u64
     ensures { result ≡ min (size_of (entry_of entry.now)) (2 ^ 64 - 1) }
 {

@@ -8,8 +8,8 @@ use uuid::Uuid;
 
 const ID_BASE: u128 = 0x0000_0000_0000_8000_8000_0000_0000_0000;
 
-/// The id of the event of this number, in lower case with hyphens: below 2 ^ 62 a UUID of version 8 (RFC 9562, section
-/// 5.8), above the sum runs into the variant.
+/// The id of the event with this number, in lower case with hyphens. Below 2^62 it is a UUID of version 8 (RFC 9562,
+/// section 5.8); from 2^62 on the sum changes the variant bits.
 pub fn event_id(alloc: Global, number: u64) -> Result<Text, NoMemory>
     ensures { IfOk result (λ id. id ≡ spec.event_id number) }
 {
@@ -18,7 +18,7 @@ pub fn event_id(alloc: Global, number: u64) -> Result<Text, NoMemory>
     Text::from_str(alloc, id.hyphenated().encode_lower(&mut buffer))
 }
 
-/// The number of the event whose id the text is. Other texts may be taken for an id, too.
+/// The number of the event with this id. For other texts it may return some number, too.
 pub(crate) fn number_of(id: &str) -> Option<u64>
     ensures found { (n : ℕ) → n < 2 ^ 64 → id.now ≡ spec.event_id n → result ≡ Some n }
     ensures fits { IfSome result (λ n. n < 2 ^ 64) }

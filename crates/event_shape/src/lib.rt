@@ -1,4 +1,4 @@
-//! An entry is turned into an event; the event has one tree, one text, and that text alone reads back to it.
+//! An entry becomes an event. The event has one JSON value and one text, and only that text is read back as the event.
 #![tactic(auto)]
 
 mod checking;
@@ -21,7 +21,7 @@ pub use laws::{events_are_made, one_event};
 pub use names::{
     DEFAULT_BUS, OWNER, REGION, archive_arn, bus_arn, bus_of, is_account, is_archive_name,
     is_bus_arn, is_bus_name, is_queue_arn, is_queue_name, is_replay_name, is_rule_name,
-    is_target_id, queue_arn, queue_behind, queue_of, replay_arn, rule_arn,
+    is_target_id, queue_arn, queue_name_in, queue_of, replay_arn, rule_arn,
 };
 pub use time::{iso, read_time};
 

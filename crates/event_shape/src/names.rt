@@ -45,7 +45,7 @@ fn are_queue_bytes(name: &str) -> bool
     name.as_bytes().iter().all(|byte| is_queue_byte(*byte))
 }
 
-/// The same for rules, targets and replays.
+/// The names of rules, targets and replays have one form.
 fn is_short_name(name: &str) -> bool
     ensures { IsTrue result ↔ spec.IsShortName name.now }
 {
@@ -101,23 +101,23 @@ pub fn is_account(account: &str) -> bool
     account.len() == 12 && all_digits(account.as_bytes())
 }
 
-/// What stands behind the front, where the text begins with it.
-pub(crate) fn behind<'a>(text: &'a str, front: &str) -> Option<&'a str>
+/// The text after the prefix. `None` if the text does not begin with the prefix.
+pub(crate) fn after_prefix<'a>(text: &'a str, prefix: &str) -> Option<&'a str>
     ensures { MatchOption result
-        ((rest : List ℕ) → ¬ (text.now ≡ front.now ++ rest))
-        (λ rest. text.now ≡ front.now ++ rest.now) }
+        ((rest : List ℕ) → ¬ (text.now ≡ prefix.now ++ rest))
+        (λ rest. text.now ≡ prefix.now ++ rest.now) }
 {
-    text.strip_prefix(front)
+    text.strip_prefix(prefix)
 }
 
-/// What stands where the ARN of a bus has the name.
-fn bus_behind(text: &str) -> Option<&str>
+/// The part of the text that is the name, if the text is the ARN of a bus. The name is not checked.
+fn bus_name_in(text: &str) -> Option<&str>
     ensures { MatchOption result
         ((rest : List ℕ) → ¬ (text.now ≡ spec.bus_arn rest))
         (λ rest. text.now ≡ spec.bus_arn rest.now) }
 {
-    match behind(text, EVENTS_PREFIX) {
-        Some(resource) => behind(resource, "event-bus/"),
+    match after_prefix(text, EVENTS_PREFIX) {
+        Some(resource) => after_prefix(resource, "event-bus/"),
         None => None,
     }
 }
@@ -130,34 +130,34 @@ fn bus_named(name: &str) -> Option<&str>
     if is_bus_name(name) { Some(name) } else { None }
 }
 
-/// The bus that the text names or is the ARN of.
+/// The name of the bus, if the text is a bus's name or ARN.
 pub fn bus_of(text: &str) -> Option<&str>
     ensures { MatchOption result
         ((bus : List ℕ) → ¬ spec.IsBusGiven text.now bus)
         (λ bus. spec.IsBusGiven text.now bus.now) }
 {
-    match bus_behind(text) {
+    match bus_name_in(text) {
         Some(name) => bus_named(name),
         None => bus_named(text),
     }
 }
 
-/// What stands where the ARN of a queue has the name. Whether a queue may have the name is not asked.
-pub fn queue_behind(arn: &str) -> Option<&str>
+/// The part of the ARN that is the queue's name. The name is not checked. `None` if the text is no ARN of a queue.
+pub fn queue_name_in(arn: &str) -> Option<&str>
     ensures { MatchOption result
         ((queue : List ℕ) → ¬ (arn.now ≡ spec.queue_arn queue))
         (λ queue. arn.now ≡ spec.queue_arn queue.now) }
 {
-    behind(arn, QUEUE_PREFIX)
+    after_prefix(arn, QUEUE_PREFIX)
 }
 
-/// The queue that the text is the ARN of.
+/// The name of the queue, if the text is a queue's ARN.
 pub fn queue_of(arn: &str) -> Option<&str>
     ensures { MatchOption result
         ((queue : List ℕ) → ¬ spec.IsQueueArn arn.now queue)
         (λ queue. spec.IsQueueArn arn.now queue.now) }
 {
-    match queue_behind(arn) {
+    match queue_name_in(arn) {
         Some(name) => {
             if is_queue_name(name) {
                 Some(name)
@@ -169,21 +169,21 @@ pub fn queue_of(arn: &str) -> Option<&str>
     }
 }
 
-/// Whether the text is the ARN of this queue. Whether a queue may have the name is not asked.
+/// Whether the text is the ARN of this queue. The name is not checked.
 pub fn is_queue_arn(arn: &str, queue: &str) -> bool
     ensures { result ≡ bytes_eq arn.now (spec.queue_arn queue.now) }
 {
-    match queue_behind(arn) {
+    match queue_name_in(arn) {
         Some(name) => name == queue,
         None => false,
     }
 }
 
-/// Whether the text is the ARN of this bus. Whether a bus may have the name is not asked.
+/// Whether the text is the ARN of this bus. The name is not checked.
 pub fn is_bus_arn(arn: &str, bus: &str) -> bool
     ensures { result ≡ bytes_eq arn.now (spec.bus_arn bus.now) }
 {
-    match bus_behind(arn) {
+    match bus_name_in(arn) {
         Some(name) => name == bus,
         None => false,
     }

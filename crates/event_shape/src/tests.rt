@@ -1,14 +1,14 @@
 use crate::{
     CheckFault, EntryFault, Event, EventEntry, OWNER, REGION, archive_arn, bus_arn, bus_of, check,
     event_id, is_account, is_archive_name, is_bus_arn, is_bus_name, is_queue_arn, is_queue_name,
-    is_replay_name, is_rule_name, is_target_id, iso, queue_arn, queue_behind, queue_of, read_time,
+    is_replay_name, is_rule_name, is_target_id, iso, queue_arn, queue_name_in, queue_of, read_time,
     replay_arn, rule_arn, size,
 };
 use json_text::{Json, LAST_MOMENT, Text};
 use std::alloc::Global;
 use std::test::Fail;
 
-/// A time at each bound of moments and past the last, and two between.
+/// Times at both bounds of moments, one above the upper bound, and two between.
 const TEXTS: [(&str, Option<u64>); 5] = [
     ("1970-01-01T00:00:00Z", Some(0)),
     ("2023-11-14T22:13:20.75Z", Some(1_700_000_000)),
@@ -60,8 +60,8 @@ fn names_arns_and_ids_are_as_they_are_spelled(rt: HostRuntime) -> Result<(), Fai
     assert_eq!(rt; queue_of(queue.as_str()), Some("q"));
     let dotted = "arn:aws:sqs:us-east-1:111122223333:q.r";
     assert_eq!(rt; queue_of(dotted), None);
-    assert_eq!(rt; queue_behind(dotted), Some("q.r"));
-    assert_eq!(rt; queue_behind("arn:aws:sqs:us-east-1:111122223334:q"), None);
+    assert_eq!(rt; queue_name_in(dotted), Some("q.r"));
+    assert_eq!(rt; queue_name_in("arn:aws:sqs:us-east-1:111122223334:q"), None);
     let rule = rule_arn(alloc, "default", "r")?;
     assert_eq!(rt;
         rule.as_str(),
@@ -104,7 +104,7 @@ fn names_arns_and_ids_are_as_they_are_spelled(rt: HostRuntime) -> Result<(), Fai
     Ok(())
 }
 
-/// So many letters: whether they are a bus's name, one of a rule, a target or a replay, an archive's and a queue's.
+/// A number of letters; whether they are the name of a bus, of a rule (or target or replay), of an archive and of a queue.
 const LENGTHS: [(usize, [bool; 4]); 9] = [
     (0, [false, false, false, false]),
     (1, [true, true, true, true]),
@@ -148,7 +148,7 @@ fn entry(alloc: Global, source: &str, detail_type: &str, detail: &str) -> Result
     })
 }
 
-/// Source, detail type and detail, and the fault that is told.
+/// Source, detail type and detail, and the fault that is reported.
 const FAULTS: [(&str, &str, &str, Option<EntryFault>); 9] = [
     ("", "", "", Some(EntryFault::Source)),
     ("a", "", "", Some(EntryFault::DetailType)),
@@ -162,11 +162,11 @@ const FAULTS: [(&str, &str, &str, Option<EntryFault>); 9] = [
 ];
 
 #[test]
-fn the_first_fault_is_told(rt: HostRuntime) -> Result<(), Fail> {
+fn the_first_fault_is_reported(rt: HostRuntime) -> Result<(), Fail> {
     let alloc = rt.alloc();
     for (source, detail_type, detail, fault) in FAULTS {
-        let told = fault_of(alloc, entry(alloc, source, detail_type, detail)?)?;
-        assert_eq!(rt; told, fault, "{source} {detail_type} {detail}");
+        let found = fault_of(alloc, entry(alloc, source, detail_type, detail)?)?;
+        assert_eq!(rt; found, fault, "{source} {detail_type} {detail}");
     }
     let mut faulty = entry(alloc, "aws.x", "b", "[1]")?;
     faulty.bus = Some(Text::from_str(alloc, "a/b")?);
@@ -185,7 +185,7 @@ fn the_first_fault_is_told(rt: HostRuntime) -> Result<(), Fail> {
 fn fault_of(alloc: Global, entry: EventEntry) -> Result<Option<EntryFault>, Fail> {
     match check(alloc, entry) {
         Err(CheckFault::Entry(fault)) => Ok(Some(fault)),
-        Err(CheckFault::NoMemory) => Err(Fail::from("memory was refused")),
+        Err(CheckFault::NoMemory) => Err(Fail::from("out of memory")),
         Ok(_) => Ok(None),
     }
 }
@@ -214,7 +214,7 @@ fn an_event_has_its_exact_text(rt: HostRuntime) -> Result<(), Fail> {
 const FIRST: &str =
     "{\"version\":\"0\",\"id\":\"00000000-0000-8000-8000-000000000001\",\"detail-type\":\"Order\",\"source\":\"shop.orders\",\"account\":\"111122223333\",\"time\":\"2023-11-14T22:13:20Z\",\"region\":\"us-east-1\",\"resources\":[],\"detail\":{\"total\":12.50}}";
 
-/// A part of that text, what stands in its place, and whether that is an event's text too.
+/// A part of that text, its replacement, and whether the result is an event's text too.
 const CHANGES: [(&str, &str, bool); 22] = [
     ("Order", "Ordér \\\"", true),
     ("[]", "[\"a\\\"b\",\"c\"]", true),
@@ -277,7 +277,7 @@ fn letters_of(alloc: Global, count: usize) -> Result<String, Fail> {
     }
 }
 
-// An object with lists in it, so many levels in all.
+// An object with lists in it, with `levels` levels in all.
 fn nested(alloc: Global, levels: usize) -> Result<String, Fail> {
     let mut text = String::from_str(alloc, "{\"a\":")?;
     for _ in 1..levels {
@@ -296,8 +296,8 @@ fn a_detail_has_at_most_99_levels(rt: HostRuntime) -> Result<(), Fail> {
     let detail = nested(alloc, 99)?;
     check(alloc, entry(alloc, "a", "b", detail.as_str())?)?;
     let detail = nested(alloc, 100)?;
-    let told = fault_of(alloc, entry(alloc, "a", "b", detail.as_str())?)?;
-    assert_eq!(rt; told, Some(EntryFault::Malformed));
+    let found = fault_of(alloc, entry(alloc, "a", "b", detail.as_str())?)?;
+    assert_eq!(rt; found, Some(EntryFault::Malformed));
     Ok(())
 }
 

@@ -85,14 +85,14 @@ fn whole_moment(digits: &str) -> Option<u64>
     }
 }
 
-/// Whether a digit comes first, and `0` only where nothing follows.
+/// Whether a digit comes first, and it is `0` only if nothing follows.
 fn begins_plainly(digits: &[u8]) -> bool
     ensures { IsTrue result ↔ BeginsPlainly digits.now }
 {
     matches!(digits, [b'0'] | [b'1'..=b'9', ..])
 }
 
-/// Whether there are digits and nothing else.
+/// Whether there is at least one byte, and each is a digit.
 fn are_digits(bytes: &[u8]) -> bool
     ensures { IsTrue result ↔ IsDigits bytes.now }
 {

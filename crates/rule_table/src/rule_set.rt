@@ -13,7 +13,7 @@ use crate::bus::Bus;
 use crate::control::{Control, ControlFault, Target};
 use crate::rows::{Place, find, inserted, place_of, replaced, row_at};
 use crate::rule::RulePattern;
-use event_shape::{DEFAULT_BUS, is_target_id, queue_behind};
+use event_shape::{DEFAULT_BUS, is_target_id, queue_name_in};
 use json_text::{NoMemory, Text};
 use std::alloc::Global;
 use std::marker::Model;
@@ -254,7 +254,7 @@ impl RuleSet {
     fn is_queue_there(&self, arn: &str) -> bool
         ensures { IsTrue result ↔ spec.IsQueueThere self.now arn.now }
     {
-        match queue_behind(arn) {
+        match queue_name_in(arn) {
             Some(queue) => self.queue(queue),
             None => false,
         }

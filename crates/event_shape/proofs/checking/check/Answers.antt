@@ -5,14 +5,14 @@ use Rattle.event_shape.specs.declared.entry.EntryFault.TheVariants.{Source, Deta
 use Rattle.event_shape.specs.Entry.{entry_of}
 use Rattle.event_shape.specs.Fault.{IsFirstFault, IsDetail}
 use Rattle.event_shape.specs.Event.{Checked, IsCheckedOf, IsUtf8IfGiven}
-use Rattle.event_shape.proofs.CheckLemmas.{Passes, checked, reserved, exit_told, below_source, below_detail_type, below_detail, below_time}
+use Rattle.event_shape.proofs.CheckLemmas.{Passes, checked, reserved, exit_first, below_source, below_detail_type, below_detail, below_time}
 use Rattle.event_shape.proofs.MakeLemmas.{checked_members}
 use Rattle.event_shape.proofs.checking.check.Goals as goal
 
 pub returns-in_err-source-clause-before_memory : goal.returns-in_err-source-clause-before_memory
 returns-in_err-source-clause-before_memory c =
     let (lacks, found) = c.in_err-source.ensures in
-    exit_told (entry_of c.args.entry) Source c.in_err-source.field-0.0 c.from_residual.result c.from_residual.ensures.1 found
+    exit_first (entry_of c.args.entry) Source c.in_err-source.field-0.0 c.from_residual.result c.from_residual.ensures.1 found
     (below_source (entry_of c.args.entry)) lacks
 
 pub returns-in_err-detail_type-clause-before_memory : goal.returns-in_err-detail_type-clause-before_memory
@@ -20,7 +20,7 @@ returns-in_err-detail_type-clause-before_memory c =
     let e = entry_of c.args.entry in
     let (source, some, utf8) = c.in_ok-source.ensures in
     let (lacks, found) = c.in_err-detail_type.ensures in
-    exit_told e DetailType c.in_err-detail_type.field-0.0 c.from_residual-in_err-detail_type.result c.from_residual-in_err-detail_type.ensures.1 found
+    exit_first e DetailType c.in_err-detail_type.field-0.0 c.from_residual-in_err-detail_type.result c.from_residual-in_err-detail_type.ensures.1 found
     (below_detail_type e c.in_ok-source.source source some) lacks
 
 pub returns-in_err-detail-clause-before_memory : goal.returns-in_err-detail-clause-before_memory
@@ -29,7 +29,7 @@ returns-in_err-detail-clause-before_memory c =
     let (source, some, utf8) = c.in_ok-source.ensures in
     let (detail_type, any, also) = c.in_ok-detail_type.ensures in
     let (lacks, found) = c.in_err-detail.ensures in
-    exit_told e Detail c.in_err-detail.field-0.0 c.from_residual-in_err-detail.result c.from_residual-in_err-detail.ensures.1 found
+    exit_first e Detail c.in_err-detail.field-0.0 c.from_residual-in_err-detail.result c.from_residual-in_err-detail.ensures.1 found
     (below_detail e c.in_ok-source.source c.in_ok-detail_type.detail_type source some detail_type any) lacks
 
 pub returns-in_err-time-clause-before_memory : goal.returns-in_err-time-clause-before_memory
@@ -38,7 +38,7 @@ returns-in_err-time-clause-before_memory c =
     let (source, some, utf8) = c.in_ok-source.ensures in
     let (detail_type, any, also) = c.in_ok-detail_type.ensures in
     let (lacks, found) = c.in_err-time.ensures in
-    exit_told e Time c.in_err-time.field-0.0 c.from_residual-in_err-time.result c.from_residual-in_err-time.ensures.1 found
+    exit_first e Time c.in_err-time.field-0.0 c.from_residual-in_err-time.result c.from_residual-in_err-time.ensures.1 found
     (below_time e c.in_ok-source.source c.in_ok-detail_type.detail_type c.in_ok-detail.detail source some detail_type any c.in_ok-detail.ensures) lacks
 
 pub returns-then-is_reserved-clause-fault : goal.returns-then-is_reserved-clause-fault

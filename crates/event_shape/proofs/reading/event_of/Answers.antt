@@ -18,4 +18,6 @@ returns-in-Some c =
     (sym (ap tree_of c.in-Obj.is ∙ tree_of_object c.in-Obj.members) ∙ tree))) c.event_with.ensures
 
 pub returns-in-Obj : goal.returns-in-Obj
-returns-in-Obj c = λ e is tree. absurd (c.in-None.ensures e (values_are c.in-Obj.members.items e (sym (ap tree_of c.in-Obj.is ∙ tree_of_object c.in-Obj.members) ∙ tree)))
+returns-in-Obj c = λ e is tree.
+    let same = sym (ap tree_of c.in-Obj.is ∙ tree_of_object c.in-Obj.members) ∙ tree in
+    absurd (c.in-None.ensures e (values_are c.in-Obj.members.items e same))

@@ -18,7 +18,8 @@ pub returns-in_default-text_moment : goal.returns-in_default-text_moment
 returns-in_default-text_moment c = λ e is are.
     let has = is.1 in
     let written = c.as_bytes.ensures.value ∙ c.as_str-2.ensures ∙ are.time in
-    absurd (c.in_default-text_moment.not-Some is.0 ((c.text_moment.ensures is.0).1 (has.is_moment, subst (λ t. IsTimeText t is.0) (sym written) (iso_is_time e.time is.0 has.time))))
+    absurd (c.in_default-text_moment.not-Some is.0 ((c.text_moment.ensures is.0).1
+    (has.is_moment, subst (λ t. IsTimeText t is.0) (sym written) (iso_is_time e.time is.0 has.time))))
 
 pub iso-requires : goal.iso-requires
 iso-requires c = ((c.text_moment.ensures c.in-Some-text_moment.moment).0 c.in-Some-text_moment.is).0

@@ -8,5 +8,5 @@ returns-clause-value c = subst (λ t. IsIso c.args.moment t) (sym c.from.ensures
 
 pub returns-clause-inverse : goal.returns-clause-inverse
 returns-clause-inverse c = λ n.
-    let told = subst (λ t. IsTimeText t n ↔ (n ≡ c.args.moment)) (sym c.from.ensures) (c.in_ok-iso.ensures.inverse n) in
-    (λ p. told.0 p.1, λ e. (subst IsMoment (sym e) c.requires, told.1 e))
+    let found = subst (λ t. IsTimeText t n ↔ (n ≡ c.args.moment)) (sym c.from.ensures) (c.in_ok-iso.ensures.inverse n) in
+    (λ p. found.0 p.1, λ e. (subst IsMoment (sym e) c.requires, found.1 e))

@@ -5,10 +5,10 @@ use Rattle.event_shape.proofs.time.read_time.Goals as goal
 
 pub returns-in-Num : goal.returns-in-Num
 returns-in-Num c =
-    let told = rw c.as_str.ensures at c.number_moment.ensures in
-    rw (ap tree_of c.in-Num.is ∙ tree_of_number c.in-Num.spelling) told
+    let found = rw c.as_str.ensures at c.number_moment.ensures in
+    rw (ap tree_of c.in-Num.is ∙ tree_of_number c.in-Num.spelling) found
 
 pub returns-in-Str : goal.returns-in-Str
 returns-in-Str c =
-    let told = rw (c.as_bytes.ensures.value, c.as_str-in-Str.ensures) at c.text_moment.ensures in
-    rw (ap tree_of c.in-Str.is ∙ tree_of_text c.in-Str.text) told
+    let found = rw (c.as_bytes.ensures.value, c.as_str-in-Str.ensures) at c.text_moment.ensures in
+    rw (ap tree_of c.in-Str.is ∙ tree_of_text c.in-Str.text) found

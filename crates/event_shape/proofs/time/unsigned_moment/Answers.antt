@@ -19,7 +19,8 @@ returns-else-not-are_digits c = λ n.
     let digits = rw c.as_bytes.ensures.value at c.if-not-are_digits.ensures in (
       λ e. let p = (c.whole_moment.ensures n).0 e in
           (p.0, (46 ∷ c.in-Some.places.now, (refl, digits.0 refl), cut ∙ ap (λ w. w ++ 46 ∷ c.in-Some.places.now) p.1)),
-      λ p. (c.whole_moment.ensures n).1 (p.0, (whole_with_places c.args.spelling.now c.in-Some.whole.now c.in-Some.places.now n cut (omega (arith, p.0)) p.1).0),
+      λ p. (c.whole_moment.ensures n).1
+          (p.0, (whole_with_places c.args.spelling.now c.in-Some.whole.now c.in-Some.places.now n cut (omega (arith, p.0)) p.1).0),
     )
 
 pub returns-in-None : goal.returns-in-None
