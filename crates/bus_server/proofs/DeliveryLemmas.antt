@@ -1,4 +1,4 @@
--- Steps of delivery one after the other. Callers cite `delivering_none`, `delivering_more`, `delivery_used`, `delivery_idle` and
+-- Steps of delivery in order. Other files cite `delivering_more`, `delivery_used`, `delivery_idle` and
 -- `delivery_limited`.
 use Rattle.std.proofs.Common.{◌≡◌, ℕ, ◌+◌, ◌<◌, inl, inr, List, [], ◌∷◌, ◌++◌, Option, None, sym, refl, ap, ◌∙◌, subst, append_assoc, append-nil, length-append}
 use Rattle.delivery_duties.specs.declared.fate.Outcome.{Outcome}
@@ -44,17 +44,6 @@ steps_append t mid new (r ∷ rs) g ts more n o (p, next, first, later, rest, st
   ap (λ (xs : List Turn). xs ++ more) turns ∙ append_assoc first later more,
   ap (and_one o) counts ∙ and_swap o p rest,
 )
-
--- no step yet
-pub delivering_none : (old : BookState) (ahead : Option (ℕ → ℕ)) → Delivering old old ahead ahead no_counts 0
-delivering_none old ahead = record {
-  given = [];
-  made = [];
-  count = refl;
-  are_steps = (refl, refl, refl);
-  turns = sym (append-nil old.turns);
-  readings = Gives-none ahead;
-}
 
 -- one step more
 pub delivering_more : (old mid new : BookState) (ahead ahead_mid ahead_new : Option (ℕ → ℕ)) (n : Counts) (steps reading : ℕ) (o : Outcome)

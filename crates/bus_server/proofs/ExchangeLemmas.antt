@@ -1,5 +1,5 @@
--- One message, from what was written for it. Callers cite `answered_exchange`, `fault_exchange`, `delivery_exchange` and
--- `asked_bounded`.
+-- One message, from what was written for it. Other files cite `answered_exchange`, `fault_exchange` and
+-- `delivery_exchange`.
 use Rattle.std.proofs.Common.{◌≡◌, ℕ, ◌⊎◌, inl, inr, Bool, List, [], ◌∷◌, Option, None, Result, Ok, Err, sym, refl, ap, ◌∙◌, subst, append-nil}
 use Rattle.std.specs.Prelude.{IfOk, OnErr, IsSome}
 use Rattle.json_text.specs.declared.base.NoMemory.{NoMemory}
@@ -24,8 +24,9 @@ use Rattle.bus_server.specs.Answered.{IsAnswered}
 use Rattle.bus_server.specs.Responses.{text_or, IsFaultText, IsUndelivered, DeliveredOf}
 use Rattle.bus_server.specs.Running.{ExchangeOf}
 
--- memory was refused, and nothing changed
-refused_exchange : (m : Message) (close : Bool) (old new : BookState) (ahead ahead_new : Option (ℕ → ℕ)) (written written_new : Option (List ℕ)) (result : Result (Unit {0}) Failed) (reading : ℕ)
+-- out of memory, and nothing changed
+refused_exchange : (m : Message) (close : Bool) (old new : BookState)
+    (ahead ahead_new : Option (ℕ → ℕ)) (written written_new : Option (List ℕ)) (result : Result (Unit {0}) Failed) (reading : ℕ)
     → new ≡ old → Gives ahead ahead_new (reading ∷ []) → WritesAll written written_new result (reply_text no_memory close)
     → ExchangeOf m close old new ahead ahead_new written written_new result
 refused_exchange m close old new ahead ahead_new written written_new result reading same gave writes = record {
@@ -37,7 +38,8 @@ refused_exchange m close old new ahead ahead_new written written_new result read
   writes = writes;
 }
 
-pub answered_exchange : (m : Message) (close : Bool) (old new : BookState) (ahead ahead_new : Option (ℕ → ℕ)) (written written_new : Option (List ℕ)) (result : Result (Unit {0}) Failed) (reading : ℕ)
+pub answered_exchange : (m : Message) (close : Bool) (old new : BookState)
+    (ahead ahead_new : Option (ℕ → ℕ)) (written written_new : Option (List ℕ)) (result : Result (Unit {0}) Failed) (reading : ℕ)
     (r : Request) (bytes : Result (List ℕ) NoMemory)
     → IsAsked m (moment_of reading) r → IfOk bytes (λ b. IsAnswered old new r close b) → OnErr bytes (new ≡ old)
     → Gives ahead ahead_new (reading ∷ []) → WritesAll written written_new result (text_or bytes close)
@@ -53,8 +55,9 @@ answered_exchange m close old new ahead ahead_new written written_new result rea
 answered_exchange m close old new ahead ahead_new written written_new result reading r (Err refused) is_asked ok err gave writes =
     refused_exchange m close old new ahead ahead_new written written_new result reading err gave writes
 
--- no request was asked for, or memory was refused while it was read
-pub fault_exchange : (m : Message) (close : Bool) (old : BookState) (ahead ahead_new : Option (ℕ → ℕ)) (written written_new : Option (List ℕ)) (result : Result (Unit {0}) Failed) (reading : ℕ)
+-- the message is no request, or out of memory while it was read
+pub fault_exchange : (m : Message) (close : Bool) (old : BookState)
+    (ahead ahead_new : Option (ℕ → ℕ)) (written written_new : Option (List ℕ)) (result : Result (Unit {0}) Failed) (reading : ℕ)
     (fault : CallFault) (bytes : Result (List ℕ) NoMemory)
     → (fault ≡ faults.UnknownOperation → operation_of m.target ≡ None)
     → (fault ≡ faults.NotBuilt → IsSome (operation_of m.target) × ((r : Request) → ¬ IsAsked m (moment_of reading) r))
@@ -83,7 +86,8 @@ fault_exchange m close old ahead ahead_new written written_new result reading fa
     }
 fault_exchange m close old ahead ahead_new written written_new result reading faults.NoMemory (Ok bytes) none missing ok gave writes = absurd ok
 
-pub delivery_exchange : (m : Message) (close : Bool) (old new : BookState) (ahead ahead_mid ahead_new : Option (ℕ → ℕ)) (written written_new : Option (List ℕ)) (result : Result (Unit {0}) Failed) (reading : ℕ)
+pub delivery_exchange : (m : Message) (close : Bool) (old new : BookState)
+    (ahead ahead_mid ahead_new : Option (ℕ → ℕ)) (written written_new : Option (List ℕ)) (result : Result (Unit {0}) Failed) (reading : ℕ)
     (r : Request) → IsAsked m (moment_of reading) r → r.action ≡ deliver_due → Gives ahead ahead_mid (reading ∷ [])
     → DeliveredOf close old new ahead_mid ahead_new written written_new result ⊎ IsUndelivered close old new ahead_mid ahead_new written written_new result
     → ExchangeOf m close old new ahead ahead_new written written_new result
@@ -97,20 +101,3 @@ delivery_exchange m close old new ahead ahead_mid ahead_new written written_new 
 }
 delivery_exchange m close old new ahead ahead_mid ahead_new written written_new result reading r is_asked due gave (inr (same, none, writes)) =
     refused_exchange m close old new ahead ahead_new written written_new result reading same (Gives-append gave none) writes
-
--- a request that was asked for publishes one entry to ten
-pub asked_bounded : (m : Message) (reading : ℕ) (r : Request) → IsAsked m reading r → IsBounded r.action
-asked_bounded m reading r is_asked = of_action is_asked.operation r.action is_asked.action
-  where
-    of_action : (o : Operation) (a : Action) → IsAction o is_asked.members a → IsBounded a
-    of_action o (create_queue name) is = tt
-    of_action o (put_rule name pattern) is = tt
-    of_action o (put_targets rule targets) is = tt
-    of_action CreateQueue (put_events entries) is = absurd is
-    of_action PutRule (put_events entries) is = absurd is
-    of_action PutTargets (put_events entries) is = absurd is
-    of_action PutEvents (put_events entries) is = (is.some, is.few)
-    of_action PeekMessages (put_events entries) is = absurd is
-    of_action DeliverDue (put_events entries) is = absurd is
-    of_action o (peek_messages queue) is = tt
-    of_action o deliver_due is = tt

@@ -1,5 +1,6 @@
--- What reading one piece more does. Callers cite `at_end`, `starved`, `whole_lacks`, `longer`, `left_over` and `read_behind`.
-use Rattle.std.proofs.Common.{◌≡◌, ℕ, ◌-◌, ◌<◌, ◌≤◌, ◌⊎◌, inl, inr, Bool, true, false, List, [], ◌++◌, length, take, drop, Option, sym, refl, ap, ◌∙◌, subst, arith, append_assoc, append-nil, length-append}
+-- What reading one more piece does. Other files cite `at_end`, `starved`, `whole_lacks`, `left_over` and `read_after`.
+use Rattle.std.proofs.Common.{◌≡◌, ℕ, ◌-◌, ◌<◌, ◌≤◌, ◌⊎◌, inl, inr, Bool, true, false, List, [], ◌++◌, length, take, drop, Option, sym, refl, ap, ◌∙◌}
+use Rattle.std.proofs.Common.{subst, arith, append_assoc, append-nil, length-append}
 use Rattle.std.proofs.lemmas.List.{take-append-drop, take-append-le}
 use Rattle.std.proofs.Math.Seq.{take-append_seam}
 use Rattle.std.proofs.lemmas.Bool.{cases_lt}
@@ -28,12 +29,13 @@ at_end l0 l1 l2 first rest taken buf n lack none takes is more end lacks = (
       lacks,
 )
 
--- whether a whole head is at hand
-by_head : (rest : List ℕ) (b : Bool) → (IsTrue b → HasHead rest) → (IsFalse b → HasNoRequest rest) → ((b ≡ true) × HasHead rest) ⊎ ((b ≡ false) × (¬ HasHead rest))
+-- whether a whole head is buffered
+by_head : (rest : List ℕ) (b : Bool) → (IsTrue b → HasHead rest) → (IsFalse b → HasNoRequest rest)
+    → ((b ≡ true) × HasHead rest) ⊎ ((b ≡ false) × (¬ HasHead rest))
 by_head rest true there missing = inl (refl, there refl)
 by_head rest false there missing = inr (refl, λ found. missing refl found.0 found.1 found.2)
 
--- memory was refused for the bytes behind those at hand
+-- out of memory for the bytes after the buffered ones
 pub starved : (l0 l1 : Option (List ℕ)) (first rest taken : List ℕ) (head : Bool)
     → Consumes l0 l1 taken → rest ≡ first ++ taken → IsAwaited rest → (IsTrue head → HasHead rest) → (IsFalse head → HasNoRequest rest)
     → (x : List ℕ) × Consumes l0 l1 x × LackOf (first ++ x) l1 (lacks.NoMemory head)
@@ -43,16 +45,15 @@ starved l0 l1 first rest taken head takes is awaited whole none = (
   subst (λ (bytes : List ℕ). LackOf bytes l1 (lacks.NoMemory head)) is (inl awaited, by_head rest head whole none),
 )
 
--- a piece that has a byte makes what is at hand longer
-pub longer : (rest piece : List ℕ) (limit : ℕ) → length rest < limit → 0 < length piece → limit - length (rest ++ piece) < limit - length rest
-longer rest piece limit short some = omega (arith, length-append rest piece, short, some)
-
 -- a whole message has a head
-pub whole_head : (bytes after : List ℕ) (m : Message) → HoldsMessage bytes m after → HasHead bytes
-whole_head bytes after m (front, message, whole) =
-    (message.head, m.body ++ after, (message.reads.0, whole ∙ ap (λ (b : List ℕ). b ++ after) message.reads.1 ∙ append_assoc (print_request message.head) m.body after))
+whole_head : (bytes after : List ℕ) (m : Message) → HoldsMessage bytes m after → HasHead bytes
+whole_head bytes after m (front, message, whole) = (
+  message.head,
+  m.body ++ after,
+  (message.reads.0, whole ∙ ap (λ (b : List ℕ). b ++ after) message.reads.1 ∙ append_assoc (print_request message.head) m.body after),
+)
 
--- memory was refused for the message that is whole
+-- out of memory for the message that is whole
 pub whole_lacks : (l0 l1 : Option (List ℕ)) (first rest taken after : List ℕ) (m : Message) → Consumes l0 l1 taken → rest ≡ first ++ taken
     → IsLastRead rest → HoldsMessage rest m after
     → (x : List ℕ) × Consumes l0 l1 x × LackOf (first ++ x) l1 (lacks.NoMemory true)
@@ -66,11 +67,11 @@ whole_lacks l0 l1 first rest taken after m takes is read holds = (
 pub left_over : (bytes : List ℕ) → length bytes ≤ piece_size → IsLastRead bytes
 left_over bytes few = ([], bytes, refl, nothing_is_awaited, few)
 
--- what stands behind the first message that is whole is less than the last read
-pub read_behind : (bytes behind : List ℕ) (m : Message) → IsLastRead bytes → HoldsMessage bytes m behind → length behind < piece_size
-read_behind bytes behind m (held, piece, is, awaited, small) (front, message, whole) =
+-- fewer bytes are after the first whole message than the last read gave
+pub read_after : (bytes rest_new : List ℕ) (m : Message) → IsLastRead bytes → HoldsMessage bytes m rest_new → length rest_new < piece_size
+read_after bytes rest_new m (held, piece, is, awaited, small) (front, message, whole) =
     elim (cases_lt (length held) (length front)) [
-      | inl short ↦ omega (arith, ap length (sym whole ∙ is), length-append front behind, length-append held piece, short, small)
+      | inl short ↦ omega (arith, ap length (sym whole ∙ is), length-append front rest_new, length-append held piece, short, small)
       | inr long ↦ absurd (not_awaited front (drop (length front) held) m message (subst IsAwaited (held_is long) awaited))
     ]
   where
@@ -78,4 +79,4 @@ read_behind bytes behind m (held, piece, is, awaited, small) (front, message, wh
     held_is long =
         sym (take-append-drop (length front) held)
         ∙ ap (λ (xs : List ℕ). xs ++ drop (length front) held)
-        (sym (take-append-le (length front) held piece long) ∙ ap (take (length front)) (sym is ∙ whole) ∙ take-append_seam front behind)
+        (sym (take-append-le (length front) held piece long) ∙ ap (take (length front)) (sym is ∙ whole) ∙ take-append_seam front rest_new)

@@ -1,4 +1,4 @@
--- Turns lead from tables to tables. Callers cite `exchanges_lead` and `run_leads`.
+-- Turns lead from tables to tables. Other files cite `exchanges_lead` and `run_leads`.
 use Rattle.std.proofs.Common.{◌≡◌, ℕ, ◌+◌, Bool, true, false, cond, List, [], ◌∷◌, ◌++◌, Option, Some, None, sym, refl, ap, ◌∙◌, subst, arith, rules}
 use Rattle.std.proofs.lemmas.Bool.Decides.{nat_tests}
 use Rattle.std.specs.Prelude.{◌==◌, All, Contains, filter, find, not}
@@ -17,10 +17,12 @@ use Rattle.router_core.specs.Batch.{Entry, control, accepted, attempt, Batch}
 use Rattle.router_core.specs.Tables.{Tables, first_tables, duties_after, after_entry, after_entries, after_batch, tables_after, is_full}
 use Rattle.router_core.specs.Steps.{EndsSo, record_of, claiming, putting_back}
 use Rattle.router_calls.specs.Answer.{Answer, IsAnswer, moment_at}
-use Rattle.bus_server.specs.History.{Turn, State, asked, claims, records, puts_back, closed_claims, after_turn, after_written, IsLegal, state_after, with_written, batches_of, begun, NoneClaimed, Leads}
-use Rattle.bus_server.specs.Exchange.{Exchange, moment_of, AreSteps, Stop, done, limited, IsStop, IsExchange, unknown, unbuilt, answered, delivered, out_of_memory, IsWithoutTurn, AreExchanges, turns_of}
+use Rattle.bus_server.specs.History.{Turn, State, asked, claims, records, puts_back, closed_claims, after_turn, after_written, IsLegal, state_after}
+use Rattle.bus_server.specs.History.{with_written, batches_of, begun, NoneClaimed, Leads}
+use Rattle.bus_server.specs.Exchange.{Exchange, moment_of, AreSteps, Stop, done, limited, IsStop, IsExchange, unknown, unbuilt, answered, delivered}
+use Rattle.bus_server.specs.Exchange.{out_of_memory, IsWithoutTurn, AreExchanges, turns_of}
 
--- lists of turns, one behind the other
+-- two lists of turns, the second after the first
 
 legal_append : (s : State) (xs ys : List Turn) → IsLegal s xs → IsLegal (state_after xs s) ys → IsLegal s (xs ++ ys)
 legal_append s [] ys first later = later
@@ -67,7 +69,11 @@ filter_free : (p : DutyRow → Bool) (rows : List DutyRow) → All Free rows →
 filter_free p [] free = free
 filter_free p (row ∷ rows) free =
     let rest = filter_free p rows (All-tail Free row rows free) in
-    elim (p row) as (λ b. All Free (cond b (row ∷ filter p rows) (filter p rows))) [ true ↦ All-cons Free row (filter p rows) (All-head Free row rows free) rest | false ↦ rest ]
+    elim (p row) as (λ b. All Free (cond b (row ∷ filter p rows) (filter p rows))) [
+      | true ↦ All-cons Free row (filter p rows)
+          (All-head Free row rows free) rest
+      | false ↦ rest
+    ]
 
 chosen_free : (b : Bool) (s other : Duties) → All Free s.pending → All Free other.pending → All Free (cond b s other).pending
 chosen_free true s other free rest = free
@@ -115,7 +121,8 @@ settled_rows n (row ∷ rows) = by_number (row.number == n) refl (settled_rows n
     by_number true is rest = simp is rest
     by_number false is rest = simp is (ap (λ (rs : List DutyRow). row ∷ rs) rest)
 
-taken_rows : (n : ℕ) (rows : List DutyRow) (ms : List Queue) → taken_of (find (λ row. row.number == n) (marked true n rows)) ms ≡ taken_of (find (λ row. row.number == n) rows) ms
+taken_rows : (n : ℕ) (rows : List DutyRow) (ms : List Queue)
+    → taken_of (find (λ row. row.number == n) (marked true n rows)) ms ≡ taken_of (find (λ row. row.number == n) rows) ms
 taken_rows n [] ms = refl
 taken_rows n (row ∷ rows) ms = by_number (row.number == n) refl (taken_rows n rows ms)
   where
@@ -133,11 +140,19 @@ settled_claimed n Accepted s =
       queues = taken_of (find (λ row. row.number == n) (marked true n s.pending)) s.queues;
       delivered = s.delivered + 1;
     }) (settled_rows n s.pending)
-    ∙ ap (λ (ms : List Queue). record s { pending = filter (λ row. not (row.number == n)) s.pending; ended = ended; queues = ms; delivered = s.delivered + 1 }) (taken_rows n s.pending s.queues)
+    ∙ ap (λ (ms : List Queue). record s {
+      pending = filter
+          (λ row. not (row.number == n)) s.pending;
+      ended = ended;
+      queues = ms;
+      delivered = s.delivered + 1;
+    }) (taken_rows n s.pending s.queues)
 settled_claimed n TooOld s =
-    ap (λ (rows : List DutyRow). record s { pending = rows; ended = s.ended ++ record { number = n; fate = Dropped } ∷ []; dropped = s.dropped + 1 }) (settled_rows n s.pending)
+    ap (λ (rows : List DutyRow). record s { pending = rows; ended = s.ended ++ record { number = n; fate = Dropped } ∷ []; dropped = s.dropped + 1 })
+    (settled_rows n s.pending)
 
-record_claimed : (moment n : ℕ) (outcome : Outcome) (t : Tables) → after_batch (record_of moment n outcome) (claiming n t) ≡ after_batch (record_of moment n outcome) t
+record_claimed : (moment n : ℕ) (outcome : Outcome) (t : Tables)
+    → after_batch (record_of moment n outcome) (claiming n t) ≡ after_batch (record_of moment n outcome) t
 record_claimed moment n outcome t = ap (λ (d : Duties). record t { duties = d; entries = t.entries + 1; moment = moment }) (settled_claimed n outcome t.duties)
 
 -- a claim that is given back leaves the rows as they were
@@ -148,7 +163,8 @@ back_rows n (row ∷ rows) free = by_number (row.number == n) refl (back_rows n 
     by_number : (b : Bool) → (row.number == n) ≡ b → marked false n (marked true n rows) ≡ rows
         → marked_row false n (marked_row true n row) ∷ marked false n (marked true n rows) ≡ row ∷ rows
     by_number true is rest =
-        simp is (ap (λ (c : Bool). record row { claimed = c } ∷ marked false n (marked true n rows)) (sym (All-head Free row rows free)) ∙ ap (λ (rs : List DutyRow). row ∷ rs) rest)
+        simp is (ap (λ (c : Bool). record row { claimed = c } ∷ marked false n (marked true n rows)) (sym (All-head Free row rows free))
+        ∙ ap (λ (rs : List DutyRow). row ∷ rs) rest)
     by_number false is rest = simp is (ap (λ (rs : List DutyRow). row ∷ rs) rest)
 
 back_tables : (n : ℕ) (t : Tables) → NoneClaimed t → putting_back n (claiming n t) ≡ t
@@ -176,14 +192,19 @@ leads_answer t r a is = record {
 -- a claim, and the record of how its attempt ended
 leads_record : (t : Tables) (duty reading : ℕ) (outcome : Outcome) → IsNext t.duties (moment_at t reading) duty → is_full t ≡ false
     → EndsSo (claiming duty t) duty (moment_at t reading) outcome
-    → Leads t (record { ask = claims duty reading; batch = None } ∷ record { ask = records duty reading outcome; batch = Some (record_of (moment_at t reading) duty outcome) } ∷ [])
+    → Leads t (record { ask = claims duty reading; batch = None }
+    ∷ record { ask = records duty reading outcome; batch = Some (record_of (moment_at t reading) duty outcome) } ∷ [])
     (after_batch (record_of (moment_at t reading) duty outcome) (claiming duty t))
 leads_record t duty reading outcome next numbered ends =
     let b = record_of (moment_at t reading) duty outcome in
     record {
       legal = ((refl, next), ((held duty reading, numbered, ends, refl), tt));
       reaches = ap (λ (cs : List (ℕ × ℕ)). record { tables = after_batch b (claiming duty t); open_claims = cs }) (closes_claim duty reading);
-      folds = λ none. (record_claimed (moment_at t reading) duty outcome t, subst NoneClaimed (sym (record_claimed (moment_at t reading) duty outcome t)) (batch_free b t none));
+      folds = λ none. (
+        record_claimed (moment_at t reading) duty outcome t,
+        subst NoneClaimed
+            (sym (record_claimed (moment_at t reading) duty outcome t)) (batch_free b t none),
+      );
     }
 
 -- a claim that is given back
@@ -207,7 +228,8 @@ leads_steps t (r ∷ rs) turns counts new (outcome, mid, first, later, rest, ste
     (leads_to t mid _ first _ step.turns_are step.tables (leads_record t step.duty (moment_of r) outcome step.next step.numbered step.ends))
     (leads_steps mid rs later rest new steps))
 
-leads_stop : (budget made : ℕ) (t : Tables) (last : List ℕ) (turns : List Turn) (stop : Stop) (new : Tables) → IsStop budget made t last turns stop new → Leads t turns new
+leads_stop : (budget made : ℕ) (t : Tables) (last : List ℕ) (turns : List Turn) (stop : Stop) (new : Tables)
+    → IsStop budget made t last turns stop new → Leads t turns new
 leads_stop budget made t last turns done new (cause, nothing, same) = leads_to t new t turns [] nothing same (leads_none t)
 leads_stop budget made t last turns limited new (fewer, (reading, duty, read, next, numbered, turns_are, now)) =
     leads_to t new _ turns _ turns_are now (leads_back t duty (moment_of reading) next)
@@ -221,7 +243,8 @@ leads_exchange t e new (unbuilt some none is) = leads_without t e _ new is
 leads_exchange t e new (answered r a is_asked is unread turns reply now) = leads_to t new _ e.turns _ turns now (leads_answer t r a is)
 leads_exchange t e new (delivered r counts stop is_asked due d reply) =
     leads_to t new new e.turns (d.stepping ++ d.stopping) d.turns_are refl
-    (leads_append t d.mid new d.stepping d.stopping (leads_steps t d.made d.stepping counts d.mid d.steps) (leads_stop _ _ d.mid d.last d.stopping stop new d.stops))
+    (leads_append t d.mid new d.stepping d.stopping (leads_steps t d.made d.stepping counts d.mid d.steps)
+    (leads_stop _ _ d.mid d.last d.stopping stop new d.stops))
 leads_exchange t e new (out_of_memory is) = leads_without t e _ new is
 
 -- exchanges make a legal history

@@ -1,9 +1,9 @@
+pub mod WordLemmas
+pub mod HistoryLemmas
 pub mod DeliveryLemmas
 pub mod ExchangeLemmas
-pub mod HistoryLemmas
 pub mod IncomingLemmas
 pub mod LeadsLemmas
 pub mod ReadingLemmas
-pub mod RunLemmas
 pub mod RunningLemmas
-pub mod WordLemmas
+pub mod RunLemmas

@@ -1,11 +1,12 @@
--- The readings of turns are some of the clock's. Callers cite `exchanges_read`.
+-- The readings of turns are some of the clock's. Other files cite `exchanges_read`.
 use Rattle.std.proofs.Common.{◌≡◌, ℕ, inl, inr, List, [], ◌∷◌, ◌++◌, map, None, sym, refl, subst}
 use Rattle.std.proofs.lemmas.List.{map-append}
 use Rattle.std.proofs.lemmas.Grind.{flat_map-append}
 use Rattle.router_core.specs.Reply.{Counts}
 use Rattle.router_core.specs.Tables.{Tables}
 use Rattle.bus_server.specs.History.{Turn, claims, puts_back, readings_at, asked_readings, IsSublist}
-use Rattle.bus_server.specs.Exchange.{Exchange, moment_of, AreSteps, Stop, done, limited, IsStop, IsExchange, unknown, unbuilt, answered, delivered, out_of_memory, AreExchanges, turns_of, readings_of}
+use Rattle.bus_server.specs.Exchange.{Exchange, moment_of, AreSteps, Stop, done, limited, IsStop, IsExchange, unknown, unbuilt, answered, delivered}
+use Rattle.bus_server.specs.Exchange.{out_of_memory, AreExchanges, turns_of, readings_of}
 
 sub_skip : (xs ys : List ℕ) (y : ℕ) → IsSublist xs ys → IsSublist xs (y ∷ ys)
 sub_skip [] ys y is = tt
@@ -33,7 +34,8 @@ read_append xs ys gs hs first later =
 read_nothing : (turns : List Turn) (readings : List ℕ) → turns ≡ [] → ReadAt turns readings
 read_nothing turns readings nothing = subst (λ (ts : List Turn). ReadAt ts readings) (sym nothing) tt
 
-steps_read : (t : Tables) (readings : List ℕ) (turns : List Turn) (counts : Counts) (new : Tables) → AreSteps t readings turns counts new → ReadAt turns readings
+steps_read : (t : Tables) (readings : List ℕ) (turns : List Turn) (counts : Counts) (new : Tables) → AreSteps t readings turns counts new
+    → ReadAt turns readings
 steps_read t [] turns counts new (nothing, none, same) = read_nothing turns [] nothing
 steps_read t (r ∷ rs) turns counts new (outcome, mid, first, later, rest, step, steps, turns_are, counts_are) =
     subst (λ (ts : List Turn). ReadAt ts (r ∷ rs)) (sym turns_are)
@@ -41,13 +43,18 @@ steps_read t (r ∷ rs) turns counts new (outcome, mid, first, later, rest, step
     (subst (λ (ts : List Turn). ReadAt ts (r ∷ [])) (sym step.turns_are) (inl (refl, tt)))
     (steps_read mid rs later rest new steps))
 
-back_read : (duty reading : ℕ) → ReadAt (record { ask = claims duty (moment_of reading); batch = None } ∷ record { ask = puts_back duty; batch = None } ∷ []) (reading ∷ [])
+back_read : (duty reading : ℕ)
+    → ReadAt (record { ask = claims duty (moment_of reading); batch = None } ∷ record { ask = puts_back duty; batch = None } ∷ []) (reading ∷ [])
 back_read duty reading = inl (refl, tt)
 
-stop_read : (budget made : ℕ) (t : Tables) (last : List ℕ) (turns : List Turn) (stop : Stop) (new : Tables) → IsStop budget made t last turns stop new → ReadAt turns last
+stop_read : (budget made : ℕ) (t : Tables) (last : List ℕ) (turns : List Turn) (stop : Stop) (new : Tables) → IsStop budget made t last turns stop new
+    → ReadAt turns last
 stop_read budget made t last turns done new (cause, nothing, same) = read_nothing turns last nothing
 stop_read budget made t last turns limited new (fewer, (reading, duty, read, next, numbered, turns_are, now)) =
-    subst (λ (ts : List Turn). ReadAt ts last) (sym turns_are) (subst (λ (ls : List ℕ). ReadAt (record { ask = claims duty (moment_of reading); batch = None } ∷ record { ask = puts_back duty; batch = None } ∷ []) ls) (sym read) (back_read duty reading))
+    subst (λ (ts : List Turn). ReadAt ts last) (sym turns_are)
+    (subst (λ (ls : List ℕ). ReadAt
+    (record { ask = claims duty (moment_of reading); batch = None } ∷ record { ask = puts_back duty; batch = None } ∷ []) ls) (sym read)
+    (back_read duty reading))
 
 exchange_read : (t : Tables) (e : Exchange) (new : Tables) → IsExchange t e new → ReadAt e.turns (e.reading ∷ e.steps)
 exchange_read t e new (unknown none is) = read_nothing e.turns (e.reading ∷ e.steps) is.no_turns
@@ -58,10 +65,13 @@ exchange_read t e new (delivered r counts stop is_asked due d reply) =
     sub_skip (asked_readings e.turns) (map moment_of e.steps) (moment_of e.reading)
     (subst (λ (ts : List Turn). ReadAt ts e.steps) (sym d.turns_are)
     (subst (λ (gs : List ℕ). ReadAt (d.stepping ++ d.stopping) gs) (sym d.readings_are)
-    (read_append d.stepping d.stopping d.made d.last (steps_read t d.made d.stepping counts d.mid d.steps) (stop_read _ _ d.mid d.last d.stopping stop new d.stops))))
+    (read_append d.stepping d.stopping d.made d.last (steps_read t d.made d.stepping counts d.mid d.steps)
+    (stop_read _ _ d.mid d.last d.stopping stop new d.stops))))
 exchange_read t e new (out_of_memory is) = read_nothing e.turns (e.reading ∷ e.steps) is.no_turns
 
 -- the readings of exchanges are enough for their turns
-pub exchanges_read : (t : Tables) (es : List Exchange) (new : Tables) → AreExchanges t es new → IsSublist (asked_readings (turns_of es)) (map moment_of (readings_of es))
+pub exchanges_read : (t : Tables) (es : List Exchange) (new : Tables) → AreExchanges t es new
+    → IsSublist (asked_readings (turns_of es)) (map moment_of (readings_of es))
 exchanges_read t [] new same = tt
-exchanges_read t (e ∷ es) new (mid, is, later) = read_append e.turns (turns_of es) (e.reading ∷ e.steps) (readings_of es) (exchange_read t e mid is) (exchanges_read mid es new later)
+exchanges_read t (e ∷ es) new (mid, is, later) = read_append e.turns (turns_of es) (e.reading ∷ e.steps) (readings_of es) (exchange_read t e mid is)
+    (exchanges_read mid es new later)

@@ -1,6 +1,7 @@
--- A session goes on by one exchange, or ends. Callers cite `running_at_start`, `served_next`, `running_on`, `long_end`,
+-- A session goes on by one exchange, or ends. Other files cite `running_at_start`, `served_next`, `running_on`, `long_end`,
 -- `closed_end`, `write_end` and `lack_end`.
-use Rattle.std.proofs.Common.{◌≡◌, ℕ, ◌+◌, ◌<◌, ◌≤◌, ◌⊎◌, inl, inr, Bool, true, false, ◌||◌, List, [], ◌∷◌, ◌++◌, length, Option, Some, None, Result, Ok, Err, sym, refl, ap, ◌∙◌, subst, arith, append_assoc, append-nil, length-append}
+use Rattle.std.proofs.Common.{◌≡◌, ℕ, ◌+◌, ◌<◌, ◌≤◌, ◌⊎◌, inl, inr, Bool, true, false, ◌||◌, List, [], ◌∷◌, ◌++◌, length, Option, Some, None, Result}
+use Rattle.std.proofs.Common.{Ok, Err, sym, refl, ap, ◌∙◌, subst, arith, append_assoc, append-nil, length-append}
 use Rattle.std.specs.Prelude.{◌==◌}
 use Rattle.std.proofs.lemmas.List.{map-append}
 use Rattle.std.proofs.lemmas.Grind.{flat_map-append}
@@ -17,9 +18,10 @@ use Rattle.api_messages.specs.Between.{HasHead}
 use Rattle.api_wire.specs.Written.{reply_text}
 use Rattle.bus_server.specs.Book.{BookState}
 use Rattle.bus_server.specs.Exchange.{Exchange, IsExchange, AreExchanges, turns_of, readings_of, messages_of}
-use Rattle.bus_server.specs.Session.{request_limit, closes, texts_from, texts_of, NoneCloses, OpenBefore, Course, piece_size, IsWholeNow, IsStarvedAt, EndsWith, WritesWhole, WritesNotLast, IsWritten, IsSession}
+use Rattle.bus_server.specs.Session.{request_limit, closes, texts_from, texts_of, NoneCloses, OpenBefore, Course, piece_size, IsWholeNow, IsStarvedAt}
+use Rattle.bus_server.specs.Session.{EndsWith, WritesWhole, WritesNotLast, IsWritten, IsSession}
 use Rattle.bus_server.specs.Running.{IsRunning, ExchangeOf}
-use Rattle.bus_server.specs.Served.{WritesBehind, IsServed}
+use Rattle.bus_server.specs.Served.{WritesAfter, IsServed}
 use Rattle.bus_server.specs.declared.session.SessionEnd.TheVariants as ends
 use Rattle.bus_server.specs.declared.incoming.Lack.{Lack}
 use Rattle.bus_server.specs.declared.incoming.Lack.TheVariants as lacks
@@ -35,9 +37,10 @@ stream_more : (bytes more rest : List ℕ) (ms : List Message) → IsStream byte
 stream_more bytes more rest [] is = ap (λ b. b ++ more) is
 stream_more bytes more rest (m ∷ ms) (after, holds, later) = (after ++ more, holds_more bytes after more m holds, stream_more after more rest ms later)
 
-stream_append : (bytes rest behind : List ℕ) (ms : List Message) (m : Message) → IsStream bytes ms rest → HoldsMessage rest m behind → IsStream bytes (ms ++ m ∷ []) behind
-stream_append bytes rest behind [] m is holds = (behind, subst (λ b. HoldsMessage b m behind) (sym is) holds, refl)
-stream_append bytes rest behind (n ∷ ms) m (after, first, later) holds = (after, first, stream_append after rest behind ms m later holds)
+stream_append : (bytes rest rest_new : List ℕ) (ms : List Message) (m : Message) → IsStream bytes ms rest → HoldsMessage rest m rest_new
+    → IsStream bytes (ms ++ m ∷ []) rest_new
+stream_append bytes rest rest_new [] m is holds = (rest_new, subst (λ b. HoldsMessage b m rest_new) (sym is) holds, refl)
+stream_append bytes rest rest_new (n ∷ ms) m (after, first, later) holds = (after, first, stream_append after rest rest_new ms m later holds)
 
 exchanges_append : (t mid new : Tables) (es : List Exchange) (e : Exchange) → AreExchanges t es mid → IsExchange mid e new → AreExchanges t (es ++ e ∷ []) new
 exchanges_append t mid new [] e is last = (new, subst (λ s. IsExchange s e new) is last, refl)
@@ -46,7 +49,8 @@ exchanges_append t mid new (d ∷ es) e (next, first, later) last = (next, first
 texts_append : (n : ℕ) (es : List Exchange) (e : Exchange) → texts_from n (es ++ e ∷ []) ≡ texts_from n es ++ reply_text e.reply (closes (n + length es) e)
 texts_append n [] e = append-nil _ ∙ ap (λ k. reply_text e.reply (closes k e)) (omega arith)
 texts_append n (d ∷ es) e =
-    ap (λ t. reply_text d.reply (closes n d) ++ t) (texts_append (n + 1) es e ∙ ap (λ k. texts_from (n + 1) es ++ reply_text e.reply (closes k e)) (omega arith))
+    ap (λ t. reply_text d.reply (closes n d) ++ t)
+    (texts_append (n + 1) es e ∙ ap (λ k. texts_from (n + 1) es ++ reply_text e.reply (closes k e)) (omega arith))
     ∙ sym (append_assoc (reply_text d.reply (closes n d)) (texts_from (n + 1) es) (reply_text e.reply (closes (n + length (d ∷ es)) e)))
 
 none_append : (es : List Exchange) (e : Exchange) → NoneCloses es → e.message.close ≡ false → NoneCloses (es ++ e ∷ [])
@@ -57,14 +61,17 @@ turns_append : (es : List Exchange) (e : Exchange) → turns_of es ++ e.turns �
 turns_append es e = sym (flat_map-append (λ (x : Exchange). x.turns) es (e ∷ []) ∙ ap (λ t. turns_of es ++ t) (append-nil e.turns))
 
 readings_append : (es : List Exchange) (e : Exchange) → readings_of es ++ e.reading ∷ e.steps ≡ readings_of (es ++ e ∷ [])
-readings_append es e = sym (flat_map-append (λ (x : Exchange). x.reading ∷ x.steps) es (e ∷ []) ∙ ap (λ t. readings_of es ++ t) (append-nil (e.reading ∷ e.steps)))
+readings_append es e = sym
+    (flat_map-append (λ (x : Exchange). x.reading ∷ x.steps) es (e ∷ []) ∙ ap (λ t. readings_of es ++ t) (append-nil (e.reading ∷ e.steps)))
 
-writes_behind : (old mid new : Option (List ℕ)) (xs ys : List ℕ) (result : Result (Unit {0}) Failed) → Appends old mid xs → WritesAll mid new result ys → WritesBehind xs ys old new result
-writes_behind old mid new xs ys (Ok u) first second = Appends-append old mid new xs ys first second
-writes_behind old mid new xs ys (Err e) first (part, behind, whole, appended) = (part, behind, whole, Appends-append old mid new xs part first appended)
+writes_after : (old mid new : Option (List ℕ)) (xs ys : List ℕ) (result : Result (Unit {0}) Failed) → Appends old mid xs
+    → WritesAll mid new result ys → WritesAfter xs ys old new result
+writes_after old mid new xs ys (Ok u) first second = Appends-append old mid new xs ys first second
+writes_after old mid new xs ys (Err e) first (part, after, whole, appended) = (part, after, whole, Appends-append old mid new xs part first appended)
 
 -- the replies of all exchanges, the last one included
-texts_whole : (before : List Exchange) (last : Exchange) → texts_of before ++ reply_text last.reply (closes (length before) last) ≡ texts_of (before ++ last ∷ [])
+texts_whole : (before : List Exchange) (last : Exchange)
+    → texts_of before ++ reply_text last.reply (closes (length before) last) ≡ texts_of (before ++ last ∷ [])
 texts_whole before last =
     let at : length before ≡ 0 + length before = omega arith in
     ap (λ (k : ℕ). texts_of before ++ reply_text last.reply (closes k last)) at ∙ sym (texts_append 0 before last)
@@ -91,17 +98,20 @@ running_at_start old left written ahead rest none = record {
     consumes_none (Some xs) = refl
 
 -- one message more, and its exchange
-pub served_next : (old now new : BookState) (left left_now left_new written written_now written_new : Option (List ℕ)) (ahead ahead_now ahead_new : Option (ℕ → ℕ))
-    (rest behind : List ℕ) (served : ℕ) (m : Message) (close : Bool) (result : Result (Unit {0}) Failed)
+pub served_next : (old now new : BookState) (left left_now left_new written written_now written_new : Option (List ℕ))
+    (ahead ahead_now ahead_new : Option (ℕ → ℕ))
+    (rest rest_new : List ℕ) (served : ℕ) (m : Message) (close : Bool) (result : Result (Unit {0}) Failed)
     → IsRunning old now left left_now written written_now ahead ahead_now rest served
-    → ((taken : List ℕ) × Consumes left_now left_new taken × HoldsMessage (rest ++ taken) m behind × (length behind < piece_size))
+    → ((taken : List ℕ) × Consumes left_now left_new taken × HoldsMessage (rest ++ taken) m rest_new × (length rest_new < piece_size))
     → ExchangeOf m close now new ahead_now ahead_new written_now written_new result
     → close ≡ (m.close || (served + 1 == request_limit))
-    → IsServed m old new left left_new written written_new ahead ahead_new behind served result
-served_next old now new left left_now left_new written written_now written_new ahead ahead_now ahead_new rest behind served m close result run (more, takes, holds, few) x is =
+    → IsServed m old new left left_new written written_new ahead ahead_new rest_new served result
+served_next old now new left left_now left_new written written_now written_new ahead ahead_now ahead_new rest rest_new served m close result run
+    (more, takes, holds, few) x is =
     let e = x.exchanged in
     let es = run.exchanged in
-    let closing : closes (length es) e ≡ close = ap (λ (k : ℕ). e.message.close || (k + 1 == request_limit)) run.count ∙ ap (λ (n : Message). n.close || (served + 1 == request_limit)) x.message_is ∙ sym is in
+    let closing : closes (length es) e ≡ close = ap (λ (k : ℕ). e.message.close || (k + 1 == request_limit)) run.count
+    ∙ ap (λ (n : Message). n.close || (served + 1 == request_limit)) x.message_is ∙ sym is in
     record {
       before = es;
       last = e;
@@ -110,19 +120,20 @@ served_next old now new left left_now left_new written written_now written_new a
       open_yet = run.open_yet;
       taken = run.taken ++ more;
       takes = Consumes-append left left_now left_new run.taken more run.takes takes;
-      stream = subst (λ (ms : List Message). IsStream (run.taken ++ more) ms behind)
+      stream = subst (λ (ms : List Message). IsStream (run.taken ++ more) ms rest_new)
           (ap (λ (n : Message). messages_of es ++ n ∷ []) (sym x.message_is) ∙ sym (map-append (λ (d : Exchange). d.message) es (e ∷ [])))
-          (stream_append (run.taken ++ more) (rest ++ more) behind (messages_of es) m (stream_more run.taken more rest (messages_of es) run.stream) holds);
+          (stream_append (run.taken ++ more) (rest ++ more) rest_new (messages_of es) m (stream_more run.taken more rest (messages_of es) run.stream) holds);
       few = few;
       exchanges = exchanges_append old.tables now.tables new.tables es e run.exchanges x.is_exchange;
       turns = x.turns ∙ ap (λ t. t ++ e.turns) run.turns ∙ append_assoc old.turns (turns_of es) e.turns ∙ ap (λ t. old.turns ++ t) (turns_append es e);
       readings = subst (λ (g : List ℕ). Gives ahead ahead_new g) (readings_append es e) (Gives-append run.readings x.readings);
-      written_are = subst (λ (c : Bool). WritesBehind (texts_of es) (reply_text e.reply c) written written_new result) (sym closing)
-          (writes_behind written written_now written_new (texts_of es) (reply_text e.reply close) result run.written_are x.writes);
+      written_are = subst (λ (c : Bool). WritesAfter (texts_of es) (reply_text e.reply c) written written_new result) (sym closing)
+          (writes_after written written_now written_new (texts_of es) (reply_text e.reply close) result run.written_are x.writes);
     }
 
 -- the message asks for no end
-pub running_on : (m : Message) (old now : BookState) (left left_now written written_now : Option (List ℕ)) (ahead ahead_now : Option (ℕ → ℕ)) (rest : List ℕ) (served : ℕ)
+pub running_on : (m : Message) (old now : BookState) (left left_now written written_now : Option (List ℕ))
+    (ahead ahead_now : Option (ℕ → ℕ)) (rest : List ℕ) (served : ℕ)
     → IsServed m old now left left_now written written_now ahead ahead_now rest served (Ok tt) → m.close ≡ false
     → IsRunning old now left left_now written written_now ahead ahead_now rest (served + 1)
 running_on m old now left left_now written written_now ahead ahead_now rest served s stays = record {
@@ -147,7 +158,8 @@ served_count : (before : List Exchange) (last : Exchange) (served : ℕ) → len
 served_count before last served is = length-append before (last ∷ []) ∙ ap (λ n. n + 1) is
 
 -- the last request that one session serves
-pub long_end : (m : Message) (old now : BookState) (left left_now written written_now : Option (List ℕ)) (ahead ahead_now : Option (ℕ → ℕ)) (rest : List ℕ) (served : ℕ)
+pub long_end : (m : Message) (old now : BookState) (left left_now written written_now : Option (List ℕ))
+    (ahead ahead_now : Option (ℕ → ℕ)) (rest : List ℕ) (served : ℕ)
     → IsServed m old now left left_now written written_now ahead ahead_now rest served (Ok tt) → served + 1 ≡ request_limit
     → IsSession old now left left_now written written_now ahead ahead_now ends.Long
 long_end m old now left left_now written written_now ahead ahead_now rest served s last = record {
@@ -165,7 +177,8 @@ long_end m old now left left_now written written_now ahead ahead_now rest served
 }
 
 -- the message asks to close
-pub closed_end : (m : Message) (old now : BookState) (left left_now written written_now : Option (List ℕ)) (ahead ahead_now : Option (ℕ → ℕ)) (rest : List ℕ) (served : ℕ)
+pub closed_end : (m : Message) (old now : BookState) (left left_now written written_now : Option (List ℕ))
+    (ahead ahead_now : Option (ℕ → ℕ)) (rest : List ℕ) (served : ℕ)
     → IsServed m old now left left_now written written_now ahead ahead_now rest served (Ok tt) → served + 1 < request_limit → m.close ≡ true
     → IsSession old now left left_now written written_now ahead ahead_now ends.Closed
 closed_end m old now left left_now written written_now ahead ahead_now rest served s below closes_it = record {
@@ -187,7 +200,8 @@ closed_end m old now left left_now written written_now ahead ahead_now rest serv
 }
 
 -- the reply could not be written
-pub write_end : (m : Message) (old now : BookState) (left left_now written written_now : Option (List ℕ)) (ahead ahead_now : Option (ℕ → ℕ)) (rest : List ℕ) (served : ℕ) (e : Failed)
+pub write_end : (m : Message) (old now : BookState) (left left_now written written_now : Option (List ℕ))
+    (ahead ahead_now : Option (ℕ → ℕ)) (rest : List ℕ) (served : ℕ) (e : Failed)
     → IsServed m old now left left_now written written_now ahead ahead_now rest served (Err e) → served + 1 ≤ request_limit
     → IsSession old now left left_now written written_now ahead ahead_now ends.WriteFault
 write_end m old now left left_now written written_now ahead ahead_now rest served e s below = record {
@@ -232,7 +246,8 @@ lack_ends lacks.Refused es rest left none below lacking = (none, below, lacking.
 lack_ends lacks.ReadFault es rest left none below lacking = (below, none, lacking, refl)
 lack_ends (lacks.NoMemory head) es rest left none below (at, cause) = starved_ends es rest head none below at cause
 
-fault_ends : (lack : Lack) (es : List Exchange) (rest text : List ℕ) (left : Option (List ℕ)) → NoneCloses es → length es < request_limit → LackOf rest left lack
+fault_ends : (lack : Lack) (es : List Exchange) (rest text : List ℕ) (left : Option (List ℕ)) → NoneCloses es → length es < request_limit
+    → LackOf rest left lack
     → closing_of lack ≡ Some text
     → EndsWith ends.WriteFault (record { exchanges = es; rest = rest; closing = closing_of lack }) (IsAtEnd left)
 fault_ends lacks.Closed es rest text left none below lacking which = cc
@@ -243,7 +258,8 @@ fault_ends (lacks.NoMemory true) es rest text left none below (at, cause) which 
 fault_ends (lacks.NoMemory false) es rest text left none below lacking which = cc
 
 -- no message comes
-pub lack_end : (old now : BookState) (left left_now left_new written written_now written_new : Option (List ℕ)) (ahead ahead_now : Option (ℕ → ℕ)) (rest : List ℕ) (served : ℕ)
+pub lack_end : (old now : BookState) (left left_now left_new written written_now written_new : Option (List ℕ))
+    (ahead ahead_now : Option (ℕ → ℕ)) (rest : List ℕ) (served : ℕ)
     (lack : Lack) (end : SessionEnd)
     → IsRunning old now left left_now written written_now ahead ahead_now rest served
     → ((taken : List ℕ) × Consumes left_now left_new taken × LackOf (rest ++ taken) left_new lack)
@@ -252,9 +268,12 @@ pub lack_end : (old now : BookState) (left left_now left_new written written_now
 lack_end old now left left_now left_new written written_now written_new ahead ahead_now rest served lack end run (more, takes, lacking) finish below =
     elim finish [
       | inl done ↦ subst (IsSession old now left left_new written written_new ahead ahead_now) (sym done.0)
-          (ended (end_of lack) (all_written lack course written written_new (Appends-append written written_now written_new _ _ run.written_are done.1)) (lack_ends lack run.exchanged (rest ++ more) left_new run.open_yet few lacking))
+          (ended (end_of lack) (all_written lack course written written_new
+          (Appends-append written written_now written_new _ _ run.written_are done.1))
+          (lack_ends lack run.exchanged (rest ++ more) left_new run.open_yet few lacking))
       | inr failed ↦ subst (IsSession old now left left_new written written_new ahead ahead_now) (sym failed.0)
-          (ended ends.WriteFault (part failed.1.0 failed.1.1 failed.1.2) (fault_ends lack run.exchanged (rest ++ more) failed.1.0 left_new run.open_yet few lacking failed.1.1))
+          (ended ends.WriteFault (part failed.1.0 failed.1.1 failed.1.2)
+          (fault_ends lack run.exchanged (rest ++ more) failed.1.0 left_new run.open_yet few lacking failed.1.1))
     ]
   where
     course : Course
@@ -264,9 +283,9 @@ lack_end old now left left_now left_new written written_now written_new ahead ah
     few = subst (λ n. n < request_limit) (sym run.count) below
 
     part : (text : List ℕ) → closing_of lack ≡ Some text → AppendsPart written_now written_new text → IsWritten ends.WriteFault course written written_new
-    part text is (first, behind, whole, appended) =
+    part text is (first, after, whole, appended) =
         subst (λ (c : Option (List ℕ)). WritesNotLast run.exchanged c written written_new) (sym is)
-        (first, behind, whole, Appends-append written written_now written_new (texts_of run.exchanged) first run.written_are appended)
+        (first, after, whole, Appends-append written written_now written_new (texts_of run.exchanged) first run.written_are appended)
 
     ended : (stop : SessionEnd) → IsWritten stop course written written_new → EndsWith stop course (IsAtEnd left_new)
         → IsSession old now left left_new written written_new ahead ahead_now stop

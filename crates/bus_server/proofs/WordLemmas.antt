@@ -1,4 +1,4 @@
--- Lines of words. Callers cite `line_of_two`, `line_of_four`, `line_value` and `line_once`.
+-- Lines of words. Other files cite `line_of_two`, `line_of_four`, `line_value` and `line_once`.
 use Rattle.std.proofs.Common.{◌≡◌, ℕ, ◌<◌, ◌≤◌, List, [], ◌∷◌, length, map, get_or, Option, Some, None, sym, refl, ap, ◌∙◌, subst, arith}
 use Rattle.std.specs.Prelude.{codes}
 use Rattle.std.proofs.lemmas.Fmt.{decimal_injective}

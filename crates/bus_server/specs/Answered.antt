@@ -6,7 +6,7 @@ use Rattle.api_wire.specs.Written.{reply_text}
 use Rattle.bus_server.specs.History.{asked, after_written}
 use Rattle.bus_server.specs.Book.{BookState}
 
--- the answer is the machine's, the turn and its batch are entered, and the bytes are those of the reply
+-- the answer is the router machine's, the turn and its batch are added to the history, and the bytes are those of the reply
 pub record IsAnswered (old new : BookState) (request : Request) (close : Bool) (bytes : List ℕ) : Type 0 where
   pub answer : Answer
   pub is_answer : IsAnswer old.tables request answer

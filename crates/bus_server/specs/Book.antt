@@ -1,4 +1,4 @@
--- What contracts see of the router's guarded state.
+-- The views of the router's guarded state in contracts.
 use Rattle.std.specs.Prelude.{List, map, Option, Some, None}
 use Rattle.router_core.specs.Tables.{Tables}
 use Rattle.router_core.specs.Batch.{Batch}
@@ -13,28 +13,28 @@ use Rattle.bus_server.specs.declared.history.Turn.{Turn}
 use Rattle.bus_server.specs.declared.history.History.{History}
 use Rattle.bus_server.specs.declared.book.Book.{Book}
 use Rattle.bus_server.specs.Firsts.{firsts}
-use Rattle.bus_server.specs.History as seen
+use Rattle.bus_server.specs.History as view
 
 -- the tables, and all turns since the book was opened, oldest first
 pub record BookState : Type 0 where
   pub tables : Tables
-  pub turns : List seen.Turn
+  pub turns : List view.Turn
 
-abbrev pub ask_of : Ask → seen.Ask
-ask_of (Asked request) = seen.asked (request_of request.value)
-ask_of (Claims duty reading) = seen.claims duty reading
-ask_of (Records duty reading outcome) = seen.records duty reading outcome
-ask_of (PutsBack duty) = seen.puts_back duty
+abbrev pub ask_of : Ask → view.Ask
+ask_of (Asked request) = view.asked (request_of request.value)
+ask_of (Claims duty reading) = view.claims duty reading
+ask_of (Records duty reading outcome) = view.records duty reading outcome
+ask_of (PutsBack duty) = view.puts_back duty
 
 abbrev pub written_of : Written → Option Batch
 written_of Nothing = None
 written_of (Change ready) = Some (batch_of ready.value)
 written_of (Record moment duty outcome) = Some (record_of moment duty outcome)
 
-abbrev pub turn_of : Turn → seen.Turn
+abbrev pub turn_of : Turn → view.Turn
 turn_of turn = record { ask = ask_of turn.ask; batch = written_of turn.written }
 
-abbrev pub turns_in : History → List seen.Turn
+abbrev pub turns_in : History → List view.Turn
 turns_in history = map turn_of (firsts history.log.items)
 
 abbrev pub book_of : Book → BookState

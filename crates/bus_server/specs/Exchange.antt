@@ -12,8 +12,8 @@ use Rattle.api_wire.specs.Call.{operation_of, IsAsked}
 use Rattle.router_core.specs.Steps.{EndsSo, record_of, claiming, putting_back}
 use Rattle.bus_server.specs.History.{asked, claims, records, puts_back, Turn, after_written}
 
--- the reading of the clock when the message was whole, those of its delivery steps and of the look behind them that made none, the
--- turns that it made, and its reply
+-- a message; the reading of the clock when the message was whole; the readings of its delivery steps, and of the last check if
+-- that made no step; the turns that it made; and its reply
 pub record Exchange : Type 0 where
   pub message : Message
   pub reading : ℕ
@@ -21,19 +21,19 @@ pub record Exchange : Type 0 where
   pub turns : List Turn
   pub reply : Reply
 
--- a reading of the clock as a moment: one past the last moment counts as that
+-- a reading of the clock as a moment: a reading after the last moment counts as the last moment
 abbrev pub moment_of : ℕ → ℕ
 moment_of reading = min reading 250000000000
 
 abbrev pub no_counts : Counts
 no_counts = record { attempts = 0; delivered = 0; dropped = 0 }
 
--- one step more, that ended so
+-- the counts after one more step, with this outcome
 abbrev pub and_one : Outcome → Counts → Counts
 and_one Accepted n = record n { attempts = n.attempts + 1; delivered = n.delivered + 1 }
 and_one TooOld n = record n { attempts = n.attempts + 1; dropped = n.dropped + 1 }
 
--- one step of delivery, at a reading of its own: the next due duty is claimed, and how its attempt ended is recorded
+-- one step of delivery, at a reading of its own: the next due duty is claimed, and the outcome of its attempt is recorded
 pub record IsStep (t : Tables) (reading : ℕ) (turns : List Turn) (outcome : Outcome) (new : Tables) : Type 0 where
   pub duty : ℕ
   pub next : IsNext t.duties (moment_at t (moment_of reading)) duty
@@ -43,7 +43,7 @@ pub record IsStep (t : Tables) (reading : ℕ) (turns : List Turn) (outcome : Ou
       ∷ record { ask = records duty (moment_of reading) outcome; batch = Some (record_of (moment_at t (moment_of reading)) duty outcome) } ∷ []
   pub tables : new ≡ after_batch (record_of (moment_at t (moment_of reading)) duty outcome) (claiming duty t)
 
--- steps one after the other, each at a reading of its own, and how they ended
+-- steps in order, each at a reading of its own, and the counts of their outcomes
 abbrev pub AreSteps : Tables → List ℕ → List Turn → Counts → Tables → Type 0
 AreSteps t [] turns counts new = (turns ≡ []) × (counts ≡ no_counts) × (new ≡ t)
 AreSteps t (reading ∷ readings) turns counts new =
@@ -51,11 +51,11 @@ AreSteps t (reading ∷ readings) turns counts new =
     × IsStep t reading first outcome mid × AreSteps mid readings later rest new
     × (turns ≡ first ++ later) × (counts ≡ and_one outcome rest)
 
--- how a run of steps ended: none was due or the budget was used; or a duty was due but no further batch is numbered
+-- how a run of steps ended: no duty was due or the budget was used; or a duty was due but the number limit was reached
 pub data Stop : Type 0 where
   done limited : Stop
 
--- what comes behind so many steps
+-- how a run ends after `made` steps
 abbrev pub IsStop : ℕ → ℕ → Tables → List ℕ → List Turn → Stop → Tables → Type 0
 IsStop budget made t last turns done new =
     (((made ≡ budget) × (last ≡ []))
@@ -67,7 +67,7 @@ IsStop budget made t last turns limited new =
     × (turns ≡ record { ask = claims duty (moment_of reading); batch = None } ∷ record { ask = puts_back duty; batch = None } ∷ [])
     × (new ≡ putting_back duty (claiming duty t)))
 
--- the steps of one DeliverDue, at most so many
+-- the steps of one DeliverDue, at most `budget`
 pub record IsDelivery (budget : ℕ) (t : Tables) (readings : List ℕ) (turns : List Turn) (counts : Counts) (stop : Stop) (new : Tables) : Type 0 where
   pub made : List ℕ
   pub last : List ℕ
@@ -79,7 +79,7 @@ pub record IsDelivery (budget : ℕ) (t : Tables) (readings : List ℕ) (turns :
   pub steps : AreSteps t made stepping counts mid
   pub stops : IsStop budget (length made) mid last stopping stop new
 
--- how many steps one DeliverDue makes at most
+-- the number of steps that one DeliverDue makes at most
 abbrev pub default_budget : ℕ
 default_budget = 100
 
@@ -97,9 +97,9 @@ pub record IsWithoutTurn (t : Tables) (e : Exchange) (reply : Reply) (new : Tabl
 
 -- A message and its reply, from the tables before it to those after it.
 pub data IsExchange (t : Tables) (e : Exchange) (new : Tables) : Type 0 where
-  -- no operation of this name
+  -- no operation has this name
   unknown : operation_of e.message.target ≡ None → IsWithoutTurn t e unknown_operation new → IsExchange t e new
-  -- the operation, but no request that is built
+  -- the operation is served, but the message is no request that is built
   unbuilt : IsSome (operation_of e.message.target) → ((r : Request) → ¬ IsAsked e.message (moment_of e.reading) r)
       → IsWithoutTurn t e not_built new → IsExchange t e new
   -- a request of one turn
@@ -109,10 +109,10 @@ pub data IsExchange (t : Tables) (e : Exchange) (new : Tables) : Type 0 where
   -- DeliverDue
   delivered : (r : Request) (counts : Counts) (stop : Stop) → IsAsked e.message (moment_of e.reading) r → r.action ≡ deliver_due
       → IsDelivery default_budget t e.steps e.turns counts stop new → e.reply ≡ delivery_reply counts stop → IsExchange t e new
-  -- memory was refused before anything changed
+  -- out of memory, before anything changed
   out_of_memory : IsWithoutTurn t e no_memory new → IsExchange t e new
 
--- exchanges one after the other
+-- exchanges in order
 abbrev pub AreExchanges : Tables → List Exchange → Tables → Type 0
 AreExchanges t [] new = new ≡ t
 AreExchanges t (e ∷ es) new = (mid : Tables) × IsExchange t e mid × AreExchanges mid es new

@@ -1,4 +1,4 @@
--- The list of a history that only contracts see.
+-- The list of a history. Only contracts see it.
 use Rattle.std.specs.Prelude.{List, [], ◌∷◌}
 
 abbrev pub firsts : {T : Type 0} → List (T × Unit {0}) → List T

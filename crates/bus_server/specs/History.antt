@@ -9,8 +9,8 @@ use Rattle.router_core.specs.Tables.{Tables, after_batch, tables_after, is_full}
 use Rattle.router_core.specs.Steps.{EndsSo, record_of, claiming, putting_back}
 use Rattle.router_calls.specs.Answer.{IsAnswer, moment_at}
 
--- what a turn was taken for: a request; a claim of the next due duty, at a reading of the clock; the record of how a claimed
--- duty's attempt ended, with the claim's reading; or a claim that was put back
+-- what a turn was made for: a request; a claim of the next due duty, at a reading of the clock; the record of the outcome of a
+-- claimed duty's attempt, with the claim's reading; or a claim that was put back
 pub data Ask : Type 0 where
   asked : Request → Ask
   claims : (duty reading : ℕ) → Ask
@@ -27,7 +27,7 @@ pub record State : Type 0 where
   pub tables : Tables
   pub open_claims : List (ℕ × ℕ)
 
--- a turn that the router machine may take in this state: what it asks, and what it writes
+-- a turn that the router machine may make in this state: what it asks, and what it writes
 abbrev pub IsTurnOf : State → Ask → Option Batch → Type 0
 IsTurnOf s (asked request) written = (reply : Reply) × IsAnswer s.tables request (record { batch = written; reply = reply })
 IsTurnOf s (claims duty reading) written = (written ≡ None) × IsNext s.tables.duties (moment_at s.tables reading) duty
@@ -55,7 +55,7 @@ after_ask (puts_back duty) written s = record { tables = putting_back duty s.tab
 abbrev pub after_turn : Turn → State → State
 after_turn turn s = after_ask turn.ask turn.batch s
 
--- a legal history: each turn is the machine's in the state that those before it left
+-- a legal history: each turn is the router machine's in the state that the turns before it left
 abbrev pub IsLegal : State → List Turn → Type 0
 IsLegal s [] = Unit {0}
 IsLegal s (turn ∷ turns) = IsTurnOf s turn.ask turn.batch × IsLegal (after_turn turn s) turns
@@ -74,14 +74,14 @@ abbrev pub batches_of : List Turn → List Batch
 batches_of [] = []
 batches_of (turn ∷ turns) = with_written turn.batch (batches_of turns)
 
--- the reading that an ask brings: a request's, or a claim's, which its record has again
+-- the reading of an ask: a request's, or a claim's; the record of a claim has the same reading, so it is not counted again
 abbrev pub readings_at : Ask → List ℕ
 readings_at (asked request) = request.reading ∷ []
 readings_at (claims duty reading) = reading ∷ []
 readings_at (records duty reading outcome) = []
 readings_at (puts_back duty) = []
 
--- the readings of turns, that of a claim and its record once
+-- the readings of turns; that of a claim and its record counts once
 abbrev pub asked_readings : List Turn → List ℕ
 asked_readings = flat_map (λ turn. readings_at turn.ask)
 
@@ -99,8 +99,8 @@ begun t = record { tables = t; open_claims = [] }
 abbrev pub NoneClaimed : Tables → Type 0
 NoneClaimed t = All (λ row. row.claimed ≡ false) t.duties.pending
 
--- The turns are a legal history from the old tables to the new ones, and leave no claim open. Where no duty was claimed before,
--- none is after them, and the new tables are the fold of the turns' batches.
+-- The turns are a legal history from the old tables to the new ones, and leave no claim open. If no duty was claimed before,
+-- none is claimed after them, and the new tables are the fold of the turns' batches.
 pub record Leads (old : Tables) (turns : List Turn) (new : Tables) : Type 0 where
   pub legal : IsLegal (begun old) turns
   pub reaches : state_after turns (begun old) ≡ begun new

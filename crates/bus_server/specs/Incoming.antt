@@ -1,4 +1,4 @@
--- What reading the next message answers.
+-- What reading the next message returns.
 use Rattle.std.specs.Prelude.{◌≡◌, ℕ, ◌⊎◌, true, false, ◌<◌, List, [], ◌++◌, length, Option, Some, None, unwrap_or}
 use Rattle.std.specs.Io.KnownBytes.{Appends, Consumes, IsAtEnd}
 use Rattle.router_disk.specs.Sink.{AppendsPart}
@@ -14,7 +14,7 @@ use Rattle.bus_server.specs.declared.incoming.Lack.TheVariants as lacks
 use Rattle.bus_server.specs.declared.session.SessionEnd.{SessionEnd}
 use Rattle.bus_server.specs.declared.session.SessionEnd.TheVariants as ends
 
--- why no message comes of these bytes
+-- why these bytes give no message
 abbrev pub LackOf : List ℕ → Option (List ℕ) → Lack → Type 0
 LackOf bytes left lacks.Closed = IsAtEnd left × AreEmptyLines bytes × IsAwaited bytes
 LackOf bytes left lacks.Cut = IsAtEnd left × IsAwaited bytes × (¬ AreEmptyLines bytes)
@@ -23,13 +23,13 @@ LackOf bytes left lacks.ReadFault = IsAwaited bytes
 LackOf bytes left (lacks.NoMemory head) = (IsAwaited bytes ⊎ IsWholeNow bytes)
     × (((head ≡ true) × HasHead bytes) ⊎ ((head ≡ false) × (¬ HasHead bytes)))
 
--- the bytes at hand and those taken in are the message and the rest, or give none
+-- the buffered bytes and those read are the message and the rest, or give no message
 abbrev pub NextOf : Option (List ℕ) → Option (List ℕ) → List ℕ → List ℕ → Incoming → Type 0
 NextOf left left_new rest rest_new (incoming.Message m) = (taken : List ℕ) × Consumes left left_new taken × HoldsMessage (rest ++ taken) m rest_new
     × (length rest_new < piece_size)
 NextOf left left_new rest rest_new (incoming.Lack lack) = (taken : List ℕ) × Consumes left left_new taken × LackOf (rest ++ taken) left_new lack
 
--- what is written where no message comes, if anything is
+-- what is written if there is no message, if anything
 abbrev pub closing_of : Lack → Option (List ℕ)
 closing_of lacks.Closed = None
 closing_of lacks.Cut = None
@@ -45,7 +45,7 @@ end_of lacks.Refused = ends.Refused
 end_of lacks.ReadFault = ends.ReadFault
 end_of (lacks.NoMemory head) = ends.NoMemory
 
--- the end that the lack asks for, once the closing is written, or a write that failed
+-- the end that the lack gives once the closing is written, or a write that failed
 abbrev pub IsFinish : Lack → Option (List ℕ) → Option (List ℕ) → SessionEnd → Type 0
 IsFinish lack written written_new end =
     ((end ≡ end_of lack) × Appends written written_new (unwrap_or (closing_of lack) []))

@@ -12,24 +12,26 @@ use Rattle.bus_server.specs.History.{Turn}
 use Rattle.bus_server.specs.Book.{BookState}
 use Rattle.bus_server.specs.Exchange.{Stop, IsDelivery, delivery_reply, default_budget}
 
--- the bytes, or where memory was refused the reply that says so
+-- the bytes, or the reply `out of memory`
 abbrev pub text_or : Result (List ℕ) NoMemory → Bool → List ℕ
 text_or (Ok bytes) close = bytes
 text_or (Err refused) close = reply_text no_memory close
 
--- the reply to a message that asks for nothing that is served
+-- the reply to a message that is no request that is built
 abbrev pub IsFaultText : CallFault → Bool → List ℕ → Type 0
 IsFaultText faults.UnknownOperation close bytes = bytes ≡ reply_text unknown_operation close
 IsFaultText faults.NotBuilt close bytes = bytes ≡ reply_text not_built close
 IsFaultText faults.NoMemory close bytes = ⊥
 
--- memory was refused before the first step
-abbrev pub IsUndelivered : Bool → BookState → BookState → Option (ℕ → ℕ) → Option (ℕ → ℕ) → Option (List ℕ) → Option (List ℕ) → Result (Unit {0}) Failed → Type 0
+-- out of memory before the first step
+abbrev pub IsUndelivered : Bool → BookState → BookState → Option (ℕ → ℕ) → Option (ℕ → ℕ) → Option (List ℕ) → Option (List ℕ)
+    → Result (Unit {0}) Failed → Type 0
 IsUndelivered close old new ahead ahead_new written written_new result =
     (new ≡ old) × Gives ahead ahead_new [] × WritesAll written written_new result (reply_text no_memory close)
 
 -- the steps of a DeliverDue, and its reply
-pub record DeliveredOf (close : Bool) (old new : BookState) (ahead ahead_new : Option (ℕ → ℕ)) (written written_new : Option (List ℕ)) (result : Result (Unit {0}) Failed) : Type 0 where
+pub record DeliveredOf (close : Bool) (old new : BookState) (ahead ahead_new : Option (ℕ → ℕ)) (written written_new : Option (List ℕ))
+    (result : Result (Unit {0}) Failed) : Type 0 where
   pub given : List ℕ
   pub made : List Turn
   pub counts : Counts

@@ -1,8 +1,8 @@
--- The program: its words, its one session, its status and the line on its faults.
-use Rattle.std.specs.Prelude.{◌≡◌, ℕ, ◌⊎◌, List, [], ◌∷◌, ◌++◌, Option, Some, None, Result, codes}
+-- The program: its session, its status, and the line that reports the status.
+use Rattle.std.specs.Prelude.{◌≡◌, ◌≢◌, ℕ, ◌⊎◌, List, [], ◌∷◌, ◌++◌, Option, Some, None, Result, codes}
 use Rattle.std.specs.Io.KnownBytes.{Keeps}
 use Rattle.router_disk.specs.Clock.{repeating}
-use Rattle.router_disk.specs.Faults.{CountsFaults}
+use Rattle.router_disk.specs.Faults.{CountsFaults, Rose}
 use Rattle.router_disk.specs.Sink.{WritesAll}
 use Rattle.router_disk.specs.declared.fault.Failed.{Failed}
 use Rattle.router_core.specs.Tables.{first_tables, tables_after}
@@ -23,7 +23,7 @@ status_of ends.ReadFault = statuses.ReadFault
 status_of ends.WriteFault = statuses.WriteFault
 status_of ends.NoMemory = statuses.NoMemory
 
--- what is written on faults; each line ends in a line feed
+-- the line that reports a status; each line ends in a line feed
 abbrev pub fault_line : Status → List ℕ
 fault_line statuses.Done = []
 fault_line statuses.Usage = codes "ebusd: bad arguments" ++ 10 ∷ []
@@ -45,10 +45,18 @@ code_of statuses.Cut = 9
 code_of statuses.Long = 10
 code_of statuses.Refused = 11
 
--- the line of the status was written, or a first part of it where the write failed, which the count of faults tells
-abbrev pub IsTold : Status → Option (List ℕ) → Option (List ℕ) → ℕ → ℕ → Type 0
-IsTold status old new faults faults_new =
+-- the line of the status was written; if the write failed, which the count of faults shows, a first part of it
+abbrev pub IsReported : Status → Option (List ℕ) → Option (List ℕ) → ℕ → ℕ → Type 0
+IsReported status old new faults faults_new =
     (result : Result (Unit {0}) Failed) × WritesAll old new result (fault_line status) × CountsFaults faults faults_new result
+
+-- The status and the counts of faults of the input and the output: the input fails only with `ReadFault` and the output only
+-- with `WriteFault`; a count is unchanged with each other status.
+pub record FaultsMatch (status : Status) (reads reads_new writes writes_new : ℕ) : Type 0 where
+  pub read_fault : status ≡ statuses.ReadFault → Rose reads reads_new
+  pub input_faultless : status ≢ statuses.ReadFault → reads_new ≡ reads
+  pub write_fault : status ≡ statuses.WriteFault → Rose writes writes_new
+  pub output_faultless : status ≢ statuses.WriteFault → writes_new ≡ writes
 
 -- the book before any turn
 abbrev pub first_book : BookState
@@ -69,7 +77,8 @@ pub record RunsOnce (left left_new written written_new : Option (List ℕ)) (ahe
 abbrev pub IsUnbegun : Option (List ℕ) → Option (List ℕ) → Option (List ℕ) → Option (List ℕ) → Type 0
 IsUnbegun left left_new written written_new = Keeps left left_new × Keeps written written_new
 
--- The run of a line of words: one session, by the clock or with every reading the given one; or memory was refused at once.
+-- The run of a program: one session, with the readings of the clock or with every reading the given one; or out of memory
+-- before it.
 abbrev pub IsRun : Option ℕ → Option (List ℕ) → Option (List ℕ) → Option (List ℕ) → Option (List ℕ) → Option (ℕ → ℕ) → Option (ℕ → ℕ) → Status → Type 0
 IsRun None left left_new written written_new ahead ahead_new status =
     RunsOnce left left_new written written_new ahead ahead_new status

@@ -1,4 +1,4 @@
--- A session under way.
+-- A session that has not ended.
 use Rattle.std.specs.Prelude.{◌≡◌, ℕ, ◌≤◌, Bool, List, ◌∷◌, ◌++◌, length, Option, Result}
 use Rattle.std.specs.Io.KnownBytes.{Appends, Consumes}
 use Rattle.router_disk.specs.Clock.{Gives}
@@ -11,8 +11,9 @@ use Rattle.bus_server.specs.Book.{BookState}
 use Rattle.bus_server.specs.Exchange.{Exchange, IsExchange, AreExchanges, turns_of, readings_of, messages_of}
 use Rattle.bus_server.specs.Session.{texts_of, NoneCloses, piece_size}
 
--- what was exchanged so far: so many requests, none of which asked to close
-pub record IsRunning (old now : BookState) (left left_now written written_now : Option (List ℕ)) (ahead ahead_now : Option (ℕ → ℕ)) (rest : List ℕ) (served : ℕ) : Type 0 where
+-- the exchanges so far: `served` requests, none of which asked to close
+pub record IsRunning (old now : BookState) (left left_now written written_now : Option (List ℕ)) (ahead ahead_now : Option (ℕ → ℕ)) (rest : List ℕ)
+    (served : ℕ) : Type 0 where
   pub exchanged : List Exchange
   pub count : length exchanged ≡ served
   pub open_yet : NoneCloses exchanged
@@ -27,7 +28,8 @@ pub record IsRunning (old now : BookState) (left left_now written written_now : 
   pub written_are : Appends written written_now (texts_of exchanged)
 
 -- one exchange, of this message
-pub record ExchangeOf (message : Message) (close : Bool) (old new : BookState) (ahead ahead_new : Option (ℕ → ℕ)) (written written_new : Option (List ℕ)) (result : Result (Unit {0}) Failed) : Type 0 where
+pub record ExchangeOf (message : Message) (close : Bool) (old new : BookState) (ahead ahead_new : Option (ℕ → ℕ))
+    (written written_new : Option (List ℕ)) (result : Result (Unit {0}) Failed) : Type 0 where
   pub exchanged : Exchange
   pub message_is : exchanged.message ≡ message
   pub is_exchange : IsExchange old.tables exchanged new.tables

@@ -1,4 +1,4 @@
--- A session whose last exchange was just made.
+-- A session that has just made its last exchange so far.
 use Rattle.std.specs.Prelude.{◌≡◌, ℕ, ◌<◌, List, [], ◌∷◌, ◌++◌, length, Option, Result, Ok, Err}
 use Rattle.std.specs.Io.KnownBytes.{Appends, Consumes}
 use Rattle.router_disk.specs.Clock.{Gives}
@@ -10,13 +10,14 @@ use Rattle.bus_server.specs.Book.{BookState}
 use Rattle.bus_server.specs.Exchange.{Exchange, AreExchanges, turns_of, readings_of, messages_of}
 use Rattle.bus_server.specs.Session.{texts_of, closes, NoneCloses, WritesPart, piece_size}
 
--- these bytes were written, and the text behind them, or at `Err` a first part of it
-abbrev pub WritesBehind : List ℕ → List ℕ → Option (List ℕ) → Option (List ℕ) → Result (Unit {0}) Failed → Type 0
-WritesBehind bytes text old new (Ok u) = Appends old new (bytes ++ text)
-WritesBehind bytes text old new (Err e) = WritesPart bytes text old new
+-- these bytes were written, and the text after them; at `Err` a first part of the text
+abbrev pub WritesAfter : List ℕ → List ℕ → Option (List ℕ) → Option (List ℕ) → Result (Unit {0}) Failed → Type 0
+WritesAfter bytes text old new (Ok u) = Appends old new (bytes ++ text)
+WritesAfter bytes text old new (Err e) = WritesPart bytes text old new
 
--- so many requests before, none of which asked to close, and then the exchange of this message
-pub record IsServed (message : Message) (old now : BookState) (left left_now written written_now : Option (List ℕ)) (ahead ahead_now : Option (ℕ → ℕ)) (rest : List ℕ) (served : ℕ) (result : Result (Unit {0}) Failed) : Type 0 where
+-- `served` exchanges, none of which asked to close, and then the exchange of this message
+pub record IsServed (message : Message) (old now : BookState) (left left_now written written_now : Option (List ℕ)) (ahead ahead_now : Option (ℕ → ℕ))
+    (rest : List ℕ) (served : ℕ) (result : Result (Unit {0}) Failed) : Type 0 where
   pub before : List Exchange
   pub last : Exchange
   pub message_is : last.message ≡ message
@@ -30,4 +31,4 @@ pub record IsServed (message : Message) (old now : BookState) (left left_now wri
   pub exchanges : AreExchanges old.tables (before ++ last ∷ []) now.tables
   pub turns : now.turns ≡ old.turns ++ turns_of (before ++ last ∷ [])
   pub readings : Gives ahead ahead_now (readings_of (before ++ last ∷ []))
-  pub written_are : WritesBehind (texts_of before) (reply_text last.reply (closes (length before) last)) written written_now result
+  pub written_are : WritesAfter (texts_of before) (reply_text last.reply (closes (length before) last)) written written_now result

@@ -15,7 +15,7 @@ use Rattle.bus_server.specs.History.{Turn, claims, puts_back}
 use Rattle.bus_server.specs.Book.{BookState}
 use Rattle.bus_server.specs.Exchange.{moment_of, IsStep, IsDelivery, AreSteps, Stop, done, limited, default_budget}
 
--- what one step did: no duty was due, one was but no further batch is numbered, or one attempt ended so
+-- what one step did: no duty was due; one was due but the number limit was reached; or one attempt had this outcome
 abbrev pub StepOf : BookState → BookState → ℕ → Step → Type 0
 StepOf old new reading Idle = NoneDue old.tables.duties (moment_at old.tables (moment_of reading)) × (new ≡ old)
 StepOf old new reading Limited = (duty : ℕ) × IsNext old.tables.duties (moment_at old.tables (moment_of reading)) duty × (is_full old.tables ≡ true)

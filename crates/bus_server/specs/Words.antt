@@ -1,12 +1,12 @@
--- The words of the program.
+-- The arguments of the program.
 use Rattle.std.specs.Prelude.{◌≡◌, ℕ, List, [], ◌∷◌, Option, Some, None, codes, decimal}
 use Rattle.json_text.specs.Moment.{IsMoment}
 
--- a number of seconds that is in range, in plain digits
+-- a moment in plain decimal digits
 abbrev pub IsMomentWord : List ℕ → ℕ → Type 0
 IsMomentWord word moment = IsMoment moment × (word ≡ decimal moment)
 
--- `once`, or `once --now S`, behind the program's name; with S where it is given
+-- the program's name, `once`, and optionally `--now S`; `now` is S if it is given
 abbrev pub IsLine : List (List ℕ) → Option ℕ → Type 0
 IsLine [] now = ⊥
 IsLine (name ∷ []) now = ⊥

@@ -32,11 +32,11 @@ pub struct Book {
 /// What one step of delivery did.
 #[derive(Clone, Copy, Debug, PartialEq, Eq)]
 pub enum Step {
-    /// No duty is due.
+    /// No delivery is due.
     Idle,
-    /// A duty is due, and no further batch is numbered.
+    /// A delivery is due, but the number limit is reached.
     Limited,
-    /// One attempt was made, or found too old.
+    /// One attempt was made, or was found too old.
     Made(Outcome),
 }
 
@@ -51,7 +51,8 @@ impl Book {
         })
     }
 
-    /// Answers the request, and gives the bytes of its reply. Their room is taken before the tables change.
+    /// Answers the request, and returns the bytes of its reply. Their memory is allocated before the tables change, so an `Err`
+    /// changes nothing.
     pub fn answer(
         &mut self,
         alloc: Global,
@@ -72,7 +73,7 @@ impl Book {
         Ok(bytes)
     }
 
-    /// Makes what was made ready, if anything, and enters the turn.
+    /// Applies the change that is ready, if there is one, and adds the turn to the history.
     fn enter(&mut self, ask: Ask, ready: Option<Ready>)
         requires { IfSome ready (λ r. IsReadyAt self.old.tables r) }
         ensures { book_of self.new ≡ record {

@@ -6,19 +6,19 @@ use crate::book::{Book, Step};
 use delivery_duties::Outcome;
 use router_disk::Clock;
 
-/// How many steps are made at most.
+/// The number of steps that are made at most.
 const BUDGET: u32 = 100;
 
 /// How the steps ended.
 #[derive(Clone, Copy, Debug, PartialEq, Eq)]
 pub enum Ending {
-    /// No duty is due, or the budget is used.
+    /// No delivery is due, or the budget is used.
     Done,
-    /// A duty is due, and no further batch is numbered.
+    /// A delivery is due, but the number limit is reached.
     Limited,
 }
 
-/// How many steps were made, what became of them, and how they ended.
+/// The number of steps that were made, their outcomes, and how they ended.
 #[derive(Clone, Copy, Debug, PartialEq, Eq)]
 pub struct Delivery {
     pub attempts: u32,
@@ -27,7 +27,8 @@ pub struct Delivery {
     pub ending: Ending,
 }
 
-/// Makes steps of delivery, each at a reading of its own, until no duty is due or the budget is used.
+/// Makes steps of delivery, each at a reading of its own, until no delivery is due, the budget is used or the number limit is
+/// reached.
 pub(crate) fn deliver<C: Clock>(book: &mut Book, clock: &mut C) -> Delivery
     ensures { DeliveryOf (book_of book.old) (book_of book.new) (C.ahead clock.old) (C.ahead clock.new) result }
 {

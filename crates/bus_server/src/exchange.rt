@@ -17,11 +17,11 @@ use crate::delivery::{Delivery, Ending, deliver};
 use crate::text::reply_bytes;
 use api_wire::{CallFault, CountsReply, Message, no_memory_reply, read_call};
 use json_text::{Bytes, LAST_MOMENT, NoMemory};
-use router_core::{Action, not_built, limit_reply, unknown_operation};
+use router_core::{Action, limit_reply, not_built, unknown_operation};
 use router_disk::{Clock, Failed, Sink};
 use std::alloc::Global;
 
-/// Answers the message, and writes the reply; `close` where the session ends behind it.
+/// Answers the message, and writes the reply. `close` is true if the session ends after it.
 pub(crate) fn answer_message<K: Sink, C: Clock>(
     alloc: Global,
     book: &mut Book,
@@ -59,7 +59,7 @@ fn is_deliver_due(action: &Action) -> bool
     }
 }
 
-/// Writes the bytes, or that memory was refused.
+/// Writes the bytes, or the reply `out of memory`.
 fn respond<K: Sink>(
     bytes: Result<Bytes, NoMemory>,
     close: bool,
@@ -74,7 +74,7 @@ fn respond<K: Sink>(
     }
 }
 
-/// The reply to a message that asks for nothing that is served.
+/// The reply to a message that is no request that is built.
 fn fault_bytes(alloc: Global, fault: CallFault, close: bool) -> Result<Bytes, NoMemory>
     ensures { IfOk result (λ bytes. IsFaultText fault close bytes) }
 {
@@ -99,7 +99,7 @@ fn not_built_bytes(alloc: Global, close: bool) -> Result<Bytes, NoMemory>
     reply_bytes(alloc, &reply, close)
 }
 
-/// Makes the steps of a DeliverDue, and writes its reply, whose room is taken before the first step.
+/// Makes the steps of a DeliverDue, and writes its reply. The memory of the reply is allocated before the first step.
 fn answer_delivery<K: Sink, C: Clock>(
     alloc: Global,
     book: &mut Book,
@@ -120,7 +120,7 @@ fn answer_delivery<K: Sink, C: Clock>(
     }
 }
 
-/// Writes what the steps came to.
+/// Writes the reply to the steps that were made.
 fn write_delivery<K: Sink>(
     mut room: CountsReply,
     limit: &[u8],
@@ -141,7 +141,7 @@ fn write_delivery<K: Sink>(
     }
 }
 
-/// Room for the reply to a DeliverDue, and the reply where no further batch is numbered.
+/// Room for the reply to a DeliverDue, and the reply if the number limit is reached.
 fn delivery_room(alloc: Global, close: bool) -> Result<(CountsReply, Bytes), NoMemory>
     ensures { IfOk result (λ p. p.1 ≡ reply_text replies.limit_reply close) }
 {

@@ -1,4 +1,4 @@
-//! The history of turns, which only contracts see: it takes no memory.
+//! The history of turns. Only contracts see it, and it takes no memory.
 ghost use Rattle.std.specs.Prelude.{◌≡◌, ◌++◌, ◌∷◌, []};
 ghost use Rattle.bus_server.specs.Book.{turn_of, turns_in};
 
@@ -7,7 +7,7 @@ use http_server::Log;
 use router_core::{Ready, Request};
 use std::snapshot::Snapshot;
 
-/// What a turn was taken for.
+/// What a turn was made for.
 #[derive(Drop)]
 pub enum Ask {
     Asked(Snapshot<Request>),

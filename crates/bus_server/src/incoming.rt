@@ -11,7 +11,7 @@ use api_wire::{Message, WireFault, WireIn, awaited_is_short};
 use json_text::NoMemory;
 use router_disk::{Failed, Source};
 
-/// Why no message comes.
+/// Why there is no message.
 #[derive(Clone, Copy, Debug, PartialEq, Eq)]
 pub(crate) enum Lack {
     /// The input ended between messages.
@@ -22,7 +22,7 @@ pub(crate) enum Lack {
     Refused,
     /// The input failed.
     ReadFault,
-    /// Memory was refused, with a whole head at hand or without.
+    /// Out of memory. `head` is true if a whole head is buffered.
     NoMemory { head: bool },
 }
 
@@ -31,7 +31,7 @@ pub(crate) enum Incoming {
     Lack(Lack),
 }
 
-/// Reads until a message is whole or none comes.
+/// Reads until a message is whole, or returns why there is none.
 pub(crate) fn next_message<S: Source>(
     wire: &mut WireIn,
     input: &mut S,
@@ -54,7 +54,7 @@ pub(crate) fn next_message<S: Source>(
             Err(WireFault::BadHead) => return Incoming::Lack(Lack::Refused),
             Err(WireFault::NoMemory) => return Incoming::Lack(Lack::NoMemory { head: true }),
         }
-        // The room is made before the bytes are taken, so that no byte is lost.
+        // Memory is allocated before the bytes are read, so that no byte is lost.
         if let Err(NoMemory) = wire.reserve(piece.len()) {
             let head = wire.has_head();
             return Incoming::Lack(Lack::NoMemory { head });
@@ -70,7 +70,7 @@ pub(crate) fn next_message<S: Source>(
     }
 }
 
-/// What an input lacks that ends here.
+/// Why there is no message if the input ends here.
 fn lack_at_end(wire: &WireIn) -> Lack
     requires { IsAwaited wire.now.rest }
     ensures lack { (left : Option (List ℕ)) → IsAtEnd left → LackOf wire.now.rest left result }

@@ -1,4 +1,4 @@
-//! A session over a connection: the bytes written, and the turns made, are those of the bytes read.
+//! A session over a connection. The bytes read determine which turns are made and which bytes are written.
 #![tactic(auto)]
 
 mod book;

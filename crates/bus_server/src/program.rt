@@ -1,7 +1,7 @@
 //! The program.
-ghost use Rattle.std.specs.Prelude.{◌≡◌, ◌≢◌, ℕ, List, Option, map, string_bytes};
-ghost use Rattle.router_disk.specs.Faults.{Rose};
-ghost use Rattle.bus_server.specs.Run.{IsRun, IsTold, RunsOnce, IsUnbegun, code_of, first_book, fault_line, status_of};
+ghost use Rattle.std.specs.Prelude.{◌≡◌, ℕ, List, Option, map, string_bytes};
+ghost use Rattle.bus_host.specs.Host.{SameFaults};
+ghost use Rattle.bus_server.specs.Run.{IsRun, IsReported, FaultsMatch, RunsOnce, IsUnbegun, code_of, first_book, fault_line, status_of};
 ghost use Rattle.bus_server.specs.Book.{book_of};
 ghost use Rattle.bus_server.specs.Words.{IsLine};
 
@@ -20,17 +20,17 @@ use std::thread::Threads;
 pub enum Status {
     /// The input was read to its end between messages, or to a message that closes.
     Done,
-    /// The words are none of the program's lines.
+    /// The arguments are not `once` or `once --now S`.
     Usage,
     /// The input failed.
     ReadFault,
     /// The output failed.
     WriteFault,
-    /// Memory was refused.
+    /// Out of memory.
     NoMemory,
     /// The input ended inside a message.
     Cut,
-    /// The last request was served that one session serves.
+    /// The request limit of a session is reached.
     Long,
     /// A message was refused. The rest is unread.
     Refused,
@@ -68,7 +68,8 @@ impl Status {
     }
 }
 
-/// Runs the program on its words, of which the first is its name: `once`, or `once --now S` with every reading of the clock S.
+/// Runs the program on its arguments. The first is its name. `once` follows, and optionally `--now S`; then S is every
+/// reading of the clock, in seconds.
 pub fn run<Rt: Wait + Threads + Sync, S: Source, K: Sink, E: Sink, H: Host, C: Clock>(
     _rt: &Rt,
     alloc: Global,
@@ -76,40 +77,38 @@ pub fn run<Rt: Wait + Threads + Sync, S: Source, K: Sink, E: Sink, H: Host, C: C
     input: &mut S,
     output: &mut K,
     faults: &mut E,
-    _host: &mut H,
+    host: &mut H,
     clock: &mut C,
 ) -> Status
     ensures run { (now : Option ℕ) → IsLine (map string_bytes words.now) now
         → IsRun now (S.left input.old) (S.left input.new) (K.written output.old) (K.written output.new) (C.ahead clock.old) (C.ahead clock.new) result }
     ensures usage { ((now : Option ℕ) → ¬ IsLine (map string_bytes words.now) now)
         → (result ≡ Status.Usage) × IsUnbegun (S.left input.old) (S.left input.new) (K.written output.old) (K.written output.new) }
-    ensures told { IsTold result (E.written faults.old) (E.written faults.new) (E.faults faults.old) (E.faults faults.new) }
-    ensures read_fault { result ≡ Status.ReadFault → Rose (S.faults input.old) (S.faults input.new) }
-    ensures input_faultless { result ≢ Status.ReadFault → S.faults input.new ≡ S.faults input.old }
-    ensures write_fault { result ≡ Status.WriteFault → Rose (K.faults output.old) (K.faults output.new) }
-    ensures output_faultless { result ≢ Status.WriteFault → K.faults output.new ≡ K.faults output.old }
+    ensures reported { IsReported result (E.written faults.old) (E.written faults.new) (E.faults faults.old) (E.faults faults.new) }
+    ensures counts { FaultsMatch result (S.faults input.old) (S.faults input.new) (K.faults output.old) (K.faults output.new) }
+    ensures host { SameFaults H.disk_faults H.door_faults H.link_faults host.old host.new }
 {
     match read_words(words) {
         Some(now) => {
             let status = once(alloc, now, input, output, clock);
-            tell(faults, status);
+            report(faults, status);
             status
         }
         None => {
-            tell(faults, Status::Usage);
+            report(faults, Status::Usage);
             Status::Usage
         }
     }
 }
 
-/// Writes the line of the status. One that cannot be written changes nothing else.
-fn tell<E: Sink>(faults: &mut E, status: Status)
-    ensures { IsTold status (E.written faults.old) (E.written faults.new) (E.faults faults.old) (E.faults faults.new) }
+/// Writes the line of the status. A failed write changes only the sink.
+fn report<E: Sink>(faults: &mut E, status: Status)
+    ensures { IsReported status (E.written faults.old) (E.written faults.new) (E.faults faults.old) (E.faults faults.new) }
 {
     let _ = faults.write_all(line_of(status));
 }
 
-/// One session over a book of its own.
+/// One session over a new book.
 fn once<S: Source, K: Sink, C: Clock>(
     alloc: Global,
     now: Option<u64>,
@@ -118,11 +117,7 @@ fn once<S: Source, K: Sink, C: Clock>(
     clock: &mut C,
 ) -> Status
     ensures run { IsRun now (S.left input.old) (S.left input.new) (K.written output.old) (K.written output.new) (C.ahead clock.old) (C.ahead clock.new) result }
-    ensures no_usage { result ≢ Status.Usage }
-    ensures read_fault { result ≡ Status.ReadFault → Rose (S.faults input.old) (S.faults input.new) }
-    ensures input_faultless { result ≢ Status.ReadFault → S.faults input.new ≡ S.faults input.old }
-    ensures write_fault { result ≡ Status.WriteFault → Rose (K.faults output.old) (K.faults output.new) }
-    ensures output_faultless { result ≢ Status.WriteFault → K.faults output.new ≡ K.faults output.old }
+    ensures counts { FaultsMatch result (S.faults input.old) (S.faults input.new) (K.faults output.old) (K.faults output.new) }
 {
     match Book::first(alloc) {
         Ok(book) => match now {
@@ -146,17 +141,13 @@ fn over<S: Source, K: Sink, C: Clock>(
 ) -> Status
     requires { book_of book ≡ first_book }
     ensures run { RunsOnce (S.left input.old) (S.left input.new) (K.written output.old) (K.written output.new) (C.ahead clock.old) (C.ahead clock.new) result }
-    ensures no_usage { result ≢ Status.Usage }
-    ensures read_fault { result ≡ Status.ReadFault → Rose (S.faults input.old) (S.faults input.new) }
-    ensures input_faultless { result ≢ Status.ReadFault → S.faults input.new ≡ S.faults input.old }
-    ensures write_fault { result ≡ Status.WriteFault → Rose (K.faults output.old) (K.faults output.new) }
-    ensures output_faultless { result ≢ Status.WriteFault → K.faults output.new ≡ K.faults output.old }
+    ensures counts { FaultsMatch result (S.faults input.old) (S.faults input.new) (K.faults output.old) (K.faults output.new) }
 {
     let end = run_session(alloc, &mut book, input, output, clock);
     Status::of(end)
 }
 
-/// The line that tells the status, with its line feed; nothing for `Done`.
+/// The line that reports the status, with its line feed. Empty for `Done`.
 fn line_of(status: Status) -> &'static [u8]
     ensures { result.now ≡ fault_line status }
 {

@@ -12,10 +12,10 @@ use api_wire::{Message, WireIn, bad_head_reply, no_memory_reply};
 use router_disk::{Clock, Failed, Sink, Source};
 use std::alloc::Global;
 
-/// How many requests one session serves.
+/// The number of requests that one session serves.
 const REQUEST_LIMIT: u64 = 1_048_576;
 
-/// How many bytes are read at once.
+/// The number of bytes that one read takes at most.
 const PIECE: usize = 16_384;
 
 /// Why a session ended.
@@ -25,15 +25,15 @@ pub enum SessionEnd {
     Closed,
     /// The input ended inside a message.
     Cut,
-    /// No message begins with the bytes that came. The rest is unread.
+    /// No message begins with the bytes. The rest of the input is unread.
     Refused,
-    /// The last request was served that one session serves.
+    /// The request limit of a session is reached.
     Long,
     /// The input failed.
     ReadFault,
     /// The output failed.
     WriteFault,
-    /// Memory was refused while a message was read.
+    /// Out of memory while a message was read.
     NoMemory,
 }
 
@@ -61,7 +61,7 @@ pub fn run_session<S: Source, K: Sink, C: Clock>(
         };
         served += 1;
         let last = served == REQUEST_LIMIT;
-        let close = closes_behind(&message, last);
+        let close = closes_after(&message, last);
         match answer_message(alloc, book, &message, close, output, clock) {
             Ok(()) => {}
             Err(Failed) => return SessionEnd::WriteFault,
@@ -75,14 +75,14 @@ pub fn run_session<S: Source, K: Sink, C: Clock>(
     }
 }
 
-/// Whether the session ends behind the reply to the message.
-fn closes_behind(message: &Message, last: bool) -> bool
+/// Whether the session ends after the reply to the message.
+fn closes_after(message: &Message, last: bool) -> bool
     ensures { result ≡ (message.now.close || last) }
 {
     message.close || last
 }
 
-/// Writes what the sender is told where no message comes.
+/// Writes the last reply, if there is one, when there is no further message.
 fn finish<K: Sink>(lack: Lack, output: &mut K) -> SessionEnd
     ensures finish { IsFinish lack (K.written output.old) (K.written output.new) result }
     ensures write_fault { result ≡ SessionEnd.WriteFault → Rose (K.faults output.old) (K.faults output.new) }

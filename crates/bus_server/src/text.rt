@@ -8,7 +8,7 @@ use json_text::{Bytes, NoMemory};
 use router_core::Reply;
 use std::alloc::Global;
 
-/// The bytes of the reply; `close` where the connection ends behind it.
+/// The bytes of the reply. `close` is true if the connection ends after it.
 pub(crate) fn reply_bytes(alloc: Global, reply: &Reply, close: bool) -> Result<Bytes, NoMemory>
     requires { IsServedStatus reply.now.status }
     ensures { IfOk result (λ bytes. bytes ≡ reply_text (reply_of reply.now) close) }

@@ -1,11 +1,11 @@
-//! The words of the program.
+//! The arguments of the program.
 ghost use Rattle.std.specs.Prelude.{◌≡◌, ◌≤◌, ℕ, List, Option, MatchOption, IsTrue, ◌↔◌, map, string_bytes};
 ghost use Rattle.bus_server.specs.Words.{IsMomentWord, IsLine};
 
 use itoa::Buffer;
 use json_text::LAST_MOMENT;
 
-/// The moment that every reading is, if one is given; nothing where the words are none of the program's lines.
+/// The moment that every reading is, if one is given. `None` if the arguments are not the program's.
 pub(crate) fn read_words(words: &[String]) -> Option<Option<u64>>
     ensures { MatchOption result
         ((now : Option ℕ) → ¬ IsLine (map string_bytes words.now) now)

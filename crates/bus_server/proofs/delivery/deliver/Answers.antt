@@ -12,9 +12,11 @@ loop-attempts-preserved-in-Made-Accepted g c =
     let l = c.loop-attempts in
     let n : Counts = record { attempts = l.attempts; delivered = l.delivered; dropped = l.dropped } in
     record {
-      delivering = subst (λ (o : Outcome). Delivering (book_of c.args.book.now) (book_of c.step.new.self) (g.C.Clock.ahead c.args.clock.now) (g.C.Clock.ahead c.now.new.self) (and_one o n) (l.attempts + 1))
+      delivering = subst (λ (o : Outcome). Delivering (book_of c.args.book.now) (book_of c.step.new.self) (g.C.Clock.ahead c.args.clock.now)
+          (g.C.Clock.ahead c.now.new.self) (and_one o n) (l.attempts + 1))
           c.in-Made-Accepted.field-0-is
-          (delivering_more _ (book_of l.book) _ _ _ _ n l.attempts c.now.result c.in-Made-Accepted.field-0 l.invariant.delivering c.now.ensures c.in-Made-Accepted.ensures);
+          (delivering_more _ (book_of l.book) _ _ _ _ n l.attempts c.now.result c.in-Made-Accepted.field-0
+          l.invariant.delivering c.now.ensures c.in-Made-Accepted.ensures);
       sums = omega (arith, l.invariant.sums);
     }
 
@@ -23,25 +25,30 @@ loop-attempts-preserved g c =
     let l = c.loop-attempts in
     let n : Counts = record { attempts = l.attempts; delivered = l.delivered; dropped = l.dropped } in
     record {
-      delivering = subst (λ (o : Outcome). Delivering (book_of c.args.book.now) (book_of c.step.new.self) (g.C.Clock.ahead c.args.clock.now) (g.C.Clock.ahead c.now.new.self) (and_one o n) (l.attempts + 1))
+      delivering = subst (λ (o : Outcome). Delivering (book_of c.args.book.now) (book_of c.step.new.self) (g.C.Clock.ahead c.args.clock.now)
+          (g.C.Clock.ahead c.now.new.self) (and_one o n) (l.attempts + 1))
           c.in-Made-TooOld.field-0-is
-          (delivering_more _ (book_of l.book) _ _ _ _ n l.attempts c.now.result c.in-Made-TooOld.field-0 l.invariant.delivering c.now.ensures c.in-Made-TooOld.ensures);
+          (delivering_more _ (book_of l.book) _ _ _ _ n l.attempts c.now.result c.in-Made-TooOld.field-0
+          l.invariant.delivering c.now.ensures c.in-Made-TooOld.ensures);
       sums = omega (arith, l.invariant.sums);
     }
 
 pub returns-in-Idle : goal.returns-in-Idle
 returns-in-Idle g c =
     let l = c.loop-attempts in
-    delivery_idle _ (book_of l.book) _ _ _ _ l.attempts l.delivered l.dropped l.attempts c.now.result l.invariant.delivering c.loop-attempts-test.true c.now.ensures c.in-Idle.ensures
+    delivery_idle _ (book_of l.book) _ _ _ _ l.attempts l.delivered l.dropped l.attempts c.now.result
+    l.invariant.delivering c.loop-attempts-test.true c.now.ensures c.in-Idle.ensures
 
 pub returns-in-Limited : goal.returns-in-Limited
 returns-in-Limited g c =
     let l = c.loop-attempts in
-    delivery_limited _ (book_of l.book) _ _ _ _ l.attempts l.delivered l.dropped l.attempts c.now.result l.invariant.delivering c.loop-attempts-test.true c.now.ensures c.in-Limited.ensures
+    delivery_limited _ (book_of l.book) _ _ _ _ l.attempts l.delivered l.dropped l.attempts c.now.result
+    l.invariant.delivering c.loop-attempts-test.true c.now.ensures c.in-Limited.ensures
 
 pub returns : goal.returns
 returns g c =
     let l = c.loop-attempts in
     let all : l.attempts ≡ 100 = omega (arith, c.loop-attempts-test.false, l.auto.attempts-end) in
     delivery_used _ _ _ _ 100 l.delivered l.dropped
-    (subst (λ (k : ℕ). Delivering (book_of c.args.book.now) (book_of l.book) (g.C.Clock.ahead c.args.clock.now) (g.C.Clock.ahead l.clock) (record { attempts = k; delivered = l.delivered; dropped = l.dropped }) k) all l.invariant.delivering)
+    (subst (λ (k : ℕ). Delivering (book_of c.args.book.now) (book_of l.book) (g.C.Clock.ahead c.args.clock.now) (g.C.Clock.ahead l.clock)
+    (record { attempts = k; delivered = l.delivered; dropped = l.dropped }) k) all l.invariant.delivering)

@@ -23,7 +23,8 @@ returns-else-is_deliver_due-clause-exchange g c =
 pub returns-in-Err-clause-exchange : goal.returns-in-Err-clause-exchange
 returns-in-Err-clause-exchange g c =
     let reading : c.min.result ≡ moment_of c.now-reading.result = c.min.ensures in
-    fault_exchange c.args.message.now c.args.close (book_of c.args.book.now) _ _ _ _ c.respond-in-Err.result c.now-reading.result c.in-Err.fault c.fault_bytes.result
+    fault_exchange c.args.message.now c.args.close
+    (book_of c.args.book.now) _ _ _ _ c.respond-in-Err.result c.now-reading.result c.in-Err.fault c.fault_bytes.result
     (λ unknown. c.in-Err.ensures.unknown (ap Err unknown))
     (λ not_built. (
       c.in-Err.ensures.known (ap Err not_built),

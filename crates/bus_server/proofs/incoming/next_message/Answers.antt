@@ -3,7 +3,7 @@ use Rattle.std.proofs.lemmas.List.{length-take}
 use Rattle.api_messages.specs.declared.message.Message.{Message}
 use Rattle.api_messages.specs.Messages.{HoldsMessage, IsAwaited}
 use Rattle.api_messages.specs.Reading.{Incoming}
-use Rattle.bus_server.proofs.IncomingLemmas.{at_end, starved, whole_lacks, left_over, read_behind}
+use Rattle.bus_server.proofs.IncomingLemmas.{at_end, starved, whole_lacks, left_over, read_after}
 use Rattle.bus_server.proofs.incoming.next_message.Goals as goal
 
 pub loop-message-init : goal.loop-message-init
@@ -18,38 +18,39 @@ loop-message-init g c = record {
 
 pub returns-in-Ok-Some-clause-next : goal.returns-in-Ok-Some-clause-next
 returns-in-Ok-Some-clause-next g c =
-    let kept = c.loop-message.invariant.taken in
+    let so_far = c.loop-message.invariant.taken in
     let held : HoldsMessage c.loop-message.wire.rest c.in-Ok-Some.message c.next.new.self.rest × (c.next.new.self.refused ≡ false) = search rules in (
-      kept.0,
-      kept.1,
-      subst (λ (bytes : List ℕ). HoldsMessage bytes c.in-Ok-Some.message c.next.new.self.rest) kept.2 held.0,
-      read_behind c.loop-message.wire.rest c.next.new.self.rest c.in-Ok-Some.message c.loop-message.invariant.read held.0,
+      so_far.0,
+      so_far.1,
+      subst (λ (bytes : List ℕ). HoldsMessage bytes c.in-Ok-Some.message c.next.new.self.rest) so_far.2 held.0,
+      read_after c.loop-message.wire.rest c.next.new.self.rest c.in-Ok-Some.message c.loop-message.invariant.read held.0,
     )
 
 pub returns-in-Err-NoMemory-clause-next : goal.returns-in-Err-NoMemory-clause-next
 returns-in-Err-NoMemory-clause-next g c =
-    let kept = c.loop-message.invariant.taken in
+    let so_far = c.loop-message.invariant.taken in
     let whole : ((m : Message) × (rest : List ℕ) × HoldsMessage c.loop-message.wire.rest m rest) × (c.next.new.self ≡ c.loop-message.wire) = search rules in
-    whole_lacks _ _ c.args.wire.now.rest c.loop-message.wire.rest kept.0 whole.0.1 whole.0.0 kept.1 kept.2 c.loop-message.invariant.read whole.0.2
+    let held = whole.0 in
+    whole_lacks _ _ c.args.wire.now.rest c.loop-message.wire.rest so_far.0 held.1 held.0 so_far.1 so_far.2 c.loop-message.invariant.read held.2
 
 pub returns-in-Err-clause-next : goal.returns-in-Err-clause-next
 returns-in-Err-clause-next g c =
-    let kept = c.loop-message.invariant.taken in
+    let so_far = c.loop-message.invariant.taken in
     let awaited : IsAwaited c.loop-message.wire.rest × (c.next.new.self ≡ c.loop-message.wire) = search rules in
     let same : c.reserve.new.self.rest ≡ c.loop-message.wire.rest = c.reserve.ensures.rest ∙ ap (λ (w : Incoming). w.rest) awaited.1 in
     let still : IsAwaited c.reserve.new.self.rest = subst IsAwaited (sym same) awaited.0 in
-    starved _ _ c.args.wire.now.rest c.reserve.new.self.rest kept.0 c.has_head-head.result kept.1 (same ∙ kept.2) still
+    starved _ _ c.args.wire.now.rest c.reserve.new.self.rest so_far.0 c.has_head-head.result so_far.1 (same ∙ so_far.2) still
     c.has_head-head.ensures.whole (λ no_head. c.has_head-head.ensures.none no_head still)
 
 pub returns-in-Ok-eq0-clause-next : goal.returns-in-Ok-eq0-clause-next
 returns-in-Ok-eq0-clause-next g c =
-    let kept = c.loop-message.invariant.taken in
+    let so_far = c.loop-message.invariant.taken in
     let more = c.in-Ok-eq0.ensures.bytes in
     let end = more.1 c.in-Ok-eq0.field-0-test (subst (λ n. 0 < n) (sym c.read.auto.buf) c.loop-message.invariant.room) in
     let awaited : IsAwaited c.loop-message.wire.rest × (c.next.new.self ≡ c.loop-message.wire) = search rules in
     let same : c.reserve.new.self.rest ≡ c.loop-message.wire.rest = c.reserve.ensures.rest ∙ ap (λ (w : Incoming). w.rest) awaited.1 in
-    at_end _ _ _ c.args.wire.now.rest c.reserve.new.self.rest kept.0 c.read.new.buf c.in-Ok-eq0.field-0 c.lack_at_end.result c.in-Ok-eq0.field-0-test
-    kept.1 (same ∙ kept.2) more.0 end (c.lack_at_end.ensures.lack _ end)
+    at_end _ _ _ c.args.wire.now.rest c.reserve.new.self.rest so_far.0 c.read.new.buf c.in-Ok-eq0.field-0 c.lack_at_end.result c.in-Ok-eq0.field-0-test
+    so_far.1 (same ∙ so_far.2) more.0 end (c.lack_at_end.ensures.lack _ end)
 
 pub loop-message-smaller : goal.loop-message-smaller
 loop-message-smaller g c =

@@ -3,7 +3,7 @@ use Rattle.std.specs.Io.KnownBytes.{Consumes}
 use Rattle.bus_server.specs.Session.{piece_size, IsLastRead}
 use Rattle.bus_server.proofs.incoming.next_message.Given as goal
 
--- the bytes at hand are those that were there and those taken in
+-- the buffered bytes are those that were there and those read
 abbrev pub invariant-loop-message : goal.invariant-loop-message
 invariant-loop-message g l = record {
   taken : (taken : List ℕ) × Consumes (g.S.Source.left l.initial.input) (g.S.Source.left l.input) taken × (l.wire.rest ≡ l.initial.wire.rest ++ taken);

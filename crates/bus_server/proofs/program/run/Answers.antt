@@ -6,6 +6,7 @@ use Rattle.bus_server.proofs.program.run.Goals as goal
 
 pub returns-in-Some-clause-run : goal.returns-in-Some-clause-run
 returns-in-Some-clause-run g c = λ now line. subst
-    (λ (n : Option ℕ). IsRun n (g.S.Source.left c.args.input.now) (g.S.Source.left c.once-status.new.input) (g.K.Sink.written c.args.output.now) (g.K.Sink.written c.once-status.new.output) (g.C.Clock.ahead c.args.clock.now) (g.C.Clock.ahead c.once-status.new.clock) c.once-status.result)
+    (λ (n : Option ℕ). IsRun n (g.S.Source.left c.args.input.now) (g.S.Source.left c.once-status.new.input) (g.K.Sink.written c.args.output.now)
+    (g.K.Sink.written c.once-status.new.output) (g.C.Clock.ahead c.args.clock.now) (g.C.Clock.ahead c.once-status.new.clock) c.once-status.result)
     (line_once (map (string_bytes {Z = Global}) c.args.words.now) c.in-Some.now now c.in-Some.ensures line)
     c.once-status.ensures.run

@@ -21,27 +21,31 @@ returns-in-Lack-clause-session g c =
 pub returns-in-Err-clause-session : goal.returns-in-Err-clause-session
 returns-in-Err-clause-session g c =
     write_end c.in-Message.message _ _ _ _ _ _ _ _ c.next_message.new.wire.rest c.loop-message.served c.in-Err.field-0
-    (served_next _ _ _ _ _ _ _ _ _ _ _ _ _ _ c.loop-message.served c.in-Message.message _ _ c.loop-message.invariant.running c.in-Message.ensures.next c.in-Err.ensures.exchange c.closes_behind-close.ensures)
+    (served_next _ _ _ _ _ _ _ _ _ _ _ _ _ _ c.loop-message.served c.in-Message.message _ _
+    c.loop-message.invariant.running c.in-Message.ensures.next c.in-Err.ensures.exchange c.closes_after-close.ensures)
     (omega (arith, c.loop-message.invariant.below))
 
 pub returns-then-last-clause-session : goal.returns-then-last-clause-session
 returns-then-last-clause-session g c =
     let last : c.loop-message.served + 1 ≡ request_limit = grind (arith, nat_tests) in
     long_end c.in-Message.message _ _ _ _ _ _ _ _ c.next_message.new.wire.rest c.loop-message.served
-    (served_next _ _ _ _ _ _ _ _ _ _ _ _ _ _ c.loop-message.served c.in-Message.message _ _ c.loop-message.invariant.running c.in-Message.ensures.next c.in-Ok.ensures.exchange c.closes_behind-close.ensures)
+    (served_next _ _ _ _ _ _ _ _ _ _ _ _ _ _ c.loop-message.served c.in-Message.message _ _
+    c.loop-message.invariant.running c.in-Message.ensures.next c.in-Ok.ensures.exchange c.closes_after-close.ensures)
     last
 
 pub returns-then-message-clause-session : goal.returns-then-message-clause-session
 returns-then-message-clause-session g c =
     let below : c.loop-message.served + 1 < request_limit = grind (arith, nat_tests) in
     closed_end c.in-Message.message _ _ _ _ _ _ _ _ c.next_message.new.wire.rest c.loop-message.served
-    (served_next _ _ _ _ _ _ _ _ _ _ _ _ _ _ c.loop-message.served c.in-Message.message _ _ c.loop-message.invariant.running c.in-Message.ensures.next c.in-Ok.ensures.exchange c.closes_behind-close.ensures)
+    (served_next _ _ _ _ _ _ _ _ _ _ _ _ _ _ c.loop-message.served c.in-Message.message _ _
+    c.loop-message.invariant.running c.in-Message.ensures.next c.in-Ok.ensures.exchange c.closes_after-close.ensures)
     below c.if-message.true
 
 pub loop-message-preserved : goal.loop-message-preserved
 loop-message-preserved g c = record {
   running = running_on c.in-Message.message _ _ _ _ _ _ _ _ c.next_message.new.wire.rest c.loop-message.served
-      (served_next _ _ _ _ _ _ _ _ _ _ _ _ _ _ c.loop-message.served c.in-Message.message _ _ c.loop-message.invariant.running c.in-Message.ensures.next c.in-Ok.ensures.exchange c.closes_behind-close.ensures)
+      (served_next _ _ _ _ _ _ _ _ _ _ _ _ _ _ c.loop-message.served c.in-Message.message _ _
+      c.loop-message.invariant.running c.in-Message.ensures.next c.in-Ok.ensures.exchange c.closes_after-close.ensures)
       c.if-message.false;
   unrefused = search rules;
   below = grind (arith, nat_tests);
