@@ -1,5 +1,8 @@
--- A message asks for one request at most.
-use Rattle.std.proofs.Common.{◌≡◌, ℕ, ◌+◌, ◌<◌, ◌≤◌, List, [], ◌∷◌, ◌++◌, length, get_or, drop, Some, None, sym, refl, ap, ◌∙◌, subst, append_assoc, append-nil, arith}
+-- A message asks for at most one request. Other files cite `one_request`; `body_only` and `body_none` (its body); `one_target`,
+-- `one_entry`, `one_more_read`, `all_read`, `not_read`, `trees_left` and `each_len` (a list of values); `pattern_refused`,
+-- `rule_refused`, `no_put_events` and `no_put_targets` (no request).
+use Rattle.std.proofs.Common.{◌≡◌, ℕ, ◌+◌, ◌<◌, ◌≤◌, List, [], ◌∷◌, ◌++◌, length, get_or, drop, Some, None, sym, refl, ap, ◌∙◌, subst, append_assoc}
+use Rattle.std.proofs.Common.{append-nil, arith}
 use Rattle.std.specs.Prelude.{Option, codes}
 use Rattle.std.proofs.lemmas.List.{at_drop_more}
 use Rattle.json_text.specs.Tree.{Tree, text, list, object, Items, no_items, item, Members, items_of}
@@ -20,14 +23,15 @@ use Rattle.router_core.specs.Request.{Action, create_queue, put_rule, put_target
 use Rattle.api_messages.specs.declared.message.Message.{Message}
 use Rattle.api_wire.specs.declared.call.operation.Operation.{Operation}
 use Rattle.api_wire.specs.declared.call.operation.Operation.TheVariants.{CreateQueue, PutRule, PutTargets, PutEvents, PeekMessages, DeliverDue}
-use Rattle.api_wire.specs.Call.{value_at, HasText, IsOptionalText, IsTarget, IsTargetTree, AreTargets, AreEach, IsEntry, IsEntryTree, AreEntries, IsCreateQueue, IsPutRule, IsPutTargets, IsPutEvents, IsPeekMessages, IsAction, IsBody, IsAsked, operation_of}
+use Rattle.api_wire.specs.Call.{value_at, HasText, IsOptionalText, IsTarget, IsTargetTree, AreTargets, AreEach, IsEntry, IsEntryTree, AreEntries}
+use Rattle.api_wire.specs.Call.{IsCreateQueue, IsPutRule, IsPutTargets, IsPutEvents, IsPeekMessages, IsAction, IsBody, IsAsked, operation_of}
 
-pub one_text : (key : List ℕ) (ms : Members) (s t : List ℕ) → HasText key ms s → HasText key ms t → s ≡ t
+one_text : (key : List ℕ) (ms : Members) (s t : List ℕ) → HasText key ms s → HasText key ms t → s ≡ t
 one_text key ms s t p q =
     let both : Some (text s) ≡ Some (text t) = sym p ∙ q in
     cc
 
-pub one_list : (key : List ℕ) (ms : Members) (s t : Items) → value_at key ms ≡ Some (list s) → value_at key ms ≡ Some (list t) → s ≡ t
+one_list : (key : List ℕ) (ms : Members) (s t : Items) → value_at key ms ≡ Some (list s) → value_at key ms ≡ Some (list t) → s ≡ t
 one_list key ms s t p q =
     let both : Some (list s) ≡ Some (list t) = sym p ∙ q in
     cc
@@ -44,7 +48,7 @@ one_object tree a b p q =
     let both : object a ≡ object b = sym p ∙ q in
     cc
 
--- where each value is read in one way, the list is
+-- if each value is read in one way, the list is
 one_each : {X : Type 0} (IsRead : Tree → X → Type 0) → ((t : Tree) (a b : X) → IsRead t a → IsRead t b → a ≡ b)
     → (items : Items) (xs ys : List X) → AreEach IsRead items xs → AreEach IsRead items ys → xs ≡ ys
 one_each IsRead one no_items xs ys p q = p ∙ sym q
@@ -61,7 +65,7 @@ one_target tree a b p q =
     let arn = one_text (codes "Arn") p.0 a.arn b.arn p.2.arn other.arn in
     λ i. record { id = id i; arn = arn i }
 
-pub one_targets : (items : Items) (xs ys : List Target) → AreTargets items xs → AreTargets items ys → xs ≡ ys
+one_targets : (items : Items) (xs ys : List Target) → AreTargets items xs → AreTargets items ys → xs ≡ ys
 one_targets = one_each IsTargetTree one_target
 
 pub one_entry : (tree : Tree) (a b : Entry) → IsEntryTree tree a → IsEntryTree tree b → a ≡ b
@@ -76,7 +80,7 @@ one_entry tree a b p q =
     let bus = p.2.bus ∙ sym other.bus in
     λ i. record { time = time i; source = source i; resources = resources i; detail_type = detail_type i; detail = detail i; bus = bus i }
 
-pub one_entries : (items : Items) (xs ys : List Entry) → AreEntries items xs → AreEntries items ys → xs ≡ ys
+one_entries : (items : Items) (xs ys : List Entry) → AreEntries items xs → AreEntries items ys → xs ≡ ys
 one_entries = one_each IsEntryTree one_entry
 
 one_create_queue : (ms : Members) (s : List ℕ) (b : Action) → IsCreateQueue ms s → IsAction CreateQueue ms b → create_queue s ≡ b
@@ -114,8 +118,8 @@ one_deliver_due : (ms : Members) (b : Action) → IsAction DeliverDue ms b → d
 one_deliver_due ms deliver_due q = refl
 one_deliver_due ms _ q = absurd q
 
--- the ms of an operation make one action
-pub one_action : (operation : Operation) (ms : Members) (a b : Action) → IsAction operation ms a → IsAction operation ms b → a ≡ b
+-- the members of an operation give one action
+one_action : (operation : Operation) (ms : Members) (a b : Action) → IsAction operation ms a → IsAction operation ms b → a ≡ b
 one_action CreateQueue ms (create_queue s) b p q = one_create_queue ms s b p q
 one_action PutRule ms (put_rule s x) b p q = one_put_rule ms s x b p q
 one_action PutTargets ms (put_targets s xs) b p q = one_put_targets ms s xs b p q
@@ -124,7 +128,7 @@ one_action PeekMessages ms (peek_messages s) b p q = one_peek_messages ms s b p 
 one_action DeliverDue ms deliver_due b p q = one_deliver_due ms b q
 one_action _ ms _ b p q = absurd p
 
--- the body, where it is a value, and that value no object
+-- the members of a body that is an object; a body that is no object has none
 pub body_only : (bytes : List ℕ) (tree : Tree) (ms other : Members) → 0 < length bytes → ((n : Node) → IsText 100 bytes n → tree ≡ value_of n)
     → tree ≡ object ms → IsBody bytes other → ms ≡ other
 body_only [] tree ms other some only is p = absurd (omega arith)
@@ -135,7 +139,8 @@ pub body_none : (bytes : List ℕ) (tree : Tree) → 0 < length bytes → ((n : 
 body_none [] tree some only none other p = absurd (omega arith)
 body_none (b ∷ bytes) tree some only none other p = none other (only p.0 p.1 ∙ p.2)
 
-pub pattern_refused : (bytes : List ℕ) (f : PatternFault) → ((p : Pattern) → IsPatternText bytes p → f ≡ pattern.NoMemory) → IsFault (IsPatternText bytes) (pattern_fault f)
+pub pattern_refused : (bytes : List ℕ) (f : PatternFault) → ((p : Pattern) → IsPatternText bytes p → f ≡ pattern.NoMemory)
+    → IsFault (IsPatternText bytes) (pattern_fault f)
 pattern_refused bytes pattern.NotBuilt only = λ p is. let e = only p is in cc
 pattern_refused bytes pattern.NoMemory only = tt
 
@@ -152,13 +157,14 @@ rule_refused ms x UnknownOperation given fault = fault
 rule_refused ms x NotBuilt given fault = no_put_rule ms x given fault
 rule_refused ms x NoMemory given fault = tt
 
--- Of all values those that are done are read so, and the others are left.
+-- The values before `left` were read to `done`.
 pub record IsReadSoFar {X : Type 0} (IsRead : Tree → X → Type 0) (all left : Items) (done : List X) : Type 0 where
   pub read : (rest : List X) → AreEach IsRead left rest → AreEach IsRead all (done ++ rest)
   pub only : (xs : List X) → AreEach IsRead all xs → (rest : List X) × (xs ≡ done ++ rest) × AreEach IsRead left rest
 
 pub one_more_read : {X : Type 0} (IsRead : Tree → X → Type 0) → ((t : Tree) (a b : X) → IsRead t a → IsRead t b → a ≡ b)
-    → (all left : Items) (t : Tree) (done : List X) (x : X) → IsReadSoFar IsRead all (item t left) done → IsRead t x → IsReadSoFar IsRead all left (done ++ x ∷ [])
+    → (all left : Items) (t : Tree) (done : List X) (x : X) → IsReadSoFar IsRead all (item t left) done → IsRead t x
+    → IsReadSoFar IsRead all left (done ++ x ∷ [])
 one_more_read {X} IsRead one all left t done x old is = record {
   read = λ rest p. subst (AreEach IsRead all) (sym (append_assoc done (x ∷ []) rest)) (old.read (x ∷ rest) (x, rest, refl, is, p));
   only = λ xs p.
@@ -179,13 +185,13 @@ not_read IsRead all left t done NotBuilt old fault = λ xs p.
     fault r.2.0 r.2.3
 not_read IsRead all left t done NoMemory old fault = tt
 
--- the value at an index is the first that is left
+-- the value at an index is the first of the rest
 pub trees_left : (xs : List Json) (i : ℕ) (x : Json) → i < length xs → x ≡ get_or xs i x
     → items_of (trees_of (drop i xs)) ≡ item (tree_of x) (items_of (trees_of (drop (i + 1) xs)))
 trees_left xs i x inside is =
     at_drop_more (λ l. items_of (trees_of l)) xs i x inside ∙ ap (λ y. item (tree_of y) (items_of (trees_of (drop (i + 1) xs)))) (sym is)
 
--- as many are read as there are
+-- the number of values read is that of the list
 pub each_len : {X : Type 0} (IsRead : Tree → X → Type 0) (ts : List Tree) (xs : List X) → AreEach IsRead (items_of ts) xs → length xs ≡ length ts
 each_len IsRead [] xs p = ap length p
 each_len IsRead (t ∷ ts) xs p = omega (arith, ap length p.2, each_len IsRead ts p.1 p.4)
@@ -197,24 +203,12 @@ no_put_events ms items given none (put_events xs) p =
     none xs (rw same p.are_entries) p.some p.few
 no_put_events ms items given none _ p = p
 
-pub events_refused : (ms : Members) (items : Items) (e : CallFault) → value_at (codes "Entries") ms ≡ Some (list items)
-    → IsFault (AreEntries items) e → IsFault {A = Action} (IsAction PutEvents ms) e
-events_refused ms items UnknownOperation given fault = fault
-events_refused ms items NotBuilt given fault = no_put_events ms items given (λ xs are some few. fault xs are)
-events_refused ms items NoMemory given fault = tt
-
 pub no_put_targets : (ms : Members) (items : Items) → value_at (codes "Targets") ms ≡ Some (list items)
     → ((xs : List Target) → AreTargets items xs → 1 ≤ length xs → length xs ≤ 100 → ⊥) → (a : Action) → IsAction PutTargets ms a → ⊥
 no_put_targets ms items given none (put_targets rule xs) p =
     let same : items ≡ p.items = one_list (codes "Targets") ms items p.items given p.targets_given in
     none xs (rw same p.are_targets) p.some p.few
 no_put_targets ms items given none _ p = p
-
-pub targets_refused : (ms : Members) (items : Items) (e : CallFault) → value_at (codes "Targets") ms ≡ Some (list items)
-    → IsFault (AreTargets items) e → IsFault {A = Action} (IsAction PutTargets ms) e
-targets_refused ms items UnknownOperation given fault = fault
-targets_refused ms items NotBuilt given fault = no_put_targets ms items given (λ xs are some few. fault xs are)
-targets_refused ms items NoMemory given fault = tt
 
 pub one_request : (m : Message) (reading : ℕ) (q : Request) (operation : Operation) (ms : Members) (action : Action) → operation_of m.target ≡ Some operation
     → ((other : Members) → IsBody m.body other → ms ≡ other) → IsAction operation ms action → IsAsked m reading q

@@ -1,4 +1,4 @@
--- The pieces of a reply, put together.
+-- The pieces of a reply, joined. Other files cite `head_joined` and `reply_joined`.
 use Rattle.std.proofs.Common.{◌≡◌, ℕ, ◌+◌, Bool, List, [], ◌∷◌, ◌++◌, length, sym, ap, ◌∙◌, append_assoc, length-append, arith}
 use Rattle.std.specs.Prelude.{codes, decimal}
 use Rattle.json_text.specs.Compact.{compact_text}
@@ -6,7 +6,7 @@ use Rattle.router_core.specs.Reply.{Counts, counted}
 use Rattle.api_wire.specs.Written.{message_text, reply_text}
 use Rattle.api_wire.specs.Pieces.{status_line, fields_text, head_end, head_text}
 
--- the fields as they stand in the code
+-- the fields as the code writes them
 abbrev pub fields_written : List ℕ
 fields_written = codes "Content-Type: application/x-amz-json-1.1" ++ 13 ∷ 10 ∷ codes "Content-Length: "
 
@@ -34,7 +34,8 @@ counts_body : (n : Counts) → compact_text (counted n).body
     ≡ attempts_key ++ (decimal n.attempts ++ (delivered_key ++ (decimal n.delivered ++ (dropped_key ++ (decimal n.dropped ++ 125 ∷ [])))))
 counts_body n = simp append_assoc
 
-counts_len : (n : Counts) → length (compact_text (counted n).body) ≡ 54 + length (decimal n.attempts) + length (decimal n.delivered) + length (decimal n.dropped)
+counts_len : (n : Counts)
+    → length (compact_text (counted n).body) ≡ 54 + length (decimal n.attempts) + length (decimal n.delivered) + length (decimal n.dropped)
 counts_len n = ap length (counts_body n) ∙ simp length-append (omega arith)
 
 joined : (h a b c d e f g : List ℕ)
@@ -42,7 +43,8 @@ joined : (h a b c d e f g : List ℕ)
 joined h a b c d e f g = simp append_assoc
 
 pub counts_joined : (n : Counts) (len : ℕ) (close : Bool) → len ≡ 54 + length (decimal n.attempts) + length (decimal n.delivered) + length (decimal n.dropped)
-    → ((((((head_text 200 len close ++ attempts_key) ++ decimal n.attempts) ++ delivered_key) ++ decimal n.delivered) ++ dropped_key) ++ decimal n.dropped) ++ 125 ∷ []
+    → ((((((head_text 200 len close ++ attempts_key) ++ decimal n.attempts) ++ delivered_key) ++ decimal n.delivered) ++ dropped_key)
+    ++ decimal n.dropped) ++ 125 ∷ []
     ≡ reply_text (counted n) close
 counts_joined n len close is =
     let body = compact_text (counted n).body in

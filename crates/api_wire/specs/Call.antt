@@ -1,7 +1,8 @@
 -- Which request a message asks for. Members that no operation has are ignored, and null counts as absent.
-use Rattle.std.specs.Prelude.{◌≡◌, ℕ, ◌≤◌, List, [], ◌∷◌, length, Option, Some, None, if◌then◌else◌, codes}
+use Rattle.std.specs.Prelude.{◌≡◌, ℕ, ◌≤◌, List, [], ◌∷◌, length, Option, Some, None, option_and_then, if◌then◌else◌, codes}
 use Rattle.std.specs.Str.{bytes_eq}
-use Rattle.json_text.specs.Tree.{Tree, null, truth, number, text, list, object, Items, no_items, item, Members, no_members, member}
+use Rattle.json_text.specs.Tree.{Tree, null, truth, number, text, list, object, Items, no_items, item, Members, no_members}
+use Rattle.json_text.specs.Access.{member_in}
 use Rattle.json_text.specs.Node.{Node, value_of}
 use Rattle.json_text.specs.Grammar.{IsText}
 use Rattle.event_shape.specs.Names.{IsQueueName, IsShortName}
@@ -24,12 +25,12 @@ named_operation name =
     if bytes_eq name (codes "RouterLocal.PeekMessages") then Some PeekMessages else (
     if bytes_eq name (codes "RouterLocal.DeliverDue") then Some DeliverDue else None)))))
 
--- a message without the field names none
+-- the operation of a message; a message without the field has none
 abbrev pub operation_of : Option (List ℕ) → Option Operation
 operation_of None = None
 operation_of (Some name) = named_operation name
 
--- a member that is there; null counts as absent
+-- the value itself; null counts as absent
 abbrev pub unless_null : Tree → Option Tree
 unless_null null = None
 unless_null (truth b) = Some (truth b)
@@ -38,10 +39,9 @@ unless_null (text t) = Some (text t)
 unless_null (list items) = Some (list items)
 unless_null (object members) = Some (object members)
 
--- the value of the member of this key
+-- the value of the first member with this key; null counts as absent
 abbrev pub value_at : List ℕ → Members → Option Tree
-value_at key no_members = None
-value_at key (member k t members) = if bytes_eq k key then unless_null t else value_at key members
+value_at key members = option_and_then unless_null (member_in key members)
 
 -- the member is absent, or a text
 abbrev pub IsOptionalText : Option Tree → Option (List ℕ) → Type 0
@@ -56,7 +56,7 @@ HasText key members t = value_at key members ≡ Some (text t)
 abbrev pub Lacks : List ℕ → Members → Type 0
 Lacks key members = value_at key members ≡ None
 
--- each value of the list is read so, in order
+-- the values of the list are read to these, in order
 abbrev pub AreEach : {X : Type 0} → (Tree → X → Type 0) → Items → List X → Type 0
 AreEach IsRead no_items xs = xs ≡ []
 AreEach {X} IsRead (item t items) xs = (x : X) × (rest : List X) × (xs ≡ x ∷ rest) × IsRead t x × AreEach IsRead items rest
@@ -71,7 +71,7 @@ pub record IsTarget (members : Members) (target : Target) : Type 0 where
   pub no_retry : Lacks (codes "RetryPolicy") members
   pub no_dead_letter : Lacks (codes "DeadLetterConfig") members
 
--- the same, of the value
+-- the value is an object with the members of this target
 abbrev pub IsTargetTree : Tree → Target → Type 0
 IsTargetTree tree target = (members : Members) × (tree ≡ object members) × IsTarget members target
 
@@ -91,7 +91,7 @@ pub record IsEntry (members : Members) (entry : Entry) : Type 0 where
   pub no_resources : Lacks (codes "Resources") members
   pub no_bus : Lacks (codes "EventBusName") members
 
--- the same, of the value
+-- the value is an object with the members of this entry
 abbrev pub IsEntryTree : Tree → Entry → Type 0
 IsEntryTree tree entry = (members : Members) × (tree ≡ object members) × IsEntry members entry
 
@@ -99,12 +99,12 @@ IsEntryTree tree entry = (members : Members) × (tree ≡ object members) × IsE
 abbrev pub AreEntries : Items → List Entry → Type 0
 AreEntries items entries = AreEach IsEntryTree items entries
 
--- a queue of this name is to be made
+-- create a queue with this name
 pub record IsCreateQueue (members : Members) (name : List ℕ) : Type 0 where
   pub name_given : HasText (codes "QueueName") members name
   pub is_name : IsQueueName name
 
--- a rule of this name with this pattern is to be put on the bus `default`
+-- put a rule with this name and this pattern on the bus `default`
 pub record IsPutRule (members : Members) (name pattern : List ℕ) : Type 0 where
   pub name_given : HasText (codes "Name") members name
   pub is_name : IsShortName name
@@ -114,7 +114,7 @@ pub record IsPutRule (members : Members) (name pattern : List ℕ) : Type 0 wher
   pub no_state : Lacks (codes "State") members
   pub no_bus : Lacks (codes "EventBusName") members
 
--- 1 to 100 targets are to be put to this rule of the bus `default`
+-- put 1 to 100 targets to this rule of the bus `default`
 pub record IsPutTargets (members : Members) (rule : List ℕ) (targets : List Target) : Type 0 where
   pub rule_given : HasText (codes "Rule") members rule
   pub is_rule : IsShortName rule
@@ -125,7 +125,7 @@ pub record IsPutTargets (members : Members) (rule : List ℕ) (targets : List Ta
   pub some : 1 ≤ length targets
   pub few : length targets ≤ 100
 
--- 1 to 10 entries are to be put
+-- put 1 to 10 entries
 pub record IsPutEvents (members : Members) (entries : List Entry) : Type 0 where
   pub items : Items
   pub entries_given : value_at (codes "Entries") members ≡ Some (list items)
@@ -133,7 +133,7 @@ pub record IsPutEvents (members : Members) (entries : List Entry) : Type 0 where
   pub some : 1 ≤ length entries
   pub few : length entries ≤ 10
 
--- the messages of this queue are to be seen
+-- return the messages of this queue
 pub record IsPeekMessages (members : Members) (queue : List ℕ) : Type 0 where
   pub queue_given : HasText (codes "QueueName") members queue
   pub is_queue : IsQueueName queue

@@ -4,10 +4,11 @@ use Rattle.http.specs.StatusCode.{reason_phrase}
 use Rattle.json_text.specs.Compact.{compact_text}
 use Rattle.router_core.specs.Reply.{Reply}
 
+-- a line end
 abbrev pub crlf : List ℕ
 crlf = 13 ∷ 10 ∷ []
 
--- the field that says that the connection ends behind this reply
+-- the field of a reply after which the connection ends
 abbrev pub close_field : Bool → List ℕ
 close_field true = codes "Connection: close" ++ crlf
 close_field false = []
@@ -20,7 +21,7 @@ message_text status body close =
     ++ (codes "Content-Length: " ++ (decimal (length body) ++ (crlf
     ++ (close_field close ++ (crlf ++ body)))))))))))
 
--- the text of a reply; `close` where the connection ends behind it
+-- the text of a reply; `close` is true if the connection ends after it
 abbrev pub reply_text : Reply → Bool → List ℕ
 reply_text reply close = message_text reply.status (compact_text reply.body) close
 

@@ -2,7 +2,7 @@
 ghost use Rattle.std.specs.Prelude.{◌≡◌, None, IfOk, MatchResult, IsSome, IsErrOf};
 ghost use Rattle.json_text.specs.Tree.{members_of};
 ghost use Rattle.json_text.specs.View.{pairs_of};
-ghost use Rattle.router_core.specs.Request.{Request as Seen, Action as SeenAction};
+ghost use Rattle.router_core.specs.Request.{Request as RequestView, Action as ActionView};
 ghost use Rattle.router_core.specs.View.{request_of, action_of};
 ghost use Rattle.api_wire.specs.Call.{operation_of, IsAction, IsAsked};
 ghost use Rattle.api_wire.specs.CallAnswers.{IsFault};
@@ -32,12 +32,11 @@ use put_targets::put_targets;
 use router_core::{Action, Request};
 use std::alloc::Global;
 
-/// The request that the message asks for, with the reading of the clock at which it was whole, a moment.
-///
-/// `UnknownOperation` is told before anything of the body.
+/// The request that the message asks for. `reading` is the reading of the clock when the message was whole, as a moment.
+/// `UnknownOperation` is returned before the body is read.
 pub fn read_call(alloc: Global, message: &Message, reading: u64) -> Result<Request, CallFault>
     ensures asked { IfOk result (λ q. IsAsked message.now reading (request_of q)) }
-    ensures only { (q : Seen) → IsAsked message.now reading q
+    ensures only { (q : RequestView) → IsAsked message.now reading q
         → MatchResult result (λ p. request_of p ≡ q) (λ e. e ≡ CallFault.NoMemory) }
     ensures unknown { IsErrOf result CallFault.UnknownOperation → operation_of message.now.target ≡ None }
     ensures known { IsErrOf result CallFault.NotBuilt → IsSome (operation_of message.now.target) }
@@ -53,7 +52,7 @@ pub fn read_call(alloc: Global, message: &Message, reading: u64) -> Result<Reque
 fn read_action(alloc: Global, operation: Operation, members: &Members) -> Result<Action, CallFault>
     ensures { MatchResult result
         (λ a. IsAction operation (members_of (pairs_of members.now.items)) (action_of a))
-        (IsFault {A = SeenAction} (IsAction operation (members_of (pairs_of members.now.items)))) }
+        (IsFault {A = ActionView} (IsAction operation (members_of (pairs_of members.now.items)))) }
 {
     match operation {
         Operation::CreateQueue => create_queue(alloc, members),

@@ -10,13 +10,14 @@ use json_text::NoMemory;
 use std::alloc::Global;
 use std::marker::Model;
 
-/// How many bytes such a reply has at most.
+/// The number of bytes that such a reply has at most.
 const ROOM: usize = 256;
 
-/// How many bytes of its body are no digits of a count.
+/// The number of bytes of its body that are no digits of a count.
 const BODY_REST: usize = 54;
 
-/// Room for the reply to a DeliverDue, taken before its steps are made: whatever they count, the reply needs no more memory.
+/// Room for the reply to a DeliverDue. It is allocated before the steps are made, so the reply then needs no memory, whatever
+/// the counts.
 #[derive(Debug, Drop)]
 pub struct CountsReply {
     bytes: Vec<u8>,
@@ -34,7 +35,7 @@ impl Model for CountsReply {
 }
 
 impl CountsReply {
-    /// Takes the room.
+    /// Allocates the room.
     pub fn new(alloc: Global) -> Result<CountsReply, NoMemory>
         ensures { IfOk result (λ r. r ≡ []) }
     {
@@ -42,7 +43,7 @@ impl CountsReply {
         Ok(CountsReply { bytes })
     }
 
-    /// The reply's bytes, in place of those of an earlier one; `close` where the connection ends behind it.
+    /// The bytes of the reply. They replace those of an earlier one. `close` is true if the connection ends after the reply.
     pub fn fill(&mut self, attempts: u32, delivered: u32, dropped: u32, close: bool) -> &[u8]
         ensures { result.now ≡ reply_text (counted (record { attempts = attempts; delivered = delivered; dropped = dropped })) close }
     {
@@ -72,7 +73,7 @@ impl CountsReply {
         self.put("}");
     }
 
-    /// What stands before a body of `len` bytes.
+    /// Writes the head of a reply with a body of `len` bytes.
     fn put_head(&mut self, len: usize, close: bool)
         ensures head { self.new ≡ pieces.head_text 200 len close }
         ensures short { length self.new ≤ 140 }
@@ -84,7 +85,7 @@ impl CountsReply {
         self.put(head_end(close));
     }
 
-    /// Puts the piece at the end, where there is room for it.
+    /// Appends the piece. There is room for it.
     fn put(&mut self, piece: &str)
         requires { length self.old + length piece.now ≤ ROOM }
         ensures put { self.new ≡ self.old ++ piece.now }

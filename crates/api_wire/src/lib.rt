@@ -1,4 +1,4 @@
-//! A message is read to the request that it asks for, and to no other; a reply is written to bytes.
+//! Reads a message to the request that it asks for, and writes a reply to bytes.
 #![tactic(auto)]
 
 mod call;

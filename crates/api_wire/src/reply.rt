@@ -1,4 +1,4 @@
-//! Replies to bytes.
+//! The bytes of replies.
 ghost use Rattle.std.specs.Prelude.{◌≡◌, ◌≤◌, ◌++◌, true, length, take, IfOk, OnOk, OnErr};
 ghost use Rattle.router_core.specs.Reply.{no_memory, bad_head};
 ghost use Rattle.router_core.specs.View.{reply_of};
@@ -9,10 +9,10 @@ use itoa::Buffer;
 use json_text::{Bytes, Json, NoMemory, write};
 use router_core::Reply;
 
-/// The fields of every reply, as far as the number of bytes of its body.
+/// The fields of every reply, up to the number of bytes of its body.
 pub(crate) const FIELDS: &str = "Content-Type: application/x-amz-json-1.1\r\nContent-Length: ";
 
-/// Puts the reply's bytes at the end; `close` where the connection ends behind it.
+/// Appends the bytes of the reply. `close` is true if the connection ends after it. An `Err` appends nothing.
 pub fn write_reply(reply: &Reply, close: bool, out: &mut Bytes) -> Result<(), NoMemory>
     requires { IsServedStatus reply.now.status }
     ensures ok { OnOk result (out.new ≡ out.old ++ reply_text (reply_of reply.now) close) }
@@ -29,7 +29,7 @@ pub fn write_reply(reply: &Reply, close: bool, out: &mut Bytes) -> Result<(), No
 fn push_reply(reply: &Reply, close: bool, out: &mut Bytes) -> Result<(), NoMemory>
     requires { IsServedStatus reply.now.status }
     ensures ok { OnOk result (out.new ≡ out.old ++ reply_text (reply_of reply.now) close) }
-    ensures kept { take (length out.old) out.new ≡ out.old }
+    ensures start { take (length out.old) out.new ≡ out.old }
 {
     let mut body = out.new_beside();
     write(&reply.body, &mut body)?;
@@ -38,11 +38,11 @@ fn push_reply(reply: &Reply, close: bool, out: &mut Bytes) -> Result<(), NoMemor
     Ok(())
 }
 
-/// What stands before a body of `len` bytes.
+/// Appends the head of a reply with a body of `len` bytes.
 fn push_head(status: u16, len: usize, close: bool, out: &mut Bytes) -> Result<(), NoMemory>
     requires { IsServedStatus status }
     ensures ok { OnOk result (out.new ≡ out.old ++ pieces.head_text status len close) }
-    ensures kept { take (length out.old) out.new ≡ out.old }
+    ensures start { take (length out.old) out.new ≡ out.old }
 {
     out.extend(status_line(status).as_bytes())?;
     out.extend(FIELDS.as_bytes())?;
@@ -64,7 +64,7 @@ pub(crate) fn status_line(status: u16) -> &'static str
     }
 }
 
-/// What stands between the number of bytes of the body and the body.
+/// The part of a reply between the number of bytes of the body and the body.
 #[tactic(auto, unfolding(crate::specs::Pieces::head_end))]
 pub(crate) fn head_end(close: bool) -> &'static str
     ensures text { result.now ≡ pieces.head_end close }
@@ -77,7 +77,7 @@ pub(crate) fn head_end(close: bool) -> &'static str
     }
 }
 
-/// The bytes of the reply to want of memory, which need no memory.
+/// The bytes of the reply `out of memory`. They need no memory.
 pub fn no_memory_reply(close: bool) -> &'static [u8]
     ensures { result.now ≡ reply_text no_memory close }
 {
@@ -88,7 +88,7 @@ pub fn no_memory_reply(close: bool) -> &'static [u8]
     }
 }
 
-/// The bytes of the reply to bytes that no message begins with, which need no memory.
+/// The bytes of the reply to bytes with which no message begins. They need no memory.
 pub fn bad_head_reply() -> &'static [u8]
     ensures { result.now ≡ reply_text bad_head true }
 {

@@ -23,7 +23,7 @@ enum Asked {
     NoMemory,
 }
 
-fn told(read: &Result<Request, CallFault>) -> Asked {
+fn asked_by(read: &Result<Request, CallFault>) -> Asked {
     match read {
         Ok(request) => match &request.action {
             Action::CreateQueue { .. } => Asked::CreateQueue,
@@ -231,11 +231,11 @@ fn a_message_asks_for_one_request_or_none(rt: HostRuntime) -> Result<(), Fail> {
     for (operation, body, want) in CALLS {
         let message = call(rt.alloc(), operation, body)?;
         let read = read_call(rt.alloc(), &message, 0);
-        assert_eq!(rt; told(&read), want, "{operation} {body}");
+        assert_eq!(rt; asked_by(&read), want, "{operation} {body}");
     }
     let message = message(rt.alloc(), "", r#"{"QueueName":"q"}"#)?;
     let read = read_call(rt.alloc(), &message, 0);
-    assert_eq!(rt; told(&read), Asked::UnknownOperation, "no operation");
+    assert_eq!(rt; asked_by(&read), Asked::UnknownOperation, "no operation");
     Ok(())
 }
 
@@ -258,7 +258,7 @@ fn a_rule_is_asked_for_with_a_pattern(rt: HostRuntime) -> Result<(), Fail> {
     for (body, want) in rows {
         let message = call(rt.alloc(), "AWSEvents.PutRule", body)?;
         let read = read_call(rt.alloc(), &message, 0);
-        assert_eq!(rt; told(&read), want, "{body}");
+        assert_eq!(rt; asked_by(&read), want, "{body}");
     }
     Ok(())
 }
@@ -320,7 +320,7 @@ fn a_request_has_what_the_message_gives(rt: HostRuntime) -> Result<(), Fail> {
     Ok(())
 }
 
-/// The reply to a CreateQueue of a queue q, where the connection goes on.
+/// The reply to a CreateQueue of a queue q if the connection goes on.
 const QUEUE_MADE: &[u8] =
     b"HTTP/1.1 200 OK\r\nContent-Type: application/x-amz-json-1.1\r\nContent-Length: 51\r\n\r\n{\"QueueArn\":\"arn:aws:sqs:us-east-1:111122223333:q\"}";
 

@@ -1,16 +1,16 @@
-//! Why a message asks for nothing that is served.
+//! Why a message is no request that is built.
 use json_text::{JsonFault, NoMemory};
 use pattern_read::PatternFault;
 use std::alloc::{AllocError, AllocFailed};
 use thiserror::Error;
 
-/// Why a message asks for nothing that is served.
+/// Why a message is no request that is built.
 #[derive(Debug, Drop, Error)]
 pub enum CallFault {
-    /// No operation has the name that the message gives, or it gives none.
+    /// No operation has the name in the message, or the message has no name.
     #[error("no operation of this name is served")]
     UnknownOperation,
-    /// The operation is served, but not with such a body.
+    /// The operation is served, but not with this body.
     #[error("the operation is not built in this form")]
     NotBuilt,
     #[error("out of memory")]
@@ -50,7 +50,7 @@ impl<T: Drop> From<AllocFailed<T>> for CallFault {
     }
 }
 
-/// A body that is no JSON within the levels is not built.
+/// A body that is no JSON text within the levels is not built.
 impl From<JsonFault> for CallFault {
     ghost use Rattle.std.specs.Prelude.{◌≡◌};
     ghost use Rattle.api_wire.specs.CallAnswers.{text_fault};

@@ -1,24 +1,22 @@
-//! The members of a body. Null counts as absent, and of two members with one key the first counts.
+//! The members of a body. Null counts as absent. If two members have one key, the first counts.
 ghost use Rattle.std.specs.Prelude.{◌≡◌, ◌↔◌, ℕ, List, Some, IsTrue, MatchOption, MatchResult};
 ghost use Rattle.std.specs.Option.{option_map};
-ghost use Rattle.json_text.specs.Tree.{Items as SeenItems, Members as SeenMembers, text, list, object, items_of, members_of};
+ghost use Rattle.json_text.specs.Tree.{Items as ItemsView, Members as MembersView, text, list, object, items_of, members_of};
 ghost use Rattle.json_text.specs.View.{tree_of, trees_of, pairs_of};
 ghost use Rattle.api_wire.specs.Call.{value_at, unless_null, HasText, Lacks, IsOptionalText};
 ghost use Rattle.api_wire.specs.CallAnswers.{IsFault};
 
 use super::fault::CallFault;
-use json_text::{Items, Json, Members, Text};
+use json_text::{Items, Json, Members, Text, member_at};
 use std::alloc::Global;
 
 pub(super) fn value_at<'m>(members: &'m Members, key: &str) -> Option<&'m Json>
     ensures { option_map (λ j. tree_of j.now) result ≡ value_at key.now (members_of (pairs_of members.now.items)) }
 {
-    for (name, value) in members {
-        if name.as_str() == key {
-            return unless_null(value);
-        }
+    match member_at(members, key) {
+        Some(value) => unless_null(value),
+        None => None,
     }
-    None
 }
 
 fn unless_null(value: &Json) -> Option<&Json>
@@ -54,7 +52,7 @@ pub(super) fn text_at<'m>(members: &'m Members, key: &str) -> Option<&'m str>
 /// The items of the list that the value is.
 fn list_of(value: &Json) -> Option<&Items>
     ensures { MatchOption result
-        ((items : SeenItems) → tree_of value.now ≡ list items → ⊥)
+        ((items : ItemsView) → tree_of value.now ≡ list items → ⊥)
         (λ items. tree_of value.now ≡ list (items_of (trees_of items.now.items))) }
 {
     match value {
@@ -66,7 +64,7 @@ fn list_of(value: &Json) -> Option<&Items>
 /// The members of the object that the value is.
 pub(super) fn object_of(value: &Json) -> Option<&Members>
     ensures { MatchOption result
-        ((members : SeenMembers) → tree_of value.now ≡ object members → ⊥)
+        ((members : MembersView) → tree_of value.now ≡ object members → ⊥)
         (λ members. tree_of value.now ≡ object (members_of (pairs_of members.now.items))) }
 {
     match value {
@@ -77,7 +75,7 @@ pub(super) fn object_of(value: &Json) -> Option<&Members>
 
 pub(super) fn list_at<'m>(members: &'m Members, key: &str) -> Option<&'m Items>
     ensures { MatchOption result
-        ((items : SeenItems) → value_at key.now (members_of (pairs_of members.now.items)) ≡ Some (list items) → ⊥)
+        ((items : ItemsView) → value_at key.now (members_of (pairs_of members.now.items)) ≡ Some (list items) → ⊥)
         (λ items. value_at key.now (members_of (pairs_of members.now.items)) ≡ Some (list (items_of (trees_of items.now.items)))) }
 {
     match value_at(members, key) {
@@ -86,7 +84,7 @@ pub(super) fn list_at<'m>(members: &'m Members, key: &str) -> Option<&'m Items>
     }
 }
 
-/// A member that may be absent, and is a text where it is there.
+/// The text of an optional member. `NotBuilt` if the member is no text.
 pub(super) fn optional_text_at(
     alloc: Global,
     members: &Members,

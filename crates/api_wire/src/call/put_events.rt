@@ -15,7 +15,7 @@ use json_text::{Items, Json, Members};
 use router_core::Action;
 use std::alloc::Global;
 
-/// How many entries one call may put.
+/// The number of entries that one call may put.
 const ENTRIES_LIMIT: usize = 10;
 
 pub(super) fn put_events(alloc: Global, members: &Members) -> Result<Action, CallFault>
@@ -54,7 +54,7 @@ fn read_entry(alloc: Global, item: &Json) -> Result<EventEntry, CallFault>
     let Some(members) = object_of(item) else {
         return Err(CallFault::NotBuilt);
     };
-    if !is_built(members) {
+    if !is_built_entry(members) {
         return Err(CallFault::NotBuilt);
     }
     let source = optional_text_at(alloc, members, "Source")?;
@@ -70,8 +70,8 @@ fn read_entry(alloc: Global, item: &Json) -> Result<EventEntry, CallFault>
     })
 }
 
-/// Whether no member is there that is not built.
-fn is_built(members: &Members) -> bool
+/// Whether the entry has no member that is not built.
+fn is_built_entry(members: &Members) -> bool
     ensures { IsTrue result
         ↔ (Lacks (codes "Time") (members_of (pairs_of members.now.items))
         × Lacks (codes "Resources") (members_of (pairs_of members.now.items))

@@ -2,7 +2,7 @@
 ghost use Rattle.std.specs.Prelude.{◌↔◌, IsTrue, MatchResult, codes};
 ghost use Rattle.json_text.specs.Tree.{members_of};
 ghost use Rattle.json_text.specs.View.{pairs_of};
-ghost use Rattle.pattern_meaning.specs.Pattern.{Pattern as SeenPattern};
+ghost use Rattle.pattern_meaning.specs.Pattern.{Pattern as PatternView};
 ghost use Rattle.pattern_read.specs.Text.{IsPatternText};
 ghost use Rattle.router_core.specs.View.{action_of};
 ghost use Rattle.api_wire.specs.Call.{IsAction, Lacks};
@@ -28,7 +28,7 @@ pub(super) fn put_rule(alloc: Global, members: &Members) -> Result<Action, CallF
     let Some(pattern) = text_at(members, "EventPattern") else {
         return Err(CallFault::NotBuilt);
     };
-    if !is_rule_name(name) || !is_built(members) {
+    if !is_rule_name(name) || !is_built_rule(members) {
         return Err(CallFault::NotBuilt);
     }
     check_pattern(alloc, pattern)?;
@@ -37,8 +37,8 @@ pub(super) fn put_rule(alloc: Global, members: &Members) -> Result<Action, CallF
     Ok(Action::PutRule { name, pattern })
 }
 
-/// Whether no member is there that is not built.
-fn is_built(members: &Members) -> bool
+/// Whether the rule has no member that is not built.
+fn is_built_rule(members: &Members) -> bool
     ensures { IsTrue result
         ↔ (Lacks (codes "ScheduleExpression") (members_of (pairs_of members.now.items))
         × Lacks (codes "State") (members_of (pairs_of members.now.items))
@@ -49,10 +49,10 @@ fn is_built(members: &Members) -> bool
         && lacks(members, "EventBusName")
 }
 
-/// The pattern is read, and let go: it is kept as its text.
+/// Checks the pattern. The value that is read is dropped, since a rule holds the text.
 fn check_pattern(alloc: Global, text: &str) -> Result<(), CallFault>
     ensures { MatchResult result
-        (λ _. (p : SeenPattern) × IsPatternText text.now p)
+        (λ _. (p : PatternView) × IsPatternText text.now p)
         (IsFault (IsPatternText text.now)) }
 {
     read_pattern(alloc, text.as_bytes())?;

@@ -15,7 +15,7 @@ use router_core::Action;
 use rule_table::Target;
 use std::alloc::Global;
 
-/// How many targets one call may put.
+/// The number of targets that one call may put.
 const TARGETS_LIMIT: usize = 100;
 
 pub(super) fn put_targets(alloc: Global, members: &Members) -> Result<Action, CallFault>
@@ -65,7 +65,7 @@ fn read_target(alloc: Global, item: &Json) -> Result<Target, CallFault>
     let Some(arn) = text_at(members, "Arn") else {
         return Err(CallFault::NotBuilt);
     };
-    if !is_built(members) {
+    if !is_built_target(members) {
         return Err(CallFault::NotBuilt);
     }
     let id = Text::from_str(alloc, id)?;
@@ -73,8 +73,8 @@ fn read_target(alloc: Global, item: &Json) -> Result<Target, CallFault>
     Ok(Target { id, arn })
 }
 
-/// Whether no member is there that is not built.
-fn is_built(members: &Members) -> bool
+/// Whether the target has no member that is not built.
+fn is_built_target(members: &Members) -> bool
     ensures { IsTrue result
         ↔ (Lacks (codes "Input") (members_of (pairs_of members.now.items))
         × Lacks (codes "InputPath") (members_of (pairs_of members.now.items))

@@ -4,5 +4,17 @@ use Rattle.api_wire.proofs.counts.CountsReply.put_reply.Goals as goal
 
 pub returns : goal.returns
 returns c =
-    rw (c.put-7.ensures.put, c.put-6.ensures.put, c.put-5.ensures.put, c.put-4.ensures.put, c.put-3.ensures.put, c.put-2.ensures.put, c.put.ensures.put, c.put_head.ensures.head, c.format-attempts.ensures.text, c.format-delivered.ensures.text, c.format-dropped.ensures.text)
+    rw (
+      c.put-7.ensures.put,
+      c.put-6.ensures.put,
+      c.put-5.ensures.put,
+      c.put-4.ensures.put,
+      c.put-3.ensures.put,
+      c.put-2.ensures.put,
+      c.put.ensures.put,
+      c.put_head.ensures.head,
+      c.format-attempts.ensures.text,
+      c.format-delivered.ensures.text,
+      c.format-dropped.ensures.text,
+    )
     (counts_joined (record { attempts = c.args.attempts; delivered = c.args.delivered; dropped = c.args.dropped }) _ c.args.close refl)
