@@ -1,5 +1,6 @@
 -- Which word is a root's ARN: `root_named`, `is_root_of`, `no_root`; and of this account: `root_test`, `root_test_none`.
-use Rattle.std.proofs.Common.{◌≡◌, ℕ, Bool, true, false, ◌&&◌, ◌==◌, List, ◌++◌, length, take, drop, codes, Option, Some, None, MatchOption, Bor, refl, sym, ap, ◌∙◌, inl, inr, take_at}
+use Rattle.std.proofs.Common.{◌≡◌, ℕ, Bool, true, false, ◌&&◌, ◌==◌, List, ◌++◌, length, take, drop, codes, Option, Some, None, MatchOption}
+use Rattle.std.proofs.Common.{Bor, refl, sym, ap, ◌∙◌, inl, inr, take_at}
 use Rattle.std.specs.List.{list_all}
 use Rattle.std.specs.Char.{is_ascii_digit}
 use Rattle.std.proofs.lemmas.Bool.{eqb-true}
@@ -35,7 +36,7 @@ both false y h = absurd (both_ways false refl h)
 account_len : (a : List ℕ) → is_account a ≡ true → length a ≡ 12
 account_len a h = eqb-true (length a) 12 (both (length a == 12) (list_all is_ascii_digit a) h).0
 
--- where a root's ARN has its account
+-- the place of the account in a root's ARN
 abbrev inside : List ℕ → List ℕ
 inside word = take 12 (drop 13 word)
 

@@ -1,13 +1,16 @@
 -- What a statement without a fault is, `right_parts`, and statements one by one: `first_right`, `last_right`, `fewer_right`.
-use Rattle.std.proofs.Common.{◌≡◌, ℕ, ◌+◌, Bool, true, false, not, cond, ◌||◌, List, [], ◌∷◌, ◌++◌, length, Option, Some, None, codes, refl, sym, ap, ◌∙◌, subst, append_assoc, append-nil}
+use Rattle.std.proofs.Common.{◌≡◌, ℕ, ◌+◌, Bool, true, false, not, cond, ◌||◌, List, [], ◌∷◌, ◌++◌, length, Option, Some, None, codes, refl}
+use Rattle.std.proofs.Common.{sym, ap, ◌∙◌, subst, append_assoc, append-nil}
 use Rattle.std.specs.List.{list_any}
 use Rattle.std.proofs.lemmas.Bool.{cond_both}
 use Rattle.std.proofs.lemmas.List.Folds.{list_any-append}
 use Rattle.json_text.specs.Tree.{Tree, null, truth, number, text, list, object, Items, no_items, item}
 use Rattle.bus_policy.specs.declared.fault.PolicyCause.{PolicyCause}
 use Rattle.bus_policy.specs.declared.fault.PolicyCause.TheVariants.{BadSid, BadEffect, BadPrincipal, BadAction, BadResource, BadCondition, UnknownMember}
-use Rattle.bus_policy.specs.Parts.{member_of, text_passes, has_sid}
-use Rattle.bus_policy.specs.Grammar.{is_object_of, are_texts, any_text, member_is, is_new_sid, is_effect, is_principal, is_condition, is_statement_key, has_fault, statement_fault, fault_or, first_fault}
+use Rattle.json_text.specs.Access.{member_of}
+use Rattle.bus_policy.specs.Parts.{text_passes, has_sid}
+use Rattle.bus_policy.specs.Grammar.{is_object_of, are_texts, any_text, member_is, is_new_sid, is_effect, is_principal, is_condition}
+use Rattle.bus_policy.specs.Grammar.{is_statement_key, has_fault, statement_fault, fault_or, first_fault}
 use Rattle.bus_policy.specs.Change.{with_last, without_sid}
 
 cond_none : (b : Bool) (c : PolicyCause) (rest : Option PolicyCause) → cond b (Some c) rest ≡ None → (b ≡ false) × (rest ≡ None)
@@ -75,10 +78,12 @@ none_fault_or : (place : ℕ) (o : Option PolicyCause) (others : Option (PolicyC
 none_fault_or place None others h g = g
 none_fault_or place (Some c) others h g = cc
 
-pub first_right : (earlier : List Tree) (s : Tree) (ss : Items) → first_fault earlier (item s ss) ≡ None → (statement_fault earlier s ≡ None) × (first_fault (earlier ++ s ∷ []) ss ≡ None)
+pub first_right : (earlier : List Tree) (s : Tree) (ss : Items) → first_fault earlier (item s ss) ≡ None
+    → (statement_fault earlier s ≡ None) × (first_fault (earlier ++ s ∷ []) ss ≡ None)
 first_right earlier s ss h = fault_or_none (length earlier + 1) (statement_fault earlier s) (first_fault (earlier ++ s ∷ []) ss) h
 
-pub right_first : (earlier : List Tree) (s : Tree) (ss : Items) → statement_fault earlier s ≡ None → first_fault (earlier ++ s ∷ []) ss ≡ None → first_fault earlier (item s ss) ≡ None
+pub right_first : (earlier : List Tree) (s : Tree) (ss : Items) → statement_fault earlier s ≡ None
+    → first_fault (earlier ++ s ∷ []) ss ≡ None → first_fault earlier (item s ss) ≡ None
 right_first earlier s ss h g = none_fault_or (length earlier + 1) (statement_fault earlier s) (first_fault (earlier ++ s ∷ []) ss) h g
 
 abbrev pub trees_in : Items → List Tree
@@ -86,14 +91,15 @@ trees_in no_items = []
 trees_in (item s ss) = s ∷ trees_in ss
 
 -- one statement more at the end
-pub last_right : (earlier : List Tree) (ss : Items) (s : Tree) → first_fault earlier ss ≡ None → statement_fault (earlier ++ trees_in ss) s ≡ None → first_fault earlier (with_last ss s) ≡ None
+pub last_right : (earlier : List Tree) (ss : Items) (s : Tree) → first_fault earlier ss ≡ None
+    → statement_fault (earlier ++ trees_in ss) s ≡ None → first_fault earlier (with_last ss s) ≡ None
 last_right earlier no_items s h g = right_first earlier s no_items (subst (λ ts. statement_fault ts s ≡ None) (append-nil earlier) g) refl
 last_right earlier (item t ss) s h g =
     let parts = first_right earlier t ss h in
     right_first earlier t (with_last ss s) parts.0
     (last_right (earlier ++ t ∷ []) ss s parts.1 (subst (λ ts. statement_fault ts s ≡ None) (sym (append_assoc earlier (t ∷ []) (trees_in ss))) g))
 
--- each Sid that stands in no statement of the one list stands in none of the other
+-- each Sid that no statement of the one list has, no statement of the other has
 abbrev Fewer : List Tree → List Tree → Type 0
 Fewer more less = (sid : List ℕ) → list_any (has_sid sid) more ≡ false → list_any (has_sid sid) less ≡ false
 
@@ -101,7 +107,8 @@ not_some : (b : Bool) → not b ≡ true → b ≡ false
 not_some true h = sym h
 not_some false h = refl
 
-fewer_sids : (more less : List Tree) (o : Option Tree) → Fewer more less → member_is true (text_passes (is_new_sid more)) o ≡ true → member_is true (text_passes (is_new_sid less)) o ≡ true
+fewer_sids : (more less : List Tree) (o : Option Tree) → Fewer more less
+    → member_is true (text_passes (is_new_sid more)) o ≡ true → member_is true (text_passes (is_new_sid less)) o ≡ true
 fewer_sids more less None fewer h = refl
 fewer_sids more less (Some (text sid)) fewer h = ap not (fewer sid (not_some _ h))
 fewer_sids more less (Some null) fewer h = h
@@ -122,7 +129,8 @@ or_false false b h = (refl, h)
 false_or : (a b : Bool) → a ≡ false → b ≡ false → a || b ≡ false
 false_or a b h g = rw (h, g) refl
 
-any_of_two : (sid : List ℕ) (ts : List Tree) (s : Tree) → list_any (has_sid sid) (ts ++ s ∷ []) ≡ false → (list_any (has_sid sid) ts ≡ false) × (list_any (has_sid sid) (s ∷ []) ≡ false)
+any_of_two : (sid : List ℕ) (ts : List Tree) (s : Tree) → list_any (has_sid sid) (ts ++ s ∷ []) ≡ false
+    → (list_any (has_sid sid) ts ≡ false) × (list_any (has_sid sid) (s ∷ []) ≡ false)
 any_of_two sid ts s h = or_false _ _ (sym (list_any-append (has_sid sid) ts (s ∷ [])) ∙ h)
 
 fewer_by_one : (more less : List Tree) (s : Tree) → Fewer more less → Fewer (more ++ s ∷ []) less
@@ -134,13 +142,15 @@ fewer_with more less s fewer sid h =
     list_any-append (has_sid sid) less (s ∷ []) ∙ false_or _ _ (fewer sid parts.0) parts.1
 
 -- statements without those of a Sid
-fewer_right_from : (sid : List ℕ) (more less : List Tree) (ss : Items) → Fewer more less → first_fault more ss ≡ None → first_fault less (without_sid sid ss) ≡ None
+fewer_right_from : (sid : List ℕ) (more less : List Tree) (ss : Items) → Fewer more less → first_fault more ss ≡ None
+    → first_fault less (without_sid sid ss) ≡ None
 fewer_right_from sid more less no_items fewer h = refl
 fewer_right_from sid more less (item s ss) fewer h =
     let parts = first_right more s ss h in
     cond_both (has_sid sid s) (without_sid sid ss) (item s (without_sid sid ss)) (λ x. first_fault less x ≡ None)
     (λ _. fewer_right_from sid (more ++ s ∷ []) less ss (fewer_by_one more less s fewer) parts.1)
-    (λ _. right_first less s (without_sid sid ss) (fewer_still_right more less s fewer parts.0) (fewer_right_from sid (more ++ s ∷ []) (less ++ s ∷ []) ss (fewer_with more less s fewer) parts.1))
+    (λ _. right_first less s (without_sid sid ss) (fewer_still_right more less s fewer parts.0)
+    (fewer_right_from sid (more ++ s ∷ []) (less ++ s ∷ []) ss (fewer_with more less s fewer) parts.1))
 
 pub fewer_right : (sid : List ℕ) (ss : Items) → first_fault [] ss ≡ None → first_fault [] (without_sid sid ss) ≡ None
 fewer_right sid ss h = fewer_right_from sid [] [] ss (λ t g. g) h

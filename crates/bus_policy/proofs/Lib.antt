@@ -1,6 +1,6 @@
 pub mod AccountLemmas
 pub mod NameLemmas
-pub mod KeptLemmas
+pub mod StoredLemmas
 pub mod ReadLemmas
 pub mod GrammarLemmas
 pub mod ItemLemmas

@@ -17,7 +17,8 @@ named_at place (y ∷ xs) zero x name h e n = n ∙ ap (λ j. name_of place (tre
 named_at place (y ∷ xs) (suc i) x name h e n =
     named_at (place + 1) xs i x name (omega arith) e n ∙ ap (λ k. name_of k (tree_of x)) (omega arith)
 
-pub first_at : (a : Asker) (xs : List Json) (i : ℕ) (x : Json) (name : List ℕ) → i < length xs → x ≡ get_or xs i x → Denies a (tree_of x) → name ≡ name_of (1 + i) (tree_of x)
+pub first_at : (a : Asker) (xs : List Json) (i : ℕ) (x : Json) (name : List ℕ) → i < length xs → x ≡ get_or xs i x
+    → Denies a (tree_of x) → name ≡ name_of (1 + i) (tree_of x)
     → FirstDenies a (i + 1) (items_of (trees_of (drop i xs))) name
 first_at a xs i x name h e denies n =
     let cut : drop i xs ≡ x ∷ drop (i + 1) xs = at_drop_more (λ ys. ys) xs i x h ∙ ap (λ y. y ∷ drop (i + 1) xs) (sym e) in

@@ -1,4 +1,4 @@
--- From what a text spells to what it is: `told_fault`, `read_kept`, `read_policy`; and to its verdict, `judged`.
+-- From what a text spells to what it is: `reported_fault`, `read_stored`, `read_policy`; and to its verdict, `verdict_read`.
 use Rattle.std.proofs.Common.{◌≡◌, ◌≤◌, ℕ, List, length, Some, None, Result, Ok, Err, refl, sym, ap, ◌∙◌, subst, inl}
 use Rattle.std.specs.Prelude.{IfOk, IfErr, MatchResult}
 use Rattle.json_text.specs.Tree.{Tree}
@@ -11,28 +11,28 @@ use Rattle.json_text.specs.declared.fault.JsonFault.TheVariants as json
 use Rattle.bus_policy.specs.declared.fault.PolicyFault.TheVariants.{Bad, NoMemory}
 use Rattle.bus_policy.specs.declared.fault.PolicyFault.{PolicyFault}
 use Rattle.bus_policy.specs.Grammar.{IsPolicy, fault_of}
-use Rattle.bus_policy.specs.Kept.{kept_of, IsKept}
+use Rattle.bus_policy.specs.Stored.{stored_of, IsStored}
 use Rattle.bus_policy.specs.Text.{Spells, SpellsPolicy, IsPolicyText}
 use Rattle.bus_policy.specs.Verdict.{Asker, Verdict, IsVerdict}
 use Rattle.bus_policy.specs.Fault.{Tells, IsFirstFault, IsValueFault}
-use Rattle.bus_policy.proofs.KeptLemmas.{kept_is_kept}
+use Rattle.bus_policy.proofs.StoredLemmas.{stored_is_stored}
 
-pub told_fault : (bytes : List ℕ) (f : JsonFault) (e : PolicyFault) → length bytes ≤ 10240
+pub reported_fault : (bytes : List ℕ) (f : JsonFault) (e : PolicyFault) → length bytes ≤ 10240
     → ((at : ℕ) → f ≡ json.NotJson at → FailsAt 100 bytes at × ¬ (OpensTooMany 100 bytes at))
     → ((at : ℕ) → f ≡ json.TooDeep at → FailsAt 100 bytes at × OpensTooMany 100 bytes at)
     → ((at : ℕ) → f ≡ json.KeyTwice at → (n : Node) × IsText 100 bytes n × (first_repeat n ≡ Some at))
     → Tells f e → IsFirstFault bytes e
-told_fault bytes (json.NotJson at) e short none deep twice h =
+reported_fault bytes (json.NotJson at) e short none deep twice h =
     subst (IsFirstFault bytes) (sym h) (inl ((short, (at, (none at refl).0, (none at refl).1)), refl))
-told_fault bytes (json.TooDeep at) e short none deep twice h =
+reported_fault bytes (json.TooDeep at) e short none deep twice h =
     subst (IsFirstFault bytes) (sym h) (inl ((short, (at, (deep at refl).0, (deep at refl).1)), refl))
-told_fault bytes (json.KeyTwice at) e short none deep twice h =
+reported_fault bytes (json.KeyTwice at) e short none deep twice h =
     let t = twice at refl in
     subst (IsFirstFault bytes) (sym h) (inl ((short, (t.0, at, t.1, t.2)), refl))
-told_fault bytes json.NoMemory e short none deep twice h = subst (IsFirstFault bytes) (sym h) tt
+reported_fault bytes json.NoMemory e short none deep twice h = subst (IsFirstFault bytes) (sym h) tt
 
-pub read_kept : (value kept : Tree) → IsValue value → fault_of value ≡ None → kept ≡ kept_of value → IsKept kept
-read_kept value kept v f k = subst IsKept (sym k) (kept_is_kept value f v)
+pub read_stored : (value stored : Tree) → IsValue value → fault_of value ≡ None → stored ≡ stored_of value → IsStored stored
+read_stored value stored v f k = subst IsStored (sym k) (stored_is_stored value f v)
 
 only_memory : (value : Tree) (e : PolicyFault) → fault_of value ≡ None → IsValueFault value e → e ≡ NoMemory
 only_memory value (Bad cause place) none h = absurd (cc (none, h))
@@ -40,13 +40,15 @@ only_memory value NoMemory none h = refl
 
 -- what is made of the one value that the text spells
 pub read_policy : (bytes : List ℕ) (value policy : Tree) (r : Result Tree PolicyFault) → ((v : Tree) → length bytes ≤ 10240 → Spells bytes v → value ≡ v)
-    → IfOk r (λ p. IsPolicy value × (p ≡ kept_of value)) → IfErr r (IsValueFault value)
+    → IfOk r (λ p. IsPolicy value × (p ≡ stored_of value)) → IfErr r (IsValueFault value)
     → IsPolicyText bytes policy → MatchResult r (λ p. p ≡ policy) (λ e. e ≡ NoMemory)
-read_policy bytes value policy (Ok seen) only ok err p = ok.1 ∙ ap kept_of (only p.value p.spelled.short p.spelled.spelled) ∙ sym p.is_kept
-read_policy bytes value policy (Err e) only ok err p = only_memory value e (ap fault_of (only p.value p.spelled.short p.spelled.spelled) ∙ p.spelled.is_policy) err
+read_policy bytes value policy (Ok seen) only ok err p = ok.1 ∙ ap stored_of (only p.value p.spelled.short p.spelled.spelled) ∙ sym p.is_stored
+read_policy bytes value policy (Err e) only ok err p =
+    only_memory value e (ap fault_of (only p.value p.spelled.short p.spelled.spelled) ∙ p.spelled.is_policy) err
 
 -- the verdict of a text's policy is that of its value
-pub judged : (bytes : List ℕ) (policy value : Tree) (asker : Asker) (verdict : Verdict) → IsPolicyText bytes policy → ((p : Tree) → IsPolicyText bytes p → policy ≡ p)
+pub verdict_read : (bytes : List ℕ) (policy value : Tree) (asker : Asker) (verdict : Verdict)
+    → IsPolicyText bytes policy → ((p : Tree) → IsPolicyText bytes p → policy ≡ p)
     → IsVerdict policy asker verdict → SpellsPolicy bytes value → IsVerdict value asker verdict
-judged bytes policy value asker verdict is only h spelled =
-    subst (λ t. IsVerdict t asker verdict) (only (kept_of value) (record { value = value; spelled = spelled; is_kept = refl })) h
+verdict_read bytes policy value asker verdict is only h spelled =
+    subst (λ t. IsVerdict t asker verdict) (only (stored_of value) (record { value = value; spelled = spelled; is_stored = refl })) h

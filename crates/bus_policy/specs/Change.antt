@@ -2,8 +2,9 @@
 use Rattle.std.specs.Prelude.{ℕ, ◌+◌, Bool, false, ◌||◌, List, [], ◌∷◌, Option, Some, None, codes, if◌then◌else◌, unwrap_or, IsTrue}
 use Rattle.json_text.specs.Tree.{Tree, text, object, Items, no_items, item, members_of}
 use Rattle.event_shape.specs.Names.{is_account, bus_arn}
-use Rattle.bus_policy.specs.Parts.{member_of, statements_of, has_sid, root_arn}
-use Rattle.bus_policy.specs.Kept.{default_version, policy_with}
+use Rattle.json_text.specs.Access.{member_of}
+use Rattle.bus_policy.specs.Parts.{statements_of, has_sid, root_arn}
+use Rattle.bus_policy.specs.Stored.{default_version, policy_with}
 
 -- everyone, or one account
 abbrev pub principal_for : Option (List ℕ) → Tree

@@ -1,12 +1,16 @@
 -- Which JSON values are policies, and the first fault of any other.
-use Rattle.std.specs.Prelude.{◌≡◌, ℕ, ◌+◌, Bool, true, false, not, ◌&&◌, ◌||◌, List, [], ◌∷◌, ◌++◌, length, take, drop, find, Option, Some, None, codes, if◌then◌else◌}
+use Rattle.std.specs.Prelude.{◌≡◌, ℕ, ◌+◌, Bool, true, false, not, ◌&&◌, ◌||◌, List, [], ◌∷◌, ◌++◌, length, take, drop, find, Option, Some}
+use Rattle.std.specs.Prelude.{None, codes, if◌then◌else◌}
 use Rattle.std.specs.List.{list_any}
 use Rattle.std.specs.Str.{bytes_eq}
 use Rattle.json_text.specs.Tree.{Tree, null, truth, number, text, list, object, Items, no_items, item, Members, no_members, member}
 use Rattle.event_shape.specs.Names.{is_account}
 use Rattle.bus_policy.specs.declared.fault.PolicyCause.{PolicyCause}
-use Rattle.bus_policy.specs.declared.fault.PolicyCause.TheVariants.{TooLong, NotJson, TooDeep, KeyTwice, NotObject, BadVersion, BadSid, BadEffect, BadPrincipal, BadAction, BadResource, BadCondition, UnknownMember}
-use Rattle.bus_policy.specs.Parts.{member_of, statements_of, text_passes, has_sid, root_arn}
+use Rattle.bus_policy.specs.declared.fault.PolicyCause.TheVariants.{TooLong, NotJson, TooDeep, KeyTwice, NotObject, BadVersion, BadSid}
+use Rattle.bus_policy.specs.declared.fault.PolicyCause.TheVariants.{BadEffect, BadPrincipal, BadAction, BadResource, BadCondition}
+use Rattle.bus_policy.specs.declared.fault.PolicyCause.TheVariants.{UnknownMember}
+use Rattle.json_text.specs.Access.{member_of}
+use Rattle.bus_policy.specs.Parts.{statements_of, text_passes, has_sid, root_arn}
 
 abbrev pub each_item : (Tree → Bool) → Items → Bool
 each_item test no_items = true
@@ -70,7 +74,7 @@ is_new_sid earlier sid = not (list_any (has_sid sid) earlier)
 abbrev pub is_effect : List ℕ → Bool
 is_effect effect = bytes_eq effect (codes "Allow") || bytes_eq effect (codes "Deny")
 
--- the root's ARN of the twelve digits that stand behind its front
+-- the root's ARN of the twelve digits after its fixed front
 abbrev pub is_root : List ℕ → Bool
 is_root word = let account = take 12 (drop 13 word) in is_account account && bytes_eq word (root_arn account)
 
@@ -126,23 +130,23 @@ has_fault earlier s KeyTwice = false
 has_fault earlier s NotObject = false
 has_fault earlier s BadVersion = false
 
--- the first of them, in the order in which they are told
+-- the first of them, in the order in which they are reported
 abbrev pub statement_fault : List Tree → Tree → Option PolicyCause
 statement_fault earlier s =
     find (has_fault earlier s) (BadSid ∷ BadEffect ∷ BadPrincipal ∷ BadAction ∷ BadResource ∷ BadCondition ∷ UnknownMember ∷ [])
 
--- a statement's fault at its place, or else that of those behind it
+-- a statement's fault at its place, or else the first fault of the later statements
 abbrev pub fault_or : ℕ → Option PolicyCause → Option (PolicyCause × ℕ) → Option (PolicyCause × ℕ)
 fault_or place None others = others
 fault_or place (Some cause) others = Some (cause, place)
 
--- the first faulty statement's fault, behind the earlier ones
+-- the first faulty statement's fault, after the earlier statements
 abbrev pub first_fault : List Tree → Items → Option (PolicyCause × ℕ)
 first_fault earlier no_items = None
 first_fault earlier (item s statements) =
     fault_or (length earlier + 1) (statement_fault earlier s) (first_fault (earlier ++ s ∷ []) statements)
 
--- The first fault of a policy, with the place of the statement, counted from 1, or 0 where it is the whole policy's.
+-- The first fault of a policy, with the place of the statement, counted from 1, or 0 if the fault is the whole policy's.
 abbrev pub fault_of : Tree → Option (PolicyCause × ℕ)
 fault_of policy =
     if not (member_is false are_statements (member_of (codes "Statement") policy)) then Some (NotObject, 0) else

@@ -1,9 +1,9 @@
 pub mod Parts
 pub mod Verdict
 pub mod Grammar
-pub mod Kept
+pub mod Stored
 pub mod Text
 pub mod Fault
 pub mod Change
 pub mod Grantee
-pub mod Seen
+pub mod View

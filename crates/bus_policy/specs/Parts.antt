@@ -1,21 +1,8 @@
 -- The parts of a policy's JSON value.
-use Rattle.std.specs.Prelude.{ℕ, Bool, false, List, ◌++◌, Option, Some, None, codes, if◌then◌else◌}
+use Rattle.std.specs.Prelude.{ℕ, Bool, false, List, ◌++◌, Option, Some, None, codes}
 use Rattle.std.specs.Str.{bytes_eq}
-use Rattle.json_text.specs.Tree.{Tree, null, truth, number, text, list, object, Items, no_items, item, Members, no_members, member}
-
--- the value of the member with the key
-abbrev pub member_at : List ℕ → Members → Option Tree
-member_at key no_members = None
-member_at key (member name t members) = if bytes_eq name key then Some t else member_at key members
-
--- the same of a value, which may be no object
-abbrev pub member_of : List ℕ → Tree → Option Tree
-member_of key (object inside) = member_at key inside
-member_of key null = None
-member_of key (truth b) = None
-member_of key (number spelling) = None
-member_of key (text t) = None
-member_of key (list items) = None
+use Rattle.json_text.specs.Tree.{Tree, null, truth, number, text, list, object, Items, no_items, item}
+use Rattle.json_text.specs.Access.{member_of}
 
 -- The statements of a policy, in order: one object is a list of one. What is no policy may have none.
 abbrev pub statements_in : Option Tree → Items
@@ -52,6 +39,6 @@ has_sid sid statement = is_text sid (member_of (codes "Sid") statement)
 abbrev pub has_effect : List ℕ → Tree → Bool
 has_effect effect statement = is_text effect (member_of (codes "Effect") statement)
 
--- the root of an account, which stands for the account
+-- the ARN of an account's root, which represents the account
 abbrev pub root_arn : List ℕ → List ℕ
 root_arn account = codes "arn:aws:iam::" ++ (account ++ codes ":root")

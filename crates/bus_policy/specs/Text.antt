@@ -5,9 +5,11 @@ use Rattle.json_text.specs.Node.{Node, value_of, first_repeat}
 use Rattle.json_text.specs.Grammar.{IsText}
 use Rattle.json_text.specs.Faults.{FailsAt, OpensTooMany}
 use Rattle.bus_policy.specs.declared.fault.PolicyCause.{PolicyCause}
-use Rattle.bus_policy.specs.declared.fault.PolicyCause.TheVariants.{TooLong, NotJson, TooDeep, KeyTwice, NotObject, BadVersion, BadSid, BadEffect, BadPrincipal, BadAction, BadResource, BadCondition, UnknownMember}
+use Rattle.bus_policy.specs.declared.fault.PolicyCause.TheVariants.{TooLong, NotJson, TooDeep, KeyTwice, NotObject, BadVersion, BadSid}
+use Rattle.bus_policy.specs.declared.fault.PolicyCause.TheVariants.{BadEffect, BadPrincipal, BadAction, BadResource, BadCondition}
+use Rattle.bus_policy.specs.declared.fault.PolicyCause.TheVariants.{UnknownMember}
 use Rattle.bus_policy.specs.Grammar.{IsPolicy, fault_of}
-use Rattle.bus_policy.specs.Kept.{kept_of}
+use Rattle.bus_policy.specs.Stored.{stored_of}
 
 -- JSON within 100 levels, no object with a key twice
 pub record Spells (bytes : List ℕ) (value : Tree) : Type 0 where
@@ -22,13 +24,13 @@ pub record SpellsPolicy (bytes : List ℕ) (value : Tree) : Type 0 where
   pub spelled : Spells bytes value
   pub is_policy : IsPolicy value
 
--- The text is a policy, and this is kept of it.
+-- The text is a policy, and this is stored of it.
 pub record IsPolicyText (bytes : List ℕ) (policy : Tree) : Type 0 where
   pub value : Tree
   pub spelled : SpellsPolicy bytes value
-  pub is_kept : policy ≡ kept_of value
+  pub is_stored : policy ≡ stored_of value
 
--- no JSON within 100 levels, up to some byte, where a level too many is opened or not
+-- no JSON within 100 levels, up to some byte, at which a level too many is opened or not
 abbrev pub IsNoJson : List ℕ → Type 0
 IsNoJson bytes = (at : ℕ) × FailsAt 100 bytes at × (¬ OpensTooMany 100 bytes at)
 
@@ -39,7 +41,7 @@ IsTooDeep bytes = (at : ℕ) × FailsAt 100 bytes at × OpensTooMany 100 bytes a
 abbrev pub HasKeyTwice : List ℕ → Type 0
 HasKeyTwice bytes = (node : Node) × (at : ℕ) × IsText 100 bytes node × (first_repeat node ≡ Some at)
 
--- the faults of the text itself, each where those before it are not
+-- the faults of the text itself, each if those before it are absent
 abbrev pub IsSpellingFault : List ℕ → PolicyCause → Type 0
 IsSpellingFault bytes TooLong = 10240 < length bytes
 IsSpellingFault bytes NotJson = (length bytes ≤ 10240) × IsNoJson bytes

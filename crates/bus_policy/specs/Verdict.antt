@@ -6,7 +6,8 @@ use Rattle.json_text.specs.Tree.{Tree, null, truth, number, text, list, object, 
 use Rattle.leaf_match.specs.Piece.{Fits}
 use Rattle.leaf_match.specs.Like.{like_pieces}
 use Rattle.event_shape.specs.Names.{is_account, owner, bus_arn}
-use Rattle.bus_policy.specs.Parts.{member_of, has_effect, root_arn, statements_of}
+use Rattle.json_text.specs.Access.{member_of}
+use Rattle.bus_policy.specs.Parts.{has_effect, root_arn, statements_of}
 
 -- who asks to put which event on which bus, each by its text; the bus is its name
 pub record Asker : Type 0 where
@@ -69,7 +70,7 @@ IsPutEvents word = (word ≡ codes "*") ⊎ (word ≡ codes "events:*") ⊎ (wor
 abbrev pub IsBus : List ℕ → List ℕ → Type 0
 IsBus bus word = (word ≡ codes "*") ⊎ (word ≡ bus_arn bus)
 
--- the text fits by StringEquals where it is the same, by StringLike where it fits the pattern
+-- the text fits by StringEquals if it is the same, by StringLike if it fits the pattern
 abbrev pub FitsBy : List ℕ → List ℕ → List ℕ → Type 0
 FitsBy operator wanted asked =
     ((operator ≡ codes "StringEquals") × (wanted ≡ asked)) ⊎ ((operator ≡ codes "StringLike") × Fits (like_pieces wanted) asked)
@@ -166,7 +167,7 @@ IsVerdictOf statements asker (denied_by name) = FirstDenies asker 1 statements n
 IsVerdictOf statements asker allowed = NoneDenies asker statements × IsAllowed asker statements
 IsVerdictOf statements asker no_allow = NoneDenies asker statements × (¬ IsAllowed asker statements)
 
--- of a policy by its JSON value, as it was given or as it is kept
+-- of a policy by its JSON value, as it was given or as it is stored
 abbrev pub IsVerdict : Tree → Asker → Verdict → Type 0
 IsVerdict policy asker verdict = IsVerdictOf (statements_of policy) asker verdict
 

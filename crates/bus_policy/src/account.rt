@@ -27,7 +27,7 @@ fn is_root(word: &str) -> bool
     }
 }
 
-/// The account that the word is the root's ARN of, by the text that stands between front and end.
+/// The account of a root's ARN: the text between the ARN's fixed front and end.
 pub(crate) fn account_of_root(word: &str) -> Option<&str>
     ensures { MatchOption result
         ((account : List ℕ) → ¬ (word.now ≡ root_arn account))

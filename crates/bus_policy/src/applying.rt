@@ -5,13 +5,14 @@ ghost use Rattle.leaf_match.specs.Like.{like_pieces};
 ghost use Rattle.std.specs.Option.{option_copied};
 ghost use Rattle.json_text.specs.Tree.{members_of};
 ghost use Rattle.json_text.specs.View.{tree_of, pairs_of};
-ghost use Rattle.bus_policy.specs.Parts.{member_of, root_arn};
-ghost use Rattle.bus_policy.specs.Seen.{asker_of};
+ghost use Rattle.json_text.specs.Access.{member_of};
+ghost use Rattle.bus_policy.specs.Parts.{root_arn};
+ghost use Rattle.bus_policy.specs.View.{asker_of};
 ghost use Rattle.bus_policy.specs.Verdict as spec;
 
 use crate::account::{EVERYONE, account_of_root};
 use crate::asker::Asker;
-use crate::parts::{has_effect, member};
+use crate::parts::has_effect;
 use crate::text_test::{TextTest, some_text};
 use event_shape::{is_account, is_bus_arn};
 use json_text::{Json, Text};
@@ -43,7 +44,7 @@ fn applies(statement: &Json, asker: &Asker) -> bool
 fn has_principal(statement: &Json, account: &str) -> bool
     ensures { IsTrue result ↔ spec.IsPrincipal account.now (member_of (codes "Principal") (tree_of statement.now)) }
 {
-    match member(statement, "Principal") {
+    match statement.member("Principal") {
         Some(principal) => is_principal(principal, account),
         None => false,
     }
@@ -62,7 +63,7 @@ fn is_principal(json: &Json, account: &str) -> bool
 fn has_text<T: TextTest>(json: &Json, key: &str, test: &T) -> bool
     ensures { IsTrue result ↔ spec.HasText (T.wanted test.now) (member_of key.now (tree_of json.now)) }
 {
-    match member(json, key) {
+    match json.member(key) {
         Some(texts) => some_text(texts, test),
         None => false,
     }
@@ -126,7 +127,7 @@ impl<'a> TextTest for OfBus<'a> {
 fn has_condition(statement: &Json, asker: &Asker) -> bool
     ensures { IsTrue result ↔ spec.ConditionHolds (asker_of asker.now) (member_of (codes "Condition") (tree_of statement.now)) }
 {
-    match member(statement, "Condition") {
+    match statement.member("Condition") {
         Some(condition) => condition_holds(condition, asker),
         None => true,
     }

@@ -6,12 +6,12 @@ ghost use Rattle.bus_policy.specs.Change as spec;
 ghost use Rattle.bus_policy.specs.Grantee.{account_given, IsRemoved};
 ghost use Rattle.bus_policy.specs.Parts.{root_arn, statements_of as statements_seen};
 
-use crate::keeping::{default_version, policy_with, push_member, statements_of, version_of};
 use crate::parts::has_sid;
 use crate::policy::Policy;
 use crate::statement::some_has_sid;
+use crate::storing::{default_version, policy_with, statements_of, version_of};
 use event_shape::bus_arn;
-use json_text::{Items, Json, Members, NoMemory, Text, copy};
+use json_text::{Items, Json, NoMemory, Text, copy, push_member, push_text};
 use std::alloc::Global;
 
 /// Whom a statement allows.
@@ -125,13 +125,6 @@ fn allow_for(alloc: Global, sid: &str, to: Grantee, bus: &str) -> Result<Json, N
     push_text(alloc, &mut members, "Action", "events:PutEvents")?;
     push_member(alloc, &mut members, "Resource", Json::Str(bus))?;
     Ok(Json::Obj(members))
-}
-
-fn push_text(alloc: Global, members: &mut Members, key: &str, value: &str) -> Result<(), NoMemory>
-    ensures { IfOk result (λ _. pairs_of members.new.items ≡ pairs_of members.old.items ++ (key.now, text value.now) ∷ []) }
-{
-    let value = Text::from_str(alloc, value)?;
-    push_member(alloc, members, key, Json::Str(value))
 }
 
 fn principal_for(alloc: Global, to: Grantee) -> Result<Json, NoMemory>

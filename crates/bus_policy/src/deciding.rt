@@ -2,7 +2,7 @@
 ghost use Rattle.std.specs.Prelude.{◌≡◌, ◌↔◌, IsTrue, MatchOption};
 ghost use Rattle.json_text.specs.Tree.{items_of};
 ghost use Rattle.json_text.specs.View.{trees_of};
-ghost use Rattle.bus_policy.specs.Seen.{asker_of, verdict_of};
+ghost use Rattle.bus_policy.specs.View.{asker_of, verdict_of};
 ghost use Rattle.bus_policy.specs.Verdict as spec;
 
 use crate::applying::{allows, denies};

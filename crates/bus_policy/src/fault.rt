@@ -3,7 +3,7 @@ use json_text::NoMemory;
 use std::alloc::{AllocError, AllocFailed};
 use thiserror::Error;
 
-/// What makes a text no policy, in the order in which it is told: the first six are the whole text's, the others those
+/// Why a text is no policy, in the order in which faults are reported: the first six are the whole text's, the others those
 /// of a statement.
 #[derive(Clone, Copy, Debug, PartialEq, Eq, Error)]
 pub enum PolicyCause {
@@ -38,7 +38,7 @@ pub enum PolicyCause {
 /// Why a policy was not read.
 #[derive(Debug, Drop, Error)]
 pub enum PolicyFault {
-    /// The first fault, and the place of its statement, counted from 1; 0 where it is the whole text's.
+    /// The first fault, and the place of its statement, counted from 1; 0 if the fault is the whole text's.
     #[error("{cause}, at {place}")]
     Bad { cause: PolicyCause, place: usize },
     #[error("out of memory")]

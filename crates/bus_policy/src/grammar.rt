@@ -2,11 +2,11 @@
 ghost use Rattle.std.specs.Prelude.{◌≡◌, true, false, [], Some, codes};
 ghost use Rattle.json_text.specs.Tree.{items_of};
 ghost use Rattle.json_text.specs.View.{tree_of, trees_of};
+ghost use Rattle.json_text.specs.Access.{member_of};
 ghost use Rattle.bus_policy.specs.Grammar as spec;
 ghost use Rattle.bus_policy.specs.Parts as part;
 
 use crate::fault::PolicyCause;
-use crate::parts::member;
 use crate::statement::statement_fault;
 use json_text::Json;
 
@@ -25,9 +25,9 @@ pub(crate) fn fault_of(policy: &Json) -> Option<(PolicyCause, usize)>
 
 fn has_statements(policy: &Json) -> bool
     ensures { result ≡ spec.member_is false spec.are_statements
-        (part.member_of (codes "Statement") (tree_of policy.now)) }
+        (member_of (codes "Statement") (tree_of policy.now)) }
 {
-    match member(policy, "Statement") {
+    match policy.member("Statement") {
         Some(statements) => are_statements(statements),
         None => false,
     }
@@ -66,9 +66,9 @@ fn is_object(json: &Json) -> bool
 /// No version, or one of the two that there are.
 fn has_right_version(policy: &Json) -> bool
     ensures { result ≡ spec.member_is true (part.text_passes spec.is_version)
-        (part.member_of (codes "Version") (tree_of policy.now)) }
+        (member_of (codes "Version") (tree_of policy.now)) }
 {
-    match member(policy, "Version") {
+    match policy.member("Version") {
         Some(version) => is_version(version),
         None => true,
     }
@@ -86,7 +86,7 @@ fn is_version(json: &Json) -> bool
 fn fault_in_statements(policy: &Json) -> Option<(PolicyCause, usize)>
     ensures { result ≡ spec.first_fault [] (part.statements_of (tree_of policy.now)) }
 {
-    match member(policy, "Statement") {
+    match policy.member("Statement") {
         Some(statements) => fault_in(statements),
         None => None,
     }

@@ -5,7 +5,6 @@ ghost use Rattle.json_text.specs.Tree.{items_of};
 ghost use Rattle.json_text.specs.View.{tree_of, trees_of};
 ghost use Rattle.bus_policy.specs.Verdict as spec;
 
-use crate::parts::member;
 use json_text::{Json, NoMemory, Text};
 use std::alloc::Global;
 
@@ -23,7 +22,7 @@ pub(crate) fn names_of(alloc: Global, statements: &[Json]) -> Result<Vec<Text>, 
 fn name_of(alloc: Global, place: usize, statement: &Json) -> Result<Text, NoMemory>
     ensures { IfOk result (λ name. name ≡ spec.name_of place (tree_of statement.now)) }
 {
-    match member(statement, "Sid") {
+    match statement.member("Sid") {
         Some(sid) => name_by(alloc, place, sid),
         None => numbered(alloc, place),
     }

@@ -1,34 +1,11 @@
 //! The parts of a policy's JSON value.
 ghost use Rattle.std.specs.Prelude.{◌≡◌, codes};
 ghost use Rattle.std.specs.Str.{bytes_eq};
-ghost use Rattle.std.specs.Option.{option_map, option_copied};
-ghost use Rattle.json_text.specs.Tree.{members_of};
-ghost use Rattle.json_text.specs.View.{tree_of, pairs_of};
+ghost use Rattle.json_text.specs.View.{tree_of};
+ghost use Rattle.json_text.specs.Access.{member_of};
 ghost use Rattle.bus_policy.specs.Parts as spec;
 
-use json_text::{Json, Text};
-
-/// The value of the member with the key, if this is an object that has one.
-pub(crate) fn member<'a>(json: &'a Json, key: &str) -> Option<&'a Json>
-    ensures { option_map tree_of (option_copied result) ≡ spec.member_of key.now (tree_of json.now) }
-{
-    match json {
-        Json::Obj(members) => member_at(members, key),
-        _ => None,
-    }
-}
-
-fn member_at<'a>(members: &'a [(Text, Json)], key: &str) -> Option<&'a Json>
-    ensures { option_map tree_of (option_copied result)
-        ≡ spec.member_at key.now (members_of (pairs_of members.now)) }
-{
-    for (name, value) in members {
-        if name.as_str() == key {
-            return Some(value);
-        }
-    }
-    None
-}
+use json_text::Json;
 
 fn is_text(json: &Json, text: &str) -> bool
     ensures { result ≡ spec.text_passes (λ t. bytes_eq t text.now) (tree_of json.now) }
@@ -40,9 +17,9 @@ fn is_text(json: &Json, text: &str) -> bool
 }
 
 fn has_text(statement: &Json, key: &str, text: &str) -> bool
-    ensures { result ≡ spec.is_text text.now (spec.member_of key.now (tree_of statement.now)) }
+    ensures { result ≡ spec.is_text text.now (member_of key.now (tree_of statement.now)) }
 {
-    match member(statement, key) {
+    match statement.member(key) {
         Some(json) => is_text(json, text),
         None => false,
     }

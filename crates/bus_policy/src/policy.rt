@@ -1,13 +1,12 @@
-//! Policies as they are kept.
+//! Policies as they are stored.
 ghost use Rattle.std.specs.Prelude.{◌≡◌, ◌≤◌, length, IfOk};
 ghost use Rattle.json_text.specs.Tree.{items_of};
 ghost use Rattle.json_text.specs.View.{tree_of, trees_of};
 
 use crate::asker::Asker;
 use crate::deciding::verdict;
-use crate::keeping::compact;
 use crate::naming::names_of;
-use crate::parts::member;
+use crate::storing::compact;
 use crate::verdict::Verdict;
 use json_text::{Json, NoMemory, Text, copy};
 use std::alloc::Global;
@@ -26,7 +25,7 @@ impl Model for Policy {
     ghost use Rattle.json_text.specs.Tree.{Tree};
     ghost use Rattle.json_text.specs.Code.{tree_code};
     ghost use Rattle.json_text.specs.View.{tree_of};
-    ghost use Rattle.bus_policy.specs.Kept.{IsWhole};
+    ghost use Rattle.bus_policy.specs.Stored.{IsWhole};
 
     ghost Value = { Tree };
 
@@ -37,20 +36,20 @@ impl Model for Policy {
     ghost invariant = { λ p. IsWhole (tree_of p.value) p.names.items p.text };
 }
 
-ghost use Rattle.bus_policy.specs.Kept.{IsKept};
+ghost use Rattle.bus_policy.specs.Stored.{IsStored};
 ghost use Rattle.bus_policy.specs.Parts.{statements_of};
 
 impl Policy {
     ghost use Rattle.json_text.specs.Compact.{compact_text};
-    ghost use Rattle.bus_policy.specs.Kept.{IsKept};
+    ghost use Rattle.bus_policy.specs.Stored.{IsStored};
     ghost use Rattle.bus_policy.specs.Parts.{statements_of};
-    ghost use Rattle.bus_policy.specs.Seen.{asker_of, verdict_of};
+    ghost use Rattle.bus_policy.specs.View.{asker_of, verdict_of};
     ghost use Rattle.bus_policy.specs.Text.{IsPolicyText};
     ghost use Rattle.bus_policy.specs.Verdict.{IsVerdict};
 
-    /// The policy that is kept so, with its statements' names and its text.
+    /// The policy that is stored so, with its statements' names and its text.
     pub(crate) fn of(alloc: Global, value: Json) -> Result<Policy, NoMemory>
-        requires { IsKept (tree_of value) }
+        requires { IsStored (tree_of value) }
         ensures { IfOk result (λ p. p ≡ tree_of value) }
     {
         let names = names_of(alloc, statements_in(&value))?;
@@ -80,16 +79,16 @@ impl Policy {
 
     pub(crate) fn value(&self) -> &Json
         ensures seen { tree_of result.now ≡ self.now }
-        ensures kept { IsKept self.now }
+        ensures stored { IsStored self.now }
     {
         &self.value
     }
 
-    /// The policy's text, which is compact. It is read back as this policy where it is not too long.
+    /// The policy's compact text. If it is not too long, it is read back as this policy.
     pub fn text(&self) -> &str
         ensures text { result.now ≡ compact_text self.now }
         ensures reads_back { length (compact_text self.now) ≤ 10240 → IsPolicyText (compact_text self.now) self.now }
-        ensures kept { IsKept self.now }
+        ensures stored { IsStored self.now }
     {
         self.text.as_str()
     }
@@ -102,12 +101,12 @@ impl Policy {
     }
 }
 
-/// The statements of a policy as it is kept.
+/// The statements of a policy as it is stored.
 pub(crate) fn statements_in(value: &Json) -> &[Json]
-    requires { IsKept (tree_of value.now) }
+    requires { IsStored (tree_of value.now) }
     ensures { items_of (trees_of result.now) ≡ statements_of (tree_of value.now) }
 {
-    match member(value, "Statement") {
+    match value.member("Statement") {
         Some(Json::List(items)) => items,
         _ => unreachable!(),
     }

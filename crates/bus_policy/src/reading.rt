@@ -5,13 +5,13 @@ ghost use Rattle.json_text.specs.Tree.{Tree};
 ghost use Rattle.json_text.specs.View.{tree_of};
 ghost use Rattle.bus_policy.specs.Fault.{Tells, IsFirstFault, IsValueFault};
 ghost use Rattle.bus_policy.specs.Grammar.{IsPolicy};
-ghost use Rattle.bus_policy.specs.Kept.{IsKept, kept_of};
+ghost use Rattle.bus_policy.specs.Stored.{IsStored, stored_of};
 ghost use Rattle.bus_policy.specs.Text.{Spells, IsPolicyText};
 
 use crate::fault::{PolicyCause, PolicyFault};
 use crate::grammar::fault_of;
-use crate::keeping::kept;
 use crate::policy::Policy;
+use crate::storing::stored;
 use json_text::{Json, JsonFault, read_once};
 use std::alloc::Global;
 
@@ -22,14 +22,14 @@ const MAX_LEN: usize = 10_240;
 const MAX_LEVELS: u32 = 100;
 
 impl Policy {
-    /// The policy that the text is, or its first fault. Its version and its statements are kept; Id and any other member go.
+    /// The policy that the text is, or its first fault. Its version and its statements are stored; Id and any other member go.
     pub fn read(alloc: Global, bytes: &[u8]) -> Result<Policy, PolicyFault>
         ensures found { IfOk result (λ p. IsPolicyText bytes.now p) }
         ensures only { (policy : Tree) → IsPolicyText bytes.now policy
             → MatchResult result (λ p. p ≡ policy) (λ e. e ≡ PolicyFault.NoMemory) }
         ensures fault { IfErr result (IsFirstFault bytes.now) }
         ensures too_long { 10240 < length bytes.now → result ≡ Err (PolicyFault.Bad PolicyCause.TooLong 0) }
-        ensures kept { IfOk result (λ p. IsKept p) }
+        ensures stored { IfOk result (λ p. IsStored p) }
     {
         let json = match spelled(alloc, bytes) {
             Ok(json) => json,
@@ -39,16 +39,16 @@ impl Policy {
     }
 }
 
-/// What is kept of the value, if it is a policy.
+/// What is stored of the value, if it is a policy.
 fn checked(alloc: Global, json: &Json) -> Result<Policy, PolicyFault>
     requires { IsValue (tree_of json.now) }
-    ensures found { IfOk result (λ p. IsPolicy (tree_of json.now) × (p ≡ kept_of (tree_of json.now))) }
+    ensures found { IfOk result (λ p. IsPolicy (tree_of json.now) × (p ≡ stored_of (tree_of json.now))) }
     ensures fault { IfErr result (IsValueFault (tree_of json.now)) }
 {
     match fault_of(json) {
         Some((cause, place)) => Err(PolicyFault::Bad { cause, place }),
         None => {
-            let value = kept(alloc, json)?;
+            let value = stored(alloc, json)?;
             let policy = Policy::of(alloc, value)?;
             Ok(policy)
         }
@@ -69,12 +69,12 @@ fn spelled(alloc: Global, bytes: &[u8]) -> Result<Json, PolicyFault>
     }
     match read_once(alloc, bytes, MAX_LEVELS) {
         Ok(json) => Ok(json),
-        Err(fault) => Err(told(&fault)),
+        Err(fault) => Err(policy_fault(&fault)),
     }
 }
 
 /// What a fault of the JSON is for the policy.
-fn told(fault: &JsonFault) -> PolicyFault
+fn policy_fault(fault: &JsonFault) -> PolicyFault
     ensures { Tells fault.now result }
 {
     match fault {

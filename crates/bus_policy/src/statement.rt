@@ -3,13 +3,14 @@ ghost use Rattle.std.specs.Prelude.{◌≡◌, true, false, codes};
 ghost use Rattle.std.specs.List.{list_any};
 ghost use Rattle.json_text.specs.Tree.{members_of};
 ghost use Rattle.json_text.specs.View.{tree_of, trees_of, pairs_of};
+ghost use Rattle.json_text.specs.Access.{member_of};
 ghost use Rattle.bus_policy.specs.Grammar as spec;
 ghost use Rattle.bus_policy.specs.Parts as part;
 
 use crate::account::EVERYONE;
 use crate::condition::is_condition;
 use crate::fault::PolicyCause;
-use crate::parts::{has_sid, member};
+use crate::parts::has_sid;
 use crate::words::{are_principal_words, are_texts};
 use json_text::{Json, Text};
 
@@ -44,9 +45,9 @@ pub(crate) fn statement_fault(earlier: &[Json], statement: &Json) -> Option<Poli
 /// No Sid, or a text that no earlier statement has.
 fn has_right_sid(earlier: &[Json], statement: &Json) -> bool
     ensures { result ≡ spec.member_is true (part.text_passes (spec.is_new_sid (trees_of earlier.now)))
-        (part.member_of (codes "Sid") (tree_of statement.now)) }
+        (member_of (codes "Sid") (tree_of statement.now)) }
 {
-    match member(statement, "Sid") {
+    match statement.member("Sid") {
         Some(sid) => is_new_sid(earlier, sid),
         None => true,
     }
@@ -74,9 +75,9 @@ pub(crate) fn some_has_sid(statements: &[Json], sid: &str) -> bool
 
 fn has_right_effect(statement: &Json) -> bool
     ensures { result ≡ spec.member_is false (part.text_passes spec.is_effect)
-        (part.member_of (codes "Effect") (tree_of statement.now)) }
+        (member_of (codes "Effect") (tree_of statement.now)) }
 {
-    match member(statement, "Effect") {
+    match statement.member("Effect") {
         Some(effect) => is_effect(effect),
         None => false,
     }
@@ -93,9 +94,9 @@ fn is_effect(json: &Json) -> bool
 
 fn has_right_principal(statement: &Json) -> bool
     ensures { result ≡ spec.member_is false spec.is_principal
-        (part.member_of (codes "Principal") (tree_of statement.now)) }
+        (member_of (codes "Principal") (tree_of statement.now)) }
 {
-    match member(statement, "Principal") {
+    match statement.member("Principal") {
         Some(principal) => is_principal(principal),
         None => false,
     }
@@ -123,9 +124,9 @@ fn is_one_principal(members: &[(Text, Json)]) -> bool
 
 fn has_texts(statement: &Json, key: &str) -> bool
     ensures { result ≡ spec.member_is false (spec.are_texts spec.any_text)
-        (part.member_of key.now (tree_of statement.now)) }
+        (member_of key.now (tree_of statement.now)) }
 {
-    match member(statement, key) {
+    match statement.member(key) {
         Some(texts) => are_texts(texts),
         None => false,
     }
@@ -133,9 +134,9 @@ fn has_texts(statement: &Json, key: &str) -> bool
 
 fn has_right_condition(statement: &Json) -> bool
     ensures { result ≡ spec.member_is true spec.is_condition
-        (part.member_of (codes "Condition") (tree_of statement.now)) }
+        (member_of (codes "Condition") (tree_of statement.now)) }
 {
-    match member(statement, "Condition") {
+    match statement.member("Condition") {
         Some(condition) => is_condition(condition),
         None => true,
     }

@@ -1,7 +1,9 @@
 ghost use Rattle.bus_policy.specs.Change.{IsAccountGiven};
 ghost use Rattle.bus_policy.specs.Grantee.{account_given};
 
-use crate::{Asker, Grantee, Judgement, Policy, PolicyFault, Removed, Verdict, bus_verdict, judge};
+use crate::{
+    Asker, Grantee, OwnedVerdict, Policy, PolicyFault, Removed, Verdict, bus_verdict, text_verdict,
+};
 use event_shape::is_account;
 use std::alloc::Global;
 use std::test::Fail;
@@ -18,7 +20,7 @@ const DENY: &str =
 const LISTS: &str =
     r#"{"Id":"lists","Version":"2008-10-17","Statement":[{"Effect":"Allow","Principal":{"AWS":["arn:aws:iam::444455556666:root","777788889999"]},"Action":["events:PutRule","events:PutEvents"],"Resource":["arn:aws:events:us-east-1:111122223333:event-bus/a","arn:aws:events:us-east-1:111122223333:event-bus/b"]}]}"#;
 
-/// Everyone, where source and detail type fit.
+/// Everyone, if source and detail type fit.
 const CONDITIONS: &str =
     r#"{"Statement":[{"Effect":"Allow","Principal":{"AWS":"*"},"Action":"*","Resource":"*","Condition":{"StringLike":{"events:source":["shop.*","bank.?"]},"StringEquals":{"events:detail-type":["Order Placed","Paid"]}}}]}"#;
 
@@ -26,7 +28,7 @@ const CONDITIONS: &str =
 const KEYS: &str =
     r#"{"Statement":[{"Effect":"Allow","Principal":"*","Action":"*","Resource":"*","Condition":{"StringEquals":{"events:source":"s","events:detail-type":"d"}}},{"Effect":"Allow","Principal":"*","Action":"*","Resource":"*","Condition":{"StringEquals":{"events:source":"shop.*"},"StringLike":{"events:detail-type":"Order *"}}},{"Effect":"Allow","Principal":{"AWS":"777788889999"},"Action":"*","Resource":"*","Condition":{}}]}"#;
 
-/// Two Denies that apply, the second with the empty Sid alone where the source is `b`.
+/// Two Denies that apply, the second, with the empty Sid, only if the source is `b`.
 const DENIES: &str =
     r#"{"Statement":[{"Sid":"first","Effect":"Deny","Principal":"*","Action":"*","Resource":"*","Condition":{"StringEquals":{"events:source":"a"}}},{"Sid":"","Effect":"Deny","Principal":"*","Action":"*","Resource":"*"}]}"#;
 
@@ -49,7 +51,7 @@ const THREE: &str = "333344445555";
 
 const FIVE: &str = "555566667777";
 
-/// Who asks, by account, bus, source and detail type, and what is told, by the policy of the table's name.
+/// Who asks, by account, bus, source and detail type, and the verdict of the policy of the table's name.
 type Row = ([&'static str; 4], &'static str);
 
 const OF_TWO: [Row; 10] = [
@@ -159,7 +161,7 @@ const OF_GUIDE: [Row; 20] = [
     ),
 ];
 
-/// The rest of a statement without a Sid, behind its first member.
+/// The rest of a statement without a Sid, after its first member.
 const REST: &str = r#""Effect":"Allow","Principal":"*","Action":"*","Resource":"*""#;
 
 /// A text that is no policy, `@` standing for the rest of a statement, and its first fault.
@@ -361,8 +363,8 @@ const FAULTS: [(&str, &str); 69] = [
     ),
 ];
 
-/// A policy, `@` as above, and its kept text.
-const KEPT: [(&str, &str); 7] = [
+/// A policy, `@` as above, and its stored text.
+const STORED: [(&str, &str); 7] = [
     (
         r#"{"Statement":[]}"#,
         r#"{"Version":"2012-10-17","Statement":[]}"#,
@@ -415,21 +417,21 @@ fn with_rest(alloc: Global, text: &str) -> Result<String, Fail> {
     Ok(whole)
 }
 
-fn told(alloc: Global, policy: &str, asker: &Asker) -> Result<String, Fail> {
-    let text = match judge(alloc, policy.as_bytes(), asker) {
-        Ok(Judgement::Allowed) => String::from_str(alloc, "allowed")?,
-        Ok(Judgement::DeniedBy(name)) => {
+fn answered(alloc: Global, policy: &str, asker: &Asker) -> Result<String, Fail> {
+    let text = match text_verdict(alloc, policy.as_bytes(), asker) {
+        Ok(OwnedVerdict::Allowed) => String::from_str(alloc, "allowed")?,
+        Ok(OwnedVerdict::DeniedBy(name)) => {
             let name = name.as_str();
             format!(in alloc; "denied by {name}")?
         }
-        Ok(Judgement::NoAllow) => String::from_str(alloc, "no allow")?,
+        Ok(OwnedVerdict::NoAllow) => String::from_str(alloc, "no allow")?,
         Err(PolicyFault::Bad { cause, place }) => format!(in alloc; "{cause:?} at {place}")?,
         Err(PolicyFault::NoMemory) => String::from_str(alloc, "no memory")?,
     };
     Ok(text)
 }
 
-fn kept_text(alloc: Global, policy: &str) -> Result<String, Fail> {
+fn stored_text(alloc: Global, policy: &str) -> Result<String, Fail> {
     let policy = Policy::read(alloc, policy.as_bytes())?;
     Ok(String::from_str(alloc, policy.text())?)
 }
@@ -437,7 +439,7 @@ fn kept_text(alloc: Global, policy: &str) -> Result<String, Fail> {
 #[test]
 fn one_account_is_allowed_but_for_one_source(rt: HostRuntime) -> Result<(), Fail> {
     for (parts, want) in OF_TWO {
-        let got = told(rt.alloc(), TWO, &asker(parts))?;
+        let got = answered(rt.alloc(), TWO, &asker(parts))?;
         assert!(rt; got.as_str() == want, "{got} for {parts:?}");
     }
     Ok(())
@@ -446,7 +448,7 @@ fn one_account_is_allowed_but_for_one_source(rt: HostRuntime) -> Result<(), Fail
 #[test]
 fn a_deny_binds_the_owner_too(rt: HostRuntime) -> Result<(), Fail> {
     for (parts, want) in OF_DENY {
-        let got = told(rt.alloc(), DENY, &asker(parts))?;
+        let got = answered(rt.alloc(), DENY, &asker(parts))?;
         assert!(rt; got.as_str() == want, "{got} for {parts:?}");
     }
     Ok(())
@@ -455,7 +457,7 @@ fn a_deny_binds_the_owner_too(rt: HostRuntime) -> Result<(), Fail> {
 #[test]
 fn one_of_a_list_is_enough(rt: HostRuntime) -> Result<(), Fail> {
     for (parts, want) in OF_LISTS {
-        let got = told(rt.alloc(), LISTS, &asker(parts))?;
+        let got = answered(rt.alloc(), LISTS, &asker(parts))?;
         assert!(rt; got.as_str() == want, "{got} for {parts:?}");
     }
     Ok(())
@@ -464,7 +466,7 @@ fn one_of_a_list_is_enough(rt: HostRuntime) -> Result<(), Fail> {
 #[test]
 fn source_and_detail_type_have_to_fit(rt: HostRuntime) -> Result<(), Fail> {
     for (parts, want) in OF_CONDITIONS {
-        let got = told(rt.alloc(), CONDITIONS, &asker(parts))?;
+        let got = answered(rt.alloc(), CONDITIONS, &asker(parts))?;
         assert!(rt; got.as_str() == want, "{got} for {parts:?}");
     }
     Ok(())
@@ -473,16 +475,16 @@ fn source_and_detail_type_have_to_fit(rt: HostRuntime) -> Result<(), Fail> {
 #[test]
 fn each_key_of_an_operator_has_to_hold(rt: HostRuntime) -> Result<(), Fail> {
     for (parts, want) in OF_KEYS {
-        let got = told(rt.alloc(), KEYS, &asker(parts))?;
+        let got = answered(rt.alloc(), KEYS, &asker(parts))?;
         assert!(rt; got.as_str() == want, "{got} for {parts:?}");
     }
     Ok(())
 }
 
 #[test]
-fn the_first_deny_is_told(rt: HostRuntime) -> Result<(), Fail> {
+fn the_first_deny_is_reported(rt: HostRuntime) -> Result<(), Fail> {
     for (parts, want) in OF_DENIES {
-        let got = told(rt.alloc(), DENIES, &asker(parts))?;
+        let got = answered(rt.alloc(), DENIES, &asker(parts))?;
         assert!(rt; got.as_str() == want, "{got} for {parts:?}");
     }
     Ok(())
@@ -491,47 +493,47 @@ fn the_first_deny_is_told(rt: HostRuntime) -> Result<(), Fail> {
 #[test]
 fn what_is_not_known_applies_to_nothing(rt: HostRuntime) -> Result<(), Fail> {
     for (parts, want) in OF_NOTHING {
-        let got = told(rt.alloc(), NOTHING, &asker(parts))?;
+        let got = answered(rt.alloc(), NOTHING, &asker(parts))?;
         assert!(rt; got.as_str() == want, "{got} for {parts:?}");
     }
     Ok(())
 }
 
 #[test]
-fn a_policy_of_the_guides_form_is_judged_by_all_its_statements(
+fn a_policy_of_the_guides_form_is_decided_by_all_its_statements(
     rt: HostRuntime,
 ) -> Result<(), Fail> {
     for (parts, want) in OF_GUIDE {
-        let got = told(rt.alloc(), GUIDE, &asker(parts))?;
+        let got = answered(rt.alloc(), GUIDE, &asker(parts))?;
         assert!(rt; got.as_str() == want, "{got} for {parts:?}");
     }
     Ok(())
 }
 
 #[test]
-fn the_first_fault_is_told_at_its_place(rt: HostRuntime) -> Result<(), Fail> {
+fn the_first_fault_is_reported_at_its_place(rt: HostRuntime) -> Result<(), Fail> {
     for (text, want) in FAULTS {
         let policy = with_rest(rt.alloc(), text)?;
-        let got = told(rt.alloc(), policy.as_str(), &asker([FOUR, "b", "s", "x"]))?;
+        let got = answered(rt.alloc(), policy.as_str(), &asker([FOUR, "b", "s", "x"]))?;
         assert!(rt; got.as_str() == want, "{got} of {text}");
     }
     Ok(())
 }
 
 #[test]
-fn version_and_statements_are_kept_and_read_back(rt: HostRuntime) -> Result<(), Fail> {
-    for (text, want) in KEPT {
+fn version_and_statements_are_stored_and_read_back(rt: HostRuntime) -> Result<(), Fail> {
+    for (text, want) in STORED {
         let policy = with_rest(rt.alloc(), text)?;
         let want = with_rest(rt.alloc(), want)?;
-        let got = kept_text(rt.alloc(), policy.as_str())?;
+        let got = stored_text(rt.alloc(), policy.as_str())?;
         assert!(rt; got.as_str() == want.as_str(), "{got} of {text}");
-        let again = kept_text(rt.alloc(), got.as_str())?;
+        let again = stored_text(rt.alloc(), got.as_str())?;
         assert!(rt; again.as_str() == want.as_str(), "{again} of {text}");
     }
     Ok(())
 }
 
-/// A policy whose Sid makes the text so many bytes long.
+/// A policy whose text has `len` bytes, by the length of its Sid.
 fn long_policy(alloc: Global, len: usize) -> Result<String, Fail> {
     let front = r#"{"Statement":{"Sid":""#;
     let back = r#"","Effect":"Allow","Principal":"*","Action":"*","Resource":"*"}}"#;
@@ -543,7 +545,7 @@ fn long_policy(alloc: Global, len: usize) -> Result<String, Fail> {
     Ok(text)
 }
 
-/// A policy whose Id has so many levels of lists.
+/// A policy whose Id has `levels` levels of lists.
 fn deep_policy(alloc: Global, levels: usize) -> Result<String, Fail> {
     let mut text = String::from_str(alloc, r#"{"Statement":[],"Id":"#)?;
     for _ in 0..levels {
@@ -556,19 +558,19 @@ fn deep_policy(alloc: Global, levels: usize) -> Result<String, Fail> {
     Ok(text)
 }
 
-/// How many bytes a policy's kept text has.
-fn kept_len(alloc: Global, policy: &str) -> Result<usize, Fail> {
+/// How many bytes a policy's stored text has.
+fn stored_len(alloc: Global, policy: &str) -> Result<usize, Fail> {
     let policy = Policy::read(alloc, policy.as_bytes())?;
     Ok(policy.text_len())
 }
 
 #[test]
-fn at_most_10240_bytes_are_read_and_more_may_be_kept(rt: HostRuntime) -> Result<(), Fail> {
+fn at_most_10240_bytes_are_read_and_more_may_be_stored(rt: HostRuntime) -> Result<(), Fail> {
     let long = long_policy(rt.alloc(), 10_240)?;
-    let kept = kept_len(rt.alloc(), long.as_str())?;
-    assert_eq!(rt; kept, 10_240 + 23 + 2);
+    let stored = stored_len(rt.alloc(), long.as_str())?;
+    assert_eq!(rt; stored, 10_240 + 23 + 2);
     let over = long_policy(rt.alloc(), 10_241)?;
-    let got = told(rt.alloc(), over.as_str(), &asker([FOUR, "b", "s", "x"]))?;
+    let got = answered(rt.alloc(), over.as_str(), &asker([FOUR, "b", "s", "x"]))?;
     assert!(rt; got.as_str() == "TooLong at 0", "{got}");
     Ok(())
 }
@@ -577,7 +579,7 @@ fn at_most_10240_bytes_are_read_and_more_may_be_kept(rt: HostRuntime) -> Result<
 fn at_most_100_levels_are_read(rt: HostRuntime) -> Result<(), Fail> {
     for (levels, want) in [(99, "no allow"), (100, "TooDeep at 0")] {
         let policy = deep_policy(rt.alloc(), levels)?;
-        let got = told(rt.alloc(), policy.as_str(), &asker([FOUR, "b", "s", "x"]))?;
+        let got = answered(rt.alloc(), policy.as_str(), &asker([FOUR, "b", "s", "x"]))?;
         assert!(rt; got.as_str() == want, "{got} at {levels}");
     }
     Ok(())
@@ -591,7 +593,7 @@ fn a_bus_without_a_policy_is_the_owners(rt: HostRuntime) {
     assert_eq!(rt; other, Verdict::NoAllow);
 }
 
-/// A policy, or none; the Sid and the account of an Allow on the bus `b` that is added; and the text that is kept.
+/// A policy, or none; the Sid and the account of an Allow on the bus `b` that is added; and the text that is stored.
 const ADDED: [(&str, &str, &str, &str); 6] = [
     ("", "a", FOUR, ONE),
     (ONE, "b", "*", BOTH),

@@ -3,7 +3,7 @@ use Rattle.std.specs.Prelude.{IsTrue, ◌↔◌}
 use Rattle.json_text.specs.Tree.{Tree, members_of}
 use Rattle.json_text.specs.View.{tree_of, pairs_of}
 use Rattle.json_text.proofs.ViewLemmas.{tree_of_object}
-use Rattle.bus_policy.specs.Seen.{asker_of}
+use Rattle.bus_policy.specs.View.{asker_of}
 use Rattle.bus_policy.specs.Verdict.{EachOperator, ConditionHolds}
 use Rattle.bus_policy.proofs.applying.condition_holds.Goals as goal
 

@@ -16,15 +16,19 @@ loop-statement-preserved c =
     elim c.if-not-has_sid.branch [
       | then-not-has_sid+in_ok-copy+in_ok-push w ↦
           subst (λ v. items_before (trees_of v.items) (left_of sid (drop (i + 1) xs)) ≡ all) (sym w.copies-is)
-          (copied sid done w.push.new.self.items xs i x w.in_ok-copy.field-0 all c.loop-statement-test.true c.statement-item.is (sym c.has_sid.ensures ∙ w.if-not-has_sid.true)
+          (copied sid done w.push.new.self.items xs i x w.in_ok-copy.field-0 all c.loop-statement-test.true
+          c.statement-item.is (sym c.has_sid.ensures ∙ w.if-not-has_sid.true)
           w.in_ok-push.ensures.items w.in_ok-copy.ensures c.loop-statement.invariant)
       | else-not-has_sid w ↦
           subst (λ v. items_before (trees_of v.items) (left_of sid (drop (i + 1) xs)) ≡ all) (sym w.copies-is)
-          (left_out sid (trees_of done) xs i x all c.loop-statement-test.true c.statement-item.is (sym c.has_sid.ensures ∙ w.if-not-has_sid.false) c.loop-statement.invariant)
+          (left_out sid (trees_of done) xs i x all c.loop-statement-test.true c.statement-item.is
+          (sym c.has_sid.ensures ∙ w.if-not-has_sid.false) c.loop-statement.invariant)
     ]
 
 pub returns : goal.returns
 returns c =
     sym (before_none (trees_of c.loop-statement.copies.items))
-    ∙ ap (items_before (trees_of c.loop-statement.copies.items)) (sym (at_drop_all (left_of c.args.sid.now) c.args.statements.now c.loop-statement.statement-index c.loop-statement-test.false))
+    ∙ ap (items_before (trees_of c.loop-statement.copies.items))
+    (sym (at_drop_all (left_of c.args.sid.now) c.args.statements.now c.loop-statement.statement-index
+    c.loop-statement-test.false))
     ∙ c.loop-statement.invariant

@@ -1,5 +1,5 @@
 use Rattle.std.proofs.Common.{arith, ap, ◌∙◌, length, get_or}
-use Rattle.bus_policy.specs.Seen.{asker_of}
+use Rattle.bus_policy.specs.View.{asker_of}
 use Rattle.bus_policy.proofs.NameLemmas.{names_from-len, named_at, first_at}
 use Rattle.bus_policy.proofs.deciding.first_denial.Goals as goal
 
@@ -14,4 +14,5 @@ returns-then-denies c =
     let name = c.index-names-i.result in
     let named = named_at 1 xs i x name c.loop-i-test.true c.index-statements-i.is (c.index-names-i.is ∙ ap (λ ns. get_or ns i name) c.requires) in
     c.loop-i.invariant.first c.as_str.result.now
-    (first_at (asker_of c.args.asker.now) xs i x c.as_str.result.now c.loop-i-test.true c.index-statements-i.is (c.denies.ensures.0 c.if-denies.true) (c.as_str.ensures ∙ named))
+    (first_at (asker_of c.args.asker.now) xs i x c.as_str.result.now c.loop-i-test.true c.index-statements-i.is
+    (c.denies.ensures.0 c.if-denies.true) (c.as_str.ensures ∙ named))

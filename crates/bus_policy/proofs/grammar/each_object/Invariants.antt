@@ -5,4 +5,5 @@ use Rattle.bus_policy.specs.Grammar as spec
 use Rattle.bus_policy.proofs.grammar.each_object.Given as goal
 
 abbrev pub invariant-loop-item : goal.invariant-loop-item
-invariant-loop-item l = spec.each_item spec.is_object (items_of (trees_of (drop l.item-index l.items))) ≡ spec.each_item spec.is_object (items_of (trees_of l.items))
+invariant-loop-item l = spec.each_item spec.is_object (items_of (trees_of (drop l.item-index l.items)))
+    ≡ spec.each_item spec.is_object (items_of (trees_of l.items))

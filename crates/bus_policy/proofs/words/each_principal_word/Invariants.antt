@@ -6,4 +6,6 @@ use Rattle.bus_policy.specs.Grammar as spec
 use Rattle.bus_policy.proofs.words.each_principal_word.Given as goal
 
 abbrev pub invariant-loop-item : goal.invariant-loop-item
-invariant-loop-item l = spec.each_item (text_passes spec.is_principal_word) (items_of (trees_of (drop l.item-index l.items))) ≡ spec.each_item (text_passes spec.is_principal_word) (items_of (trees_of l.items))
+invariant-loop-item l = spec.each_item (text_passes spec.is_principal_word)
+    (items_of (trees_of (drop l.item-index l.items)))
+    ≡ spec.each_item (text_passes spec.is_principal_word) (items_of (trees_of l.items))

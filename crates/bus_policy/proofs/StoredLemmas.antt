@@ -1,4 +1,4 @@
--- What is kept of a policy is a policy in the form in which it is kept: `kept_is_kept`.
+-- What is stored of a policy is a policy in the form in which it is stored: `stored_is_stored`.
 use Rattle.std.proofs.Common.{◌≡◌, ℕ, Bool, true, false, not, cond, List, [], Option, Some, None, codes, refl}
 use Rattle.std.specs.Prelude.{unwrap_or}
 use Rattle.std.specs.Str.{bytes_eq}
@@ -8,9 +8,10 @@ use Rattle.json_text.specs.Compact.{IsValue, AreItems, AreMembers}
 use Rattle.json_text.proofs.WrittenUtf8.{small_utf8}
 use Rattle.bus_policy.specs.declared.fault.PolicyCause.{PolicyCause}
 use Rattle.bus_policy.specs.declared.fault.PolicyCause.TheVariants.{NotObject, BadVersion}
-use Rattle.bus_policy.specs.Parts.{member_at, member_of, statements_in, statements_of, text_passes}
+use Rattle.json_text.specs.Access.{member_in, member_of}
+use Rattle.bus_policy.specs.Parts.{statements_in, statements_of, text_passes}
 use Rattle.bus_policy.specs.Grammar.{each_item, is_object, are_statements, member_is, is_version, first_fault, IsPolicy}
-use Rattle.bus_policy.specs.Kept.{default_version, policy_with, kept_of, IsKept}
+use Rattle.bus_policy.specs.Stored.{default_version, policy_with, stored_of, IsStored}
 
 -- the value is one, if there is one
 abbrev pub AreValue : Option Tree → Type 0
@@ -27,10 +28,13 @@ none_chosen false b rest h = cc
 
 -- the parts of a policy without a fault
 pub faultless : (t : Tree) → IsPolicy t
-    → (member_is false are_statements (member_of (codes "Statement") t) ≡ true) × (member_is true (text_passes is_version) (member_of (codes "Version") t) ≡ true) × (first_fault [] (statements_of t) ≡ None)
+    → (member_is false are_statements (member_of (codes "Statement") t) ≡ true)
+    × (member_is true (text_passes is_version) (member_of (codes "Version") t) ≡ true)
+    × (first_fault [] (statements_of t) ≡ None)
 faultless t h = none_chosen _ _ _ h
 
-pub faultless_with : (version : Tree) (ss : Items) → text_passes is_version version ≡ true → each_item is_object ss ≡ true → first_fault [] ss ≡ None → IsPolicy (policy_with version ss)
+faultless_with : (version : Tree) (ss : Items) → text_passes is_version version ≡ true
+    → each_item is_object ss ≡ true → first_fault [] ss ≡ None → IsPolicy (policy_with version ss)
 faultless_with version ss v o f = rw (o, v) f
 
 pub objects : (o : Option Tree) → member_is false are_statements o ≡ true → each_item is_object (statements_in o) ≡ true
@@ -46,10 +50,10 @@ pub versioned : (o : Option Tree) → member_is true (text_passes is_version) o 
 versioned None h = refl
 versioned (Some t) h = h
 
-pub member_value : (key : List ℕ) (ms : Members) → AreMembers ms → AreValue (member_at key ms)
+member_value : (key : List ℕ) (ms : Members) → AreMembers ms → AreValue (member_in key ms)
 member_value key no_members h = tt
 member_value key (member name t ms) h =
-    cond_both (bytes_eq name key) (Some t) (member_at key ms) AreValue (λ _. h.2) (λ _. member_value key ms h.3)
+    cond_both (bytes_eq name key) (Some t) (member_in key ms) AreValue (λ _. h.2) (λ _. member_value key ms h.3)
 
 pub member_of_value : (key : List ℕ) (t : Tree) → IsValue t → AreValue (member_of key t)
 member_of_value key null h = tt
@@ -75,15 +79,16 @@ pub version_value : (o : Option Tree) → AreValue o → IsValue (unwrap_or o de
 version_value None h = small_utf8 (codes "2012-10-17") refl
 version_value (Some t) h = h
 
-pub policy_value : (version : Tree) (ss : Items) → IsValue version → AreItems ss → IsValue (policy_with version ss)
+policy_value : (version : Tree) (ss : Items) → IsValue version → AreItems ss → IsValue (policy_with version ss)
 policy_value version ss v s = (small_utf8 (codes "Version") refl, ((λ e. cc), tt), v, (small_utf8 (codes "Statement") refl, tt, s, tt))
 
-pub kept_with : (version : Tree) (ss : Items) → text_passes is_version version ≡ true → each_item is_object ss ≡ true → first_fault [] ss ≡ None → IsValue version → AreItems ss → IsKept (policy_with version ss)
-kept_with version ss v o f value items = record { is_policy = faultless_with version ss v o f; kept = refl; is_value = policy_value version ss value items }
+pub stored_with : (version : Tree) (ss : Items) → text_passes is_version version ≡ true → each_item is_object ss ≡ true
+    → first_fault [] ss ≡ None → IsValue version → AreItems ss → IsStored (policy_with version ss)
+stored_with version ss v o f value items = record { is_policy = faultless_with version ss v o f; stored = refl; is_value = policy_value version ss value items }
 
-pub kept_is_kept : (t : Tree) → IsPolicy t → IsValue t → IsKept (kept_of t)
-kept_is_kept t h value =
+pub stored_is_stored : (t : Tree) → IsPolicy t → IsValue t → IsStored (stored_of t)
+stored_is_stored t h value =
     let parts = faultless t h in
-    kept_with (unwrap_or (member_of (codes "Version") t) default_version) (statements_of t)
+    stored_with (unwrap_or (member_of (codes "Version") t) default_version) (statements_of t)
     (versioned (member_of (codes "Version") t) parts.1) (objects (member_of (codes "Statement") t) parts.0) parts.2
     (version_value (member_of (codes "Version") t) (member_of_value (codes "Version") t value)) (statements_are_values t value)

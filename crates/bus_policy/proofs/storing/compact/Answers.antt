@@ -3,7 +3,7 @@ use Rattle.std.specs.Str.{IsUtf8}
 use Rattle.json_text.specs.View.{tree_of}
 use Rattle.json_text.specs.Compact.{compact_text}
 use Rattle.json_text.proofs.WrittenUtf8.{compact_utf8}
-use Rattle.bus_policy.proofs.keeping.compact.Goals as goal
+use Rattle.bus_policy.proofs.storing.compact.Goals as goal
 
 pub unreachable-requires : goal.unreachable-requires
 unreachable-requires c =

@@ -3,8 +3,8 @@ use Rattle.bus_policy.specs.Verdict as spec
 use Rattle.bus_policy.specs.declared.asker.Asker.{Asker}
 use Rattle.bus_policy.specs.declared.verdict.Verdict.{Verdict}
 use Rattle.bus_policy.specs.declared.verdict.Verdict.TheVariants.{Allowed, DeniedBy, NoAllow}
-use Rattle.bus_policy.specs.declared.judging.Judgement.{Judgement}
-use Rattle.bus_policy.specs.declared.judging.Judgement.TheVariants as judgement
+use Rattle.bus_policy.specs.declared.verdicts.OwnedVerdict.{OwnedVerdict}
+use Rattle.bus_policy.specs.declared.verdicts.OwnedVerdict.TheVariants as owned
 
 abbrev pub asker_of : Asker → spec.Asker
 asker_of a = record { account = a.account.now; bus = a.bus.now; source = a.source.now; detail_type = a.detail_type.now }
@@ -14,7 +14,7 @@ verdict_of Allowed = spec.allowed
 verdict_of (DeniedBy name) = spec.denied_by name.now
 verdict_of NoAllow = spec.no_allow
 
-abbrev pub judgement_of : Judgement → spec.Verdict
-judgement_of judgement.Allowed = spec.allowed
-judgement_of (judgement.DeniedBy name) = spec.denied_by name
-judgement_of judgement.NoAllow = spec.no_allow
+abbrev pub owned_verdict_of : OwnedVerdict → spec.Verdict
+owned_verdict_of owned.Allowed = spec.allowed
+owned_verdict_of (owned.DeniedBy name) = spec.denied_by name
+owned_verdict_of owned.NoAllow = spec.no_allow

@@ -3,7 +3,7 @@ ghost use Rattle.std.specs.Prelude.{◌≡◌, ◌<◌, length, IfOk, IfErr, Mat
 ghost use Rattle.std.specs.Option.{option_copied};
 ghost use Rattle.json_text.specs.Tree.{Tree};
 ghost use Rattle.bus_policy.specs.Fault.{IsFirstFault};
-ghost use Rattle.bus_policy.specs.Seen.{asker_of, verdict_of, judgement_of};
+ghost use Rattle.bus_policy.specs.View.{asker_of, verdict_of, owned_verdict_of};
 ghost use Rattle.bus_policy.specs.Text.{SpellsPolicy};
 ghost use Rattle.bus_policy.specs.Verdict.{IsVerdict, IsBusVerdict};
 
@@ -15,9 +15,9 @@ use crate::verdict::Verdict;
 use json_text::{NoMemory, Text};
 use std::alloc::Global;
 
-/// A verdict that stands without its policy.
+/// A verdict that borrows nothing from its policy.
 #[derive(Debug, Drop)]
-pub enum Judgement {
+pub enum OwnedVerdict {
     Allowed,
     /// By the statement of this name, as `Verdict` has it.
     DeniedBy(Text),
@@ -35,11 +35,11 @@ pub fn bus_verdict<'a>(policy: Option<&'a Policy>, asker: &Asker) -> Verdict<'a>
 }
 
 /// The verdict of the policy that the text is, or the text's first fault.
-pub fn judge(alloc: Global, text: &[u8], asker: &Asker) -> Result<Judgement, PolicyFault>
+pub fn text_verdict(alloc: Global, text: &[u8], asker: &Asker) -> Result<OwnedVerdict, PolicyFault>
     ensures found { IfOk result (λ j. (value : Tree) × SpellsPolicy text.now value
-        × IsVerdict value (asker_of asker.now) (judgement_of j)) }
+        × IsVerdict value (asker_of asker.now) (owned_verdict_of j)) }
     ensures only { (value : Tree) → SpellsPolicy text.now value → MatchResult result
-        (λ j. IsVerdict value (asker_of asker.now) (judgement_of j)) (λ e. e ≡ PolicyFault.NoMemory) }
+        (λ j. IsVerdict value (asker_of asker.now) (owned_verdict_of j)) (λ e. e ≡ PolicyFault.NoMemory) }
     ensures fault { IfErr result (IsFirstFault text.now) }
     ensures too_long { 10240 < length text.now → result ≡ Err (PolicyFault.Bad PolicyCause.TooLong 0) }
 {
@@ -49,12 +49,12 @@ pub fn judge(alloc: Global, text: &[u8], asker: &Asker) -> Result<Judgement, Pol
     }
 }
 
-fn owned(alloc: Global, verdict: Verdict) -> Result<Judgement, NoMemory>
-    ensures { IfOk result (λ j. judgement_of j ≡ verdict_of verdict.entry) }
+fn owned(alloc: Global, verdict: Verdict) -> Result<OwnedVerdict, NoMemory>
+    ensures { IfOk result (λ j. owned_verdict_of j ≡ verdict_of verdict.entry) }
 {
     match verdict {
-        Verdict::Allowed => Ok(Judgement::Allowed),
-        Verdict::DeniedBy(name) => Ok(Judgement::DeniedBy(Text::from_str(alloc, name)?)),
-        Verdict::NoAllow => Ok(Judgement::NoAllow),
+        Verdict::Allowed => Ok(OwnedVerdict::Allowed),
+        Verdict::DeniedBy(name) => Ok(OwnedVerdict::DeniedBy(Text::from_str(alloc, name)?)),
+        Verdict::NoAllow => Ok(OwnedVerdict::NoAllow),
     }
 }

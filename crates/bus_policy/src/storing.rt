@@ -1,21 +1,21 @@
-//! What is kept of a policy.
+//! What is stored of a policy.
 ghost use Rattle.std.specs.Prelude.{◌≡◌, ◌++◌, ◌∷◌, [], IfOk, Some, codes, unwrap_or};
 ghost use Rattle.json_text.specs.Tree.{items_of, list};
 ghost use Rattle.json_text.specs.View.{tree_of, trees_of, pairs_of};
 ghost use Rattle.json_text.specs.Compact.{compact_text, IsValue};
-ghost use Rattle.bus_policy.specs.Kept as spec;
+ghost use Rattle.json_text.specs.Access.{member_of};
+ghost use Rattle.bus_policy.specs.Stored as spec;
 ghost use Rattle.bus_policy.specs.Parts as part;
 
-use crate::parts::member;
-use json_text::{Bytes, Items, Json, Members, NoMemory, Text, copy, write};
+use json_text::{Bytes, Items, Json, NoMemory, Text, copy, push_member, write};
 use std::alloc::Global;
 
-/// The version that a policy has which gives none.
+/// The version of a policy that names none.
 const DEFAULT_VERSION: &str = "2012-10-17";
 
 /// The policy's version and statements, in memory of their own.
-pub(crate) fn kept(alloc: Global, policy: &Json) -> Result<Json, NoMemory>
-    ensures { IfOk result (λ json. tree_of json ≡ spec.kept_of (tree_of policy.now)) }
+pub(crate) fn stored(alloc: Global, policy: &Json) -> Result<Json, NoMemory>
+    ensures { IfOk result (λ json. tree_of json ≡ spec.stored_of (tree_of policy.now)) }
 {
     let version = version_of(alloc, policy)?;
     let statements = statements_of(alloc, policy)?;
@@ -33,25 +33,12 @@ pub(crate) fn policy_with(alloc: Global, version: Json, statements: Items) -> Re
     Ok(Json::Obj(members))
 }
 
-pub(crate) fn push_member(
-    alloc: Global,
-    members: &mut Members,
-    key: &str,
-    value: Json,
-) -> Result<(), NoMemory>
-    ensures { IfOk result (λ _. pairs_of members.new.items ≡ pairs_of members.old.items ++ (key.now, tree_of value) ∷ []) }
-{
-    let key = Text::from_str(alloc, key)?;
-    members.push((key, value))?;
-    Ok(())
-}
-
-/// The version that the policy gives, or else the default.
+/// The policy's version, or the default if it names none.
 pub(crate) fn version_of(alloc: Global, policy: &Json) -> Result<Json, NoMemory>
     ensures { IfOk result (λ json. tree_of json
-        ≡ unwrap_or (part.member_of (codes "Version") (tree_of policy.now)) spec.default_version) }
+        ≡ unwrap_or (member_of (codes "Version") (tree_of policy.now)) spec.default_version) }
 {
-    match member(policy, "Version") {
+    match policy.member("Version") {
         Some(version) => copy(alloc, version),
         None => default_version(alloc),
     }
@@ -67,7 +54,7 @@ pub(crate) fn default_version(alloc: Global) -> Result<Json, NoMemory>
 pub(crate) fn statements_of(alloc: Global, policy: &Json) -> Result<Items, NoMemory>
     ensures { IfOk result (λ items. items_of (trees_of items.items) ≡ part.statements_of (tree_of policy.now)) }
 {
-    match member(policy, "Statement") {
+    match policy.member("Statement") {
         Some(statements) => {
             let statements = copy(alloc, statements)?;
             as_list(alloc, statements)

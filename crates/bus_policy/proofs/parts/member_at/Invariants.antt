@@ -1,9 +1,0 @@
-use Rattle.std.proofs.Common.{◌≡◌, drop}
-use Rattle.json_text.specs.Tree.{members_of}
-use Rattle.json_text.specs.View.{pairs_of}
-use Rattle.bus_policy.specs.Parts.{member_at}
-use Rattle.bus_policy.proofs.parts.member_at.Given as goal
-
--- the member is among those that are left, if there is one
-abbrev pub invariant-loop-name : goal.invariant-loop-name
-invariant-loop-name l = member_at l.key (members_of (pairs_of (drop l.name-index l.members))) ≡ member_at l.key (members_of (pairs_of l.members))
