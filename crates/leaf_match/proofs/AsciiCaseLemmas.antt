@@ -11,7 +11,9 @@ StartsCi-by_front text front =
     let lower = map to_ascii_lowercase in (
       λ e. (
         lower (drop (length front) text),
-        ap lower (sym (take-append-drop (length front) text)) ∙ map-append to_ascii_lowercase (take (length front) text) (drop (length front) text) ∙ ap (λ x. x ++ lower (drop (length front) text)) e,
+        ap lower (sym (take-append-drop (length front) text))
+            ∙ map-append to_ascii_lowercase (take (length front) text) (drop (length front) text)
+            ∙ ap (λ x. x ++ lower (drop (length front) text)) e,
       ),
       λ s. sym (take-map to_ascii_lowercase (length front) text)
           ∙ ap (λ n. take n (lower text)) (sym (length-map front to_ascii_lowercase))
@@ -27,7 +29,8 @@ EndsCi-by_end text end =
         ap lower (sym (take-append-drop n text)) ∙ map-append to_ascii_lowercase (take n text) (drop n text) ∙ ap (λ x. lower (take n text) ++ x) e,
       ),
       λ s. sym (drop-map to_ascii_lowercase n text)
-          ∙ ap (λ k. drop k (lower text)) (ap (λ m. m - length end) (sym (length-map text to_ascii_lowercase)) ∙ ap (λ m. length (lower text) - m) (sym (length-map end to_ascii_lowercase)))
+          ∙ ap (λ k. drop k (lower text)) (ap (λ m. m - length end) (sym (length-map text to_ascii_lowercase))
+          ∙ ap (λ m. length (lower text) - m) (sym (length-map end to_ascii_lowercase)))
           ∙ end_rest (lower text) (lower end) s.0 s.1,
     )
 

@@ -1,5 +1,6 @@
 -- What the loop of `fits` keeps, `Progress`, with a lemma for each kind of step, and its measure, `effort`.
-use Rattle.std.proofs.Common.{◌≡◌, ◌≢◌, ℕ, ◌+◌, ◌-◌, ◌*◌, ◌<◌, ◌≤◌, List, ◌∷◌, Option, Some, None, length, get_or, drop, length-append, sym, ap, subst, ◌∙◌, arith, add-one}
+use Rattle.std.proofs.Common.{◌≡◌, ◌≢◌, ℕ, ◌+◌, ◌-◌, ◌*◌, ◌<◌, ◌≤◌, List, ◌∷◌, Option, Some, None, length, get_or, drop, length-append, sym}
+use Rattle.std.proofs.Common.{ap, subst, ◌∙◌, arith, add-one}
 use Rattle.std.proofs.lemmas.List.{length-drop}
 use Rattle.std.proofs.Math.Seq.{drop-cons}
 use Rattle.std.proofs.Math.ListN.{drop_of_length-le}
@@ -10,12 +11,12 @@ use Rattle.leaf_match.specs.Piece.{Fits}
 use Rattle.leaf_match.specs.Place.{Takes, IsPieceAt}
 use Rattle.leaf_match.proofs.PieceLemmas.{Greedy, greedy_start, greedy_run, greedy_piece, greedy_back, greedy_stuck, greedy_over}
 
--- what is left behind the last run
+-- what is left after the last run
 abbrev pub left_behind : List Piece → List ℕ → Option Place → Option (List Piece × List ℕ)
 left_behind ps text None = None
 left_behind ps text (Some run) = Some (drop run.piece ps, drop run.byte text)
 
--- where what the last run takes ends, or 0
+-- the end of what the last run takes, or 0
 abbrev pub run_end : Option Place → ℕ
 run_end None = 0
 run_end (Some run) = run.byte
@@ -38,7 +39,9 @@ effort ps text place back = (length text + 1 - run_end back) * (length ps + 1) +
 pub Progress-start : (ps : List Piece) (text : List ℕ) → Progress ps text (record { piece = 0; byte = 0 }) None
 Progress-start ps text = record { byte_in = omega arith; piece_in = omega arith; back_in = tt; greedy = greedy_start ps text }
 
-pub Progress-run : (ps : List Piece) (text : List ℕ) (place : Place) (back : Option Place) → IsPieceAt ps place.piece Run → Progress ps text place back → Progress ps text (record place { piece = place.piece + 1 }) (Some (record place { piece = place.piece + 1 }))
+pub Progress-run : (ps : List Piece) (text : List ℕ) (place : Place) (back : Option Place)
+    → IsPieceAt ps place.piece Run → Progress ps text place back
+    → Progress ps text (record place { piece = place.piece + 1 }) (Some (record place { piece = place.piece + 1 }))
 Progress-run ps text place back here p = record {
   byte_in = p.byte_in;
   piece_in = omega (arith, here.1);
@@ -51,11 +54,15 @@ Takes-past : (piece : Piece) (text : List ℕ) (at next : ℕ) → at ≤ length
 Takes-past piece text at next within inside t =
     omega (arith, ap length t.2, length-append t.0 (drop next text), length-drop at text, length-drop next text)
 
-IsBack-past : (ps : List Piece) (place : Place) (piece byte : ℕ) (back : Option Place) → place.byte ≤ byte → IsBack ps place back → IsBack ps (record { piece = piece; byte = byte }) back
+IsBack-past : (ps : List Piece) (place : Place) (piece byte : ℕ) (back : Option Place) → place.byte ≤ byte
+    → IsBack ps place back → IsBack ps (record { piece = piece; byte = byte }) back
 IsBack-past ps place piece byte None h b = tt
 IsBack-past ps place piece byte (Some run) h b = (omega (arith, b.0), b.1)
 
-pub Progress-taken : (ps : List Piece) (text : List ℕ) (place : Place) (back : Option Place) (piece : Piece) (byte : ℕ) → piece ≢ Run → IsPieceAt ps place.piece piece → byte ≤ length text → Takes piece (drop place.byte text) (drop byte text) → Progress ps text place back → Progress ps text (record { piece = place.piece + 1; byte = byte }) back
+pub Progress-taken : (ps : List Piece) (text : List ℕ) (place : Place) (back : Option Place) (piece : Piece) (byte : ℕ)
+    → piece ≢ Run → IsPieceAt ps place.piece piece → byte ≤ length text
+    → Takes piece (drop place.byte text) (drop byte text) → Progress ps text place back
+    → Progress ps text (record { piece = place.piece + 1; byte = byte }) back
 Progress-taken ps text place back piece byte ne here within t p = record {
   byte_in = within;
   piece_in = omega (arith, here.1);
@@ -65,11 +72,14 @@ Progress-taken ps text place back piece byte ne here within t p = record {
       (subst (λ qs. Greedy ps text qs (drop place.byte text) (left_behind ps text back)) here.2 p.greedy));
 }
 
--- a byte is left behind the last run's end
+-- a byte is left after the last run's end
 next_byte : (text : List ℕ) (i : ℕ) → i < length text → drop i text ≡ get_or text i 0 ∷ drop (i + 1) text
 next_byte text i h = drop-cons text i 0 h ∙ ap (λ k. get_or text i 0 ∷ drop k text) (sym (add-one i))
 
-pub Progress-back : (ps : List Piece) (text : List ℕ) (place run : Place) → ¬ (Fits (drop place.piece ps) (drop place.byte text)) → run.byte < length text → Progress ps text place (Some run) → Progress ps text (record { piece = run.piece; byte = run.byte + 1 }) (Some (record { piece = run.piece; byte = run.byte + 1 }))
+pub Progress-back : (ps : List Piece) (text : List ℕ) (place run : Place)
+    → ¬ (Fits (drop place.piece ps) (drop place.byte text)) → run.byte < length text → Progress ps text place (Some run)
+    → Progress ps text (record { piece = run.piece; byte = run.byte + 1 })
+    (Some (record { piece = run.piece; byte = run.byte + 1 }))
 Progress-back ps text place run stuck within p = record {
   byte_in = omega arith;
   piece_in = p.back_in.1;
@@ -79,10 +89,13 @@ Progress-back ps text place run stuck within p = record {
 }
 
 -- the text does not fit: no run came, or the last one has taken all
-pub Progress-stuck : (ps : List Piece) (text : List ℕ) (place : Place) → ¬ (Fits (drop place.piece ps) (drop place.byte text)) → Progress ps text place None → ¬ (Fits ps text)
+pub Progress-stuck : (ps : List Piece) (text : List ℕ) (place : Place)
+    → ¬ (Fits (drop place.piece ps) (drop place.byte text)) → Progress ps text place None → ¬ (Fits ps text)
 Progress-stuck ps text place stuck p = greedy_stuck ps text (drop place.piece ps) (drop place.byte text) stuck p.greedy
 
-pub Progress-over : (ps : List Piece) (text : List ℕ) (place run : Place) → ¬ (Fits (drop place.piece ps) (drop place.byte text)) → length text ≤ run.byte → Progress ps text place (Some run) → ¬ (Fits ps text)
+pub Progress-over : (ps : List Piece) (text : List ℕ) (place run : Place)
+    → ¬ (Fits (drop place.piece ps) (drop place.byte text)) → length text ≤ run.byte → Progress ps text place (Some run)
+    → ¬ (Fits ps text)
 Progress-over ps text place run stuck over p =
     greedy_over ps text (drop place.piece ps) (drop place.byte text) (drop run.piece ps) stuck
     (subst (λ s. Greedy ps text (drop place.piece ps) (drop place.byte text) (Some (drop run.piece ps, s))) (drop_of_length-le text over) p.greedy)

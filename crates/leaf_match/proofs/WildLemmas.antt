@@ -1,13 +1,15 @@
--- A text spells one list of pieces at most, piece by piece: `same_piece`; and what a reader keeps: `Reads`.
-use Rattle.std.proofs.Common.{◌≡◌, ◌≢◌, ℕ, ◌<◌, ◌⊎◌, inl, inr, false, ◌==◌, List, [], ◌∷◌, ◌++◌, map, length, refl, sym, ap, subst, ◌∙◌, arith, append_assoc, append-nil}
+-- A text spells at most one list of pieces. What a reader keeps: `Reads`.
+use Rattle.std.proofs.Common.{◌≡◌, ◌≢◌, ℕ, ◌<◌, ◌⊎◌, inl, inr, false, ◌==◌, List, [], ◌∷◌, ◌++◌, map, length, refl, sym, ap, subst, ◌∙◌}
+use Rattle.std.proofs.Common.{arith, append_assoc, append-nil}
 use Rattle.std.proofs.lemmas.Bool.{false≢true}
 use Rattle.std.proofs.lemmas.Bool.Decides.{nat_tests}
 use Rattle.leaf_match.specs.declared.piece.Piece.{Piece}
 use Rattle.leaf_match.specs.declared.piece.Piece.TheVariants.{Letter, Run, OneCharacter}
 use Rattle.leaf_match.specs.Wild.{star, backslash, escaped, BeginsWith, Spells, IsWildcard, literal_front}
 
--- a letter is spelled behind a backslash, or as itself
-escaped_cases : (byte : ℕ) → (((byte ≡ star) ⊎ (byte ≡ backslash)) × (escaped byte ≡ backslash ∷ byte ∷ [])) ⊎ ((byte ≢ star) × (byte ≢ backslash) × (escaped byte ≡ byte ∷ []))
+-- a letter is spelled with a backslash before it, or as itself
+escaped_cases : (byte : ℕ) → (((byte ≡ star) ⊎ (byte ≡ backslash)) × (escaped byte ≡ backslash ∷ byte ∷ []))
+    ⊎ ((byte ≢ star) × (byte ≢ backslash) × (escaped byte ≡ byte ∷ []))
 escaped_cases byte = grind (arith, nat_tests)
 
 -- a letter's spelling begins with a backslash, or is the letter, which is no `*`
@@ -33,7 +35,7 @@ no_letter_run a s r t h k = elim (escaped_cases a) [
       let same : a ≡ star = cc in e.0 same
 ]
 
-pub same_piece : (p q : Piece) (s r t : List ℕ) → BeginsWith p s r → BeginsWith q s t → (p ≡ q) × (r ≡ t)
+same_piece : (p q : Piece) (s r t : List ℕ) → BeginsWith p s r → BeginsWith q s t → (p ≡ q) × (r ≡ t)
 same_piece (Letter a) (Letter b) s r t h k = let e = same_letters a b s r t h k in (ap Letter e.0, e.1)
 same_piece (Letter a) Run s r t h k = absurd (no_letter_run a s r t h k.0)
 same_piece Run (Letter b) s r t h k = absurd (no_letter_run b s t r k h.0)
@@ -58,34 +60,34 @@ pub not_empty : {A : Type 0} (xs : List A) → false ≡ (length xs == 0) → xs
 not_empty [] e = absurd (false≢true e)
 not_empty (x ∷ xs) e = λ h. cc
 
--- one more piece behind pieces that begin with no letter, or are none where this one is no letter
+-- one more piece after pieces that begin with no letter, or after no pieces if this one is no letter
 pub literal_front-behind : (rest : List Piece) (piece : Piece) → rest ≢ [] → literal_front rest ≡ [] → literal_front (rest ++ piece ∷ []) ≡ []
 literal_front-behind [] piece ne e = absurd (ne refl)
 literal_front-behind (Letter byte ∷ rest) piece ne e = cc
 literal_front-behind (Run ∷ rest) piece ne e = refl
 literal_front-behind (OneCharacter ∷ rest) piece ne e = refl
 
-pub literal_front-no_letter : (rest : List Piece) (piece : Piece) → ((byte : ℕ) → piece ≢ Letter byte) → literal_front rest ≡ [] → literal_front (rest ++ piece ∷ []) ≡ []
+pub literal_front-no_letter : (rest : List Piece) (piece : Piece) → ((byte : ℕ) → piece ≢ Letter byte)
+    → literal_front rest ≡ [] → literal_front (rest ++ piece ∷ []) ≡ []
 literal_front-no_letter [] (Letter byte) other e = absurd (other byte refl)
 literal_front-no_letter [] Run other e = refl
 literal_front-no_letter [] OneCharacter other e = refl
 literal_front-no_letter (p ∷ rest) piece other e = literal_front-behind (p ∷ rest) piece (λ h. cc) e
 
--- What spells the text spells what is left of it, behind the pieces that were read.
+-- What spells the text spells the rest of it, after the pieces that were read.
 pub record Reads (text unread : List ℕ) (done : List Piece) : Type 0 where
   pub goes_on : (pieces : List Piece) → Spells text pieces → (more : List Piece) × (pieces ≡ done ++ more) × Spells unread more
 
-pub Reads-start : (text : List ℕ) → Reads text text []
-Reads-start text = record { goes_on = λ pieces h. (pieces, refl, h) }
-
--- what spells the rest of a text behind its first piece
-pub Spells-behind : (p : Piece) (s r : List ℕ) (pieces : List Piece) → BeginsWith p s r → Spells s pieces → (more : List Piece) × (pieces ≡ p ∷ more) × Spells r more
+-- what spells the rest of a text after its first piece
+Spells-behind : (p : Piece) (s r : List ℕ) (pieces : List Piece) → BeginsWith p s r → Spells s pieces
+    → (more : List Piece) × (pieces ≡ p ∷ more) × Spells r more
 Spells-behind p s r [] b h = absurd (omega (arith, shorter p s r b, ap length h))
 Spells-behind p s r (q ∷ more) b h =
     let e = same_piece p q s r h.0 b h.1 in
     (more, ap (λ x. x ∷ more) (sym e.0), subst (λ x. Spells x more) (sym e.1) h.2)
 
-pub Reads-more : (text unread rest : List ℕ) (done : List Piece) (p : Piece) → BeginsWith p unread rest → Reads text unread done → Reads text rest (done ++ p ∷ [])
+pub Reads-more : (text unread rest : List ℕ) (done : List Piece) (p : Piece) → BeginsWith p unread rest
+    → Reads text unread done → Reads text rest (done ++ p ∷ [])
 Reads-more text unread rest done p b g = record {
   goes_on = λ pieces h.
       let left = g.goes_on pieces h in
@@ -94,19 +96,21 @@ Reads-more text unread rest done p b g = record {
 }
 
 -- nothing is left, or what is left spells nothing
-pub Spells-no_piece : (s : List ℕ) (pieces : List Piece) → ((p : Piece) (r : List ℕ) → ¬ (BeginsWith p s r)) → Spells s pieces → (pieces ≡ []) × (s ≡ [])
+Spells-no_piece : (s : List ℕ) (pieces : List Piece) → ((p : Piece) (r : List ℕ) → ¬ (BeginsWith p s r)) → Spells s pieces → (pieces ≡ []) × (s ≡ [])
 Spells-no_piece s [] none h = (refl, h)
 Spells-no_piece s (p ∷ more) none h = absurd (none p h.0 h.1)
 
-pub Reads-only : (text unread : List ℕ) (done : List Piece) → ((p : Piece) (r : List ℕ) → ¬ (BeginsWith p unread r)) → Reads text unread done → (pieces : List Piece) → Spells text pieces → pieces ≡ done
+pub Reads-only : (text unread : List ℕ) (done : List Piece) → ((p : Piece) (r : List ℕ) → ¬ (BeginsWith p unread r))
+    → Reads text unread done → (pieces : List Piece) → Spells text pieces → pieces ≡ done
 Reads-only text unread done none g pieces h =
     let left = g.goes_on pieces h in
     left.1 ∙ ap (λ x. done ++ x) (Spells-no_piece unread left.0 none left.2).0 ∙ append-nil done
 
-pub Reads-all : (text unread : List ℕ) (done : List Piece) → ((p : Piece) (r : List ℕ) → ¬ (BeginsWith p unread r)) → IsWildcard text → Reads text unread done → Spells text done
+pub Reads-all : (text unread : List ℕ) (done : List Piece) → ((p : Piece) (r : List ℕ) → ¬ (BeginsWith p unread r))
+    → IsWildcard text → Reads text unread done → Spells text done
 Reads-all text unread done none w g = subst (Spells text) (Reads-only text unread done none g w.0 w.1) w.1
 
--- what is left is a wildcard where the text is one
+-- what is left is a wildcard if the text is one
 pub IsWildcard-behind : (p : Piece) (s r : List ℕ) → BeginsWith p s r → IsWildcard s → IsWildcard r
 IsWildcard-behind p s r b w = let next = Spells-behind p s r w.0 b w.1 in (next.0, next.2)
 

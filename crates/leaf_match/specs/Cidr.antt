@@ -31,7 +31,7 @@ IsAddressText V6 text bits =
 abbrev pub leading_bits : Family → ℕ → ℕ → ℕ
 leading_bits family length bits = bits / 2 ^ (width_of family - length)
 
--- what contracts see of a `Cidr`
+-- a `Cidr` as contracts see it
 pub record Prefix : Type 0 where
   pub family : Family
   pub first_bits : ℕ
@@ -51,7 +51,7 @@ Holds prefix text =
     (bits : ℕ) × IsAddressText prefix.family text bits
     × (leading_bits prefix.family prefix.length bits ≡ prefix.first_bits)
 
--- a decimal digit comes first, and `0` only where nothing follows; no public clause names this
+-- a decimal digit is first, and it is `0` only if nothing follows; no public clause names this
 abbrev pub BeginsPlainly : List ℕ → Type 0
 BeginsPlainly digits =
     (0 < length digits) × (48 ≤ slice_index digits 0) × (slice_index digits 0 ≤ 57)

@@ -8,7 +8,7 @@ use Rattle.leaf_match.specs.Wild.{star}
 abbrev pub question : ℕ
 question = 63
 
--- `*` is a run, `?` one character, and any other byte, a backslash too, is itself
+-- `*` is a run, `?` one character, and any other byte, also a backslash, is itself
 abbrev pub like_piece : ℕ → Piece
 like_piece byte =
     if byte == star then Run else (if byte == question then OneCharacter else Letter byte)

@@ -7,18 +7,18 @@ use Rattle.leaf_match.specs.declared.matching.Step.{Step}
 use Rattle.leaf_match.specs.declared.matching.Step.TheVariants.{End, RunBegins, Taken, Stuck}
 use Rattle.leaf_match.specs.Piece.{StandsFor, Fits}
 
--- the piece stands for a front of the text, and leaves the rest
+-- the piece matches a front of the text, and leaves the rest
 abbrev pub Takes : Piece → List ℕ → List ℕ → Type 0
 Takes piece text rest = (part : List ℕ) × StandsFor piece part × (text ≡ part ++ rest)
 
--- the place in the text behind what the piece takes at a place, or that it takes nothing there
+-- the place in the text after what the piece takes at a place, or that it takes nothing there
 abbrev pub IsBehind : Piece → List ℕ → ℕ → Option ℕ → Type 0
 IsBehind piece text at result =
     MatchOption result
     ((rest : List ℕ) → ¬ (Takes piece (drop at text) rest))
     (λ next. (next ≤ length text) × Takes piece (drop at text) (drop next text))
 
--- the piece at a place, which has others behind it
+-- the piece at a place, and that a place follows it
 abbrev pub IsPieceAt : List Piece → ℕ → Piece → Type 0
 IsPieceAt pieces at piece =
     (at + 1 < 2 ^ 64) × (at < length pieces) × (drop at pieces ≡ piece ∷ drop (at + 1) pieces)

@@ -1,4 +1,4 @@
--- How a wildcard's text spells its pieces: this project's own rule where the public guide is silent.
+-- How a wildcard's text spells its pieces. If the public guide is silent, this is the project's own rule.
 -- `a**b`, `a\b` and a backslash at the end spell nothing.
 use Rattle.std.specs.Prelude.{◌≡◌, ◌≢◌, ℕ, ◌||◌, ◌==◌, if◌then◌else◌, List, [], ◌∷◌, ◌++◌, Some, slice_get}
 use Rattle.leaf_match.specs.declared.piece.Piece.{Piece}
@@ -11,12 +11,12 @@ star = 42
 abbrev pub backslash : ℕ
 backslash = 92
 
--- a letter's spelling: `*` and `\` behind a backslash, any other byte as itself
+-- a letter's spelling: a backslash before `*` and `\`, any other byte as itself
 abbrev pub escaped : ℕ → List ℕ
 escaped byte =
     if (byte == star) || (byte == backslash) then backslash ∷ byte ∷ [] else byte ∷ []
 
--- The text is the piece's spelling and then the rest. A run is a `*` with no other `*` behind it.
+-- The text is the piece's spelling and then the rest. A run is a `*` with no other `*` after it.
 abbrev pub BeginsWith : Piece → List ℕ → List ℕ → Type 0
 BeginsWith (Letter byte) text rest = text ≡ escaped byte ++ rest
 BeginsWith Run text rest = (text ≡ star ∷ rest) × (slice_get rest 0 ≢ Some star)
@@ -27,7 +27,7 @@ abbrev pub Spells : List ℕ → List Piece → Type 0
 Spells text [] = text ≡ []
 Spells text (piece ∷ pieces) = (rest : List ℕ) × BeginsWith piece text rest × Spells rest pieces
 
--- the bytes of the letters before the first piece that is none
+-- the bytes of the letters before the first piece that is no letter
 abbrev pub literal_front : List Piece → List ℕ
 literal_front [] = []
 literal_front (Letter byte ∷ pieces) = byte ∷ literal_front pieces

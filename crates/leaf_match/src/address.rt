@@ -46,7 +46,7 @@ impl Address {
                 bits: u128::from(address.to_bits()),
             });
         }
-        // std reads an IPv6 text that ends in dotted decimals; here that is none.
+        // std reads an IPv6 text that ends in dotted decimals; here it is no address.
         if text.as_bytes().contains(&b'.') {
             return None;
         }

@@ -5,8 +5,8 @@ ghost use Rattle.leaf_match.specs.Cidr.{Prefix, width_of, IsPrefixText, Holds, B
 use crate::address::{Address, Family};
 use std::marker::Model;
 
-/// The addresses of one family that begin with the same bits. Two prefixes are equal where family,
-/// length and first bits are, however their texts spell the address and its further bits.
+/// The addresses of one family that begin with the same bits. Two prefixes are equal if family, length and first bits
+/// are equal, however their texts spell the address and its further bits.
 #[derive(Clone, Copy, Debug, PartialEq, Eq)]
 pub struct Cidr {
     family: Family,
@@ -38,7 +38,7 @@ impl Model for Cidr {
 
 impl Cidr {
     /// The prefix that the text writes: an address, `/` and a length of 0 to the family's width, in
-    /// decimal without leading zeros. What the address has behind its first bits is ignored.
+    /// decimal without leading zeros. The address's bits after the first ones are ignored.
     pub fn read(text: &str) -> Option<Cidr>
         ensures { (prefix : Prefix) → (result ≡ Some prefix) ↔ IsPrefixText text.now prefix }
     {
@@ -101,7 +101,7 @@ fn read_length(digits: &str, most: u32) -> Option<u32>
     (length <= most).then_some(length)
 }
 
-/// Whether a digit comes first, and `0` only where nothing follows.
+/// Whether a digit is first, and it is `0` only if nothing follows.
 fn begins_plainly(digits: &[u8]) -> bool
     ensures { IsTrue result ↔ BeginsPlainly digits.now }
 {

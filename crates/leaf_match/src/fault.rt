@@ -1,4 +1,4 @@
-//! Why a call gave no value.
+//! Why a call returned no value.
 ghost use Rattle.std.specs.Prelude.{◌≡◌};
 
 use std::alloc::{AllocError, AllocFailed};
@@ -24,7 +24,7 @@ impl<T: Drop> From<AllocFailed<T>> for WildFault {
     }
 }
 
-/// There was no room for a copy.
+/// Out of memory.
 #[derive(Debug, Drop, PartialEq, Eq, Error)]
 #[error("out of memory")]
 pub struct NoMemory;

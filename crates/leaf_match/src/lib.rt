@@ -1,4 +1,4 @@
-//! The tests of one text: each answers yes exactly where its definition holds.
+//! The tests of one text: each returns true exactly when its definition holds.
 #![tactic(auto)]
 
 mod address;

@@ -1,4 +1,4 @@
-//! Whether a text fits a list of pieces: one pass that comes back to the last run alone.
+//! Whether a text fits a list of pieces: one pass that backtracks only to the last run.
 ghost use Rattle.std.specs.Prelude.{◌≡◌, ◌↔◌, ◌+◌, ◌^◌, ◌<◌, ◌≤◌, List, length, slice_get, IsTrue, IsSome};
 ghost use Rattle.leaf_match.specs.declared.piece.Piece.{Piece};
 ghost use Rattle.leaf_match.specs.Piece.{Fits};
@@ -6,7 +6,7 @@ ghost use Rattle.leaf_match.specs.Place.{IsBehind, IsStep};
 
 use crate::piece::Piece;
 
-/// A pattern that tells its pieces by their places.
+/// A pattern whose pieces are read by their places.
 pub(crate) trait Pattern {
     ghost pieces: { Self → List Piece };
 
@@ -22,7 +22,7 @@ struct Place {
     byte: usize,
 }
 
-/// What stands at a place.
+/// What is at a place.
 enum Step {
     /// The pieces and the text end together.
     End,
@@ -34,8 +34,8 @@ enum Step {
     Stuck,
 }
 
-/// Whether the text fits the pattern, in time of at most the text's length times the pattern's, and
-/// in one pass where there is no run.
+/// Whether the text fits the pattern. The time is at most the text's length times the pattern's, and one pass if there
+/// is no run.
 pub(crate) fn fits<P: Pattern>(pattern: &P, text: &str) -> bool
     ensures { IsTrue result ↔ Fits (P.pieces pattern.now) text.now }
 {
@@ -55,8 +55,8 @@ pub(crate) fn fits<P: Pattern>(pattern: &P, text: &str) -> bool
                 };
             }
             Step::Stuck => {
-                // What the last run takes grows by a byte. An earlier run need not grow: what fits
-                // behind that fits here too.
+                // The last run takes one byte more. An earlier run need not grow: what fits after
+                // a longer earlier run fits here too.
                 let Some(run) = back else {
                     return false;
                 };

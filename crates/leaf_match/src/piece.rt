@@ -1,9 +1,9 @@
 /// One part of a pattern for texts.
 #[derive(Clone, Copy, Debug, PartialEq, Eq)]
 pub enum Piece {
-    /// A byte that stands for itself.
+    /// A byte that matches itself.
     Letter(u8),
-    /// Any bytes, none included.
+    /// Any number of bytes, including none.
     Run,
     /// One character of one to four bytes.
     OneCharacter,

@@ -2,7 +2,7 @@ use crate::{Cidr, Family, NoMemory, Wild, WildFault, ends_ci, equal_ci, like, st
 use std::alloc::Global;
 use std::test::Fail;
 
-/// A wildcard, a text, and whether it fits; `None` where the wildcard is refused. Worked by hand.
+/// A wildcard, a text, and whether it fits; `None` if the wildcard is refused. Worked by hand.
 const WILDCARDS: [(&str, &str, Option<bool>); 46] = [
     ("a*b*", "ab", Some(true)),
     (r"\*", "*", Some(true)),
@@ -100,9 +100,8 @@ const FOLDED: [(&str, &str, bool, bool, bool); 14] = [
     ("ABd", "abc", false, false, false),
 ];
 
-/// A prefix, a text, and whether the prefix holds of it; `None` where the prefix is refused. Where
-/// a row names a section, the prefix, or the two spellings, stand there. The rows from `10.0.0.0/0`
-/// on are worked by hand.
+/// A prefix, a text, and whether the prefix holds of it; `None` if the prefix is refused. If a row names a section, the
+/// prefix or the two spellings are from there. The rows from `10.0.0.0/0` on are worked by hand.
 const PREFIXES: [(&str, &str, Option<bool>); 60] = [
     // RFC 4632, section 3.1
     ("172.16.0.0/16", "172.16.255.1", Some(true)),

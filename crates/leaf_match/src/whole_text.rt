@@ -7,17 +7,17 @@ use crate::matching::{Pattern, fits};
 use crate::piece::Piece;
 use crate::wildcard::Wild;
 
-/// Whether the whole text fits the wildcard, letters compared exactly. Takes no memory, and time of
-/// at most the text's length times the wildcard's; one pass where the wildcard has no run.
+/// Whether the whole text fits the wildcard; letters are compared exactly. Takes no memory. The time is at most the
+/// text's length times the wildcard's, and one pass if the wildcard has no run.
 pub fn wild(wild: &Wild, text: &str) -> bool
     ensures { IsTrue result ↔ Fits wild.now text.now }
 {
     fits(wild, text)
 }
 
-/// Whether the whole text fits the pattern, letters compared exactly: `*` stands for any bytes, `?`
-/// for one character, anything else, a backslash too, for itself. Takes no memory, and time of at
-/// most the text's length times the pattern's; one pass where the pattern has no `*`.
+/// Whether the whole text fits the pattern; letters are compared exactly. `*` matches any bytes, `?` one character, and
+/// anything else, also a backslash, itself. Takes no memory. The time is at most the text's length times the pattern's,
+/// and one pass if the pattern has no `*`.
 pub fn like(pattern: &str, text: &str) -> bool
     ensures { IsTrue result ↔ Fits (like_pieces pattern.now) text.now }
 {

@@ -1,4 +1,4 @@
-//! Wildcards: texts in which `*` stands for any bytes.
+//! Wildcards: texts in which `*` matches any bytes.
 ghost use Rattle.std.specs.Prelude.{◌≡◌, ◌↔◌, ℕ, List, [], ◌∷◌, ◌++◌, map, slice_get, IsTrue, IfOk, IsErrOf, OnOk, OnErr, MatchOption};
 ghost use Rattle.leaf_match.specs.declared.piece.Piece.{Piece};
 ghost use Rattle.leaf_match.specs.declared.fault.WildFault.{WildFault};
@@ -10,8 +10,7 @@ use crate::piece::Piece;
 use std::alloc::Global;
 use std::marker::Model;
 
-/// A wildcard that was read. Contracts see it as its pieces; those that `read` gives are letters and
-/// runs alone.
+/// A wildcard that was read. Contracts see it as its pieces. `read` returns only letters and runs.
 #[derive(Debug, Drop)]
 pub struct Wild {
     front: Vec<u8>,
@@ -32,7 +31,7 @@ impl Model for Wild {
 }
 
 impl Wild {
-    /// The wildcard that the text spells. `BadWild` comes before `NoMemory`.
+    /// The wildcard that the text spells. `BadWild` is returned before any memory is asked for.
     pub fn read(alloc: Global, text: &str) -> Result<Wild, WildFault>
         ensures pieces { IfOk result (Spells text.now) }
         ensures only { IfOk result
@@ -40,7 +39,7 @@ impl Wild {
         ensures bad { IsErrOf result WildFault.BadWild ↔ ¬ (IsWildcard text.now) }
         ensures no_memory { IsErrOf result WildFault.NoMemory → IsWildcard text.now }
     {
-        // Told before room is asked for, so that want of memory never hides it.
+        // Checked before room is asked for, so that `NoMemory` never hides `BadWild`.
         if !is_wildcard(text.as_bytes()) {
             return Err(WildFault::BadWild);
         }
@@ -77,7 +76,7 @@ impl Wild {
         })
     }
 
-    /// The letters before the first run, all of them where there is none.
+    /// The letters before the first run, or all letters if there is no run.
     pub fn literal_front(&self) -> &[u8]
         ensures { result.now ≡ literal_front self.now }
     {

@@ -1,5 +1,6 @@
 -- Lemmas on `marks_in`: its length, the mark at a place, and what a word's change does to it
-use Rattle.std.proofs.Common.{◌≡◌, ◌≢◌, ℕ, ◌*◌, ◌/◌, ◌%◌, ◌^◌, ◌<◌, Bool, true, false, List, length, replicate, get_or, refl, sym, ◌∙◌, arith, ⊎_elim, bit_and, bit_or, w64, eqb, Some, slice_get}
+use Rattle.std.proofs.Common.{◌≡◌, ◌≢◌, ℕ, ◌*◌, ◌/◌, ◌%◌, ◌^◌, ◌<◌, Bool, true, false, List, length, replicate, get_or, refl, sym, ◌∙◌}
+use Rattle.std.proofs.Common.{arith, ⊎_elim, bit_and, bit_or, w64, eqb, Some, slice_get}
 use Rattle.std.proofs.Math.ListN.{set}
 use Rattle.std.proofs.lemmas.List.{get_or-set_same, get_or-set_other, length-set, get_or-replicate, length-replicate, get_or_past}
 use Rattle.std.proofs.lemmas.List.FromFn.{length-map-range_with_len, get_or-map-range_with_len, fill_by_all}
@@ -13,7 +14,7 @@ pub length-marks_in : (words : List ℕ) (places : ℕ) → length (marks_in wor
 unfolding marks_in
 length-marks_in words places = length-map-range_with_len (is_marked words) 0 places
 
-pub get_or-marks_in : (words : List ℕ) (places k : ℕ) (d : Bool) → k < places →
+get_or-marks_in : (words : List ℕ) (places k : ℕ) (d : Bool) → k < places →
     get_or (marks_in words places) k d ≡ is_marked words k
 unfolding marks_in
 get_or-marks_in words places k d h =

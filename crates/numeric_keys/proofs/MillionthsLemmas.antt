@@ -1,4 +1,4 @@
--- What `millionths` owes at each of its ends, from the parts that it read and the size that it
+-- The clauses of `millionths` at each of its ends, from the parts that it read and the size that it
 -- found
 use Rattle.std.proofs.Common.{◌≡◌, ℕ, ◌≤◌, List, sym, subst, ◌∙◌, ap, Option, Some, None, ◌↔◌}
 use Rattle.std.specs.Prelude.{ℤ, pos, neg_ℤ, if◌then◌else◌}

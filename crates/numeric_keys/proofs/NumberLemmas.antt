@@ -1,6 +1,7 @@
 -- The readers' functions find exactly the parts that a text spells: `number_of_spelled` and
 -- `spelled_of_number`
-use Rattle.std.proofs.Common.{◌≡◌, ◌≢◌, ℕ, ◌+◌, ◌<◌, ◌≤◌, Bool, true, false, cond, nat_lt, ◌||◌, ◌==◌, List, [], ◌∷◌, ◌++◌, length, take, drop, refl, sym, subst, ◌∙◌, ap, arith, ⊎_elim, inl, inr, ◌⊎◌, append-nil, Some, None, Option}
+use Rattle.std.proofs.Common.{◌≡◌, ◌≢◌, ℕ, ◌+◌, ◌<◌, ◌≤◌, Bool, true, false, cond, nat_lt, ◌||◌, ◌==◌, List, [], ◌∷◌, ◌++◌, length, take}
+use Rattle.std.proofs.Common.{drop, refl, sym, subst, ◌∙◌, ap, arith, ⊎_elim, inl, inr, ◌⊎◌, append-nil, Some, None, Option}
 use Rattle.std.proofs.Math.Seq.{take-append_seam, drop-append_seam, take-length}
 use Rattle.std.proofs.lemmas.Bool.Decides.{nat_tests}
 use Rattle.std.proofs.lemmas.Bool.{cond_both, cases_eq, false≢true}
@@ -11,7 +12,8 @@ use Rattle.std.proofs.lemmas.Option.{none-some, some_pair_parts, same_Some}
 use Rattle.std.specs.Char.{is_ascii_digit, digit_value}
 use Rattle.std.specs.Option.{option_map, option_and_then}
 use Rattle.std.specs.Str.Parse.{AllDigits, IsNumeral}
-use Rattle.numeric_keys.specs.Number.{Parts, IsSign, IsInt, IsFrac, IsE, IsExp, IsNumber, no_minus, minus, lone_zero, nonzero, no_frac, point, lower, upper, no_exp, plain, with_plus, with_minus}
+use Rattle.numeric_keys.specs.Number.{Parts, IsSign, IsInt, IsFrac, IsE, IsExp, IsNumber, no_minus, minus, lone_zero, nonzero, no_frac}
+use Rattle.numeric_keys.specs.Number.{point, lower, upper, no_exp, plain, with_plus, with_minus}
 use Rattle.numeric_keys.specs.NumberReader.{digit_count, is_int, digits_alone, signed_digits, exponent_of, digits_in_front, fraction_of, unsigned_of, number_of}
 
 -- ---- digits
@@ -57,7 +59,7 @@ digits_alone_found negative digits h =
     ∙ digit_count-append digits [] h.1 refl in
     rw whole (grind (arith, nat_tests))
 
--- where no sign stands in front, all of it are the digits
+-- without a sign, the digits are the whole text
 plain_found : (digits : List ℕ) → IsNumeral 10 digits → signed_digits digits ≡ Some (false, digits)
 plain_found [] h = absurd (omega (arith, h.0))
 plain_found (c ∷ cs) h =

@@ -1,6 +1,7 @@
 -- Numbers times powers of ten: how trailing zeros, a digit more, and powers on both sides of an
 -- equation act
-use Rattle.std.proofs.Common.{◌≡◌, ◌≢◌, ℕ, zero, suc, ◌+◌, ◌-◌, ◌*◌, ◌/◌, ◌%◌, ◌^◌, ◌<◌, ◌≤◌, List, [], ◌∷◌, ◌++◌, length, take, drop, get_or, refl, sym, subst, ◌∙◌, ap, arith, ⊎_elim, Option, Some, None}
+use Rattle.std.proofs.Common.{◌≡◌, ◌≢◌, ℕ, zero, suc, ◌+◌, ◌-◌, ◌*◌, ◌/◌, ◌%◌, ◌^◌, ◌<◌, ◌≤◌, List, [], ◌∷◌, ◌++◌, length, take, drop}
+use Rattle.std.proofs.Common.{get_or, refl, sym, subst, ◌∙◌, ap, arith, ⊎_elim, Option, Some, None}
 use Rattle.std.proofs.Math.Nat.{pow-le-pow_right, one-le-pow, mul-div_cancel, mul-le-mul_left}
 use Rattle.std.proofs.lemmas.Bool.{cases_lt, cases_eq}
 use Rattle.std.proofs.lemmas.Bool.Decides.{nat_tests}
@@ -77,14 +78,14 @@ pub digits_value_after-append : (n : ℕ) (xs ys : List ℕ) →
 digits_value_after-append n [] ys = refl
 digits_value_after-append n (x ∷ xs) ys = digits_value_after-append (n * 10 + digit_value x) xs ys
 
-pub digits_value_after_more : (n : ℕ) (digits : List ℕ) (i : ℕ) → i < length digits →
+digits_value_after_more : (n : ℕ) (digits : List ℕ) (i : ℕ) → i < length digits →
     digits_value_after 10 n (take (i + 1) digits) ≡ digits_value_after 10 n
     (take i digits) * 10 + digit_value (get_or digits i 0)
 digits_value_after_more n digits i h =
     rw (take_more digits i 0 h)
     (digits_value_after-append n (take i digits) (get_or digits i 0 ∷ []))
 
-pub digit_value_is : (c : ℕ) → digit_value c < 10 → (48 ≤ c) × (c ≤ 57) × (digit_value c ≡ c - 48)
+digit_value_is : (c : ℕ) → digit_value c < 10 → (48 ≤ c) × (c ≤ 57) × (digit_value c ≡ c - 48)
 digit_value_is c h = grind (arith, nat_tests)
 
 AllDigits-at : (digits : List ℕ) (i : ℕ) → AllDigits 10 digits → i < length digits →
@@ -104,7 +105,7 @@ AllDigits-drop [] (suc i) all = tt
 AllDigits-drop (c ∷ cs) zero all = all
 AllDigits-drop (c ∷ cs) (suc i) all = AllDigits-drop cs i all.1
 
--- where the digits up to one of them write a number that is too long, so do all of them
+-- if the digits up to one of them write a number that is too long, so do all of them
 pub too_long_whole : (n : ℕ) (digits : List ℕ) (i : ℕ) → AllDigits 10 digits →
     IsTooLong (digits_value_after 10 n (take i digits)) →
     IsTooLong (digits_value_after 10 n digits)
@@ -114,7 +115,7 @@ too_long_whole n digits i all h =
     (rw digits_value_after-append
     (too_long_after _ (drop i digits) h (AllDigits-drop digits i all)))
 
--- the same as the code goes on, where `number` is what the digits so far write
+-- the same for the code's loop; `number` is what the digits so far write
 module _ (n : ℕ) (digits : List ℕ) (i number : ℕ) (all : AllDigits 10 digits)
     (h : i < length digits) (read : number ≡ digits_value_after 10 n (take i digits)) where
   pub number_goes_on : (next : ℕ) → next ≡ number * 10 + (get_or digits i 0 - 48) →
@@ -139,7 +140,7 @@ no_size_but_zero digits zeros up size down none e =
     mul_cancel size 0 (10 ^ down) (ten_pos down) (omega arith)
 
 -- digits that do not end in a zero, with fewer zeros than are taken away
-pub no_size_below : (digits zeros up size down : ℕ) → 0 < digits % 10 → up + zeros < down →
+no_size_below : (digits zeros up size down : ℕ) → 0 < digits % 10 → up + zeros < down →
     digits * 10 ^ zeros * 10 ^ up ≡ size * 10 ^ down → ⊥
 no_size_below digits zeros up size down last short e =
     let k : ℕ = down - (zeros + up) - 1 in
@@ -152,7 +153,7 @@ no_size_below digits zeros up size down last short e =
     (sym (times_powers digits zeros up) ∙ e ∙ split) in
     omega arith
 
-pub size_is : (digits zeros up down : ℕ) → down ≤ up + zeros →
+size_is : (digits zeros up down : ℕ) → down ≤ up + zeros →
     digits * 10 ^ zeros * 10 ^ up ≡ digits * 10 ^ (up + zeros - down) * 10 ^ down
 size_is digits zeros up down h =
     times_powers digits zeros up ∙ ap (λ n. digits * 10 ^ n) (omega arith)

@@ -1,6 +1,7 @@
--- The tree over the ranges: what its nodes enclose, which leaves lie under a node, and what a walk
+-- The tree over the ranges: what its nodes enclose, which leaves are under a node, and what a walk
 -- adds. `adds_hits` is what the walk from the root means for the list that was given.
-use Rattle.std.proofs.Common.{◌≡◌, ◌≢◌, ℕ, zero, suc, ◌+◌, ◌-◌, ◌*◌, ◌/◌, ◌%◌, ◌<◌, ◌≤◌, Bool, true, false, List, length, get_or, refl, sym, ◌∙◌, arith, ⊎_elim, ◌⊎◌, inl, inr}
+use Rattle.std.proofs.Common.{◌≡◌, ◌≢◌, ℕ, zero, suc, ◌+◌, ◌-◌, ◌*◌, ◌/◌, ◌%◌, ◌<◌, ◌≤◌, Bool, true, false, List, length, get_or, refl, sym}
+use Rattle.std.proofs.Common.{◌∙◌, arith, ⊎_elim, ◌⊎◌, inl, inr}
 use Rattle.std.specs.Prelude.{ℤ, ◌≤ℤ◌, IsTrue, nat_lt}
 use Rattle.std.proofs.Math.ListN.{set}
 use Rattle.std.proofs.lemmas.Bool.{cases_eq}
@@ -129,7 +130,7 @@ leaf_span ranges spans place =
     let back : length ranges + place - length ranges ≡ place = omega arith in
     rw (leaf, back) refl
 
--- where a leaf under the node is hit, the value lies in the node's span
+-- if a leaf under the node is hit, the value is in the node's span
 hit_in_span : (ranges : List (ℤ × ℤ × ℕ)) (spans : List Span) (node : ℕ) (value : ℤ) (mark : ℕ) →
     IsTree ranges spans → 1 ≤ node →
     HitUnder ranges node value mark → ((node_span ranges spans node).least ≤ℤ value) ×

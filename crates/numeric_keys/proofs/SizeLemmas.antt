@@ -1,13 +1,15 @@
--- What `size_in_millionths` owes, over plain numbers: an exponent above the cap acts as the cap
+-- The clauses of `size_in_millionths` over plain numbers: an exponent above the cap acts as the cap
 -- does, and the parts' `HasSize` is the equation that `moved` solves
-use Rattle.std.proofs.Common.{◌≡◌, ◌≢◌, ℕ, ◌+◌, ◌-◌, ◌*◌, ◌^◌, ◌<◌, ◌≤◌, min, Bool, true, false, List, ◌++◌, sym, ◌∙◌, ap, arith, ⊎_elim, ◌⊎◌, inl, inr, Option, Some, None}
+use Rattle.std.proofs.Common.{◌≡◌, ◌≢◌, ℕ, ◌+◌, ◌-◌, ◌*◌, ◌^◌, ◌<◌, ◌≤◌, min, Bool, true, false, List, ◌++◌, sym, ◌∙◌, ap, arith, ⊎_elim}
+use Rattle.std.proofs.Common.{◌⊎◌, inl, inr, Option, Some, None}
 use Rattle.std.proofs.Math.Nat.{pow-le-pow_right, mul-le-mul_left}
 use Rattle.std.proofs.lemmas.Bool.{cases_lt, cases_eq}
 use Rattle.std.proofs.lemmas.Nat.{pow-add}
 use Rattle.std.specs.Bool.{MatchBool}
 use Rattle.std.specs.Option.{IfSome}
 use Rattle.std.specs.Str.Parse.{AllDigits, digits_value, digits_value_after}
-use Rattle.numeric_keys.proofs.PowerLemmas.{ten_pos, mul_cancel, times_powers, above_largest, same_size, too_long_size, too_long_after, digits_value_after-append}
+use Rattle.numeric_keys.proofs.PowerLemmas.{ten_pos, mul_cancel, times_powers, above_largest, same_size, too_long_size, too_long_after}
+use Rattle.numeric_keys.proofs.PowerLemmas.{digits_value_after-append}
 use Rattle.numeric_keys.specs.Number.{largest_size}
 use Rattle.numeric_keys.specs.Significand.{IsTooLong}
 
@@ -87,7 +89,7 @@ capped_cases power cap e =
     ⊎_elim (λ below. inl (omega arith)) (λ above. inr (omega arith, omega arith))
     (cases_lt power (2 ^ 64 - 1))
 
-pub up_from_capped : (n places size power cap : ℕ) → cap ≡ min power (2 ^ 64 - 1) →
+up_from_capped : (n places size power cap : ℕ) → cap ≡ min power (2 ^ 64 - 1) →
     places < 2 ^ 63 → size ≤ largest_size →
     n * 10 ^ (cap + 6) ≡ size * 10 ^ places → n * 10 ^ power * 10 ^ 6 ≡ size * 10 ^ places
 up_from_capped n places size power cap is few small e = ⊎_elim
@@ -107,7 +109,7 @@ up_to_capped n places size power cap is few small e =
     (far_up n places size power far.1 few small joined))
     (capped_cases power cap is)
 
-pub down_from_capped : (digits zeros places size power cap : ℕ) → cap ≡ min power (2 ^ 64 - 1) →
+down_from_capped : (digits zeros places size power cap : ℕ) → cap ≡ min power (2 ^ 64 - 1) →
     digits ≤ largest_size → zeros ≤ 2 ^ 63 + places →
     digits * 10 ^ zeros * 10 ^ 6 ≡ size * 10 ^ (places + cap) →
     digits * 10 ^ zeros * 10 ^ 6 ≡ size * 10 ^ (places + power)
@@ -146,7 +148,7 @@ no_size_too_long n places size power false long small e =
       too_long_size n (power + 6) size places long (sym (times_powers n power 6) ∙ e),
     ))
 
--- a number that is too long in front of more digits is too long with them
+-- a number that is too long is too long with more digits after it
 pub long_before_more : (n : ℕ) (digits : List ℕ) → AllDigits 10 digits → IsTooLong n →
     IsTooLong (digits_value_after 10 n digits)
 long_before_more n digits all long = too_long_after n digits long all

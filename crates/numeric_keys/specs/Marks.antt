@@ -7,6 +7,6 @@ use Rattle.std.specs.List.{range_with_len}
 abbrev pub is_marked : List ℕ → ℕ → Bool
 is_marked words place = bit_at (slice_index words (place / 64)) (place % 64) == 1
 
--- the marks of so many places
+-- the marks of the first places, as many as the number
 unfoldable pub marks_in : List ℕ → ℕ → List Bool
 marks_in words places = map (is_marked words) (range_with_len 0 places)

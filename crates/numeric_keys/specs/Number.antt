@@ -58,8 +58,8 @@ pub record IsNumber (parts : Parts) (text : List ℕ) : Type 0 where
   pub exponent : IsExp parts.exponent_negative parts.exponent exp
 
 -- the value of the parts without their sign, times 1,000,000, is this size: with D the number that
--- the digits of `int` and `frac` write together, f how many digits `frac` has, and E the number
--- that the digits of `exp` write, D * 10 ^ E * 10 ^ 6 = size * 10 ^ f, and where `exp` has a minus
+-- the digits of `int` and `frac` write together, f the number of digits of `frac`, and E the number
+-- that the digits of `exp` write, D * 10 ^ E * 10 ^ 6 = size * 10 ^ f, and if `exp` has a minus
 -- D * 10 ^ 6 = size * 10 ^ (f + E)
 abbrev pub HasSize : Parts → ℕ → Type 0
 HasSize parts size =

@@ -1,4 +1,4 @@
--- What the private readers of a number's parts give: no public clause names these
+-- What the private readers of a number's parts return. No public clause names these.
 use Rattle.std.specs.Prelude.{ℕ, ◌==◌, ◌||◌, Bool, true, false, not, cond, Option, Some, None, List, [], ◌∷◌, take, drop, length, nat_lt}
 use Rattle.std.specs.Char.{is_ascii_digit}
 use Rattle.std.specs.List.{prefix_len}

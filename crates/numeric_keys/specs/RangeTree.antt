@@ -4,7 +4,7 @@ use Rattle.std.specs.Prelude.{◌≡◌, ℕ, ◌+◌, ◌-◌, ◌*◌, ◌<◌
 use Rattle.numeric_keys.specs.Ranges.{Hits}
 use Rattle.numeric_keys.specs.declared.ranges.Span.{Span}
 
--- what stands for a range and for a span past the end of their lists
+-- the range and the span that are read past the end of their lists
 abbrev pub no_range : ℤ × ℤ × ℕ
 no_range = (pos 0, pos 0, 0)
 
@@ -21,7 +21,7 @@ node_span ranges spans node =
     cond (nat_lt node (length ranges)) (slice_index_or spans node no_span)
     (span_of (slice_index_or ranges (node - length ranges) no_range))
 
--- what lies within the inner span lies within the outer one
+-- what is within the inner span is within the outer one
 pub record Encloses (outer inner : Span) : Type 0 where
   pub low : outer.least ≤ℤ inner.least
   pub high : inner.greatest ≤ℤ outer.greatest
@@ -50,7 +50,7 @@ pub record HitUnder (ranges : List (ℤ × ℤ × ℕ)) (node : ℕ) (value : �
   pub under : IsUnder node (length ranges + place)
   pub hit : Hits value mark (slice_index_or ranges place no_range)
 
--- a place is marked afterwards exactly where it was before, or a leaf under the node marks it
+-- a place is marked afterwards exactly if it was marked before, or a leaf under the node marks it
 pub record AddsUnder (ranges : List (ℤ × ℤ × ℕ)) (node : ℕ) (value : ℤ)
     (old new : List Bool) : Type 0 where
   pub same_places : length new ≡ length old

@@ -6,8 +6,7 @@ use Rattle.std.specs.List.{Any}
 abbrev pub Hits : ℤ → ℕ → ℤ × ℤ × ℕ → Type 0
 Hits value mark range = (range.2 ≡ mark) × (range.0 ≤ℤ value) × (value ≤ℤ range.1)
 
--- a place is marked afterwards exactly where it was before, or a range with this mark holds the
--- value
+-- a place is marked afterwards exactly if it was marked before, or a range with this mark holds the value
 pub record AddsHits (ranges : List (ℤ × ℤ × ℕ)) (value : ℤ) (old new : List Bool) : Type 0 where
   pub same_places : length new ≡ length old
   pub marked : (place : ℕ) → IsTrue (slice_index_or new place false)

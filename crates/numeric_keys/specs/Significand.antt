@@ -3,7 +3,7 @@ use Rattle.std.specs.Prelude.{◌≡◌, ℕ, ◌*◌, ◌^◌, ◌%◌, ◌<◌
 use Rattle.numeric_keys.specs.Number.{largest_size}
 use Rattle.numeric_keys.specs.declared.significand.Significand.{Significand}
 
--- the number that a significand with its zeros stands for
+-- the number of a significand with its zeros
 abbrev pub number_with : Significand → ℕ
 number_with s = s.digits * 10 ^ s.zeros
 

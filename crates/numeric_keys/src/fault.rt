@@ -1,7 +1,7 @@
 use std::alloc::AllocError;
 use thiserror::Error;
 
-/// The one fault of this crate: an allocation was refused.
+/// Out of memory, the one fault of this crate.
 #[derive(Debug, Drop, Error)]
 #[error("out of memory")]
 pub struct NoMemory;

@@ -6,7 +6,7 @@ use std::marker::Model;
 
 const WORD_BITS: u32 = 64;
 
-/// A fixed number of places, each marked or not. Only `of` takes memory, one bit for each place.
+/// A fixed number of places, each marked or not. Only `of` takes memory: one bit for each place.
 #[derive(Drop)]
 pub struct Marks {
     words: Vec<u64>,
@@ -25,7 +25,7 @@ impl Model for Marks {
 }
 
 impl Marks {
-    /// So many places, none of them marked.
+    /// `places` places, none of them marked.
     pub fn of(alloc: Global, places: u32) -> Result<Marks, NoMemory>
         ensures { IfOk result (λ marks. marks ≡ replicate places false) }
     {
@@ -58,7 +58,7 @@ impl Marks {
         word >> (place % WORD_BITS) & 1 == 1
     }
 
-    /// Takes every mark away, and keeps the places.
+    /// Removes every mark, and keeps the places.
     pub fn clear(&mut self)
         ensures { self.new ≡ replicate (length self.old) false }
     {

@@ -6,9 +6,9 @@ ghost use Rattle.numeric_keys.specs.Spelling.{parts_of};
 use crate::significand::{Significand, capped_number};
 use crate::spelling::Spelling;
 
-/// The value of a number's spelling (RFC 8259, section 6) times 1,000,000, where that is a whole
-/// number of size 5,000,000,000,000,000 at most. `None` for any other text. Takes time linear in
-/// the text, whatever its exponent.
+/// The value of a number's spelling (RFC 8259, section 6) times 1,000,000, if that is a whole number from
+/// -5,000,000,000,000,000 to 5,000,000,000,000,000, both included. `None` for any other text. The time is linear in the
+/// text, whatever its exponent.
 pub fn millionths(text: &str) -> Option<i64>
     ensures { (m : ℤ) → (result ≡ Some m) ↔ IsMillionths text.now m }
 {

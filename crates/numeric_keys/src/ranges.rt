@@ -9,15 +9,15 @@ use std::alloc::{AllocError, Global};
 use std::marker::Model;
 use std::snapshot::Snapshot;
 
-/// Ranges of numbers, each `(low, high, mark)` with both ends included; one whose low end is above
-/// its high end holds nothing. Made in time and memory of at most n log n for n ranges.
+/// Ranges of numbers, each `(low, high, mark)` with both ends included. A range whose low end is above its high end
+/// holds nothing. Making n ranges takes time and memory of at most n log n.
 #[derive(Drop)]
 pub struct Ranges {
-    // The list as it came, for contracts alone: it takes no room.
+    // The list as it was given, for contracts alone. It takes no room.
     given: Snapshot<Vec<(i64, i64, u32)>>,
     by_low: Vec<(i64, i64, u32)>,
-    // A binary tree over `by_low`: of n ranges, node n + k is the one at k, and node i below n has
-    // the children 2i and 2i + 1. Entry i is what lies under node i, and entry 0 is not used.
+    // A binary tree over `by_low`: of n ranges, node n + k is the range at k, and node i below n has the children 2i
+    // and 2i + 1. Entry i is the span of the ranges under node i, and entry 0 is not used.
     spans: Vec<Span>,
 }
 
@@ -35,7 +35,7 @@ impl Model for Ranges {
         × IsTree r.by_low.items r.spans.items };
 }
 
-// What lies under a node of the tree: no range there begins below `least` or ends above `greatest`.
+// The span of the ranges under a node: no range there begins below `least` or ends above `greatest`.
 #[derive(Clone, Copy)]
 struct Span {
     least: i64,
@@ -60,8 +60,8 @@ impl Ranges {
         })
     }
 
-    /// Adds the mark of each range that holds the value. Takes a search, and at most log n for each
-    /// range that holds it.
+    /// Adds the mark of each range that holds the value. Takes one search, and at most log n for each range that holds
+    /// it.
     pub fn hits(&self, value: i64, marks: &mut Marks)
         requires { All (λ range. range.2 < length marks.old) self.now }
         ensures { AddsHits self.now value marks.old marks.new }
@@ -118,9 +118,8 @@ impl Span {
     }
 }
 
-// Marks the ranges under a node that hold the value. They lie side by side in the order by low end,
-// but for one turn from the last to the first, so few nodes of a level have a span that holds the
-// value and no range that does.
+// Marks the ranges under a node that hold the value. The leaves are in the order by low end, except for one turn from
+// the last to the first, so few nodes of a level have a span that holds the value and no range that holds it.
 fn mark_under(
     ranges: &[(i64, i64, u32)],
     spans: &[Span],

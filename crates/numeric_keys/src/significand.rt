@@ -22,7 +22,7 @@ impl Significand {
         zeros: 0,
     };
 
-    /// The number with these digits written behind it, unless its significand is above `LARGEST`.
+    /// The number with these digits written after it. `None` if its significand is above `LARGEST`.
     pub fn followed_by(self, digits: &[u8]) -> Option<Significand>
         requires digits { AllDigits 10 digits.now }
         requires room { self.zeros + length digits.now < 2 ^ 64 }
@@ -63,8 +63,7 @@ impl Significand {
         Some(Significand { digits, zeros: 0 })
     }
 
-    /// The number times ten to the power `up` over ten to the power `down`, where that is whole and
-    /// at most `LARGEST`.
+    /// The number times ten to the power `up` over ten to the power `down`, if that is whole and at most `LARGEST`.
     pub fn moved(self, up: u128, down: u128) -> Option<u64>
         requires room { self.zeros + up < 2 ^ 128 }
         requires trimmed { IsTrimmed self }
@@ -105,7 +104,7 @@ fn scaled(number: u64, power: u128) -> Option<u64>
     }
 }
 
-/// The number that these digits write, or the greatest `u64` where that is above it.
+/// The number that these digits write, or the greatest `u64` if the number is above it.
 pub fn capped_number(digits: &[u8]) -> u64
     requires { AllDigits 10 digits.now }
     ensures { result ≡ min (digits_value 10 digits.now) (2 ^ 64 - 1) }

@@ -47,7 +47,7 @@ fn read_unsigned(negative: bool, text: &[u8]) -> Option<Spelling<'_>>
     })
 }
 
-// Whether these digits may stand before the point: at least one, and no zero before another.
+// Whether these digits may be before the point: at least one, and no zero before another.
 fn is_whole_part(digits: &[u8]) -> bool
     ensures { result ≡ is_int digits.now }
 {

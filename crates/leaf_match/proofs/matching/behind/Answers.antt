@@ -6,4 +6,5 @@ pub returns-in-Letter : goal.returns-in-Letter
 returns-in-Letter c = subst (λ piece. IsBehind piece c.args.text.now c.args.at c.behind_letter.result) (sym c.in-Letter.is) c.behind_letter.ensures
 
 pub returns-in-OneCharacter : goal.returns-in-OneCharacter
-returns-in-OneCharacter c = subst (λ piece. IsBehind piece c.args.text.now c.args.at c.behind_character.result) (sym c.in-OneCharacter.is) c.behind_character.ensures
+returns-in-OneCharacter c = subst (λ piece. IsBehind piece c.args.text.now c.args.at c.behind_character.result)
+    (sym c.in-OneCharacter.is) c.behind_character.ensures

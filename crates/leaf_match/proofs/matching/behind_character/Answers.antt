@@ -17,7 +17,9 @@ returns-in_err-c c =
     let text = c.args.text.now in
     let e = ap length c.chars.ensures.rest in
     let left = length-drop c.args.at text in
-    rw c.from_residual-in_err-c.ensures (λ rest. no_character_in_none (drop c.args.at text) rest (omega (arith, c.in_err-c.ensures.steps, c.in_ok-rest.ensures.cases)))
+    rw c.from_residual-in_err-c.ensures
+    (λ rest. no_character_in_none (drop c.args.at text) rest
+    (omega (arith, c.in_err-c.ensures.steps, c.in_ok-rest.ensures.cases)))
 
 pub returns : goal.returns
 returns c =

@@ -19,13 +19,15 @@ pub returns-in_default : goal.returns-in_default
 returns-in_default g c =
     let pieces = g.P.Pattern.pieces c.args.pattern.now in
     let none : c.steps.back ≡ None = search rules in
-    let no = Progress-stuck pieces c.args.text.now c.steps.place c.in-Stuck.ensures (subst (Progress pieces c.args.text.now c.steps.place) none c.steps.invariant) in
+    let no = Progress-stuck pieces c.args.text.now c.steps.place c.in-Stuck.ensures
+    (subst (Progress pieces c.args.text.now c.steps.place) none c.steps.invariant) in
     (λ e. absurd (false≢true e), λ f. absurd (no f))
 
 pub returns-then-run-text : goal.returns-then-run-text
 returns-then-run-text g c =
     let pieces = g.P.Pattern.pieces c.args.pattern.now in
-    let no = Progress-over pieces c.args.text.now c.steps.place c.in-Some.run' c.in-Stuck.ensures (omega arith) (subst (Progress pieces c.args.text.now c.steps.place) c.in-Some.is c.steps.invariant) in
+    let no = Progress-over pieces c.args.text.now c.steps.place c.in-Some.run' c.in-Stuck.ensures (omega arith)
+    (subst (Progress pieces c.args.text.now c.steps.place) c.in-Some.is c.steps.invariant) in
     (λ e. absurd (false≢true e), λ f. absurd (no f))
 
 pub steps-preserved : goal.steps-preserved

@@ -1,5 +1,6 @@
 use Rattle.leaf_match.specs.Cidr.{leading_bits}
-use Rattle.leaf_match.proofs.CidrLemmas.{none_written, some_written, no_slash_no_prefix, no_address_no_prefix, no_length_no_prefix, prefix_written, prefix_only, IsLastCut-from_rsplit}
+use Rattle.leaf_match.proofs.CidrLemmas.{none_written, some_written, no_slash_no_prefix, no_address_no_prefix, no_length_no_prefix}
+use Rattle.leaf_match.proofs.CidrLemmas.{prefix_written, prefix_only, IsLastCut-from_rsplit}
 use Rattle.leaf_match.proofs.cidr.Cidr.read.Goals as goal
 
 pub returns-in_err-address : goal.returns-in_err-address

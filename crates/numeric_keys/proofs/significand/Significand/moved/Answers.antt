@@ -17,4 +17,5 @@ returns-clause-some c =
 
 pub returns-clause-every : goal.returns-clause-every
 returns-clause-every c size within e =
-    every_moved c.args.self.digits c.args.self.zeros c.args.up c.args.down size c.scaled.result c.if-up-down.false within c.scaled.ensures.some c.scaled.ensures.none e
+    every_moved c.args.self.digits c.args.self.zeros c.args.up c.args.down size c.scaled.result c.if-up-down.false
+    within c.scaled.ensures.some c.scaled.ensures.none e
