@@ -13,7 +13,7 @@ use Rattle.json_text.specs.Tree.{Tree, null, truth, number, text, list, object, 
 use Rattle.pattern_meaning.specs.Pattern.{Test, same}
 use Rattle.pattern_meaning.specs.View.{IsView, IsViewOfItem, leaf_at}
 use Rattle.pattern_meaning.specs.Holds.{TestHolds}
-use Rattle.pattern_meaning.specs.Seen.{test_of}
+use Rattle.pattern_meaning.specs.PatternView.{test_of}
 use Rattle.pattern_meaning.specs.Meets.{is_leaf, passes, leaf_passes, some_leaf_passes}
 use Rattle.pattern_meaning.specs.declared.pattern.LeafTest.{LeafTest}
 
@@ -38,7 +38,8 @@ tests_seen t (x ∷ ts) = ap (λ b. passes t (test_of x) || b) (tests_seen t ts)
 abbrev PassesAsLeaf : Json → Type 0
 PassesAsLeaf j = ((v : _) → j ≡ list_value v → ⊥) → (ts : List Test) → list_any (passes (tree_of j)) ts ≡ leaf_passes ts (tree_of j)
 
-as_leaf : (ts : List Test) (j : Json) (t : Tree) → tree_of j ≡ t → list_any (passes t) ts ≡ leaf_passes ts t → list_any (passes (tree_of j)) ts ≡ leaf_passes ts (tree_of j)
+as_leaf : (ts : List Test) (j : Json) (t : Tree) → tree_of j ≡ t → list_any (passes t) ts ≡ leaf_passes ts t
+    → list_any (passes (tree_of j)) ts ≡ leaf_passes ts (tree_of j)
 as_leaf ts j t e h = subst (λ x. list_any (passes x) ts ≡ leaf_passes ts x) (sym e) h
 
 rolled_as_leaf : (x : Json-F Json) → PassesAsLeaf (roll-Json x)

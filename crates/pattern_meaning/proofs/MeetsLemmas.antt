@@ -21,11 +21,12 @@ both false b h g = cc
 absent : (k : List ℕ) (ms seen : Members) → LacksKey k ms → AreViews ms seen → (behind : List (List ℕ)) → leaf_in k behind seen ≡ None
 absent k no_members seen lacks views behind = ap (leaf_in k behind) views
 absent k (member other t ms) seen lacks views behind = elim views [
-  | inl r ↦ ap (leaf_in k behind) r.2 ∙ cond-false (bytes_eq other k) (leaf_at behind r.0) (leaf_in k behind r.1) (differ other k (λ e. lacks.0 (sym e))) ∙ absent k ms r.1 lacks.1 r.4 behind
+  | inl r ↦ ap (leaf_in k behind) r.2 ∙ cond-false (bytes_eq other k) (leaf_at behind r.0) (leaf_in k behind r.1)
+      (differ other k (λ e. lacks.0 (sym e))) ∙ absent k ms r.1 lacks.1 r.4 behind
   | inr r ↦ absent k ms seen lacks.1 r.1 behind
 ]
 
--- a member with the key, or another: where its view makes `here` true and the other views make `later` true
+-- a member with the key, or another: its view makes `here` true, or the other views make `later` true
 member_met : (key k : List ℕ) (t : Tree) (ms seen : Members) (f : Field) (here later : Bool) → LacksKey k ms → IsField f
     → ((v : Tree) → IsView t v → FieldHolds f [] v → here ≡ true)
     → ((rest : Members) → AreViews ms rest → FieldHolds f (key ∷ []) (object rest) → later ≡ true)
@@ -53,7 +54,8 @@ all_met test (field key f fs) seen is each h =
     both (test key f) (all_fields test fs) (each key f is.1 h.0) (all_met test fs seen is.2 each h.1)
 
 -- a scalar has no leaf below itself
-scalar_met : {P : Type 0} (t v : Tree) (p : Pattern) → v ≡ t → ((key : List ℕ) (behind : List (List ℕ)) → leaf_at (key ∷ behind) t ≡ None) → IsPattern p → HoldsOnView p [] v → P
+scalar_met : {P : Type 0} (t v : Tree) (p : Pattern) → v ≡ t
+    → ((key : List ℕ) (behind : List (List ℕ)) → leaf_at (key ∷ behind) t ≡ None) → IsPattern p → HoldsOnView p [] v → P
 scalar_met t v p e none is h = absurd (nothing p [] v is (λ key behind. ap (leaf_at (key ∷ behind)) e ∙ none key behind) h)
 
 mutual
@@ -73,7 +75,8 @@ mutual
     | inr more ↦ or_second (meets t p) (some_meets items p) (some_met items v p value.1 is more h)
   ]
 
-  any_met : (ms seen : Members) (key : List ℕ) (f : Field) → AreMembers ms → IsField f → AreViews ms seen → FieldHolds f (key ∷ []) (object seen) → member_meets ms key f ≡ true
+  any_met : (ms seen : Members) (key : List ℕ) (f : Field) → AreMembers ms → IsField f → AreViews ms seen
+      → FieldHolds f (key ∷ []) (object seen) → member_meets ms key f ≡ true
   any_met no_members seen key f value is views h = absurd (field_nothing f (key ∷ []) (object seen) is (λ behind. ap (leaf_in key behind) views) h)
   any_met (member k t ms) seen key (tests ts) value is views h =
       member_met key k t ms seen (tests ts) (leaf_passes ts t) (member_meets ms key (tests ts)) value.1 is
@@ -90,7 +93,9 @@ Extends key f ms seen = (after : Members) × AreViews ms after × FieldHolds f (
 here_seen : (key k : List ℕ) (t : Tree) (ms seen : Members) (f : Field) → bytes_eq k key ≡ true → (v : Tree) → IsView t v → FieldHolds f [] v
     → AreViews (member k t ms) seen → Extends key f (member k t ms) seen
 here_seen key k t ms seen f same v view h views =
-    let at : (rest : Members) → FieldHolds f (key ∷ []) (object (member k v rest)) = λ rest. field_moved f [] v (key ∷ []) (object (member k v rest)) (λ behind. sym (cond-true (bytes_eq k key) (leaf_at behind v) (leaf_in key behind rest) same)) h in
+    let at : (rest : Members) → FieldHolds f (key ∷ []) (object (member k v rest)) =
+    λ rest. field_moved f [] v (key ∷ []) (object (member k v rest))
+    (λ behind. sym (cond-true (bytes_eq k key) (leaf_at behind v) (leaf_in key behind rest) same)) h in
     let is : k ≡ key = (bytes_eq-Decides k key).0 same in
     elim views [
       | inl r ↦ (
@@ -103,8 +108,9 @@ here_seen key k t ms seen f same v view h views =
       | inr r ↦ (member k v seen, inl (v, seen, refl, view, r.1), at seen, subst (λ x. KeepsOthers x seen (member k v seen)) is (one_more k v seen))
     ]
 
--- a member behind it does
-later_seen : (key k : List ℕ) (t : Tree) (ms seen : Members) (f : Field) → bytes_eq k key ≡ false → ((rest : Members) → AreViews ms rest → Extends key f ms rest)
+-- a later member does
+later_seen : (key k : List ℕ) (t : Tree) (ms seen : Members) (f : Field) → bytes_eq k key ≡ false
+    → ((rest : Members) → AreViews ms rest → Extends key f ms rest)
     → AreViews (member k t ms) seen → Extends key f (member k t ms) seen
 later_seen key k t ms seen f other rest views = elim views [
   | inl r ↦

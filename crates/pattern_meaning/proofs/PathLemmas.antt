@@ -1,4 +1,4 @@
--- A field holds at a path by the leaves below it alone: `field_moved`; where there are none it does not: `field_nothing`.
+-- Whether a field holds at a path depends only on the leaves below it: `field_moved`. Without leaves it does not hold: `field_nothing`.
 use Rattle.std.proofs.Common.{◌≡◌, ◌≢◌, ℕ, false, List, [], ◌∷◌, ◌++◌, None, inl, inr, sym, ap, ◌∙◌, subst}
 use Rattle.std.specs.Str.{bytes_eq}
 use Rattle.std.proofs.lemmas.Bool.{cases_Bool}
@@ -17,7 +17,7 @@ differ a b apart = elim (cases_Bool (bytes_eq a b)) [
 ]
 
 -- the leaves below one path are those below the other
-abbrev pub SameLeaves : List (List ℕ) → Tree → List (List ℕ) → Tree → Type 0
+abbrev SameLeaves : List (List ℕ) → Tree → List (List ℕ) → Tree → Type 0
 SameLeaves path v other w = (behind : List (List ℕ)) → leaf_at (path ++ behind) v ≡ leaf_at (other ++ behind) w
 
 below_key : (path : List (List ℕ)) (v : Tree) (other : List (List ℕ)) (w : Tree) (key : List ℕ) → SameLeaves path v other w
@@ -29,26 +29,30 @@ same_leaf : (path : List (List ℕ)) (v : Tree) (other : List (List ℕ)) (w : T
 same_leaf path v other w h = sym (ap (λ p. leaf_at p v) (append-nil path)) ∙ h [] ∙ ap (λ p. leaf_at p w) (append-nil other)
 
 mutual
-  pattern_moved : (p : Pattern) (path : List (List ℕ)) (v : Tree) (other : List (List ℕ)) (w : Tree) → SameLeaves path v other w → HoldsOnView p path v → HoldsOnView p other w
+  pattern_moved : (p : Pattern) (path : List (List ℕ)) (v : Tree) (other : List (List ℕ)) (w : Tree)
+      → SameLeaves path v other w → HoldsOnView p path v → HoldsOnView p other w
   pattern_moved (pattern fs) path v other w same h = fields_moved fs path v other w same h
 
-  fields_moved : (fs : Fields) (path : List (List ℕ)) (v : Tree) (other : List (List ℕ)) (w : Tree) → SameLeaves path v other w → FieldsHold fs path v → FieldsHold fs other w
+  fields_moved : (fs : Fields) (path : List (List ℕ)) (v : Tree) (other : List (List ℕ)) (w : Tree)
+      → SameLeaves path v other w → FieldsHold fs path v → FieldsHold fs other w
   fields_moved no_fields path v other w same h = tt
   fields_moved (field key f fs) path v other w same h = (
     field_moved f (path ++ key ∷ []) v (other ++ key ∷ []) w (below_key path v other w key same) h.0,
     fields_moved fs path v other w same h.1,
   )
 
-  pub field_moved : (f : Field) (path : List (List ℕ)) (v : Tree) (other : List (List ℕ)) (w : Tree) → SameLeaves path v other w → FieldHolds f path v → FieldHolds f other w
+  pub field_moved : (f : Field) (path : List (List ℕ)) (v : Tree) (other : List (List ℕ)) (w : Tree)
+      → SameLeaves path v other w → FieldHolds f path v → FieldHolds f other w
   field_moved (tests ts) path v other w same h = subst (SomeHolds ts) (same_leaf path v other w same) h
   field_moved (below p) path v other w same h = pattern_moved p path v other w same h
 
 -- there is no leaf at or below the path
-abbrev pub NoLeaves : List (List ℕ) → Tree → Type 0
+abbrev NoLeaves : List (List ℕ) → Tree → Type 0
 NoLeaves path v = (behind : List (List ℕ)) → leaf_at (path ++ behind) v ≡ None
 
 mutual
-  pub nothing : (p : Pattern) (path : List (List ℕ)) (v : Tree) → IsPattern p → ((key : List ℕ) (behind : List (List ℕ)) → leaf_at (path ++ key ∷ behind) v ≡ None)
+  pub nothing : (p : Pattern) (path : List (List ℕ)) (v : Tree) → IsPattern p
+      → ((key : List ℕ) (behind : List (List ℕ)) → leaf_at (path ++ key ∷ behind) v ≡ None)
       → HoldsOnView p path v → ⊥
   nothing (pattern no_fields) path v w none h = absurd w.0
   nothing (pattern (field key f fs)) path v w none h =

@@ -1,4 +1,4 @@
--- Views there are: `views_there`; views of an object whose members differ at one key: `text_replaced`.
+-- Every value with a view has one: `views_there`. Views of an object whose members differ at one key: `text_replaced`.
 use Rattle.std.proofs.Common.{◌≡◌, ℕ, true, cond, List, [], ◌∷◌, ◌++◌, inl, inr, refl, sym, ap, ◌∙◌}
 use Rattle.std.specs.Str.{bytes_eq}
 use Rattle.std.proofs.lemmas.Bool.{cases_Bool, cond-false}
@@ -50,15 +50,24 @@ one_before key k v rest after kept other apart behind = ap (cond (bytes_eq k oth
 pub kept_from : (key : List ℕ) (seen before after : Members) → seen ≡ before → KeepsOthers key before after → KeepsOthers key seen after
 kept_from key seen before after e kept k apart behind = ap (leaf_in k behind) e ∙ kept k apart behind
 
-pub text_replaced : (key : List ℕ) (a b : List ℕ) (front back : List (List ℕ × Tree)) (seen : Members) → AreViews (members_of (front ++ (key, text a) ∷ back)) seen
+pub text_replaced : (key : List ℕ) (a b : List ℕ) (front back : List (List ℕ × Tree)) (seen : Members)
+    → AreViews (members_of (front ++ (key, text a) ∷ back)) seen
     → (after : Members) × AreViews (members_of (front ++ (key, text b) ∷ back)) after × KeepsOthers key seen after
 text_replaced key a b [] back seen h = elim h [
-  | inl r ↦ (member key (text b) r.1, inl (text b, r.1, refl, refl, r.4), kept_from key seen (member key r.0 r.1) (member key (text b) r.1) r.2 (other_value key r.0 (text b) r.1))
+  | inl r ↦ (
+    member key (text b) r.1,
+    inl (text b, r.1, refl, refl, r.4),
+    kept_from key seen (member key r.0 r.1) (member key (text b) r.1) r.2 (other_value key r.0 (text b) r.1),
+  )
   | inr r ↦ cc
 ]
 text_replaced key a b (m ∷ front) back seen h = elim h [
   | inl r ↦
-      let rest = text_replaced key a b front back r.1 r.4 in
-      (member m.0 r.0 rest.0, inl (r.0, rest.0, refl, r.3, rest.1), kept_from key seen (member m.0 r.0 r.1) (member m.0 r.0 rest.0) r.2 (one_before key m.0 r.0 r.1 rest.0 rest.2))
+      let rest = text_replaced key a b front back r.1 r.4 in (
+        member m.0 r.0 rest.0,
+        inl (r.0, rest.0, refl, r.3, rest.1),
+        kept_from key seen (member m.0 r.0 r.1) (member m.0 r.0 rest.0) r.2
+            (one_before key m.0 r.0 r.1 rest.0 rest.2),
+      )
   | inr r ↦ let rest = text_replaced key a b front back seen r.1 in (rest.0, inr (r.0, rest.1), rest.2)
 ]

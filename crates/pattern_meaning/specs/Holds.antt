@@ -4,7 +4,7 @@ use Rattle.json_text.specs.Tree.{Tree}
 use Rattle.pattern_meaning.specs.Pattern.{Test, same, Pattern, pattern, Fields, no_fields, field, Field, tests, below}
 use Rattle.pattern_meaning.specs.View.{IsView, leaf_at}
 
--- a test holds of the leaf at its path, where there is one
+-- a test holds of the leaf at its path, if there is one
 abbrev pub TestHolds : Test → Option Tree → Type 0
 TestHolds (same scalar) leaf = leaf ≡ Some scalar
 

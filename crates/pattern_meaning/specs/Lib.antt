@@ -1,5 +1,5 @@
 pub mod Pattern
 pub mod View
 pub mod Holds
-pub mod Seen
+pub mod PatternView
 pub mod Meets

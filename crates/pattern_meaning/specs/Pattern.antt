@@ -6,7 +6,7 @@ use Rattle.json_text.specs.Tree.{Tree}
 pub data Test : Type 0 where
   same : Tree → Test
 
--- A pattern is its fields, in order. A field has a key, and behind it tests, one of which is enough, or a pattern again.
+-- A pattern is its fields, in order. A field has a key, and tests, one of which is enough, or a pattern.
 mutual
   pub data Pattern : Type 0 where
     pattern : Fields → Pattern

@@ -4,9 +4,9 @@ ghost use Rattle.std.specs.List.{list_any};
 ghost use Rattle.json_text.specs.Tree.{Tree, text, object, members_of};
 ghost use Rattle.json_text.specs.Compact.{IsValue};
 ghost use Rattle.json_text.specs.View.{tree_of, pairs_of};
-ghost use Rattle.pattern_meaning.specs.Pattern.{Pattern as Seen, IsPattern, LacksRoot};
+ghost use Rattle.pattern_meaning.specs.Pattern.{Pattern as View, IsPattern, LacksRoot};
 ghost use Rattle.pattern_meaning.specs.Holds.{PatternHolds};
-ghost use Rattle.pattern_meaning.specs.Seen.{test_of, field_of, pattern_of};
+ghost use Rattle.pattern_meaning.specs.PatternView.{test_of, field_of, pattern_of};
 ghost use Rattle.pattern_meaning.specs.Meets as spec;
 
 use crate::pattern::{Field, LeafTest, LeafTests, Pattern};
@@ -21,14 +21,14 @@ pub fn plain_holds(pattern: &Pattern, event: &Json) -> bool
     meets(event, pattern)
 }
 
-/// A member of the root that the pattern names no field for does not matter.
+/// A member of the root for which the pattern has no field does not matter.
 pub fn unseen_member()
-    ensures { (p : Seen) (key : List ℕ) (front back : List (List ℕ × Tree)) (a b : List ℕ) → LacksRoot key p
+    ensures { (p : View) (key : List ℕ) (front back : List (List ℕ × Tree)) (a b : List ℕ) → LacksRoot key p
         → PatternHolds p (object (members_of (front ++ (key, text a) ∷ back)))
         → PatternHolds p (object (members_of (front ++ (key, text b) ∷ back))) }
 {}
 
-/// At a list some member counts, at an object each field, and of a scalar nothing holds.
+/// Of a list some member has to meet the pattern, of an object every field is checked, and a scalar meets no pattern.
 #[cycle(meets)]
 fn meets(json: &Json, pattern: &Pattern) -> bool
     ensures { result ≡ spec.meets (tree_of json.now) (pattern_of pattern.now) }

@@ -8,7 +8,7 @@ pub struct Pattern {
     pub fields: Vec<(Text, Field)>,
 }
 
-/// What stands behind a field's key: tests, one of which is enough, or a pattern again.
+/// The value of a field: tests, one of which is enough, or a pattern.
 #[cycle(pattern)]
 #[derive(Debug, Drop)]
 pub enum Field {

@@ -1,7 +1,7 @@
 //! Patterns made by hand, and values worked by hand.
 ghost use Rattle.std.specs.Prelude.{IfOk};
 ghost use Rattle.pattern_meaning.specs.Pattern.{IsPattern, IsField};
-ghost use Rattle.pattern_meaning.specs.Seen.{field_of, pattern_of};
+ghost use Rattle.pattern_meaning.specs.PatternView.{field_of, pattern_of};
 
 use crate::{Field, Fields, LeafTest, LeafTests, Pattern, plain_holds};
 use json_text::{Json, NoMemory, Text, read};

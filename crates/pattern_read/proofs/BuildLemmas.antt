@@ -1,4 +1,4 @@
--- Fields as they are built, one behind another: `field_built`, and at the end `fields_built`.
+-- Fields as they are built, one after another: `field_built`, and at the end `fields_built`.
 use Rattle.std.proofs.Common.{◌≡◌, ℕ, false, List, [], ◌∷◌, ◌++◌, map, Option, Some, None, codes, refl, sym, ap, ◌∙◌}
 use Rattle.std.specs.Option.{option_map, option_and_then}
 use Rattle.std.specs.Str.{bytes_eq}
@@ -8,7 +8,7 @@ use Rattle.json_text.specs.Tree.{Tree, object, Members, member, members_of}
 use Rattle.json_text.specs.View.{tree_of, pairs_of}
 use Rattle.json_text.specs.declared.value.Json.{Json}
 use Rattle.pattern_meaning.specs.Pattern.{Test, pattern, Fields, no_fields, field, fields_of, Field}
-use Rattle.pattern_meaning.specs.Seen.{field_of, fields_seen}
+use Rattle.pattern_meaning.specs.PatternView.{field_of, fields_view}
 use Rattle.pattern_meaning.specs.declared.pattern.Field.{Field as CodeField}
 use Rattle.pattern_read.specs.Text as spec
 
@@ -17,7 +17,7 @@ abbrev pub tests_with : List Test → Option (List Test) → Option (List Test)
 tests_with done rest = option_map (λ ts. done ++ ts) rest
 
 -- fields before others
-abbrev pub put_before : List (List ℕ × Field) → Fields → Fields
+abbrev put_before : List (List ℕ × Field) → Fields → Fields
 put_before [] rest = rest
 put_before (f ∷ fs) rest = field f.0 f.1 (put_before fs rest)
 
@@ -41,7 +41,7 @@ one_behind : (done : List (List ℕ × Field)) (key : List ℕ) (f : Field) (res
 one_behind done key f None = refl
 one_behind done key f (Some fs) = ap Some (put_behind done (key, f) fs)
 
--- a member that is a field, and those behind it
+-- a member that is a field, and the members after it
 abbrev with_rest : List ℕ → Members → Option Field → Option Fields
 with_rest key rest o = option_and_then (λ f. option_map (field key f) (spec.fields_at rest)) o
 
@@ -51,7 +51,8 @@ member_fields key t f rest plain is =
     cond-false (bytes_eq key (codes "$or")) None (with_rest key rest (spec.field_of t)) plain ∙ ap (with_rest key rest) is
 
 -- one field more, one member less
-pub field_built : (done pushed : List (List ℕ × CodeField)) (left rest : List (List ℕ × Json)) (key : List ℕ) (f : CodeField) (json : Json) (all : Option Fields)
+pub field_built : (done pushed : List (List ℕ × CodeField)) (left rest : List (List ℕ × Json)) (key : List ℕ)
+    (f : CodeField) (json : Json) (all : Option Fields)
     → bytes_eq key (codes "$or") ≡ false → spec.field_of (tree_of json) ≡ Some (field_of f) → left ≡ (key, json) ∷ rest → pushed ≡ done ++ (key, f) ∷ []
     → fields_with done left ≡ all → fields_with pushed rest ≡ all
 field_built done pushed left rest key f json all plain is cut more h =
@@ -62,7 +63,7 @@ field_built done pushed left rest key f json all plain is cut more h =
     ∙ sym (ap (fields_with done) cut) ∙ h
 
 pub fields_built : (ms left : List (List ℕ × Json)) (fs : List (List ℕ × CodeField)) → (ms ≡ [] → ⊥) → left ≡ []
-    → fields_with fs left ≡ spec.fields_at (members_of (pairs_of ms)) → spec.pattern_at (object (members_of (pairs_of ms))) ≡ Some (pattern (fields_seen fs))
+    → fields_with fs left ≡ spec.fields_at (members_of (pairs_of ms)) → spec.pattern_at (object (members_of (pairs_of ms))) ≡ Some (pattern (fields_view fs))
 fields_built [] left fs some none h = absurd (some refl)
 fields_built (m ∷ ms) left fs some none h =
     ap (option_map pattern) (sym h ∙ ap (fields_with fs) none) ∙ ap (λ x. Some (pattern x)) (put_all (seen fs))

@@ -1,4 +1,4 @@
--- What a value stands for is one pattern, `stands`, with distinct keys, `pattern_is`. Keys of the root: `lacks`, `has_none`.
+-- A value represents at most one pattern, `stands`, with distinct keys, `pattern_is`. Keys of the root: `lacks`, `has_none`.
 use Rattle.std.proofs.Common.{◌≡◌, ℕ, false, List, [], ◌∷◌, ◌||◌, Option, Some, None, inl, inr, codes, refl, sym, ap, ◌∙◌, subst}
 use Rattle.std.specs.Option.{option_map, option_and_then}
 use Rattle.std.specs.List.{list_any}
@@ -8,7 +8,7 @@ use Rattle.std.proofs.lemmas.Slice.Eq.{bytes_eq-Decides}
 use Rattle.json_text.specs.Tree.{Tree, null, truth, number, text, list, object, no_items, item, Members, no_members, member}
 use Rattle.json_text.specs.Compact.{IsValue, AreMembers, LacksKey}
 use Rattle.pattern_meaning.specs.Pattern.{Pattern, pattern, Fields, no_fields, field, Field, tests, below, HasField, LacksField, IsPattern, AreFields, IsField}
-use Rattle.pattern_meaning.specs.Seen.{fields_seen}
+use Rattle.pattern_meaning.specs.PatternView.{fields_view}
 use Rattle.pattern_meaning.specs.declared.pattern.Field.{Field as CodeField}
 use Rattle.pattern_meaning.proofs.PathLemmas.{differ}
 use Rattle.pattern_read.specs.Text.{field_of, tests_of, fields_at, pattern_at}
@@ -16,14 +16,17 @@ use Rattle.pattern_read.specs.Text.{field_of, tests_of, fields_at, pattern_at}
 pub stands : (there : Option Pattern) (p q : Pattern) → there ≡ Some p → there ≡ Some q → p ≡ q
 stands there p q h g = cc
 
-pub lacks : (key : List ℕ) (fs : List (List ℕ × CodeField)) → list_any (λ f. bytes_eq f.0 key) fs ≡ false → LacksField key (fields_seen fs)
+pub lacks : (key : List ℕ) (fs : List (List ℕ × CodeField)) → list_any (λ f. bytes_eq f.0 key) fs ≡ false → LacksField key (fields_view fs)
 lacks key [] h = tt
 lacks key (f ∷ fs) h = elim (cases_Bool (bytes_eq f.0 key)) [
   | inl same ↦ cc
-  | inr other ↦ (λ e. both_ways (bytes_eq f.0 key) other ((bytes_eq-Decides f.0 key).1 (sym e)), lacks key fs (sym (ap (λ b. b || list_any (λ x. bytes_eq x.0 key) fs) other) ∙ h))
+  | inr other ↦ (
+    λ e. both_ways (bytes_eq f.0 key) other ((bytes_eq-Decides f.0 key).1 (sym e)),
+    lacks key fs (sym (ap (λ b. b || list_any (λ x. bytes_eq x.0 key) fs) other) ∙ h),
+  )
 ]
 
-pub has_none : (key : List ℕ) (fs : List (List ℕ × CodeField)) → LacksField key (fields_seen fs) → list_any (λ f. bytes_eq f.0 key) fs ≡ false
+pub has_none : (key : List ℕ) (fs : List (List ℕ × CodeField)) → LacksField key (fields_view fs) → list_any (λ f. bytes_eq f.0 key) fs ≡ false
 has_none key [] h = refl
 has_none key (f ∷ fs) h =
     ap (λ b. b || list_any (λ x. bytes_eq x.0 key) fs) (differ f.0 key (λ e. h.0 (sym e))) ∙ has_none key fs h.1
@@ -44,7 +47,8 @@ Front key t ms fs = (f : Field) × (rest : Fields) × (field_of t ≡ Some f) ×
 front : (key : List ℕ) (t : Tree) (ms : Members) (fs : Fields) → fields_at (member key t ms) ≡ Some fs → Front key t ms fs
 front key t ms fs h =
     elim (cases_Bool (bytes_eq key (codes "$or"))) [
-      | inl same ↦ let none = sym (cond-true (bytes_eq key (codes "$or")) None (option_and_then (λ f. option_map (field key f) (fields_at ms)) (field_of t)) same) ∙ h in cc
+      | inl same ↦ let none = sym (cond-true (bytes_eq key (codes "$or")) None
+          (option_and_then (λ f. option_map (field key f) (fields_at ms)) (field_of t)) same) ∙ h in cc
       | inr other ↦
           let c = chained (λ f. option_map (field key f) (fields_at ms)) (field_of t) fs
           (sym (cond-false (bytes_eq key (codes "$or")) None (option_and_then (λ f. option_map (field key f) (fields_at ms)) (field_of t)) other) ∙ h) in

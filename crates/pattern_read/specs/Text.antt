@@ -1,5 +1,5 @@
--- Which text is a pattern, and which pattern it is. The grammar is that of the public guide, so far with string tests and nested
--- fields alone.
+-- Which text is a pattern, and which pattern it is. The grammar is that of the public guide, so far only with string tests and
+-- nested fields.
 use Rattle.std.specs.Prelude.{◌≡◌, ◌≤◌, ℕ, List, [], ◌∷◌, length, Option, Some, None, if◌then◌else◌, codes}
 use Rattle.std.specs.Option.{option_map, option_and_then}
 use Rattle.std.specs.Str.{bytes_eq}
@@ -36,7 +36,7 @@ abbrev mutual
       if bytes_eq key (codes "$or") then None
       else option_and_then (λ f. option_map (field key f) (fields_at members)) (field_of t)
 
--- the pattern that a JSON value stands for
+-- the pattern that a JSON value represents
 abbrev pub pattern_at : Tree → Option Pattern
 pattern_at null = None
 pattern_at (truth b) = None

@@ -3,7 +3,7 @@ ghost use Rattle.std.specs.Prelude.{◌≡◌, Some, MatchResult, map};
 ghost use Rattle.json_text.specs.Tree.{list, object, items_of, members_of};
 ghost use Rattle.json_text.specs.View.{tree_of, trees_of, pairs_of};
 ghost use Rattle.pattern_meaning.specs.Pattern.{tests};
-ghost use Rattle.pattern_meaning.specs.Seen.{test_of, field_of, pattern_of};
+ghost use Rattle.pattern_meaning.specs.PatternView.{test_of, field_of, pattern_of};
 ghost use Rattle.pattern_read.specs.Fault.{IsFault};
 ghost use Rattle.pattern_read.specs.Test.{test_at};
 ghost use Rattle.pattern_read.specs.Text as spec;
@@ -13,7 +13,7 @@ use json_text::{Items, Json, Members};
 use pattern_meaning::{Field, LeafTest, LeafTests, Pattern};
 use std::alloc::Global;
 
-/// The pattern that the value stands for.
+/// The pattern that the value represents.
 pub(crate) fn build_pattern(alloc: Global, json: Json) -> Result<Pattern, PatternFault>
     ensures { MatchResult result
         (λ p. spec.pattern_at (tree_of json) ≡ Some (pattern_of p))
@@ -46,7 +46,7 @@ fn build_members(alloc: Global, members: Members) -> Result<Pattern, PatternFaul
     Ok(Pattern { fields })
 }
 
-/// Tests stand in a list, a pattern in an object.
+/// A list is read as tests, an object as a pattern.
 #[cycle(build)]
 fn build_field(alloc: Global, json: Json) -> Result<Field, PatternFault>
     ensures { MatchResult result
@@ -60,7 +60,7 @@ fn build_field(alloc: Global, json: Json) -> Result<Field, PatternFault>
     }
 }
 
-/// The tests of an array, of which there has to be one.
+/// The tests of an array. An empty array is refused.
 fn build_tests(alloc: Global, items: Items) -> Result<LeafTests, PatternFault>
     ensures { MatchResult result
         (λ ts. spec.field_of (list (items_of (trees_of items.items))) ≡ Some (tests (map test_of ts.items)))

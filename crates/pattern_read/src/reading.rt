@@ -2,8 +2,8 @@
 ghost use Rattle.std.specs.Prelude.{◌≡◌, IfOk, MatchResult};
 ghost use Rattle.std.specs.List.{list_any};
 ghost use Rattle.std.specs.Str.{bytes_eq};
-ghost use Rattle.pattern_meaning.specs.Pattern.{Pattern as Seen, IsPattern};
-ghost use Rattle.pattern_meaning.specs.Seen.{pattern_of};
+ghost use Rattle.pattern_meaning.specs.Pattern.{Pattern as View, IsPattern};
+ghost use Rattle.pattern_meaning.specs.PatternView.{pattern_of};
 ghost use Rattle.pattern_read.specs.Text.{IsPatternText};
 
 use crate::building::build_pattern;
@@ -21,7 +21,7 @@ const MAX_LEVELS: u32 = 100;
 /// The pattern that the text is.
 pub fn read_pattern(alloc: Global, bytes: &[u8]) -> Result<Pattern, PatternFault>
     ensures found { IfOk result (λ p. IsPatternText bytes.now (pattern_of p)) }
-    ensures only { (p : Seen) → IsPatternText bytes.now p
+    ensures only { (p : View) → IsPatternText bytes.now p
         → MatchResult result (λ q. pattern_of q ≡ p) (λ e. e ≡ PatternFault.NoMemory) }
     ensures pattern { IfOk result (λ p. IsPattern (pattern_of p)) }
 {

@@ -1,4 +1,4 @@
-//! What no clause says: that texts are read where there is memory, and that patterns hold as the public guide has it.
+//! What no clause says: texts are read if memory is available, and patterns hold as the public guide says.
 
 use super::{PatternFault, read_pattern};
 use json_text::read;
@@ -86,7 +86,7 @@ fn other_texts_are_refused(rt: HostRuntime) {
     }
 }
 
-// Spaces behind the pattern, up to the length.
+// Spaces after the pattern, up to the length.
 #[test]
 fn a_text_of_4096_bytes_is_read_and_one_of_4097_is_not(rt: HostRuntime) -> Result<(), Fail> {
     let pattern = b"{\"a\":[\"x\"]}";

@@ -1,7 +1,7 @@
 //! Rules.
 ghost use Rattle.std.specs.Prelude.{◌≡◌, IfOk, IsErrOf};
 ghost use Rattle.pattern_meaning.specs.Pattern.{Pattern as Meaning, IsPattern};
-ghost use Rattle.pattern_meaning.specs.Seen.{pattern_of};
+ghost use Rattle.pattern_meaning.specs.PatternView.{pattern_of};
 ghost use Rattle.pattern_read.specs.Text.{IsPatternText};
 
 use crate::control::{ControlFault, Target};
@@ -22,7 +22,7 @@ pub(crate) struct RulePattern {
 impl Model for RulePattern {
     ghost use Rattle.std.specs.Prelude.{ℕ, List};
     ghost use Rattle.pattern_meaning.specs.Pattern.{IsPattern};
-    ghost use Rattle.pattern_meaning.specs.Seen.{pattern_of};
+    ghost use Rattle.pattern_meaning.specs.PatternView.{pattern_of};
     ghost use Rattle.pattern_read.specs.Text.{IsPatternText};
 
     ghost Value = { List ℕ };

@@ -1,6 +1,6 @@
 use Rattle.std.proofs.Common.{map, ◌∙◌}
 use Rattle.json_text.specs.View.{tree_of}
-use Rattle.pattern_meaning.specs.Seen.{test_of}
+use Rattle.pattern_meaning.specs.PatternView.{test_of}
 use Rattle.pattern_meaning.proofs.LeafLemmas.{tests_seen, passes_as_leaf}
 use Rattle.pattern_meaning.proofs.holds.+leaf_passes.Goals as goal
 

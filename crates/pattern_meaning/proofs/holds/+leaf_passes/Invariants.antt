@@ -1,7 +1,7 @@
 use Rattle.std.proofs.Common.{◌≡◌, map, drop}
 use Rattle.json_text.specs.Tree.{items_of}
 use Rattle.json_text.specs.View.{trees_of}
-use Rattle.pattern_meaning.specs.Seen.{test_of}
+use Rattle.pattern_meaning.specs.PatternView.{test_of}
 use Rattle.pattern_meaning.specs.Meets.{some_leaf_passes}
 use Rattle.pattern_meaning.proofs.holds.+leaf_passes.Given as goal
 

@@ -1,7 +1,7 @@
 use Rattle.std.proofs.Common.{◌≡◌, drop}
 use Rattle.json_text.specs.Tree.{items_of, members_of}
 use Rattle.json_text.specs.View.{trees_of, pairs_of}
-use Rattle.pattern_meaning.specs.Seen.{field_of, fields_seen, pattern_of}
+use Rattle.pattern_meaning.specs.PatternView.{field_of, fields_view, pattern_of}
 use Rattle.pattern_meaning.specs.Meets.{some_meets, member_meets, all_fields}
 use Rattle.pattern_meaning.proofs.holds.+meets.Given as goal
 
@@ -13,8 +13,8 @@ invariant-meets-loop-item l =
 
 abbrev pub invariant-meets-loop-key : goal.invariant-meets-loop-key
 invariant-meets-loop-key l =
-    all_fields (member_meets (members_of (pairs_of l.members.items))) (fields_seen (drop l.key-index l.key-items))
-    ≡ all_fields (member_meets (members_of (pairs_of l.members.items))) (fields_seen l.key-items)
+    all_fields (member_meets (members_of (pairs_of l.members.items))) (fields_view (drop l.key-index l.key-items))
+    ≡ all_fields (member_meets (members_of (pairs_of l.members.items))) (fields_view l.key-items)
 
 abbrev pub invariant-member_meets-loop-name : goal.invariant-member_meets-loop-name
 invariant-member_meets-loop-name l =

@@ -1,5 +1,5 @@
 use Rattle.json_text.specs.View.{tree_of}
-use Rattle.pattern_meaning.specs.Seen.{pattern_of}
+use Rattle.pattern_meaning.specs.PatternView.{pattern_of}
 use Rattle.pattern_meaning.proofs.MeetsLemmas.{meets_decides}
 use Rattle.pattern_meaning.proofs.holds.plain_holds.Goals as goal
 

@@ -4,16 +4,17 @@ use Rattle.std.specs.List.{list_any}
 use Rattle.std.specs.Str.{bytes_eq}
 use Rattle.json_text.specs.View.{tree_of}
 use Rattle.pattern_meaning.specs.Pattern.{LacksRoot}
-use Rattle.pattern_meaning.specs.Seen.{pattern_of}
+use Rattle.pattern_meaning.specs.PatternView.{pattern_of}
 use Rattle.pattern_read.specs.Text.{pattern_at}
 use Rattle.pattern_read.proofs.ReadLemmas.{lacks, has_none, stands, pattern_is}
 use Rattle.pattern_read.proofs.reading.read_pattern.Goals as goal
 
--- the text's value is that of its node, and stands for one pattern
+-- the text's value is its node's value, and represents one pattern
 pub returns-then-has_field-clause-only : goal.returns-then-has_field-clause-only
 returns-then-has_field-clause-only c p h =
     let json = c.in_ok-json.ensures.only h.node h.spelled in
-    let same = stands (pattern_at (tree_of c.in_ok-json.json)) (pattern_of c.in_ok-pattern.pattern) p c.in_ok-pattern.ensures (ap pattern_at json.1 ∙ h.stands_for) in
+    let same = stands (pattern_at (tree_of c.in_ok-json.json)) (pattern_of c.in_ok-pattern.pattern) p
+    c.in_ok-pattern.ensures (ap pattern_at json.1 ∙ h.stands_for) in
     let fields = c.in_ok-pattern.pattern.fields.items in
     let lacking : LacksRoot (codes "id") (pattern_of c.in_ok-pattern.pattern) = subst (LacksRoot (codes "id")) (sym same) h.no_id in
     absurd (both_ways (list_any (λ f. bytes_eq f.0 (codes "id")) fields) (has_none (codes "id") fields lacking) (sym c.has_field.ensures ∙ c.if-has_field.true))

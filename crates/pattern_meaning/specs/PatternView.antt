@@ -1,4 +1,4 @@
--- What contracts see of the code's patterns.
+-- The code's patterns as contracts see them.
 use Rattle.std.specs.Prelude.{ℕ, List, map}
 use Rattle.json_text.specs.View.{tree_of}
 use Rattle.pattern_meaning.specs.Pattern.{Test, same, Pattern, pattern, Fields, fields_of, Field, tests, below}
@@ -21,14 +21,14 @@ field_step (Field-F.Below p) = below p
 abbrev pub pattern_step : Pattern-F Field Pattern → Pattern
 pattern_step p = pattern (fields_of p.fields.items)
 
--- what stands behind a field's key
+-- the value of a field
 abbrev pub field_of : CodeField → Field
 field_of = fold-Field Field Pattern field_step pattern_step
 
 -- fields, in order
-abbrev pub fields_seen : List (List ℕ × CodeField) → Fields
-fields_seen fs = fields_of (map (λ f. (f.0, field_of f.1)) fs)
+abbrev pub fields_view : List (List ℕ × CodeField) → Fields
+fields_view fs = fields_of (map (λ f. (f.0, field_of f.1)) fs)
 
 -- a whole pattern
 abbrev pub pattern_of : CodePattern → Pattern
-pattern_of p = pattern (fields_seen p.fields.items)
+pattern_of p = pattern (fields_view p.fields.items)
