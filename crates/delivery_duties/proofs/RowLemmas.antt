@@ -65,7 +65,7 @@ ordered_without : (front : List DutyRow) (row : DutyRow) (back : List DutyRow) �
 ordered_without [] row back h = h.1
 ordered_without (o ∷ front) row back h = (All-without (ComesBefore o) front row back h.0, ordered_without front row back h.1)
 
-pub ordered_changed : (mark : Bool) (front : List DutyRow) (row : DutyRow) (back : List DutyRow) → IsOrdered (front ++ row ∷ back)
+ordered_changed : (mark : Bool) (front : List DutyRow) (row : DutyRow) (back : List DutyRow) → IsOrdered (front ++ row ∷ back)
     → IsOrdered (front ++ record row { claimed = mark } ∷ back)
 ordered_changed mark [] row back h = h
 ordered_changed mark (o ∷ front) row back h = (

@@ -89,9 +89,9 @@ has_first name row rows is =
       | false ↦ λ _ later. inr later
     ]) refl is
 
-has_behind : (name row : List ℕ) (rows : List (List ℕ)) → (name ≡ row) ⊎ (has name rows ≡ true) → has name (row ∷ rows) ≡ true
+has_later : (name row : List ℕ) (rows : List (List ℕ)) → (name ≡ row) ⊎ (has name rows ≡ true) → has name (row ∷ rows) ≡ true
 unfolding has
-has_behind name row rows which =
+has_later name row rows which =
     let d = bytes_eq-Decides row name in
     (elim (bytes_eq row name) as (λ b. bytes_eq row name ≡ b → is_some (cond b (Some row) (named (λ (queue : List ℕ). queue) name rows)) ≡ true) [
       | true ↦ λ _. refl
@@ -105,10 +105,10 @@ has_put name new (row ∷ rows) is =
     (elim (slice_cmp nat_cmp new row) as (λ o. has name (by_order o (new ∷ row ∷ rows) (new ∷ rows) (row ∷ put_queue new rows)) ≡ true
     → (name ≡ new) ⊎ (has name (row ∷ rows) ≡ true)) [
       | Less ↦ λ e. has_first name new (row ∷ rows) e
-      | Equal ↦ λ e. elim (has_first name new rows e) [ inl same ↦ inl same | inr later ↦ inr (has_behind name row rows (inr later)) ]
+      | Equal ↦ λ e. elim (has_first name new rows e) [ inl same ↦ inl same | inr later ↦ inr (has_later name row rows (inr later)) ]
       | Greater ↦ λ e. elim (has_first name row (put_queue new rows) e) [
-        | inl same ↦ inr (has_behind name row rows (inl same))
-        | inr later ↦ elim (has_put name new rows later) [ inl same ↦ inl same | inr there ↦ inr (has_behind name row rows (inr there)) ]
+        | inl same ↦ inr (has_later name row rows (inl same))
+        | inr later ↦ elim (has_put name new rows later) [ inl same ↦ inl same | inr there ↦ inr (has_later name row rows (inr there)) ]
       ]
     ]) is
 
@@ -122,32 +122,6 @@ queues_of_allowed (queue_created name) new_queue set place queue there = elim (h
   | inl same ↦ inr (place ∙ ap Some (sym same))
   | inr before ↦ inl before
 ]
-
--- the tables after a change of the configuration
-after_control : (c : Control) (new_queue : Option (List ℕ)) (moment : ℕ) (t : Tables) → HasPlace c new_queue
-    → record t { set = applied c t.set; duties = with_new_queue new_queue t.duties; entries = t.entries + 1; moment = moment }
-    ≡ after_batch (record { moment = moment; entries = batch.control c ∷ [] }) t
-after_control (rule_put bus name pattern enabled) new_queue moment t place =
-    ap (λ (m : Option (List ℕ)). record t {
-      set = applied (rule_put bus name pattern enabled) t.set;
-      duties = with_new_queue m t.duties;
-      entries = t.entries + 1;
-      moment = moment;
-    }) place
-after_control (targets_put bus rule targets) new_queue moment t place =
-    ap (λ (m : Option (List ℕ)). record t {
-      set = applied (targets_put bus rule targets) t.set;
-      duties = with_new_queue m t.duties;
-      entries = t.entries + 1;
-      moment = moment;
-    }) place
-after_control (queue_created name) new_queue moment t place =
-    ap (λ (m : Option (List ℕ)). record t {
-      set = applied (queue_created name) t.set;
-      duties = with_new_queue m t.duties;
-      entries = t.entries + 1;
-      moment = moment;
-    }) place
 
 -- the tables after events
 events_after : (events : List AcceptedEvent) (moment : ℕ) (t : Tables)

@@ -103,7 +103,7 @@ All_changed_named P f name change (row ∷ rows) o c all =
     (All-cons P row (changed f name change rows) first
     (All_changed_named P f name change rows o.1 (λ other is. c other (named_other f name row rows e ∙ is)) others)))
 
-pub sorted_changed : {A : Type 0} (f : A → List ℕ) (name : List ℕ) (change : A → A) (rows : List A)
+sorted_changed : {A : Type 0} (f : A → List ℕ) (name : List ℕ) (change : A → A) (rows : List A)
     → ((row : A) → f (change row) ≡ f row) → AreSorted f rows → AreSorted f (changed f name change rows)
 sorted_changed f name change [] c o = tt
 sorted_changed {A} f name change (row ∷ rows) c o =
