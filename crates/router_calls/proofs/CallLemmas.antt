@@ -1,9 +1,10 @@
--- Replies, duties and events as a request goes through them. Callers cite each `pub` lemma.
-use Rattle.std.proofs.Common.{◌≡◌, ℕ, ◌+◌, ◌≤◌, false, List, [], ◌∷◌, ◌++◌, length, map, Option, Some, sym, refl, ap, ◌∙◌, subst}
+-- Replies, duties and events of a request, for the answers of `decide` and of the calls below it: `controlled_so`, `answered`,
+-- `events_reported`, `never_empty`, `owed_are`, `owed_fits`, `AreTaken` with `taken_more` and `faulty_left`, `accepted_count`, `written`.
+use Rattle.std.proofs.Common.{◌≡◌, ℕ, ◌+◌, ◌-◌, ◌≤◌, take, false, List, [], ◌∷◌, ◌++◌, length, map, Option, Some, sym, refl, ap, ◌∙◌, subst}
 use Rattle.std.proofs.Common.{arith, codes, append_assoc, length-append}
 use Rattle.std.specs.Prelude.{Result, Ok, Err, IfOk, All}
 use Rattle.std.proofs.lemmas.Bool.{cond-false}
-use Rattle.std.proofs.lemmas.List.{append-nil, length-map, map-append}
+use Rattle.std.proofs.lemmas.List.{append-nil, length-map, length-take, map-append}
 use Rattle.std.proofs.lemmas.List.Elements.{All-map, All-weaker}
 use Rattle.json_text.specs.Tree.{Tree, number, list, items_of}
 use Rattle.json_text.specs.View.{trees_of}
@@ -22,7 +23,7 @@ use Rattle.router_core.specs.Batch as batch
 use Rattle.router_core.specs.Reply.{Reply, served, limit_reply}
 use Rattle.router_core.specs.Request.{Action}
 use Rattle.router_core.specs.Ready.{accepted_of, AreDeliverable, IsConsistent}
-use Rattle.router_core.specs.Matching.{AreMatched, IsSeen, duty_of}
+use Rattle.router_core.specs.Matching.{AreMatched, AreDuties, IsSeen, duty_of}
 use Rattle.router_core.specs.View.{reply_of}
 use Rattle.router_core.specs.declared.seen.SeenTarget.{SeenTarget}
 use Rattle.router_core.specs.declared.seen.SeenEntry.{SeenEntry}
@@ -55,7 +56,7 @@ reports_of : (events : List AcceptedEvent) → map (λ (e : AcceptedEvent). even
 reports_of [] = refl
 reports_of (e ∷ es) = ap (λ (ts : List Tree). event_report (accepted_of e) ∷ ts) (reports_of es)
 
--- when no event is left, what was is is what all tell
+-- when no event is left, the reports so far are those of all events
 pub events_reported : {E : Type 0} (r : Result CodeReply E) (items : List Json) (left all : List AcceptedEvent) → length left ≡ 0
     → trees_of items ++ map (λ (e : AcceptedEvent). event_report (accepted_of e)) left ≡ map (λ (e : AcceptedEvent). event_report (accepted_of e)) all
     → IfOk r (λ x. reply_of x ≡ served ((codes "FailedEntryCount", number (codes "0")) ∷ (codes "Entries", list (items_of (trees_of items))) ∷ []))
@@ -68,7 +69,15 @@ events_reported (Ok x) items [] all none is h =
 
 -- ---- the duties of one event
 
--- the entry that is taken is the one that was seen
+-- the result of matching one event has an entry
+pub never_empty : {set : RuleSet} {bus : List ℕ} {event : Tree} {seen : Seen} → IsSeen set bus event seen → (rest : List SeenEntry) (n : ℕ)
+    → seen.entries.items ≡ rest ++ [] → rest ≡ take (n - 1) seen.entries.items → n ≡ 0 → ⊥
+never_empty {seen = seen} h rest n cut is none =
+    let parts = ap length cut ∙ length-append rest [] in
+    let short = ap length is ∙ length-take (n - 1) seen.entries.items in
+    omega (arith, ap length h.alone, parts, short, none)
+
+-- the entry that is taken from the result is its only one
 taken_matched : (set : RuleSet) (bus : List ℕ) (event : Tree) (seen : Seen) (rest : List SeenEntry) (entry : SeenEntry) → IsSeen set bus event seen
     → seen.entries.items ≡ rest ++ entry ∷ [] → AreMatched bus (rules_of bus set) event entry.targets.items
 taken_matched set bus event seen [] entry h cut =
@@ -79,7 +88,19 @@ taken_matched set bus event seen (x ∷ rest) entry h cut =
     let both = ap length (sym h.alone ∙ cut) in
     absurd (omega (arith, both, length-append rest (entry ∷ [])))
 
--- the duties for the targets that were seen are few, and each goes to a queue that takes messages
+-- the duties for the targets of the result are those of the event
+pub owed_are : (set here : RuleSet) (bus : List ℕ) (event : Tree) (text same : List ℕ) (seen : Seen) (rest : List SeenEntry)
+    (entry : SeenEntry) (duties : List NewDuty)
+    → here ≡ set → same ≡ text → IsSeen here bus event seen → seen.entries.items ≡ rest ++ entry ∷ []
+    → duties ≡ map (duty_of same) entry.targets.items → AreDuties bus (rules_of bus set) event text duties
+owed_are set here bus event text same seen rest entry duties is_set is_text is_seen cut owed = (
+  entry.targets.items,
+  subst (λ (s : RuleSet). AreMatched bus (rules_of bus s) event entry.targets.items) is_set
+      (taken_matched here bus event seen rest entry is_seen cut),
+  owed ∙ ap (λ (t : List ℕ). map (duty_of t) entry.targets.items) is_text,
+)
+
+-- the duties for the targets of the result are at most 1,500, and each goes to an existing queue
 pub owed_fits : (t : Tables) (set : RuleSet) (bus : List ℕ) (event : Tree) (text : List ℕ) (seen : Seen) (rest : List SeenEntry)
     (entry : SeenEntry) (duties : List NewDuty)
     → set ≡ t.set → IsSound t.set → IsConsistent t → IsSeen set bus event seen → seen.entries.items ≡ rest ++ entry ∷ []
@@ -100,7 +121,7 @@ owed_fits t set bus event text seen rest entry duties same sound consistent is_s
 
 -- ---- the events of a request
 
--- what was accepted so far, and the entries that are left
+-- the events accepted so far, and the entries that are left
 pub record AreTaken (t : Tables) (reading : ℕ) (all left : List EventEntry) (events : List AcceptedEvent) (latest : ℕ) : Type 0 where
   pub done : List EventEntry
   pub parts : all ≡ done ++ left
@@ -160,7 +181,7 @@ faulty_left t reading all left rest events latest entry fault h cut has =
     any_middle P (map entry_of h.done) (entry_of entry) (map entry_of rest) (fault, has) in
     subst HasFaulty (sym (ap (map entry_of) (h.parts ∙ ap (λ (es : List EventEntry). h.done ++ es) cut) ∙ map-append entry_of h.done (entry ∷ rest))) here
 
--- one event an entry
+-- there is one event for each entry
 pub accepted_count : (set : RuleSet) (reading n : ℕ) (entries : List Entry) (events : List batch.Accepted)
     → AreAccepted set reading n entries events → length events ≡ length entries
 accepted_count set reading n [] events none = ap length none

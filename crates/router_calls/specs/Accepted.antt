@@ -11,8 +11,8 @@ use Rattle.rule_table.specs.RuleSet.{RuleSet, rules_of}
 use Rattle.router_core.specs.Batch as batch
 use Rattle.router_core.specs.Matching.{AreDuties}
 
--- What the members of an entry without a fault become: an event of the owner's with this number, its text, and its duties on this
--- rule set.
+-- the members of an entry without a fault become this accepted event: an event of the owner with this number, its text, the
+-- configuration version, and its duties on this rule set
 pub record IsAcceptedAs (set : RuleSet) (reading n : ℕ) (checked : Checked) (a : batch.Accepted) : Type 0 where
   pub event : Event
   pub is_made : IsMade checked n reading owner event
@@ -24,11 +24,11 @@ pub record IsAcceptedAs (set : RuleSet) (reading n : ℕ) (checked : Checked) (a
   pub text : a.text ≡ compact_text (event_tree event None)
   pub duties : AreDuties checked.bus (rules_of checked.bus set) (event_tree event None) a.text a.duties
 
--- the entry has no fault, and becomes this
+-- the entry has no fault, and becomes this accepted event
 abbrev pub IsAccepted : RuleSet → ℕ → ℕ → Entry → batch.Accepted → Type 0
 IsAccepted set reading n entry a = (checked : Checked) × IsCheckedOf entry checked × IsAcceptedAs set reading n checked a
 
--- each entry is accepted, in their order; the first gets this number, each later one the next
+-- the entries become these events, in their order; the first gets this number, each later one the next
 abbrev pub AreAccepted : RuleSet → ℕ → ℕ → List Entry → List batch.Accepted → Type 0
 AreAccepted set reading number [] events = events ≡ []
 AreAccepted set reading number (entry ∷ entries) events =
@@ -39,6 +39,6 @@ AreAccepted set reading number (entry ∷ entries) events =
 abbrev pub HasFaulty : List Entry → Type 0
 HasFaulty entries = Any (λ entry. (fault : EntryFault) × HasFault entry fault) entries
 
--- how many bytes the entries have together
+-- the number of bytes that the entries have together
 abbrev pub total_size : List Entry → ℕ
 total_size entries = sum_by size_of entries

@@ -13,7 +13,7 @@ use router_core::{Change, Ready, Reply, Tables, limit_reply, not_built};
 use rule_table::{Control, ControlFault};
 use std::alloc::Global;
 
-/// A change of the configuration, where it is accepted and numbered.
+/// The change of the configuration and its reply, if the change is allowed and the number limit is not reached; else a refusal.
 pub(crate) fn configure(
     alloc: Global,
     tables: &Tables,

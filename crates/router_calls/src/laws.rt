@@ -4,7 +4,7 @@ ghost use Rattle.router_core.specs.Request.{Request};
 ghost use Rattle.router_core.specs.Tables.{Tables};
 ghost use Rattle.router_calls.specs.Answer.{Answer, IsAnswer};
 
-/// A request has one answer at most.
+/// A request has at most one answer.
 pub fn one_answer()
     ensures { (t : Tables) (r : Request) (a b : Answer) → IsAnswer t r a → IsAnswer t r b → a ≡ b }
 {}

@@ -1,4 +1,4 @@
-//! The router machine: a request is answered by a change of the tables and a reply.
+//! The router machine: decides what each request changes and what its reply is.
 #![tactic(auto)]
 
 mod configure;

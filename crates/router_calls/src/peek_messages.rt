@@ -6,13 +6,13 @@ ghost use Rattle.router_core.specs.View.{reply_of};
 ghost use Rattle.router_calls.specs.Answer.{peeked, message_report, messages_reply};
 ghost use Rattle.router_calls.specs.Decided.{answer_of};
 
-use crate::reply::{number_json, push_member};
+use crate::reply::number_json;
 use delivery_duties::QueueMessage;
-use json_text::{Items, Json, Members, NoMemory};
+use json_text::{Items, Json, Members, NoMemory, push_member};
 use router_core::{Ready, Reply, Tables, not_built};
 use std::alloc::Global;
 
-/// How many messages are peeked at.
+/// The greatest number of messages that PeekMessages shows.
 const PEEKED: u32 = 10;
 
 pub(crate) fn peek_messages(
@@ -30,7 +30,7 @@ pub(crate) fn peek_messages(
     Ok((None, messages_reply(alloc, messages)?))
 }
 
-/// The messages, oldest first.
+/// The reply with the messages, oldest first.
 fn messages_reply(alloc: Global, messages: Vec<QueueMessage>) -> Result<Reply, NoMemory>
     ensures { IfOk result (λ r. reply_of r ≡ messages_reply messages.items) }
 {

@@ -1,19 +1,24 @@
 //! PutEvents.
-ghost use Rattle.std.specs.Prelude.{◌≡◌, ◌≤◌, ◌+◌, ◌-◌, ◌^◌, min, length, map, IfOk, IfSome, IfNone, All};
+ghost use Rattle.std.specs.Prelude.{◌≡◌, ◌≤◌, ◌+◌, ◌-◌, ◌^◌, min, length, map, None, IfOk, IfSome, IfNone, All};
 ghost use Rattle.json_text.specs.Moment.{IsMoment};
 ghost use Rattle.json_text.specs.View.{tree_of};
+ghost use Rattle.json_text.specs.Compact.{compact_text};
 ghost use Rattle.event_shape.specs.Entry.{entry_of};
+ghost use Rattle.event_shape.specs.Event.{event_tree};
+ghost use Rattle.rule_table.specs.RuleSet.{rules_of};
 ghost use Rattle.delivery_duties.specs.Duties.{HasEndpoint};
+ghost use Rattle.router_core.specs.Matching.{AreDuties};
 ghost use Rattle.router_core.specs.Ready.{accepted_of, AreDeliverable, IsReadyAt};
 ghost use Rattle.router_core.specs.View.{reply_of};
 ghost use Rattle.router_calls.specs.Accepted.{total_size, IsAcceptedAs, AreAccepted, HasFaulty};
 ghost use Rattle.router_calls.specs.Answer.{IsPublished, event_report, events_reply};
 ghost use Rattle.router_calls.specs.Decided.{answer_of};
 
-use crate::reply::{list_reply, push_member};
+use crate::reply::list_reply;
 use crate::requests::read_tables;
+use delivery_duties::NewDuties;
 use event_shape::{CheckFault, Checked, Event, EventEntry, OWNER, check, event_id, size};
-use json_text::{Items, Json, Members, NoMemory, Text};
+use json_text::{Items, Json, Members, NoMemory, Text, push_member};
 use router_core::{
     AcceptedEvent, Change, Ready, Reply, Seen, Tables, duties_of, limit_reply, not_built,
     see_plain_event,
@@ -21,10 +26,10 @@ use router_core::{
 use std::alloc::Global;
 use std::collections::VecDeque;
 
-/// How many bytes the entries of one request may have together.
+/// The greatest number of bytes that the entries of one request have together.
 const SIZE_LIMIT: u64 = 262_144;
 
-/// Accepts all entries, or none.
+/// Accepts all entries or none.
 pub(crate) fn put_events(
     alloc: Global,
     tables: &Tables,
@@ -53,7 +58,7 @@ pub(crate) fn put_events(
     Ok((Some(Ready { moment, change }), reply))
 }
 
-/// How many bytes the entries have together. A sum past the type's end stands at that end.
+/// The number of bytes that the entries have together; `u64::MAX` if the sum is greater.
 fn total_len(entries: &[EventEntry]) -> u64
     ensures { result ≡ min (total_size (map entry_of entries.now)) (2 ^ 64 - 1) }
 {
@@ -64,7 +69,7 @@ fn total_len(entries: &[EventEntry]) -> u64
     total
 }
 
-/// The events of the entries, numbered on; none where an entry has a fault.
+/// The events of the entries, numbered from the next number on; none if an entry has a fault.
 fn accept_all(
     alloc: Global,
     tables: &Tables,
@@ -73,7 +78,8 @@ fn accept_all(
 ) -> Result<Option<VecDeque<AcceptedEvent>>, NoMemory>
     requires reading { IsMoment reading }
     requires few { length entries.items ≤ 10 }
-    ensures accepted { IfOk result (λ found. IfSome found (λ events. AreAccepted tables.now.set reading (tables.now.events + 1) (map entry_of entries.items) (map accepted_of events.items))) }
+    ensures accepted { IfOk result (λ found. IfSome found (λ events.
+        AreAccepted tables.now.set reading (tables.now.events + 1) (map entry_of entries.items) (map accepted_of events.items))) }
     ensures deliverable { IfOk result (λ found. IfSome found (λ events. AreDeliverable tables.now.duties.queues events.items)) }
     ensures faulty { IfOk result (λ found. IfNone found (HasFaulty (map entry_of entries.items))) }
 {
@@ -107,16 +113,9 @@ fn accept(
     ensures few { IfOk result (λ e. length e.duties ≤ 1500) }
     ensures there { IfOk result (λ e. All (λ d. HasEndpoint d.endpoint tables.now.duties.queues) e.duties) }
 {
-    read_tables(tables);
     let bus = Text::from_str(alloc, checked.bus())?;
     let event = Event::make(alloc, checked, number, reading, OWNER)?;
-    let seen = see_plain_event(alloc, tables.set(), bus.as_str(), &event, None)?;
-    let text = event.text(alloc, None)?;
-    let Seen { k, mut entries } = seen;
-    let Some(entry) = entries.pop() else {
-        unreachable!();
-    };
-    let duties = duties_of(alloc, entry.targets, text.as_str())?;
+    let MatchedEvent { k, text, duties } = matched(alloc, tables, bus.as_str(), &event)?;
     Ok(AcceptedEvent {
         number,
         bus,
@@ -127,7 +126,39 @@ fn accept(
     })
 }
 
-/// The ids of the events.
+/// An event's text and duties, and the configuration version at which it was matched.
+#[derive(Drop)]
+struct MatchedEvent {
+    k: u64,
+    text: Text,
+    duties: NewDuties,
+}
+
+/// Matches the event against the rules of the bus.
+fn matched(
+    alloc: Global,
+    tables: &Tables,
+    bus: &str,
+    event: &Event,
+) -> Result<MatchedEvent, NoMemory>
+    ensures k { IfOk result (λ m. m.k ≡ tables.now.set.count) }
+    ensures text { IfOk result (λ m. m.text ≡ compact_text (event_tree event.now None)) }
+    ensures duties { IfOk result (λ m. AreDuties bus.now (rules_of bus.now tables.now.set) (event_tree event.now None) m.text m.duties) }
+    ensures few { IfOk result (λ m. length m.duties ≤ 1500) }
+    ensures there { IfOk result (λ m. All (λ d. HasEndpoint d.endpoint tables.now.duties.queues) m.duties) }
+{
+    read_tables(tables);
+    let seen = see_plain_event(alloc, tables.set(), bus, event, None)?;
+    let Seen { k, mut entries } = seen;
+    let Some(entry) = entries.pop() else {
+        unreachable!();
+    };
+    let text = event.text(alloc, None)?;
+    let duties = duties_of(alloc, entry.targets, text.as_str())?;
+    Ok(MatchedEvent { k, text, duties })
+}
+
+/// The reply with the ids of the events.
 fn events_reply(alloc: Global, events: &VecDeque<AcceptedEvent>) -> Result<Reply, NoMemory>
     ensures { IfOk result (λ r. reply_of r ≡ events_reply (map accepted_of events.now.items)) }
 {

@@ -1,4 +1,4 @@
-//! The replies of requests that are served.
+//! Replies to requests that are carried out.
 ghost use Rattle.std.specs.Prelude.{◌≡◌, ◌++◌, ◌∷◌, [], map, IfOk, OnOk, codes, decimal};
 ghost use Rattle.json_text.specs.Tree.{Tree, text, number, list, items_of, members_of, object};
 ghost use Rattle.json_text.specs.View.{tree_of, pairs_of, trees_of};
@@ -6,25 +6,11 @@ ghost use Rattle.router_core.specs.Reply as replies;
 ghost use Rattle.router_core.specs.View.{reply_of};
 ghost use Rattle.router_calls.specs.Answer.{none_failed, events_reply, messages_reply};
 
-use json_text::{Items, Json, Members, NoMemory, Text};
+use json_text::{Items, Json, Members, NoMemory, Text, push_member};
 use router_core::Reply;
 use std::alloc::Global;
 
-/// Members of a reply's object, in order.
-pub(crate) fn push_member(
-    alloc: Global,
-    members: &mut Members,
-    key: &str,
-    value: Json,
-) -> Result<(), NoMemory>
-    ensures { OnOk result (pairs_of members.new.items ≡ pairs_of members.old.items ++ (key.now, tree_of value) ∷ []) }
-{
-    let key = Text::from_str(alloc, key)?;
-    members.push((key, value))?;
-    Ok(())
-}
-
-/// A reply whose one member is a text.
+/// A reply with one member, which is a string.
 pub(crate) fn text_reply(alloc: Global, key: &str, value: Text) -> Result<Reply, NoMemory>
     ensures { IfOk result (λ r. reply_of r ≡ replies.served ((key.now, text value) ∷ [])) }
 {
@@ -36,16 +22,19 @@ pub(crate) fn text_reply(alloc: Global, key: &str, value: Text) -> Result<Reply,
     })
 }
 
-/// A number as JSON.
+/// The number as JSON.
 pub(crate) fn number_json(alloc: Global, value: u64) -> Result<Json, NoMemory>
     ensures { IfOk result (λ j. tree_of j ≡ number (decimal value)) }
 {
     Ok(Json::Num(Text::from(format!(in alloc; "{value}")?)))
 }
 
-/// No entry failed, and a list beside it.
+/// A reply with `FailedEntryCount` 0 and a list.
 pub(crate) fn list_reply(alloc: Global, key: &str, items: Items) -> Result<Reply, NoMemory>
-    ensures { IfOk result (λ r. reply_of r ≡ replies.served ((codes "FailedEntryCount", number (codes "0")) ∷ (key.now, list (items_of (trees_of items.items))) ∷ [])) }
+    ensures { IfOk result (λ r. reply_of r ≡ replies.served (
+        (codes "FailedEntryCount", number (codes "0"))
+        ∷ (key.now, list (items_of (trees_of items.items)))
+        ∷ [])) }
 {
     let mut members: Members = Vec::with_capacity(alloc, 2)?;
     let none = Json::Num(Text::from_str(alloc, "0")?);

@@ -1,4 +1,4 @@
-//! Requests to changes and replies.
+//! What each request changes, and its reply.
 ghost use Rattle.std.specs.Prelude.{◌≡◌, ◌≢◌, IfOk, IfSome};
 ghost use Rattle.json_text.specs.Moment.{IsMoment};
 ghost use Rattle.rule_table.specs.RuleSet.{IsSound};
@@ -17,7 +17,8 @@ use json_text::NoMemory;
 use router_core::{Action, Ready, Reply, Request, Tables};
 use std::alloc::Global;
 
-/// What a request changes at the moment of its turn, if anything, and its reply. DeliverDue is answered by its steps.
+/// Decides a request at the moment of its turn (seconds since 1970-01-01T00:00:00Z): the change that it makes, if any, and its
+/// reply. The tables are only read. DeliverDue is not decided here: each of its steps is a turn of its own.
 pub fn decide(
     alloc: Global,
     tables: &Tables,
@@ -43,7 +44,8 @@ pub fn decide(
     }
 }
 
-/// A contract knows what holds of all tables only where they are read.
+/// Reads the tables for their contracts alone: what holds of every `Tables` and `RuleSet` (their invariants) is known in a
+/// proof only after a call that promises it.
 pub(crate) fn read_tables(tables: &Tables)
     ensures sound { IsSound tables.now.set }
     ensures consistent { IsConsistent tables.now }

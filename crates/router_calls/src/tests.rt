@@ -20,7 +20,7 @@ enum Step {
     Rule(&'static str, &'static str),
     /// A rule, a target's id and its queue.
     Put(&'static str, &'static str, &'static str),
-    /// The sources of entries that are else the same.
+    /// The sources of entries that differ in nothing else.
     Events(&'static [&'static str]),
     Peek(&'static str),
 }
@@ -53,7 +53,7 @@ const BODY: &str =
 const PEEKED: &str =
     "200 {\"Messages\":[{\"Number\":1,\"Body\":\"{\\\"version\\\":\\\"0\\\",\\\"id\\\":\\\"00000000-0000-8000-8000-000000000001\\\",\\\"detail-type\\\":\\\"Order\\\",\\\"source\\\":\\\"shop.orders\\\",\\\"account\\\":\\\"111122223333\\\",\\\"time\\\":\\\"2023-11-14T22:13:20Z\\\",\\\"region\\\":\\\"us-east-1\\\",\\\"resources\\\":[],\\\"detail\\\":{\\\"total\\\":12.50}}\",\"Attributes\":{}}]}";
 
-/// Requests in turn, the reply to each with its status, and how many events and pending duties there are then. Worked by
+/// Requests in turn, the status and body of each reply, and the numbers of events and pending duties after it. Worked out by
 /// hand.
 const STEPS: [(Step, &str, u64, u64); 13] = [
     (
@@ -159,7 +159,7 @@ fn action(alloc: Global, step: Step) -> Result<Action, Fail>
     }
 }
 
-/// One turn: the request is decided, and what it changes is applied. The reply's status and text.
+/// One turn: decides the request and applies its change. Returns the status and text of the reply.
 fn turn(alloc: Global, tables: &mut Tables, step: Step) -> Result<String, Fail> {
     let request = Request {
         action: action(alloc, step)?,
@@ -187,7 +187,7 @@ fn deliver_next(tables: &mut Tables, moment: u64) -> Option<Outcome> {
     Some(tables.record(claim, moment))
 }
 
-/// Whether the step is replied to so, and leaves so many events and pending duties.
+/// Whether the step gets this reply and leaves these numbers of events and pending duties.
 fn is_answered(
     alloc: Global,
     tables: &mut Tables,
@@ -201,7 +201,7 @@ fn is_answered(
     Ok(got.as_str() == reply && tables.events() == events && counts.pending == pending)
 }
 
-/// The place of the first step that isn't answered so, or how many steps there are.
+/// The index of the first step that differs from its row; the number of steps if none does.
 fn answered(alloc: Global, tables: &mut Tables) -> Result<usize, Fail> {
     for (place, (step, reply, events, pending)) in STEPS.into_iter().enumerate() {
         if !is_answered(alloc, tables, step, reply, events, pending)? {

@@ -9,4 +9,5 @@ abbrev pub invariant-loop-event : goal.invariant-loop-event
 invariant-loop-event l =
     (goal.iterator-loop-event).can_next l.event-iterator ×
     (goal.iterator-loop-event).is_finite l.event-iterator ×
-    (trees_of l.items.items ++ map (λ e. event_report (accepted_of e)) (l.event-iterator.head.now ++ l.event-iterator.wrapped.now) ≡ map (λ e. event_report (accepted_of e)) l.events.items)
+    (trees_of l.items.items ++ map (λ e. event_report (accepted_of e)) (l.event-iterator.head.now ++ l.event-iterator.wrapped.now)
+    ≡ map (λ e. event_report (accepted_of e)) l.events.items)
