@@ -29,7 +29,9 @@ sound_with_queue {s} queue queues h e =
     let F : List Queue → Type 0 = λ ms. IsSound (record s { queues = ms }) in
     let larger : F (s.queues ++ empty_queue queue ∷ []) = record {
       ordered = h.ordered;
-      duties_within = All-weaker P Q (λ r k. (k.0, k.1, any_left (λ m. r.duty.endpoint ≡ queue_arn m.name) s.queues (empty_queue queue ∷ []) k.2)) s.pending h.duties_within;
+      duties_within = All-weaker P Q
+          (λ r (number, due, there). (number, due, any_left (λ m. r.duty.endpoint ≡ queue_arn m.name) s.queues (empty_queue queue ∷ []) there))
+          s.pending h.duties_within;
       queues_within = All-push (IsQueueWithin s.delivered) s.queues (empty_queue queue) h.queues_within (omega arith, omega arith);
       accounted = h.accounted;
       one_state = h.one_state;
@@ -100,7 +102,8 @@ sound_begun {s} duty moment pending h later room there e =
     let Q : DutyRow → Type 0 = IsDutyWithin (s.created + 1) moment s.queues in
     let F : List DutyRow → Type 0 = λ rows. IsSound (record s { created = s.created + 1; pending = rows; latest = moment }) in
     let made : F (s.pending ++ row ∷ []) = record {
-      ordered = ordered_push s.pending row h.ordered (All-weaker P (λ o. ComesBefore o row) (λ r k. (omega (arith, k.0), omega (arith, k.1))) s.pending h.duties_within);
+      ordered = ordered_push s.pending row h.ordered
+          (All-weaker P (λ o. ComesBefore o row) (λ r k. (omega (arith, k.0), omega (arith, k.1))) s.pending h.duties_within);
       duties_within = All-push Q s.pending row (All-weaker P Q (λ r k. (omega (arith, k.0), omega (arith, k.1), k.2)) s.pending h.duties_within)
           (omega arith, omega arith, there);
       queues_within = h.queues_within;

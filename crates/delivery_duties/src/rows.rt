@@ -1,5 +1,6 @@
 //! Pending duties, in the order of their numbers.
-ghost use Rattle.std.specs.Prelude.{◌≡◌, ◌≢◌, ◌+◌, ◌^◌, ◌<◌, ◌≤◌, ◌==◌, ◌⊎◌, not, true, false, [], ◌∷◌, ◌++◌, List, Some, All, Any, IfSome, IfNone, MatchOption, length, map, filter, find, position};
+ghost use Rattle.std.specs.Prelude.{◌≡◌, ◌≢◌, ◌+◌, ◌^◌, ◌<◌, ◌≤◌, ◌==◌, ◌⊎◌, not, true, false, [], ◌∷◌, ◌++◌, List, Some, All, Any};
+ghost use Rattle.std.specs.Prelude.{IfSome, IfNone, MatchOption, length, map, filter, find, position};
 ghost use Rattle.delivery_duties.specs.declared.duty.DutyRow.{DutyRow};
 ghost use Rattle.delivery_duties.specs.Duties.{begun, marked};
 ghost use Rattle.delivery_duties.specs.declared.fate.Fate.TheVariants.{Dropped};
