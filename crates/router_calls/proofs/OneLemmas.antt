@@ -31,7 +31,8 @@ use Rattle.router_calls.specs.Answer.{Answer, IsAnswer, IsAnswerAt, IsControlled
 
 -- ---- the targets that match
 
-matched_once : (bus : List ℕ) (rules : List Rule) (event : Tree) (xs ys : List SeenTarget) → AreMatched bus rules event xs → AreMatched bus rules event ys → xs ≡ ys
+matched_once : (bus : List ℕ) (rules : List Rule) (event : Tree) (xs ys : List SeenTarget) → AreMatched bus rules event xs
+    → AreMatched bus rules event ys → xs ≡ ys
 matched_once bus [] event xs ys p q = p ∙ sym q
 matched_once bus (rule ∷ rules) event xs ys (rest, are, inl (m, e)) (other, so, inl (n, f)) =
     e ∙ ap (λ (ts : List SeenTarget). map (seen_target bus rule) rule.targets ++ ts) (matched_once bus rules event rest other are so) ∙ sym f
@@ -39,7 +40,8 @@ matched_once bus (rule ∷ rules) event xs ys (rest, are, inl (m, e)) (other, so
 matched_once bus (rule ∷ rules) event xs ys (rest, are, inr (m, e)) (other, so, inl (n, f)) = absurd (m n)
 matched_once bus (rule ∷ rules) event xs ys (rest, are, inr (m, e)) (other, so, inr (n, f)) = e ∙ matched_once bus rules event rest other are so ∙ sym f
 
-duties_once : (bus : List ℕ) (rules : List Rule) (event : Tree) (shown : List ℕ) (ds es : List NewDuty) → AreDuties bus rules event shown ds → AreDuties bus rules event shown es → ds ≡ es
+duties_once : (bus : List ℕ) (rules : List Rule) (event : Tree) (shown : List ℕ) (ds es : List NewDuty) → AreDuties bus rules event shown ds
+    → AreDuties bus rules event shown es → ds ≡ es
 duties_once bus rules event shown ds es (xs, are, d) (ys, so, e) = d ∙ ap (map (duty_of shown)) (matched_once bus rules event xs ys are so) ∙ sym e
 
 -- ---- the members of an entry without a fault
@@ -110,7 +112,8 @@ same_accepted a b h0 h1 h2 h3 h4 h5 =
     rw (h0, h1, h2, h3, h4, h5) refl in
     whole
 
-accepted_as_once : (set : RuleSet) (reading n : ℕ) (c : Checked) (a b : batch.Accepted) → IsAcceptedAs set reading n c a → IsAcceptedAs set reading n c b → a ≡ b
+accepted_as_once : (set : RuleSet) (reading n : ℕ) (c : Checked) (a b : batch.Accepted) → IsAcceptedAs set reading n c a
+    → IsAcceptedAs set reading n c b → a ≡ b
 accepted_as_once set reading n c a b p q =
     let event : q.event ≡ p.event = made_once c n reading _ q.event p.event q.is_made p.is_made in
     let texts : b.text ≡ a.text = q.text ∙ ap (λ (e : Event). compact_text (event_tree e None)) event ∙ sym p.text in
@@ -121,18 +124,21 @@ accepted_as_once set reading n c a b p q =
     (time_once p.event.time a.time b.time (iso_is_time p.event.time a.time p.time) (iso_is_time p.event.time b.time shown)) (sym texts)
     (duties_once c.bus (rules_of c.bus set) (event_tree p.event None) a.text a.duties b.duties p.duties duties)
 
-accepted_once : (set : RuleSet) (reading n : ℕ) (entry : Entry) (a b : batch.Accepted) → IsAccepted set reading n entry a → IsAccepted set reading n entry b → a ≡ b
+accepted_once : (set : RuleSet) (reading n : ℕ) (entry : Entry) (a b : batch.Accepted) → IsAccepted set reading n entry a
+    → IsAccepted set reading n entry b → a ≡ b
 accepted_once set reading n entry a b (c, is, p) (d, so, q) =
     accepted_as_once set reading n c a b p (subst (λ (x : Checked). IsAcceptedAs set reading n x b) (checked_once entry d c so is) q)
 
-events_once : (set : RuleSet) (reading n : ℕ) (entries : List Entry) (xs ys : List batch.Accepted) → AreAccepted set reading n entries xs → AreAccepted set reading n entries ys → xs ≡ ys
+events_once : (set : RuleSet) (reading n : ℕ) (entries : List Entry) (xs ys : List batch.Accepted) → AreAccepted set reading n entries xs
+    → AreAccepted set reading n entries ys → xs ≡ ys
 events_once set reading n [] xs ys p q = p ∙ sym q
 events_once set reading n (entry ∷ entries) xs ys (a, rest, e, one, more) (b, other, f, also, others) =
     e ∙ ap (λ (x : batch.Accepted). x ∷ rest) (accepted_once set reading n entry a b one also)
     ∙ ap (λ (es : List batch.Accepted). b ∷ es) (events_once set reading (n + 1) entries rest other more others) ∙ sym f
 
 -- entries that are all accepted have no fault
-none_faulty : (set : RuleSet) (reading n : ℕ) (entries : List Entry) (events : List batch.Accepted) → AreAccepted set reading n entries events → ¬ HasFaulty entries
+none_faulty : (set : RuleSet) (reading n : ℕ) (entries : List Entry) (events : List batch.Accepted)
+    → AreAccepted set reading n entries events → ¬ HasFaulty entries
 none_faulty set reading n [] events p h = absurd (omega (arith, h.2))
 none_faulty set reading n (entry ∷ entries) events (a, others, e, (c, is, p), more) h =
     elim (any_cases (λ (x : Entry). (fault : EntryFault) × HasFault x fault) entry entries h) [
@@ -142,25 +148,30 @@ none_faulty set reading n (entry ∷ entries) events (a, others, e, (c, is, p), 
 
 -- ---- what a request is answered
 
-controlled_once : (t : Tables) (moment : ℕ) (control : Control) (reply : Reply) (a b : Answer) → IsControlled t moment control reply a → IsControlled t moment control reply b → a ≡ b
+controlled_once : (t : Tables) (moment : ℕ) (control : Control) (reply : Reply) (a b : Answer) → IsControlled t moment control reply a
+    → IsControlled t moment control reply b → a ≡ b
 controlled_once t moment control reply a b (inl (is, e)) (inl (so, f)) = e ∙ sym f
 controlled_once t moment control reply a b (inl (is, e)) (inr (refused, f)) = absurd (refused is)
 controlled_once t moment control reply a b (inr (refused, e)) (inl (so, f)) = absurd (refused so)
 controlled_once t moment control reply a b (inr (refused, e)) (inr (also, f)) = e ∙ sym f
 
-not_both : (set : RuleSet) (reading n : ℕ) (entries : List Entry) (events : List batch.Accepted) → total_size entries ≤ 262144 → AreAccepted set reading n entries events
+not_both : (set : RuleSet) (reading n : ℕ) (entries : List Entry) (events : List batch.Accepted) → total_size entries ≤ 262144
+    → AreAccepted set reading n entries events
     → (262144 < total_size entries) ⊎ HasFaulty entries → ⊥
 not_both set reading n entries events small are (inl large) = omega (arith, small, large)
 not_both set reading n entries events small are (inr faulty) = none_faulty set reading n entries events are faulty
 
-published_once : (t : Tables) (moment reading : ℕ) (entries : List Entry) (a b : Answer) → IsPublished t moment reading entries a → IsPublished t moment reading entries b → a ≡ b
+published_once : (t : Tables) (moment reading : ℕ) (entries : List Entry) (a b : Answer) → IsPublished t moment reading entries a
+    → IsPublished t moment reading entries b → a ≡ b
 published_once t moment reading entries a b (inl (xs, small, are, e)) (inl (ys, low, so, f)) =
-    e ∙ ap (λ (es : List batch.Accepted). writes t moment (map batch.accepted es) (events_reply es)) (events_once t.set reading (t.events + 1) entries xs ys are so) ∙ sym f
+    e ∙ ap (λ (es : List batch.Accepted). writes t moment (map batch.accepted es) (events_reply es))
+    (events_once t.set reading (t.events + 1) entries xs ys are so) ∙ sym f
 published_once t moment reading entries a b (inl (xs, small, are, e)) (inr (bad, f)) = absurd (not_both t.set reading (t.events + 1) entries xs small are bad)
 published_once t moment reading entries a b (inr (bad, e)) (inl (ys, low, so, f)) = absurd (not_both t.set reading (t.events + 1) entries ys low so bad)
 published_once t moment reading entries a b (inr (bad, e)) (inr (worse, f)) = e ∙ sym f
 
-answer_once : (t : Tables) (moment reading : ℕ) (action : Action) (a b : Answer) → IsAnswerAt t moment reading action a → IsAnswerAt t moment reading action b → a ≡ b
+answer_once : (t : Tables) (moment reading : ℕ) (action : Action) (a b : Answer) → IsAnswerAt t moment reading action a
+    → IsAnswerAt t moment reading action b → a ≡ b
 answer_once t moment reading (create_queue name) a b p q = controlled_once t moment _ _ a b p q
 answer_once t moment reading (put_rule name pattern) a b p q = controlled_once t moment _ _ a b p q
 answer_once t moment reading (put_targets rule targets) a b p q = controlled_once t moment _ _ a b p q
