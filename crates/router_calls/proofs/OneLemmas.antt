@@ -1,21 +1,14 @@
 -- A request has one answer at most. Callers cite `one_answer`; members of an entry without a fault, and what it becomes, are one on the way.
-use Rattle.std.proofs.Common.{◌≡◌, ℕ, ◌+◌, ◌<◌, ◌≤◌, ◌^◌, ◌⊎◌, inl, inr, List, [], ◌∷◌, ◌++◌, map, Option, Some, None, sym, refl, ap, ◌∙◌, subst, arith, decimal, unwrap_or}
-use Rattle.std.proofs.lemmas.Fmt.{decimal_injective}
-use Rattle.std.proofs.lemmas.List.{append-nil}
-use Rattle.json_text.specs.Number.{IsFraction}
-use Rattle.json_text.specs.Tree.{Tree, null, truth, number, text, list, object}
+use Rattle.std.proofs.Common.{◌≡◌, ℕ, ◌+◌, ◌<◌, ◌≤◌, ◌⊎◌, inl, inr, List, [], ◌∷◌, ◌++◌, map, None, sym, refl, ap, ◌∙◌, subst, arith}
+use Rattle.json_text.specs.Tree.{Tree}
 use Rattle.json_text.specs.Compact.{compact_text}
 use Rattle.event_time.specs.Time.{IsIso}
-use Rattle.event_time.proofs.ClockLemmas.{time_once, iso_once, iso_is_time}
-use Rattle.event_shape.specs.Names.{IsBusGiven}
-use Rattle.event_shape.specs.Time.{IsTimeNumber, IsTime}
+use Rattle.event_time.proofs.ClockLemmas.{time_once, iso_is_time}
 use Rattle.event_shape.specs.Entry.{Entry}
 use Rattle.event_shape.specs.Fault.{HasFault}
 use Rattle.event_shape.specs.declared.entry.EntryFault.{EntryFault}
-use Rattle.event_shape.specs.Event.{Event, Checked, IsTimeOf, IsBusOf, IsCheckedOf, IsMade, event_tree}
-use Rattle.event_shape.proofs.NameLemmas.{bus_by_arn}
-use Rattle.event_shape.proofs.NumberLemmas.{whole_with_places, minus_number}
-use Rattle.event_shape.proofs.OnceLemmas.{same_event}
+use Rattle.event_shape.specs.Event.{Event, Checked, event_tree}
+use Rattle.event_shape.proofs.CheckedOnce.{checked_once, made_once}
 use Rattle.rule_table.specs.Control.{Control}
 use Rattle.rule_table.specs.RuleSet.{Rule, RuleSet, rules_of}
 use Rattle.delivery_duties.specs.declared.duty.NewDuty.{NewDuty}
@@ -44,64 +37,7 @@ duties_once : (bus : List ℕ) (rules : List Rule) (event : Tree) (shown : List 
     → AreDuties bus rules event shown es → ds ≡ es
 duties_once bus rules event shown ds es (xs, are, d) (ys, so, e) = d ∙ ap (map (duty_of shown)) (matched_once bus rules event xs ys are so) ∙ sym e
 
--- ---- the members of an entry without a fault
-
-whole_once : (spelling f g : List ℕ) (n m : ℕ) → n < 2 ^ 64 → m < 2 ^ 64 → IsFraction f → IsFraction g → spelling ≡ decimal n ++ f → spelling ≡ decimal m ++ g → decimal n ≡ decimal m
-whole_once spelling [] [] n m a b is so e h = sym (append-nil (decimal n)) ∙ sym e ∙ h ∙ append-nil (decimal m)
-whole_once spelling f (y ∷ ys) n m a b is so e h =
-    sym (whole_with_places spelling (decimal m) ys n (h ∙ ap (λ (d : ℕ). decimal m ++ d ∷ ys) so.0) a (f, is, e)).0
-whole_once spelling (x ∷ xs) [] n m a b is so e h =
-    (whole_with_places spelling (decimal n) xs m (e ∙ ap (λ (d : ℕ). decimal n ++ d ∷ xs) is.0) b ([], so, h)).0
-
-number_once : (spelling : List ℕ) (n m : ℕ) → n < 2 ^ 64 → m < 2 ^ 64 → IsTimeNumber spelling n → IsTimeNumber spelling m → n ≡ m
-number_once spelling n m a b (f, is, inl e) (g, so, inl h) = decimal_injective n m a b (whole_once spelling f g n m a b is so e h)
-number_once spelling n m a b (f, is, inr (zeroth, minus)) q = zeroth ∙ sym ((minus_number spelling (decimal 0 ++ f) m minus b).0 q).1
-number_once spelling n m a b p (g, so, inr (zeroth, minus)) = ((minus_number spelling (decimal 0 ++ g) n minus a).0 p).1 ∙ sym zeroth
-
-given_once : (tree : Tree) (n m : ℕ) → IsTime tree n → IsTime tree m → n ≡ m
-given_once null n m p q = absurd p
-given_once (truth b) n m p q = absurd p
-given_once (number spelling) n m p q = number_once spelling n m (omega (arith, p.0)) (omega (arith, q.0)) p.1 q.1
-given_once (text t) n m p q = time_once t n m p.1 q.1
-given_once (list inside) n m p q = absurd p
-given_once (object inside) n m p q = absurd p
-
-time_of_once : (given : Option Tree) (a b : Option ℕ) → IsTimeOf given a → IsTimeOf given b → a ≡ b
-time_of_once None a b p q = p ∙ sym q
-time_of_once (Some tree) a b (n, e, p) (m, f, q) = e ∙ ap Some (given_once tree n m p q) ∙ sym f
-
-bus_once : (t a b : List ℕ) → IsBusGiven t a → IsBusGiven t b → a ≡ b
-bus_once t a b (named, inl e) (also, inl f) = sym e ∙ f
-bus_once t a b p (also, inr f) = bus_by_arn t b f a p
-bus_once t a b (named, inr e) q = sym (bus_by_arn t a e b q)
-
-bus_of_once : (given : Option (List ℕ)) (a b : List ℕ) → IsBusOf given a → IsBusOf given b → a ≡ b
-bus_of_once None a b p q = p ∙ sym q
-bus_of_once (Some t) a b p q = bus_once t a b p q
-
-some_once : {A : Type 0} {o : Option A} {x y : A} → o ≡ Some x → o ≡ Some y → x ≡ y
-some_once {x = x} {y = y} e f = let same : Some x ≡ Some y = sym e ∙ f in cc
-
-abbrev checked_from : List ℕ → List ℕ → List (List ℕ) → Option ℕ → Tree → List ℕ → Checked
-checked_from s dt r t d b = record { source = s; detail_type = dt; resources = r; time = t; detail = d; bus = b }
-
-same_checked : (c d : Checked) → c.source ≡ d.source → c.detail_type ≡ d.detail_type → c.resources ≡ d.resources → c.time ≡ d.time → c.detail ≡ d.detail → c.bus ≡ d.bus → c ≡ d
-same_checked c d h0 h1 h2 h3 h4 h5 =
-    let whole : checked_from c.source c.detail_type c.resources c.time c.detail c.bus ≡ checked_from d.source d.detail_type d.resources d.time d.detail d.bus =
-    rw (h0, h1, h2, h3, h4, h5) refl in
-    whole
-
-checked_once : (entry : Entry) (c d : Checked) → IsCheckedOf entry c → IsCheckedOf entry d → c ≡ d
-checked_once entry c d p q =
-    same_checked c d (some_once p.source q.source) (some_once p.detail_type q.detail_type) (sym p.resources ∙ q.resources) (time_of_once entry.time c.time d.time p.time q.time)
-    (q.only p.detail.0 c.detail p.detail.1 p.detail.2) (bus_of_once entry.bus c.bus d.bus p.bus q.bus)
-
 -- ---- what an entry is accepted as
-
-made_once : (c : Checked) (n reading : ℕ) (caller : List ℕ) (e f : Event) → IsMade c n reading caller e → IsMade c n reading caller f → e ≡ f
-made_once c n reading caller e f p q =
-    same_event e f (p.number ∙ sym q.number) (p.detail_type ∙ sym q.detail_type) (p.source ∙ sym q.source) (p.account ∙ sym q.account)
-    (iso_once (unwrap_or c.time reading) e.time f.time p.time q.time) (p.resources ∙ sym q.resources) (p.detail ∙ sym q.detail)
 
 abbrev accepted_from : ℕ → List ℕ → ℕ → ℕ → List ℕ → List NewDuty → batch.Accepted
 accepted_from n b v t shown ds = record { number = n; bus = b; k = v; time = t; text = shown; duties = ds }
