@@ -197,9 +197,9 @@ def definitions_of(file):
         top = re.match(rf"(?:(?:abbrev|unfoldable|pub|opaque|total)\s+)*(?:(mutual|record|data)\b)?\s*(?:pub\s+)?(?:(?:record|data)\s+)?({NAME}|◌?\S*◌\S*)?", line)
         if line[:1].strip():
             kind, current = top[1] or "", top[2] or ""
-            if line.startswith("use") or line.startswith("module"):
-                kind = ""
-            elif current:
+            if re.match(r"(use|module|mutual)\b", line):
+                current = ""
+            elif current and re.match(rf"(abbrev|unfoldable|pub|opaque|record|data)\b|{NAME}(\s{NAME})*\s*:", line):
                 found[current] = current
         elif kind == "mutual":
             if inner := re.match(rf"  (?:pub\s+)?(?:(?:record|data)\s+)?({NAME})\s(?:.*\s)?:", line):
