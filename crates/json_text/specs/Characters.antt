@@ -3,7 +3,7 @@ use Rattle.std.specs.Prelude.{◌≡◌, ◌≢◌, ℕ, ◌+◌, ◌-◌, ◌*�
 use Rattle.std.specs.Prelude.{if◌then◌else◌, ◌==◌, nat_le, ◌&&◌}
 use Rattle.std.specs.Char.{IsScalar}
 
--- the character behind a backslash, and the one that it stands for
+-- the character after a backslash, and the character that the two spell
 abbrev pub escape_of : ℕ → Option ℕ
 escape_of b =
     if b == 34 then Some 34 else
@@ -22,7 +22,7 @@ hex_digit_of b =
     if nat_le 65 b && nat_le b 70 then Some (b - 55) else
     if nat_le 97 b && nat_le b 102 then Some (b - 87) else None
 
--- 4HEXDIG, and the code unit that they stand for
+-- 4HEXDIG, and the code unit that they spell
 abbrev pub IsHex : List ℕ → ℕ → Type 0
 IsHex digits unit = (a b c d w x y z : ℕ) × (digits ≡ a ∷ b ∷ c ∷ d ∷ [])
     × (hex_digit_of a ≡ Some w) × (hex_digit_of b ≡ Some x) × (hex_digit_of c ≡ Some y) × (hex_digit_of d ≡ Some z)
@@ -46,7 +46,7 @@ pub data SpellsCharacter : List ℕ → List ℕ → Type 0 where
   pair : (first second : List ℕ) (high low : ℕ) → IsHex first high → IsHex second low → IsHighSurrogate high → IsLowSurrogate low
       → SpellsCharacter ((92 ∷ 117 ∷ first) ++ (92 ∷ 117 ∷ second)) (encode_utf8 (pair_of high low))
 
--- *char, and the text that they stand for
+-- *char, and the text that they spell
 pub data SpellsCharacters : List ℕ → List ℕ → Type 0 where
   none : SpellsCharacters [] []
   more : {a x b y : List ℕ} → SpellsCharacter a x → SpellsCharacters b y → SpellsCharacters (a ++ b) (x ++ y)

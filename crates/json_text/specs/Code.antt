@@ -22,11 +22,11 @@ abbrev mutual
   members_numbers no_members = 0 ∷ []
   members_numbers (member key t rest) = 1 ∷ length key ∷ (key ++ (tree_numbers t ++ members_numbers rest))
 
--- the text and what is behind it
+-- the text and the numbers after it
 abbrev pub text_from : List ℕ → List ℕ × List ℕ
 text_from ns = (take (slice_index ns 0) (drop 1 ns), drop (slice_index ns 0) (drop 1 ns))
 
--- the tree and what is behind it, within so many steps
+-- the tree and the numbers after it, in at most this number of steps
 abbrev mutual
   pub tree_from : ℕ → List ℕ → Tree × List ℕ
   tree_from zero ns = (null, ns)

@@ -8,7 +8,7 @@ use Rattle.json_text.specs.Tree.{Tree, null, truth, number, text, list, object, 
 abbrev pub lower_hex : ℕ → ℕ
 lower_hex n = if nat_lt n 10 then 48 + n else 87 + n
 
--- what a byte of a string is written as: `"`, `\` and what is below a space are escaped, by two characters where there are two
+-- what a byte of a string is written as: `"`, `\` and what is below a space are escaped, by two characters if there is such an escape
 abbrev pub escape : ℕ → List ℕ
 escape b =
     if b == 34 then 92 ∷ 34 ∷ [] else
@@ -54,7 +54,7 @@ abbrev pub LacksKey : List ℕ → Members → Type 0
 LacksKey key no_members = Unit {0}
 LacksKey key (member k t members) = (key ≢ k) × LacksKey key members
 
--- Numbers are spelled as RFC 8259 has them, strings and keys are UTF-8, the keys of an object are distinct.
+-- Numbers are spelled as in RFC 8259, strings and keys are UTF-8, the keys of an object are distinct.
 abbrev mutual
   pub IsValue : Tree → Type 0
   IsValue null = Unit {0}
@@ -72,7 +72,7 @@ abbrev mutual
   AreMembers no_members = Unit {0}
   AreMembers (member key t members) = IsUtf8 key × LacksKey key members × IsValue t × AreMembers members
 
--- how many lists and objects stand one inside another
+-- the number of lists and objects one inside another
 abbrev mutual
   pub tree_levels : Tree → ℕ
   tree_levels null = 0

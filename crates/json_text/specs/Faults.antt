@@ -1,4 +1,4 @@
--- Where bytes stop being JSON.
+-- The place at which bytes stop being JSON.
 use Rattle.std.specs.Prelude.{◌≤◌, ◌<◌, ℕ, suc, List, ◌++◌, length, take}
 use Rattle.json_text.specs.Node.{Node}
 use Rattle.json_text.specs.Grammar.{IsText}
@@ -14,6 +14,6 @@ pub record FailsAt (levels : ℕ) (bytes : List ℕ) (at : ℕ) : Type 0 where
   pub longest : (k : ℕ) → at < k → k ≤ length bytes → ¬ Begins levels (take k bytes)
   pub none : (n : Node) → ¬ IsText levels bytes n
 
--- With one level more the front would have been longer: a bracket stands at its end that opens one level too many.
+-- With one level more the front would have been longer: the next byte is a bracket that opens one level too many.
 abbrev pub OpensTooMany : ℕ → List ℕ → ℕ → Type 0
 OpensTooMany levels bytes at = (at < length bytes) × Begins (suc levels) (take (suc at) bytes)

@@ -13,11 +13,11 @@ abbrev pub IsSpace : List ℕ → Type 0
 IsSpace [] = Unit {0}
 IsSpace (b ∷ bs) = (is_space b ≡ true) × IsSpace bs
 
--- ws, what P says of the bytes behind it, ws
+-- ws, bytes for which P holds, ws
 abbrev pub Padded : (ℕ → List ℕ → Type 0) → ℕ → List ℕ → Type 0
 Padded P at bytes = (before inside after : List ℕ) × (bytes ≡ before ++ (inside ++ after)) × IsSpace before × P (at + length before) inside × IsSpace after
 
--- the member's key with its colon, and what P says of the bytes behind it
+-- the member's key with its colon, and bytes for which P holds
 abbrev pub SpellsField : (ℕ → List ℕ → Type 0) → ℕ → List ℕ → ℕ → List ℕ → Type 0
 SpellsField P at bytes place key = (before name gap rest : List ℕ) × (bytes ≡ before ++ (name ++ (gap ++ 58 ∷ rest)))
     × IsSpace before × (place ≡ at + length before) × SpellsString name key × IsSpace gap
@@ -62,7 +62,7 @@ abbrev mutual
 abbrev pub SpellsText : List ℕ → Node → Type 0
 SpellsText bytes n = Padded (λ place inside. SpellsValue place inside n) 0 bytes
 
--- a JSON text of at most so many levels
+-- a JSON text of at most `levels` levels
 pub record IsText (levels : ℕ) (bytes : List ℕ) (n : Node) : Type 0 where
   pub spelled : SpellsText bytes n
   pub within : levels_of n ≤ levels

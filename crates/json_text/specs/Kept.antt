@@ -18,7 +18,7 @@ use Rattle.json_text.specs.declared.state.Place.{Place}
 use Rattle.json_text.specs.declared.state.Next.{Next}
 use Rattle.json_text.specs.declared.state.Next.TheVariants.{Value, FirstItem, AfterItem, FirstKey, NextKey, AfterMember, End}
 
--- the keys of members behind keys, the last one first
+-- the keys of members after other keys, the last one first
 abbrev pub keys_behind : List (List ℕ) → List Member → List (List ℕ)
 keys_behind keys [] = keys
 keys_behind keys (m ∷ ms) = keys_behind (m.key ∷ keys) ms
@@ -36,7 +36,7 @@ abbrev pub repeat_of : List Waiting → Option ℕ
 repeat_of [] = None
 repeat_of (w ∷ outer) = first_of (repeat_of outer) (repeat_in w)
 
--- what is kept of a list or an object that waits: its values so far
+-- the code's list or object that is open has the values so far of the state's
 abbrev pub Keeps : Kept → Waiting → Type 0
 Keeps (kept_list items) (in_list ns) = trees_of items.items ≡ map value_of ns
 Keeps (kept_list items) (in_object ms place key) = ⊥
@@ -55,7 +55,7 @@ KeepsAll (k ∷ ks) (w ∷ ws) = Keeps k w × KeepsAll ks ws
 abbrev pub HoldsMembers : List (List ℕ × Json) → List Member → Type 0
 HoldsMembers members ms = pairs_of members ≡ members_after [] (fields_of ms)
 
--- What comes next, what waits (the innermost last) and the first repeated key are those of the state.
+-- What comes next, the open lists and objects (the innermost last) and the first repeated key are those of the state.
 abbrev pub IsState : Next → List Kept → Option ℕ → State → Type 0
 IsState Value waiting repeat s = (outer : List Waiting) × (s ≡ value outer) × KeepsAll (reverse waiting) outer × (repeat ≡ repeat_of outer)
 IsState FirstItem waiting repeat s = (outer : List Waiting) × (s ≡ first_item outer) × KeepsAll (reverse waiting) outer × (repeat ≡ repeat_of outer)
@@ -79,7 +79,7 @@ FailsSo gives NoMemory = Unit {0}
 abbrev pub read_at : ℕ → Place → State → Result Node Fault
 read_at levels place s = read_from levels place.at s place.rest.now
 
--- A turn goes on from the state at the place to a later place, with what comes, waits and is repeated then; or it tells the fault.
+-- A turn goes on from the state at the place to a later place, with what comes, is open and is repeated then; or it returns the fault.
 abbrev pub Goes : ℕ → State → Place → Result (Next × Place) JsonFault → List Kept → Option ℕ → Type 0
 Goes levels s place (Ok r) waiting repeat = (other : State) × IsState r.0 waiting repeat other
     × (read_at levels place s ≡ read_at levels r.1 other) × (length r.1.rest.now < length place.rest.now)
@@ -98,7 +98,7 @@ StartsWith c (b ∷ bs) = b ≡ c
 abbrev pub SkipsSpace : ℕ → State → Type 0
 SkipsSpace levels s = (at b : ℕ) → is_space b ≡ true → step levels at s b ≡ Ok s
 
--- a turn where nothing but what waits is known
+-- a turn of which only the open lists and objects are known
 abbrev pub GoesOn : (List Waiting → State) → ℕ → Place → Result (Next × Place) JsonFault → List Kept → Option ℕ → List Kept → Option ℕ → Type 0
 GoesOn state levels place result old old_repeat new new_repeat =
     (outer : List Waiting) → KeepsAll (reverse old) outer → old_repeat ≡ repeat_of outer → Goes levels (state outer) place result new new_repeat
@@ -121,7 +121,7 @@ StringFault place (TooDeep at) = ⊥
 StringFault place (KeyTwice at) = ⊥
 StringFault place NoMemory = Unit {0}
 
--- what comes behind the bracket at the front
+-- what comes after the bracket at the front
 abbrev pub Opens : Next → List ℕ → Type 0
 Opens Value bytes = ⊥
 Opens FirstItem bytes = StartsWith 91 bytes

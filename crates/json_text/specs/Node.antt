@@ -1,5 +1,5 @@
--- The members of a JSON text as they stand in it: every one of them, also where a key comes twice, each key with its
--- place, which is the number of bytes before its opening quotation mark. And the value that they stand for.
+-- The members of a JSON text as they are in it: all of them, also those with a repeated key. Each key has its place, which is
+-- the number of bytes before its opening quotation mark. And the value that they represent.
 use Rattle.std.specs.Prelude.{ℕ, suc, max, Bool, List, [], ◌∷◌, Option, Some, None, if◌then◌else◌}
 use Rattle.std.specs.List.{list_any}
 use Rattle.std.specs.Str.{bytes_eq}
@@ -22,7 +22,7 @@ mutual
     no_fields : Fields
     field : ℕ → List ℕ → Node → Fields → Fields
 
--- A member with this key gets the value where it stands, and else is put at the end.
+-- A member with this key gets the value in its place. If there is none, it is added at the end.
 abbrev pub with_member : List ℕ → Tree → List (List ℕ × Tree) → List (List ℕ × Tree)
 with_member key tree [] = (key, tree) ∷ []
 with_member key tree (m ∷ ms) = if bytes_eq key m.0 then (m.0, tree) ∷ ms else m ∷ with_member key tree ms
@@ -45,7 +45,7 @@ abbrev mutual
   members_after ms no_fields = ms
   members_after ms (field place key n fs) = members_after (with_member key (value_of n) ms) fs
 
--- how many lists and objects stand one inside another
+-- the number of lists and objects one inside another
 abbrev mutual
   pub levels_of : Node → ℕ
   levels_of null_node = 0

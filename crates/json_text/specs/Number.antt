@@ -22,7 +22,7 @@ abbrev pub IsInt : List ℕ → Type 0
 IsInt [] = ⊥
 IsInt (b ∷ bs) = ((b ≡ 48) × (bs ≡ [])) ⊎ ((is_digit_above_zero b ≡ true) × AreDigits bs)
 
--- frac = decimal-point 1*DIGIT, at choice
+-- frac = decimal-point 1*DIGIT, optional
 abbrev pub IsFraction : List ℕ → Type 0
 IsFraction [] = Unit {0}
 IsFraction (b ∷ bs) = (b ≡ 46) × IsDigits bs
@@ -32,7 +32,7 @@ abbrev pub IsSignedDigits : List ℕ → Type 0
 IsSignedDigits [] = ⊥
 IsSignedDigits (b ∷ bs) = (((b == 45) || (b == 43) ≡ true) × IsDigits bs) ⊎ ((is_ascii_digit b ≡ true) × AreDigits bs)
 
--- exp = e [ minus / plus ] 1*DIGIT, at choice
+-- exp = e [ minus / plus ] 1*DIGIT, optional
 abbrev pub IsExponent : List ℕ → Type 0
 IsExponent [] = Unit {0}
 IsExponent (b ∷ bs) = ((b == 101) || (b == 69) ≡ true) × IsSignedDigits bs

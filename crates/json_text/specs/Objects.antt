@@ -23,7 +23,7 @@ hash_of key = hash_from 0 key
 abbrev pub HasHashes : {V : Type 0} → ℕ → List (List ℕ × V) → Type 0
 HasHashes hashes ms = (key : List ℕ) → bit_at hashes (hash_of key) ≡ 0 → slot_from 0 key ms ≡ None
 
--- the map, where it is not empty, has each key's place
+-- the map, if it is not empty, has each key's index
 abbrev pub IsIndex : {V : Type 0} → BTreeMap (String Global) ℕ → List (List ℕ × V) → Type 0
 IsIndex slots ms = btree_map_len slots ≢ 0 → (key : List ℕ) → get_by_text slots key ≡ slot_from 0 key ms
 

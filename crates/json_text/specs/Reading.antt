@@ -12,7 +12,7 @@ pub data Stop : Type 0 where
   unexpected : Stop
   too_deep : Stop
 
--- Within a number: behind its sign, a first zero, a digit of its whole part, its point, a digit of its fraction, its `e`, the
+-- Within a number: after its sign, a first zero, a digit of its whole part, its point, a digit of its fraction, its `e`, the
 -- exponent's sign, a digit of the exponent.
 pub data NumberPart : Type 0 where
   minus : NumberPart
@@ -24,7 +24,7 @@ pub data NumberPart : Type 0 where
   exponent_sign : NumberPart
   exponent_digits : NumberPart
 
--- where a number may end
+-- whether a number may end after this part
 abbrev pub may_end : NumberPart → Bool
 may_end minus = false
 may_end zero_int = true
@@ -41,7 +41,7 @@ digit_goes part b = if is_ascii_digit b then Some part else None
 abbrev pub exponent_goes : ℕ → Option NumberPart → Option NumberPart
 exponent_goes b other = if (b == 101) || (b == 69) then Some exponent else other
 
--- the part that the byte belongs to, where it goes on with the number
+-- the part that the byte belongs to, if the number can continue with it
 abbrev pub number_step : NumberPart → ℕ → Option NumberPart
 number_step minus b = if b == 48 then Some zero_int else digit_goes int b
 number_step zero_int b = if b == 46 then Some point else exponent_goes b None
@@ -52,9 +52,9 @@ number_step exponent b = if (b == 45) || (b == 43) then Some exponent_sign else 
 number_step exponent_sign b = digit_goes exponent_digits b
 number_step exponent_digits b = digit_goes exponent_digits b
 
--- Within a string: between characters, behind a backslash, with so many hexadecimal digits of a code unit to come (behind
--- a high surrogate, where one stands), behind a high surrogate, behind it and a backslash, and within a character whose next
--- byte lies in a range and which has so many bytes after that.
+-- Within a string: between characters, after a backslash, with a number of hexadecimal digits of a code unit to come (after a
+-- high surrogate, if there is one), after a high surrogate, after it and a backslash, and within a character whose next byte
+-- is in a range and which has a number of bytes after that.
 pub data StringPart : Type 0 where
   between : StringPart
   backslash : StringPart
@@ -63,7 +63,7 @@ pub data StringPart : Type 0 where
   high_backslash : ℕ → StringPart
   tail : ℕ → ℕ → ℕ → StringPart
 
--- what a byte does to a string: it goes on with the text so far, ends it, or can't stand there
+-- what a byte does to a string: it continues the text so far, ends it, or is not allowed there
 pub data StringStep : Type 0 where
   goes_on : StringPart → List ℕ → StringStep
   ends : StringStep
@@ -84,7 +84,7 @@ unescaped_step text b =
     if is_within 241 243 b then goes_on (tail 128 191 2) (text ++ b ∷ []) else
     if b == 244 then goes_on (tail 128 143 2) (text ++ b ∷ []) else stops
 
--- the part behind a byte of a character of several bytes
+-- the part after a byte of a character of several bytes
 abbrev pub tail_after : ℕ → StringPart
 tail_after zero = between
 tail_after (suc more) = tail 128 191 more
@@ -93,7 +93,7 @@ abbrev pub escape_step : List ℕ → Option ℕ → StringStep
 escape_step text None = stops
 escape_step text (Some c) = goes_on between (text ++ c ∷ [])
 
--- A code unit may not be a low surrogate alone, and behind a high one it has to be low: the first two digits tell.
+-- A code unit may not be a low surrogate alone, and after a high one it has to be low: the first two digits decide.
 abbrev pub digit_fits : Option ℕ → ℕ → ℕ → ℕ → Bool
 digit_fits None left unit d = not ((left == 3) && ((unit == 13) && nat_le 12 d))
 digit_fits (Some lead) left unit d = if left == 4 then d == 13 else (not (left == 3) || nat_le 12 d)
@@ -135,23 +135,23 @@ abbrev pub fields_of : List Member → Fields
 fields_of [] = no_fields
 fields_of (m ∷ ms) = field m.place m.key m.of (fields_of ms)
 
--- what stands between two bytes of a text
+-- the state between two bytes of a text
 pub data State : Type 0 where
-  -- a value comes
+  -- a value is next
   value : List Waiting → State
-  -- behind the bracket that opens a list
+  -- after the bracket that opens a list
   first_item : List Waiting → State
-  -- behind an item
+  -- after an item
   after_item : List Node → List Waiting → State
-  -- behind the bracket that opens an object
+  -- after the bracket that opens an object
   first_key : List Waiting → State
-  -- behind a comma of an object
+  -- after a comma of an object
   next_key : List Member → List Waiting → State
-  -- behind a key
+  -- after a key
   colon : List Member → ℕ → List ℕ → List Waiting → State
-  -- behind a member
+  -- after a member
   after_member : List Member → List Waiting → State
-  -- behind the text's own value
+  -- after the text's own value
   whole : Node → State
   -- within a word, a number, a string, a key: the bytes of the word that are left, the spelling and the text so far
   word : ℕ → List ℕ → Node → List Waiting → State
@@ -185,7 +185,7 @@ abbrev pub word_step : ℕ → List ℕ → Node → List Waiting → State
 word_step c [] n outer = put n outer
 word_step c (d ∷ rest) n outer = word d rest n outer
 
--- a byte behind a value that is whole
+-- a byte after a value that is whole
 abbrev pub after_step : State → ℕ → Result State Stop
 after_step (after_item ns outer) b =
     if is_space b then Ok (after_item ns outer) else
@@ -207,7 +207,7 @@ string_goes (goes_on part text) within end = Ok (within part text)
 string_goes ends within end = Ok end
 string_goes stops within end = Err unexpected
 
--- what a byte with so many bytes before it does
+-- what a byte does at a place
 abbrev pub step : ℕ → ℕ → State → ℕ → Result State Stop
 step levels at (value outer) b = if is_space b then Ok (value outer) else value_step levels outer b
 step levels at (first_item outer) b =

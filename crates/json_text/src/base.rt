@@ -1,4 +1,4 @@
-//! Texts and bytes as the crates above keep them: contracts see a list of bytes.
+//! Texts and bytes for the crates above. Contracts see a list of bytes.
 ghost use Rattle.std.specs.Prelude.{◌≡◌, ℕ, List, [], ◌++◌, length, take, IfOk, OnOk, OnErr, min};
 ghost use Rattle.std.specs.Str.{IsUtf8};
 
@@ -9,7 +9,7 @@ use thiserror::Error;
 /// The last moment, a number of whole seconds since 1970-01-01T00:00:00Z.
 pub const LAST_MOMENT: u64 = 250_000_000_000;
 
-/// Memory was refused.
+/// Out of memory.
 #[derive(Debug, Drop, Error)]
 #[error("out of memory")]
 pub struct NoMemory;
@@ -41,7 +41,7 @@ impl Model for Text {
 }
 
 impl Text {
-    /// The empty text, which takes no memory.
+    /// The empty text, without memory.
     pub fn new(alloc: Global) -> Text
         ensures { result ≡ [] }
     {
@@ -89,7 +89,7 @@ impl From<String> for Text {
     }
 }
 
-/// Bytes, at whose end a writer goes on.
+/// Bytes to which a writer adds at the end.
 #[derive(Debug, Drop)]
 pub struct Bytes {
     inner: Vec<u8>,
@@ -104,7 +104,7 @@ impl Model for Bytes {
 }
 
 impl Bytes {
-    /// No bytes, which take no memory.
+    /// No bytes, without memory.
     pub fn new(alloc: Global) -> Bytes
         ensures { result ≡ [] }
     {
@@ -113,7 +113,7 @@ impl Bytes {
         }
     }
 
-    /// No bytes, whose memory would come from where that of these comes.
+    /// No bytes, with the same allocator.
     pub fn new_beside(&self) -> Bytes
         ensures { result ≡ [] }
     {
@@ -134,7 +134,7 @@ impl Bytes {
         self.inner.len()
     }
 
-    /// Puts the bytes at the end.
+    /// Adds the bytes at the end. After an `Err` the bytes are as before.
     pub fn extend(&mut self, more: &[u8]) -> Result<(), NoMemory>
         ensures ok { OnOk result (self.new ≡ self.old ++ more.now) }
         ensures err { OnErr result (self.new ≡ self.old) }
@@ -143,7 +143,7 @@ impl Bytes {
         Ok(())
     }
 
-    /// Keeps the first `len` bytes, or all of them where there are fewer.
+    /// Keeps the first `len` bytes, or all of them if there are fewer.
     pub fn truncate(&mut self, len: usize)
         ensures { self.new ≡ take len self.old }
     {

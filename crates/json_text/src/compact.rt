@@ -78,7 +78,7 @@ fn push_quoted(text: &[u8], out: &mut Bytes) -> Result<(), NoMemory>
     out.extend(b"\"")
 }
 
-/// How many bytes at the front stand for themselves.
+/// The number of bytes at the front that are written unchanged.
 fn plain_len(bytes: &[u8]) -> usize
     ensures within { result ≤ length bytes.now }
     ensures plain { flat_map escape (take result bytes.now) ≡ take result bytes.now }

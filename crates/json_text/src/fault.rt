@@ -12,7 +12,7 @@ pub enum JsonFault {
     /// The bracket at the place opens one level too many.
     #[error("too many levels at byte {at}")]
     TooDeep { at: usize },
-    /// The key at the place stands earlier in the same object.
+    /// The key at the place is also earlier in the same object.
     #[error("the key at byte {at} comes twice")]
     KeyTwice { at: usize },
     #[error("out of memory")]
@@ -44,7 +44,7 @@ impl<T: Drop> From<AllocFailed<T>> for JsonFault {
 /// Why a token is not whole.
 #[derive(Drop)]
 pub(crate) enum TokenFault {
-    /// So many of its bytes stand before the first one that can't go on.
+    /// The number of its bytes before the first one that no such token has.
     Stop(usize),
     NoMemory,
 }

@@ -4,7 +4,7 @@ ghost use Rattle.json_text.specs.Reading.{number_step, may_end};
 ghost use Rattle.json_text.specs.Scan.{scan_number, number_end};
 ghost use Rattle.json_text.specs.Parts.{part_of};
 
-/// Where in a number its last byte stands.
+/// The part of a number that its last byte belongs to.
 #[derive(Clone, Copy)]
 pub(crate) enum Part {
     Minus,
@@ -27,7 +27,7 @@ impl Part {
         )
     }
 
-    /// The part that the byte belongs to, where the number goes on with it.
+    /// The part that the byte belongs to, if the number can continue with it.
     fn behind(self, byte: u8) -> Option<Part>
         ensures { option_map part_of result ≡ number_step (part_of self) byte }
     {
@@ -53,7 +53,7 @@ impl Part {
     }
 }
 
-/// How many bytes of the number stand behind its first one, or how many before the first that can't go on.
+/// The number of bytes after the number's first one, or before the first byte with which it cannot continue.
 #[tactic(auto, unfolding(crate::specs::Scan::scan_number))]
 pub(crate) fn number_len(first: Part, bytes: &[u8]) -> Result<usize, usize>
     ensures scanned { result ≡ scan_number (part_of first) 0 bytes.now }

@@ -10,12 +10,12 @@ use super::{Json, Members, NoMemory, Text};
 use std::alloc::Global;
 use std::collections::BTreeMap;
 
-/// Members in the order of their keys' first places, and where each key stands among them. A key whose hash no other had is
-/// new; only where one had it the map is asked, which is made then.
+/// Members in the order of their keys' first places, and the index of each key. A key is new if no other had its hash. Only
+/// if one had it, the map is looked up; it is made then.
 #[derive(Drop)]
 pub(crate) struct ObjectBuilder {
     pub(crate) members: Members,
-    /// A bit for each hash, set where a key has it.
+    /// A bit for each hash, set if a key has it.
     hashes: u128,
     slots: BTreeMap<String, usize>,
     ghost hashed: { HasHashes hashes members.items },
@@ -33,7 +33,7 @@ impl ObjectBuilder {
         }
     }
 
-    /// The place of the member with this key, which is put at the end where there is none yet; and whether there was one.
+    /// The index of the member with this key, and whether it was there before. If not, it is added at the end.
     pub(crate) fn reserve(&mut self, alloc: Global, key: Text) -> Result<(usize, bool), NoMemory>
         ensures place { IfOk result
             (λ r. Reserves (pairs_of self.old.members.items) (pairs_of self.new.members.items) key r.0 r.1) }
@@ -100,7 +100,7 @@ fn hash_of(key: &str) -> u32
     hash
 }
 
-/// Readies the map, where it has been made, for a member with a new key behind these.
+/// Reserves room in the map, if it has been made, for a member with a new key.
 fn index_next(
     alloc: Global,
     slots: &mut BTreeMap<String, usize>,

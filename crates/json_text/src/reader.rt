@@ -17,14 +17,14 @@ use super::word::word_len;
 use super::{Items, Json, JsonFault, Text};
 use std::alloc::Global;
 
-/// A value, and the place of the first key that stands earlier in its object.
+/// A value, and the place of the first repeated key.
 #[derive(Drop)]
 pub(crate) struct Read {
     pub(crate) json: Json,
     pub(crate) repeat: Option<usize>,
 }
 
-/// What waits for a value, the innermost last, and the place of the first key so far that stands earlier in its object.
+/// The open lists and objects, the innermost last, and the place of the first repeated key so far.
 #[derive(Drop)]
 struct Reader {
     alloc: Global,
@@ -64,7 +64,7 @@ pub(crate) fn read_all(alloc: Global, bytes: &[u8], levels: u32) -> Result<Read,
     }
 }
 
-/// What comes next and where, or the fault.
+/// What comes next and its place, or the fault.
 type Gone<'a> = Result<(Next, Place<'a>), JsonFault>;
 
 impl<'a> Place<'a> {
@@ -110,7 +110,7 @@ impl<'a> Place<'a> {
 }
 
 impl Reader {
-    /// Takes what stands at the place, of which the first byte is given, and tells what comes then.
+    /// Reads the token at the place, whose first byte is given, and returns what comes next.
     fn turn<'a>(&mut self, next: Next, byte: u8, place: Place<'a>) -> Gone<'a>
         requires first { StartsWith byte place.rest.now }
         requires no_space { is_space byte ≡ false }
@@ -149,7 +149,7 @@ impl Reader {
         }
     }
 
-    /// What comes behind a bracket that opens.
+    /// What comes after an opening bracket.
     fn opened<'a>(&self, next: Next, place: Place<'a>) -> Gone<'a>
         requires { Opens next place.rest.now }
         ensures { GoesOn value self.now.levels place.entry result self.now.waiting.items self.now.repeat self.now.waiting.items self.now.repeat }
@@ -228,7 +228,7 @@ impl Reader {
         }
     }
 
-    /// Takes a member's key, whose quotation mark stands at the place, and its colon.
+    /// Reads a member's key, whose quotation mark is at the place, and its colon.
     fn key<'a>(&mut self, mut object: Open, place: Place<'a>) -> Gone<'a>
         requires { StartsWith 34 place.rest.now }
         ensures goes { (ms : List Member) (outer : List Waiting)
@@ -341,7 +341,7 @@ impl Reader {
     }
 }
 
-/// A string, whose quotation mark stands at the place, and the place behind it.
+/// A string, whose quotation mark is at the place, and the place after it.
 fn text<'a>(alloc: Global, place: Place<'a>) -> Result<(Text, Place<'a>), JsonFault>
     requires { StartsWith 34 place.rest.now }
     ensures ok { IfOk result (λ r. (n : ℕ)
@@ -359,7 +359,7 @@ fn text<'a>(alloc: Global, place: Place<'a>) -> Result<(Text, Place<'a>), JsonFa
     }
 }
 
-/// The earlier repeated key, or else this one's place where it is repeated.
+/// The earlier repeated key, or else this one's place if it is repeated.
 fn first_repeat_of(earlier: Option<usize>, is_repeated: bool, at: usize) -> Option<usize>
     ensures { result ≡ first_of earlier (if is_repeated then Some at else None) }
 {
@@ -369,7 +369,7 @@ fn first_repeat_of(earlier: Option<usize>, is_repeated: bool, at: usize) -> Opti
     }
 }
 
-/// How many bytes of white space stand at the front.
+/// The number of bytes of white space at the front.
 fn space_len(bytes: &[u8]) -> usize
     ensures within { result ≤ length bytes.now }
     ensures space { IsSpace (take result bytes.now) }

@@ -4,7 +4,7 @@ ghost use Rattle.std.specs.Prelude.{◌<◌, ◌+◌, ◌^◌, length};
 use super::object::ObjectBuilder;
 use super::{Items, Json};
 
-/// What is left of a text, and how many bytes of it stand before.
+/// The rest of a text, and the number of bytes before it.
 #[derive(Clone, Copy)]
 pub(crate) struct Place<'a> {
     pub(crate) rest: &'a [u8],
@@ -22,7 +22,7 @@ pub(crate) enum Kept {
 /// An object that is not closed.
 pub(crate) type Open = Box<ObjectBuilder>;
 
-/// An object, and the place of its member whose value comes.
+/// An object, and the index of its member whose value comes next.
 #[derive(Drop)]
 pub(crate) struct KeptObject {
     pub(crate) object: Open,
@@ -39,6 +39,6 @@ pub(crate) enum Next {
     FirstKey,
     NextKey(Open),
     AfterMember(Open),
-    /// White space alone, behind the text's own value.
+    /// Only white space, after the text's own value.
     End(Json),
 }

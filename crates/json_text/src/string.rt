@@ -9,7 +9,7 @@ use super::Text;
 use super::fault::TokenFault;
 use std::alloc::Global;
 
-/// A string's text, and how many bytes it takes behind its first quotation mark.
+/// A string's text, and the number of bytes after its first quotation mark.
 pub(crate) fn string(alloc: Global, bytes: &[u8]) -> Result<(Text, usize), TokenFault>
     ensures ok { IfOk result (λ r. scan_string between [] 0 bytes.now ≡ Ok (r.0, r.1)) }
     ensures within { IfOk result (λ r. r.1 ≤ length bytes.now) }
@@ -49,7 +49,7 @@ fn push_characters(text: &mut Vec<u8>, bytes: &[u8]) -> Result<usize, TokenFault
     Ok(len)
 }
 
-/// How many bytes at the front are characters of one byte that stand for themselves.
+/// The number of bytes at the front that are unescaped characters of one byte.
 #[tactic(auto, unfolding(crate::specs::Scan::scan_string))]
 fn plain_len(bytes: &[u8]) -> usize
     ensures { (text : List ℕ)
@@ -69,7 +69,7 @@ fn is_plain(byte: u8) -> bool
     byte >= b' ' && byte <= 0x7F && byte != b'"' && byte != b'\\'
 }
 
-/// Puts the character behind a backslash, and answers how many bytes it takes.
+/// Adds the character after a backslash, and returns the number of its bytes.
 fn push_escaped(text: &mut Vec<u8>, bytes: &[u8]) -> Result<usize, TokenFault>
     ensures { Scanned backslash text.old.items bytes.now between text.new.items result }
 {
@@ -86,7 +86,7 @@ fn push_escaped(text: &mut Vec<u8>, bytes: &[u8]) -> Result<usize, TokenFault>
     }
 }
 
-/// The same with so many bytes before it.
+/// The same result with `count` more bytes before it.
 fn behind(count: usize, taken: Result<usize, TokenFault>) -> Result<usize, TokenFault>
     requires { HasRoom count taken }
     ensures { result ≡ behind_of count taken }
@@ -98,7 +98,7 @@ fn behind(count: usize, taken: Result<usize, TokenFault>) -> Result<usize, Token
     }
 }
 
-/// What the character behind a backslash stands for.
+/// The character that a backslash and this byte spell.
 fn unescaped(byte: u8) -> Option<u8>
     ensures { result ≡ escape_of byte }
 {
@@ -125,7 +125,7 @@ fn push_unicode(text: &mut Vec<u8>, digits: &[u8]) -> Result<usize, TokenFault>
     Ok(4)
 }
 
-/// Puts the character of a high surrogate and of the low one that is spelled behind it.
+/// Adds the character of a high surrogate and of the low one that is spelled after it.
 fn push_pair(text: &mut Vec<u8>, lead: u32, bytes: &[u8]) -> Result<usize, TokenFault>
     requires { is_within 0xD800 0xDBFF lead ≡ true }
     ensures { Scanned (high lead) text.old.items bytes.now between text.new.items result }
@@ -160,7 +160,7 @@ fn push_character(text: &mut Vec<u8>, character: u32) -> Result<(), TokenFault>
     Ok(())
 }
 
-/// The code unit that four hexadecimal digits spell: behind a high surrogate a low one, and else no low one.
+/// The code unit that four hexadecimal digits spell: after a high surrogate a low one, otherwise no low one.
 fn code_unit(digits: &[u8], lead: Option<u32>) -> Result<u32, TokenFault>
     ensures { IsUnit lead digits.now result }
 {
@@ -174,7 +174,7 @@ fn code_unit(digits: &[u8], lead: Option<u32>) -> Result<u32, TokenFault>
     Ok(unit)
 }
 
-/// The unit so far with the digit at the place, where one stands there that it can go on with.
+/// The unit so far with the digit at the place, if there is one with which it can continue.
 fn with_digit(digits: &[u8], place: usize, lead: Option<u32>, unit: u32) -> Option<u32>
     requires place { place < 4 }
     requires unit { IsUnitSoFar lead (4 - place) unit }
@@ -232,7 +232,7 @@ fn character_len(bytes: &[u8]) -> Result<usize, TokenFault>
     }
 }
 
-/// The range of the byte behind the first one of a character of several bytes, and how many come after it.
+/// For a character of several bytes: the range of the byte after the first one, and the number of bytes after that.
 fn tail_of(first: u8) -> Option<(u8, u8, usize)>
     requires { is_within 32 127 first ≡ false }
     ensures { (text : List ℕ) → unescaped_step text first ≡ first_step text first result }
@@ -249,7 +249,7 @@ fn tail_of(first: u8) -> Option<(u8, u8, usize)>
     }
 }
 
-/// How many bytes the rest of a character takes: the first in the range, and so many more.
+/// The number of bytes of the rest of a character: the first in the range, and `more` others.
 fn tail_len(bytes: &[u8], low: u8, up: u8, more: usize) -> Result<usize, TokenFault>
     ensures { Taken (tail low up more) bytes.now result }
 {

@@ -1,4 +1,4 @@
-//! What no clause says: that the calls succeed where there is memory, and that the definitions are those of RFC 8259.
+//! What no clause says: that the calls succeed if memory is available, and that the definitions are those of RFC 8259.
 
 use super::{
     Bytes, Json, JsonFault, Text, copy, member_at, push_member, push_text, read, read_once, write,
@@ -66,7 +66,7 @@ fn values_are_written_compactly(rt: HostRuntime) -> Result<(), Fail> {
 
 // The place is the length of the longest front that some JSON text begins with.
 #[test]
-fn faults_are_told_at_their_places(rt: HostRuntime) {
+fn faults_are_reported_at_their_places(rt: HostRuntime) {
     let rows: [(&[u8], u8, Answer); 30] = [
         (b"", 100, Answer::NotJson(0)),
         (b"  ", 100, Answer::NotJson(2)),
@@ -109,7 +109,7 @@ fn faults_are_told_at_their_places(rt: HostRuntime) {
 }
 
 #[test]
-fn repeated_keys_are_told_at_the_first_of_them(rt: HostRuntime) {
+fn the_first_repeated_key_is_reported(rt: HostRuntime) {
     let rows: [(&[u8], Answer); 9] = [
         (b"{\"a\":1,\"b\":2,\"a\":3}", Answer::KeyTwice(13)),
         (b"{\"a\":{\"b\":1,\"b\":2},\"a\":3}", Answer::KeyTwice(12)),

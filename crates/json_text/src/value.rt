@@ -5,7 +5,7 @@ ghost use Rattle.json_text.specs.View.{tree_of};
 use super::{NoMemory, Text};
 use std::alloc::Global;
 
-/// A JSON value (RFC 8259, section 3). A number is its spelling; the members of an object stand in order.
+/// A JSON value (RFC 8259, section 3). A number is its spelling. An object has its members in order.
 #[derive(Debug, Drop)]
 pub enum Json {
     Null,

@@ -2,7 +2,7 @@
 ghost use Rattle.std.specs.Prelude.{◌≡◌, length, ◌≤◌, MatchResult};
 ghost use Rattle.json_text.specs.Scan.{scan_word};
 
-/// Ok where the word stands at the front, and else how many of its bytes do.
+/// `Ok` if the text begins with the word; else the number of its bytes with which the text begins.
 #[tactic(auto, unfolding(crate::specs::Scan::scan_word))]
 pub(crate) fn word_len(bytes: &[u8], word: &[u8]) -> Result<usize, usize>
     ensures scanned { result ≡ scan_word word.now 0 bytes.now }
