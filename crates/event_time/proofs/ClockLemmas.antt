@@ -60,7 +60,8 @@ digits_moved civil d e s h = record {
 }
 
 -- what `jiff` writes of a date and a clock without a fraction are their digits
-pub civil_text : (civil : DateTime) (d : Digits) (rest : List ℕ) → HasDigits civil d → civil.time.subsec_nanosecond ≡ 0 → iso_datetime_text civil ++ rest ≡ digits_text d rest
+pub civil_text : (civil : DateTime) (d : Digits) (rest : List ℕ) → HasDigits civil d → civil.time.subsec_nanosecond ≡ 0
+    → iso_datetime_text civil ++ rest ≡ digits_text d rest
 civil_text civil d rest h whole = rw (h.year, h.month, h.day, h.hour, h.minute, h.second, whole) refl
 
 pub seconds_same : (a b : DateTime) (d : Digits) → HasDigits a d → HasDigits b d → civil_seconds a ≡ civil_seconds b
@@ -102,10 +103,26 @@ small_day civil = omega (arith, civil.date.day_in.1, (days_in_month_bounds civil
 pub text_shows : (t : List ℕ) (n : ℕ) → IsTimeText t n → (d : Digits) × (rest : List ℕ) × Writes t d rest × IsTail rest × ShowsDigits d n
 text_shows t n (civil, fraction, shows, is, written) =
     let y = year_of_moment civil n shows.seconds in
-    let d : Digits = record { year = y.0; month = civil.date.month; day = civil.date.day; hour = civil.time.hour; minute = civil.time.minute; second = civil.time.second } in
+    let d : Digits = record {
+      year = y.0;
+      month = civil.date.month;
+      day = civil.date.day;
+      hour = civil.time.hour;
+      minute = civil.time.minute;
+      second = civil.time.second;
+    } in
     let has : HasDigits civil d = record { year = y.1; month = refl; day = refl; hour = refl; minute = refl; second = refl } in
-    let small : AreSmall d = record { year = y.2; month = omega (arith, civil.date.month_in.1); day = small_day civil; hour = omega (arith, civil.time.hour_in); minute = omega (arith, civil.time.minute_in); second = omega (arith, civil.time.second_in) } in
-    (d, fraction ++ codes "Z", record { small = small; written = written ∙ civil_text civil d (fraction ++ codes "Z") has shows.whole }, (fraction, is, refl), (civil, shows, has))
+    let small : AreSmall d = record {
+      year = y.2;
+      month = omega (arith, civil.date.month_in.1);
+      day = small_day civil;
+      hour = omega (arith, civil.time.hour_in);
+      minute = omega (arith, civil.time.minute_in);
+      second = omega (arith, civil.time.second_in);
+    } in
+    let same = written ∙ civil_text civil d (fraction ++ codes "Z") has shows.whole in
+    let writes : Writes t d (fraction ++ codes "Z") = record { small = small; written = same } in
+    (d, fraction ++ codes "Z", writes, (fraction, is, refl), (civil, shows, has))
 
 -- a text is the time of one moment
 pub time_once : (t : List ℕ) (n m : ℕ) → IsTimeText t n → IsTimeText t m → n ≡ m

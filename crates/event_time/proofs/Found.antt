@@ -1,4 +1,4 @@
--- A value that is found exactly where a fact holds of it: `found` and `not_found`.
+-- A reader returns the values for which a fact holds: `found` and `not_found`.
 use Rattle.std.proofs.Common.{◌≡◌, ℕ, Option, Some, None, ◌↔◌, sym, ap, subst, ◌∙◌}
 
 pub not_found : {P : ℕ → Type 0} (r : Option ℕ) → r ≡ None → ((n : ℕ) → ¬ P n) → (n : ℕ) → (r ≡ Some n) ↔ P n

@@ -15,7 +15,9 @@ use Rattle.event_time.specs.Clock.{AreSmall, IsTail, digits_text}
 use Rattle.event_time.proofs.ClockLemmas.{text_shows, iso_is_time}
 
 ascii_cons : (c : ℕ) (bs : List ℕ) → c < 128 → IsUtf8 bs → IsUtf8 (c ∷ bs)
-ascii_cons c bs h u = IsUtf8-append (c ∷ []) bs (IsUtf8-from_ascii (c ∷ []) (IsAscii-from_all (c ∷ []) (All-cons (λ b. b < 128) c [] h (All-nil (λ b. b < 128))))) u
+ascii_cons c bs h u =
+    let all = All-cons (λ b. b < 128) c [] h (All-nil (λ b. b < 128)) in
+    IsUtf8-append (c ∷ []) bs (IsUtf8-from_ascii (c ∷ []) (IsAscii-from_all (c ∷ []) all)) u
 
 digit_small : (b : ℕ) → is_ascii_digit b ≡ true → b < 128
 digit_small b h = grind (arith, nat_tests)
@@ -26,7 +28,7 @@ places_utf8 (b ∷ bs) h = let p = and_parts (is_ascii_digit b) (list_all is_asc
 
 fraction_utf8 : (bs : List ℕ) → IsTimeSecfrac bs → IsUtf8 bs
 fraction_utf8 [] h = IsUtf8-nil
-fraction_utf8 (b ∷ bs) h = ascii_cons b bs (omega (arith, h.0)) (places_utf8 bs h.1.1)
+fraction_utf8 (b ∷ bs) (dot, (some, digits)) = ascii_cons b bs (omega (arith, dot)) (places_utf8 bs digits)
 
 pad2_utf8 : (n : ℕ) (rest : List ℕ) → n < 100 → IsUtf8 rest → IsUtf8 (pad2 n ++ rest)
 pad2_utf8 n rest h u = ascii_cons (48 + n / 10) _ (omega arith) (ascii_cons (48 + n % 10) rest (omega arith) u)

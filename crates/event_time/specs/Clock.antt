@@ -1,4 +1,4 @@
--- What the reader of a time sees on its way. No public clause names these.
+-- Parts of a time text. No public clause names these.
 use Rattle.std.specs.Prelude.{◌≡◌, ◌<◌, ℕ, pos, List, ◌∷◌, ◌++◌, codes}
 use Rattle.jiff_core.specs.declared.civil.datetime.DateTime.{DateTime}
 use Rattle.jiff_fmt.specs.Text.{pad2, pad4}
@@ -24,7 +24,7 @@ pub record Writes (t : List ℕ) (d : Digits) (rest : List ℕ) : Type 0 where
   pub small : AreSmall d
   pub written : t ≡ digits_text d rest
 
--- a fraction at choice and `Z`
+-- an optional fraction and `Z`
 abbrev pub IsTail : List ℕ → Type 0
 IsTail rest = (fraction : List ℕ) × IsTimeSecfrac fraction × (rest ≡ fraction ++ codes "Z")
 
@@ -37,6 +37,6 @@ pub record HasDigits (civil : DateTime) (d : Digits) : Type 0 where
   pub minute : civil.time.minute ≡ d.minute
   pub second : civil.time.second ≡ d.second
 
--- a real date and clock with these digits is so many seconds after 1970
+-- a real date and clock with these digits is `n` seconds after 1970
 abbrev pub ShowsDigits : Digits → ℕ → Type 0
 ShowsDigits d n = (civil : DateTime) × Shows n civil × HasDigits civil d

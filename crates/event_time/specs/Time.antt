@@ -9,7 +9,7 @@ use Rattle.jiff.specs.Words.{civil_seconds, iso_datetime_text}
 abbrev pub IsSecond : ℕ → Type 0
 IsSecond n = n ≤ 253402207200
 
--- the date and the clock in UTC so many whole seconds after 1970-01-01T00:00:00Z
+-- the date and the clock in UTC at `moment` whole seconds after 1970-01-01T00:00:00Z
 pub record Shows (moment : ℕ) (civil : DateTime) : Type 0 where
   pub seconds : civil_seconds civil ≡ pos moment
   pub whole : civil.time.subsec_nanosecond ≡ 0
@@ -18,7 +18,7 @@ pub record Shows (moment : ℕ) (civil : DateTime) : Type 0 where
 abbrev pub IsDigits : List ℕ → Type 0
 IsDigits bytes = (0 < length bytes) × (list_all is_ascii_digit bytes ≡ true)
 
--- time-secfrac = "." 1*DIGIT (RFC 3339, section 5.6), at choice
+-- time-secfrac = "." 1*DIGIT (RFC 3339, section 5.6), optional
 abbrev pub IsTimeSecfrac : List ℕ → Type 0
 IsTimeSecfrac [] = Unit {0}
 IsTimeSecfrac (b ∷ bs) = (b ≡ 46) × IsDigits bs
@@ -27,7 +27,7 @@ IsTimeSecfrac (b ∷ bs) = (b ≡ 46) × IsDigits bs
 abbrev pub IsIso : ℕ → List ℕ → Type 0
 IsIso moment t = (civil : DateTime) × Shows moment civil × (t ≡ iso_datetime_text civil ++ codes "Z")
 
--- the same with time-secfrac at choice, which is dropped
+-- the same with an optional time-secfrac, which is dropped
 abbrev pub IsTimeText : List ℕ → ℕ → Type 0
 IsTimeText t moment = (civil : DateTime) × (fraction : List ℕ) × Shows moment civil × IsTimeSecfrac fraction
     × (t ≡ iso_datetime_text civil ++ (fraction ++ codes "Z"))

@@ -1,4 +1,4 @@
-//! A second since 1970 has one text; a text shows one second or none.
+//! A second since 1970 has one text. A text shows one second or none.
 #![tactic(auto)]
 
 mod time;

@@ -1,7 +1,7 @@
 use crate::{iso, text_moment};
 use std::test::Fail;
 
-/// Civil dates in UTC and their seconds since 1970, by the rules of the Gregorian calendar, worked out outside.
+/// Civil dates in UTC and their seconds since 1970, by the rules of the Gregorian calendar, computed outside this project.
 const DATES: [(u64, &str); 31] = [
     (0, "1970-01-01T00:00:00Z"),
     (5_097_599, "1970-02-28T23:59:59Z"),

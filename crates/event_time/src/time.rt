@@ -40,15 +40,16 @@ fn all_digits(bytes: &[u8]) -> bool
     bytes.iter().all(|byte| byte.is_ascii_digit())
 }
 
-/// Whether there are digits and nothing else.
+/// Whether there is at least one byte, and each is a digit.
 fn are_digits(bytes: &[u8]) -> bool
     ensures { IsTrue result ↔ IsDigits bytes.now }
 {
     !bytes.is_empty() && all_digits(bytes)
 }
 
-/// The second since 1970 that the text shows, in any year to 9999, where it is as `2023-11-14T22:13:20.75Z`: date-time of
-/// RFC 3339, section 5.6, with `T` and `Z` and no second 60 by this project's own rule. The fraction is dropped.
+/// The second since 1970 that a text as `2023-11-14T22:13:20.75Z` shows, in the years 1970 to 9999. The form is date-time of
+/// RFC 3339, section 5.6, with `T` and `Z` in upper case and no second 60, by this project's own rule. The fraction is
+/// dropped. `None` if the text has another form or shows no real date.
 pub fn text_moment(text: &[u8]) -> Option<u64>
     ensures { (n : ℕ) → (result ≡ Some n) ↔ IsTimeText text.now n }
 {
@@ -63,7 +64,7 @@ pub fn text_moment(text: &[u8]) -> Option<u64>
     }
 }
 
-/// What the places of a time text say, a real date or not.
+/// The numbers in a time text, which may be no real date.
 #[derive(Clone, Copy)]
 struct Digits {
     year: u16,
@@ -74,7 +75,7 @@ struct Digits {
     second: u8,
 }
 
-/// The digits of `YYYY-MM-DDTHH:MM:SS` and the bytes behind it.
+/// The digits of `YYYY-MM-DDTHH:MM:SS` and the bytes after it.
 fn digits_of(text: &[u8]) -> Option<(Digits, &[u8])>
     ensures { MatchOption result
         ((d : Digits) (rest : List ℕ) → ¬ Writes text.now d rest)
@@ -154,7 +155,7 @@ fn is_tail(bytes: &[u8]) -> bool
     }
 }
 
-/// The moment at which a clock shows the digits.
+/// The moment at which a UTC clock shows the digits.
 fn moment_of(digits: Digits) -> Option<u64>
     requires { AreSmall digits }
     ensures { (n : ℕ) → (result ≡ Some n) ↔ ShowsDigits digits n }
@@ -165,7 +166,7 @@ fn moment_of(digits: Digits) -> Option<u64>
     }
 }
 
-/// The second of the date and the clock, if it is none before 1970.
+/// The second of the date and the clock. `None` if it is before 1970.
 fn moment_shown(civil: DateTime) -> Option<u64>
     ensures { (n : ℕ) → (result ≡ Some n) ↔ (civil_seconds civil ≡ pos n) }
 {
@@ -177,7 +178,7 @@ fn moment_shown(civil: DateTime) -> Option<u64>
     }
 }
 
-/// The real date and the clock that have the digits.
+/// The date and the clock with these digits. `None` if there is no such date.
 fn civil_with(digits: Digits) -> Option<DateTime>
     requires { AreSmall digits }
     ensures { MatchOption result
