@@ -27,7 +27,7 @@ fn main(rt: HostRuntime) -> io::Result<ExitCode> {
     Ok(ExitCode::from(status.code()))
 }
 
-/// The process's words. Where one is not UTF-8 they are none of the program's lines, as no words are.
+/// The process's arguments. If one is not UTF-8, returns an empty list; `run` reports that as bad arguments.
 fn words(rt: &HostRuntime) -> io::Result<Vec<String>> {
     match env::args(rt) {
         Ok(words) => Ok(words.collect(rt.alloc())?),
