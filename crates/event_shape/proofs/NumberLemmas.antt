@@ -1,5 +1,6 @@
 -- Unsigned numbers without an exponent: `whole_with_places`, `whole_alone`; a sign: `minus_number`, `plain_number`; the digits: `plain_is` and `plain_reads`.
-use Rattle.std.proofs.Common.{◌≡◌, ◌≢◌, ℕ, zero, suc, ◌^◌, ◌<◌, inl, inr, ◌↔◌, true, false, ◌==◌, Result, Ok, List, [], ◌∷◌, ◌++◌, length, get_or, sym, ap, ◌∙◌, subst, refl, decimal, arith, append-nil}
+use Rattle.std.proofs.Common.{◌≡◌, ◌≢◌, ℕ, zero, suc, ◌^◌, ◌<◌, inl, inr, ◌↔◌, true, false, ◌==◌, Result, Ok, List, [], ◌∷◌, ◌++◌, length}
+use Rattle.std.proofs.Common.{get_or, sym, ap, ◌∙◌, subst, refl, decimal, arith, append-nil}
 use Rattle.std.specs.Str.Parse.{AllDigits, digits_value, ParsesUnsigned}
 use Rattle.std.specs.Char.{digit_value, is_ascii_digit}
 use Rattle.std.specs.List.{list_all}

@@ -27,8 +27,43 @@ all_bytes (x ∷ xs) h zero d lt = h.0
 all_bytes (x ∷ xs) h (suc k) d lt = all_bytes xs h.1 k d (omega (arith, lt))
 
 id_bytes : (n : ℕ) → AreBytes (to_be_bytes w128 n)
-id_bytes n =
-    (omega arith, (omega arith, (omega arith, (omega arith, (omega arith, (omega arith, (omega arith, (omega arith, (omega arith, (omega arith, (omega arith, (omega arith, (omega arith, (omega arith, (omega arith, (omega arith, tt))))))))))))))))
+id_bytes n = (
+  omega arith,
+  (
+    omega arith,
+    (
+      omega arith,
+      (
+        omega arith,
+        (
+          omega arith,
+          (
+            omega arith,
+            (
+              omega arith,
+              (
+                omega arith,
+                (
+                  omega arith,
+                  (
+                    omega arith,
+                    (
+                      omega arith,
+                      (
+                        omega arith,
+                        (omega arith, (omega arith, (omega arith, (omega arith, tt)))),
+                      ),
+                    ),
+                  ),
+                ),
+              ),
+            ),
+          ),
+        ),
+      ),
+    ),
+  ),
+)
 
 pub id_parsed : (n : ℕ) → Some (to_be_bytes w128 (id_base + n)) ≡ parsed (event_id n)
 id_parsed n = parses_hyphenated lower (to_be_bytes w128 (id_base + n)) (inl refl) refl (all_bytes (to_be_bytes w128 (id_base + n)) (id_bytes (id_base + n)))

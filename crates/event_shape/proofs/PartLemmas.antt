@@ -1,6 +1,7 @@
 -- From an event's tree to its parts and back: `values_are`, `parts_are`, `parts_valid`.
 -- What `Event::read` returns: `read_as`, `found_as`, `only_as`, `none_as`.
-use Rattle.std.proofs.Common.{◌≡◌, ◌≢◌, ℕ, ◌≤◌, Option, Some, None, Result, Ok, Err, IfOk, MatchOption, MatchResult, All, List, [], ◌∷◌, ◌++◌, map, sym, ap, ◌∙◌, subst, refl, arith}
+use Rattle.std.proofs.Common.{◌≡◌, ◌≢◌, ℕ, ◌≤◌, Option, Some, None, Result, Ok, Err, IfOk, MatchOption, MatchResult, All, List, [], ◌∷◌}
+use Rattle.std.proofs.Common.{◌++◌, map, sym, ap, ◌∙◌, subst, refl, arith}
 use Rattle.std.proofs.lemmas.List.Elements.{All-nil, All-cons}
 use Rattle.json_text.specs.Tree.{Tree, text, list, object, items_of, members_of}
 use Rattle.json_text.specs.View.{tree_of, trees_of, pairs_of}

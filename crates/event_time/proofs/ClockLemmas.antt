@@ -1,5 +1,6 @@
 -- Digits in their places: `writes_once`; a date and a clock by their digits: `civil_text`, `seconds_same`, `text_writes`, `digits_shown`.
-use Rattle.std.proofs.Common.{◌≡◌, ℕ, ◌+◌, ◌/◌, ◌%◌, ◌<◌, inl, ◌↔◌, ℤ, pos, negsuc, ◌<ℤ◌, ◌*ℤ◌, List, [], ◌∷◌, ◌++◌, sym, ap, ◌∙◌, subst, refl, arith, codes, rules}
+use Rattle.std.proofs.Common.{◌≡◌, ℕ, ◌+◌, ◌/◌, ◌%◌, ◌<◌, inl, ◌↔◌, ℤ, pos, negsuc, ◌<ℤ◌, ◌*ℤ◌, List, [], ◌∷◌, ◌++◌, sym, ap, ◌∙◌, subst}
+use Rattle.std.proofs.Common.{refl, arith, codes, rules}
 use Rattle.jiff_core.specs.declared.civil.date.Date.{Date}
 use Rattle.jiff_core.specs.declared.civil.datetime.DateTime.{DateTime}
 use Rattle.jiff_core.specs.Calendar.{days_from_civil}

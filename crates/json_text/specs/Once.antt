@@ -4,7 +4,7 @@ use Rattle.json_text.specs.Node.{Node, first_repeat}
 use Rattle.json_text.specs.declared.fault.JsonFault.{JsonFault}
 use Rattle.json_text.specs.declared.fault.JsonFault.TheVariants.{NotJson, TooDeep, KeyTwice, NoMemory}
 
--- of a JSON text: the first repeated key, or want of memory
+-- of a JSON text: the first repeated key, or out of memory
 abbrev pub IsRepeatOrMemory : Node → JsonFault → Type 0
 IsRepeatOrMemory n (NotJson at) = ⊥
 IsRepeatOrMemory n (TooDeep at) = ⊥
