@@ -4,7 +4,7 @@
     bench/leaves.py [wildcards] [ranges] [json] [events]
 
 Run at the top of the repository, once `rt run` in crates/leaf_bench has built crates/leaf_bench/out/leaf_bench.
-Where c++ and Debian's rapidjson-dev are installed, RapidJSON's rates stand beside ours. Outside the gate: nothing
+If c++ and Debian's rapidjson-dev are installed, RapidJSON's rates are shown beside ours. Outside the gate: nothing
 depends on a time.
 """
 import datetime
@@ -36,7 +36,7 @@ WILDCARDS = [
     ("like_characters_run", [10_237], [262_144]),
 ]
 
-# Measurement, and for so many ranges the numbers that lie in none, in one and in all of them.
+# Measurement, and for a number of ranges the numbers that are in none, in one and in all of them.
 RANGES = [
     ("ranges_disjoint", lambda count: {"none": 7, "one": 3}),
     ("ranges_nested", lambda count: {"none": 2 * count + 1, "one": 0, "all": count}),
@@ -149,7 +149,7 @@ def events():
 
 
 def built_rapidjson(folder):
-    """The program for RapidJSON, or nothing where it cannot be built here."""
+    """The program for RapidJSON, or nothing if it cannot be built here."""
     program = os.path.join(folder, "rapidjson")
     if not shutil.which("c++") or not os.path.exists("/usr/include/rapidjson"):
         return None

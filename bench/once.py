@@ -3,8 +3,8 @@
 
     bench/once.py [COUNT ..]
 
-Run at the top of the repository; COUNT is 1000, 10000 and 100000 if left out. The requests lie in the program's input
-one behind another, while its replies are read. Its peak memory is read from the system while its input is still open.
+Run at the top of the repository; COUNT is 1000, 10000 and 100000 if left out. The requests are written to the program's
+input one after another, while its replies are read. Its peak memory is read from the system while its input is still open.
 Outside the gate: nothing depends on a time.
 """
 import datetime
@@ -50,7 +50,7 @@ def peak_of(pid):
 
 
 def run(text, wanted, command=EBUSD):
-    """The seconds of one run until so many replies have come, those of the whole, its peak memory, and its last reply."""
+    """The seconds of one run until the wanted number of replies has come, those of the whole, its peak memory, and its last reply."""
     start = time.perf_counter()
     ran = subprocess.Popen([command, *WORDS], stdin=subprocess.PIPE, stdout=subprocess.PIPE, bufsize=0)
     timer = threading.Timer(LIMIT, ran.kill)

@@ -17,16 +17,16 @@ bin/ebusd once --now 0 </dev/null >"$room/replies" || {
   exit 1
 }
 
-# Adds to `why` where file $3, which is $1, is not what file $2 wants.
+# Adds to `why` if file $3, which is $1, differs from file $2, the wanted one.
 compare() {
   cmp -s "$2" "$3" && return
   local parts
   parts=$(cmp "$2" "$3" 2>&1 | sed -n 's/.* differ: byte \([0-9]*\), line \([0-9]*\).*/ from byte \1, line \2/p')
-  why+="; $1 has $(wc -c <"$3") bytes, $(wc -c <"$2") are wanted, and they differ${parts:- where the shorter ends}"
+  why+="; $1 has $(wc -c <"$3") bytes, $(wc -c <"$2") are wanted, and they differ${parts:- at the end of the shorter}"
 }
 
-# Compares the last run, named $name, with the files of replies, faults and status that $1, $2 and $3 name.
-judge() {
+# Checks the last run, named $name, against the files of replies, faults and status that $1, $2 and $3 name.
+check_run() {
   local why=
   compare "standard output" "$1" "$room/replies"
   compare "standard error" "$2" "$room/faults"
@@ -65,7 +65,7 @@ for file in examples/*.http; do
   name=${name%.http}
   program "$name" <"$file" >"$room/replies"
   status=$?
-  judge "examples/$name.replies" "examples/$name.faults" "examples/$name.status"
+  check_run "examples/$name.replies" "examples/$name.faults" "examples/$name.status"
   [[ $name == first-run ]] && found=yes
 done
 if [[ ! $found ]]; then
@@ -76,7 +76,7 @@ fi
 name="first-run, byte by byte"
 slowly examples/first-run.http | program first-run >"$room/replies"
 status=${PIPESTATUS[1]}
-judge examples/first-run.replies examples/first-run.faults examples/first-run.status
+check_run examples/first-run.replies examples/first-run.faults examples/first-run.status
 
 name="first-run, to a full device"
 program first-run <examples/first-run.http >/dev/full
@@ -85,14 +85,14 @@ status=$?
 : >"$room/no-reply"
 echo "ebusd: output failed" >"$room/wanted-faults"
 echo 4 >"$room/wanted-status"
-judge "$room/no-reply" "$room/wanted-faults" "$room/wanted-status"
+check_run "$room/no-reply" "$room/wanted-faults" "$room/wanted-status"
 
 name="a folder as input"
 program first-run <examples >"$room/replies"
 status=$?
 echo "ebusd: input failed" >"$room/wanted-faults"
 echo 3 >"$room/wanted-status"
-judge "$room/no-reply" "$room/wanted-faults" "$room/wanted-status"
+check_run "$room/no-reply" "$room/wanted-faults" "$room/wanted-status"
 
 echo "$passed passed, $failed failed"
 [[ $failed == 0 ]]

@@ -2,7 +2,7 @@
 """Runs bin/ebusd at its limits, with inputs too large to be stored, and compares each reply with what is written here.
 
 A text that is one byte too long for its target is dropped, and one at the limit is delivered whole; a session serves
-1,048,576 requests and no more; where the system gives no memory the status is 7. A run that fails has a line. The last
+1,048,576 requests and no more; if the system gives no memory the status is 7. A run that fails has a line. The last
 line is `N passed, M failed`.
 """
 import json
@@ -60,7 +60,7 @@ def run(pieces, command=EBUSD, memory=None):
 
 
 def text_of_length(wanted):
-    """The requests that publish an event whose text has so many bytes, their replies, and that text."""
+    """The requests that publish an event whose text has this number of bytes, their replies, and that text."""
     kind = "k"
     letters = wanted - len(ENVELOPE % ("k", ""))
     kind += "k" * (letters % 6)
@@ -79,41 +79,41 @@ def text_of_length(wanted):
         message("RouterLocal.DeliverDue", "{}"),
         message("RouterLocal.PeekMessages", '{"QueueName":"q"}'),
     ]
-    told = [
+    replies = [
         reply("200 OK", '{"QueueArn":"%s"}' % QUEUE),
         reply("200 OK", '{"RuleArn":"arn:aws:events:us-east-1:111122223333:rule/r"}'),
         reply("200 OK", '{"FailedEntryCount":0,"FailedEntries":[]}'),
         reply("200 OK", '{"FailedEntryCount":0,"Entries":[{"EventId":"00000000-0000-8000-8000-000000000001"}]}'),
     ]
-    return asked, told, text
+    return asked, replies, text
 
 
 def a_text_at_the_limit_is_delivered():
-    asked, told, text = text_of_length(TEXT_LIMIT)
+    asked, replies, text = text_of_length(TEXT_LIMIT)
     body = text.replace("\\", "\\\\").replace('"', '\\"')
-    told += [
+    replies += [
         reply("200 OK", '{"Attempts":1,"Delivered":1,"DeadLettered":0,"Dropped":0}'),
         reply("200 OK", '{"Messages":[{"Number":1,"Body":"%s","Attributes":{}}]}' % body),
     ]
-    return run(asked), (b"".join(told), b"", 0)
+    return run(asked), (b"".join(replies), b"", 0)
 
 
 def a_text_past_the_limit_is_dropped_at_its_making():
-    asked, told, _text = text_of_length(TEXT_LIMIT + 1)
-    told += [
+    asked, replies, _text = text_of_length(TEXT_LIMIT + 1)
+    replies += [
         reply("200 OK", '{"Attempts":0,"Delivered":0,"DeadLettered":0,"Dropped":0}'),
         reply("200 OK", '{"Messages":[]}'),
     ]
-    return run(asked), (b"".join(told), b"", 0)
+    return run(asked), (b"".join(replies), b"", 0)
 
 
-def a_session_ends_behind_its_last_request():
+def a_session_ends_after_its_last_request():
     one = message("RouterLocal.Nothing", "")
     block = 4096
     pieces = (one * block for _ in range(REQUEST_LIMIT // block + 1))
     unknown = '{"__type":"UnknownOperationException","message":"Unknown operation."}'
-    told = reply("400 Bad Request", unknown) * (REQUEST_LIMIT - 1) + reply("400 Bad Request", unknown, close=True)
-    return run(pieces), (told, b"ebusd: request limit reached\n", 10)
+    replies = reply("400 Bad Request", unknown) * (REQUEST_LIMIT - 1) + reply("400 Bad Request", unknown, close=True)
+    return run(pieces), (replies, b"ebusd: request limit reached\n", 10)
 
 
 def least_memory():
@@ -129,13 +129,13 @@ def least_memory():
     return high
 
 
-def where_memory_is_refused_the_status_is_7():
+def out_of_memory_the_status_is_7():
     entries = '{"Entries":[{"Source":"%s"}]}' % ("x" * 1_000_000)
     asked = [message("RouterLocal.Nothing", ""), message("AWSEvents.PutEvents", entries)]
     unknown = '{"__type":"UnknownOperationException","message":"Unknown operation."}'
     refused = '{"__type":"NoMemory","message":"Out of memory."}'
-    told = reply("400 Bad Request", unknown) + reply("503 Service Unavailable", refused, close=True)
-    return run(asked, PROGRAM, least_memory() + (1 << 18)), (told, b"ebusd: out of memory\n", 7)
+    replies = reply("400 Bad Request", unknown) + reply("503 Service Unavailable", refused, close=True)
+    return run(asked, PROGRAM, least_memory() + (1 << 18)), (replies, b"ebusd: out of memory\n", 7)
 
 
 def first_difference(got, wanted):
@@ -148,8 +148,8 @@ def main():
     for case in (
         a_text_at_the_limit_is_delivered,
         a_text_past_the_limit_is_dropped_at_its_making,
-        a_session_ends_behind_its_last_request,
-        where_memory_is_refused_the_status_is_7,
+        a_session_ends_after_its_last_request,
+        out_of_memory_the_status_is_7,
     ):
         got, wanted = case()
         whys = []
