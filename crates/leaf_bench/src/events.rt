@@ -1,4 +1,4 @@
-//! One publisher's entry, checked, made into an event and written again and again.
+//! One publisher's entry, checked, made into an event and written, repeatedly.
 use anyhow::Result;
 use event_shape::{Event, EventEntry, OWNER, check};
 use json_text::Text;
@@ -8,14 +8,14 @@ use std::time::{Duration, Instant};
 
 const NOVEMBER_2023: u64 = 1_700_000_000;
 
-/// How many bytes the event's text has, and how long so many events took from entry to text.
+/// The number of bytes of the event's text, and the time that all events took from entry to text.
 #[derive(Clone, Copy)]
 pub struct Figures {
     pub bytes: usize,
     pub took: Duration,
 }
 
-/// Makes so many events with this detail.
+/// Makes events with this detail.
 pub fn measure(rt: &impl Clock, alloc: Global, detail: &str, rounds: u32) -> Result<Figures> {
     let mut bytes = 0;
     let start = Instant::now(rt)?;

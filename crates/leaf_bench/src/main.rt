@@ -1,10 +1,10 @@
-//! Measures the calls of a leaf crate: `leaf_bench WORD SIZE NUMBER`. The answer goes to stdout, the
+//! Measures the calls of a leaf crate: `leaf_bench WORD SIZE NUMBER`. The result goes to stdout, the
 //! microseconds to stderr.
 //!
 //! - `wild_*`, `like_*`: a pattern of SIZE letters on a text of NUMBER.
 //! - `ranges_*`: SIZE ranges, made once, and NUMBER looked up a thousand times.
-//! - `json`: standard input, read and written SIZE times; NUMBER is not looked at.
-//! - `events`: SIZE events with standard input as their detail; NUMBER is not looked at.
+//! - `json`: standard input, read and written SIZE times; NUMBER is ignored.
+//! - `events`: SIZE events with standard input as their detail; NUMBER is ignored.
 #![tactic(auto)]
 
 mod events;

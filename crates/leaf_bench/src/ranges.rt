@@ -1,4 +1,4 @@
-//! Ranges of numbers in four shapes, and a number that lies in none of them, in one, or in all.
+//! Ranges of numbers in four shapes, and a number that is in none of them, in one, or in all.
 ghost use Rattle.std.specs.Prelude.{◌≡◌, ◌<◌, IfOk, All, length};
 
 use anyhow::{Result, bail};
@@ -7,7 +7,7 @@ use std::alloc::Global;
 use std::rt::Clock;
 use std::time::{Duration, Instant};
 
-/// How often `hits` is called, since one call takes less than the clock can tell.
+/// The number of calls of `hits`, since one call is too short for the clock.
 const ROUNDS: u32 = 1000;
 
 #[derive(Clone, Copy)]
@@ -18,7 +18,7 @@ enum Shape {
     Equal,
 }
 
-/// Whether the number was hit, and how long one call of `Ranges::of` took and a thousand of `hits`.
+/// Whether the number was hit, and the times of one call of `Ranges::of` and of a thousand of `hits`.
 #[derive(Clone, Copy)]
 pub struct Figures {
     pub hit: bool,
@@ -26,7 +26,7 @@ pub struct Figures {
     pub found: Duration,
 }
 
-/// The measurement that the word names, over so many ranges and at this number.
+/// The measurement that the word names, over `size` ranges and at `number`.
 pub fn measure(
     rt: &impl Clock,
     alloc: Global,
@@ -68,7 +68,7 @@ fn shape_of(word: &str) -> Result<Shape> {
     })
 }
 
-/// So many ranges of the shape, each with mark 0.
+/// Ranges of the shape, each with mark 0.
 fn shaped(alloc: Global, shape: Shape, size: u32) -> Result<Vec<(i64, i64, u32)>>
     ensures { IfOk result (λ ranges. All (λ range. range.2 < 1) ranges.items) }
 {

@@ -1,11 +1,11 @@
-//! JSON texts, read and written again and again.
+//! JSON texts, read and written repeatedly.
 use anyhow::Result;
 use json_text::{Bytes, read, write};
 use std::alloc::Global;
 use std::rt::Clock;
 use std::time::{Duration, Instant};
 
-/// How many bytes the value is written in, and how long so many calls of `read` and of `write` took.
+/// The number of bytes of the written value, and the times of all calls of `read` and of `write`.
 #[derive(Clone, Copy)]
 pub struct Figures {
     pub bytes: usize,
@@ -13,7 +13,7 @@ pub struct Figures {
     pub written: Duration,
 }
 
-/// Reads the text so often, and writes its value as often.
+/// Reads the text and writes its value, the given number of times each.
 pub fn measure(rt: &impl Clock, alloc: Global, text: &[u8], rounds: u32) -> Result<Figures> {
     let start = Instant::now(rt)?;
     for _ in 0..rounds {

@@ -1,4 +1,4 @@
-//! Patterns that fit no prefix of a text but nearly, so that each place of the text is tried.
+//! Patterns that almost fit a text, so that each place of the text is tried.
 use anyhow::{Result, bail};
 use leaf_match::{Wild, like, wild};
 use std::alloc::Global;
