@@ -1,4 +1,4 @@
--- A request has one answer at most. Callers cite `one_answer`; members of an entry without a fault, and what it becomes, are one on the way.
+-- A request has at most one answer: `one_answer`, which the law of src/laws.rt cites. The other lemmas lead to it.
 use Rattle.std.proofs.Common.{◌≡◌, ℕ, ◌+◌, ◌<◌, ◌≤◌, ◌⊎◌, inl, inr, List, [], ◌∷◌, ◌++◌, map, None, sym, refl, ap, ◌∙◌, subst, arith}
 use Rattle.json_text.specs.Tree.{Tree}
 use Rattle.json_text.specs.Compact.{compact_text}
@@ -37,7 +37,7 @@ duties_once : (bus : List ℕ) (rules : List Rule) (event : Tree) (shown : List 
     → AreDuties bus rules event shown es → ds ≡ es
 duties_once bus rules event shown ds es (xs, are, d) (ys, so, e) = d ∙ ap (map (duty_of shown)) (matched_once bus rules event xs ys are so) ∙ sym e
 
--- ---- what an entry is accepted as
+-- ---- the event of an accepted entry
 
 abbrev accepted_from : ℕ → List ℕ → ℕ → ℕ → List ℕ → List NewDuty → batch.Accepted
 accepted_from n b v t shown ds = record { number = n; bus = b; k = v; time = t; text = shown; duties = ds }
@@ -72,7 +72,7 @@ events_once set reading n (entry ∷ entries) xs ys (a, rest, e, one, more) (b, 
     e ∙ ap (λ (x : batch.Accepted). x ∷ rest) (accepted_once set reading n entry a b one also)
     ∙ ap (λ (es : List batch.Accepted). b ∷ es) (events_once set reading (n + 1) entries rest other more others) ∙ sym f
 
--- entries that are all accepted have no fault
+-- if all entries are accepted, none has a fault
 none_faulty : (set : RuleSet) (reading n : ℕ) (entries : List Entry) (events : List batch.Accepted)
     → AreAccepted set reading n entries events → ¬ HasFaulty entries
 none_faulty set reading n [] events p h = absurd (omega (arith, h.2))
@@ -82,7 +82,7 @@ none_faulty set reading n (entry ∷ entries) events (a, others, e, (c, is, p), 
       | inr rest ↦ none_faulty set reading (n + 1) entries others more rest
     ]
 
--- ---- what a request is answered
+-- ---- the answer to a request
 
 controlled_once : (t : Tables) (moment : ℕ) (control : Control) (reply : Reply) (a b : Answer) → IsControlled t moment control reply a
     → IsControlled t moment control reply b → a ≡ b
