@@ -192,21 +192,36 @@ fn fault_of(alloc: Global, entry: EventEntry) -> Result<Option<EntryFault>, Fail
 
 #[test]
 fn an_event_has_its_exact_text(rt: HostRuntime) -> Result<(), Fail> {
-    let alloc = rt.alloc();
+    let event = first_event(rt.alloc())?;
+    let text = event.text(rt.alloc(), None)?;
+    assert_eq!(rt; text.as_str(), FIRST);
+    Ok(())
+}
+
+#[test]
+fn a_replayed_event_ends_in_the_replays_name(rt: HostRuntime) -> Result<(), Fail> {
+    let event = first_event(rt.alloc())?;
+    let replayed = event.text(rt.alloc(), Some("nightly"))?;
+    assert!(rt;
+        replayed.as_str().ends_with("\"detail\":{\"total\":12.50},\"replay-name\":\"nightly\"}")
+    );
+    assert!(rt; !is_read(rt.alloc(), replayed.as_str())?);
+    Ok(())
+}
+
+fn first_event(alloc: Global) -> Result<Event, Fail> {
     let checked = check(
         alloc,
         entry(alloc, "shop.orders", "Order", "{\"total\":12.50}")?,
     )?;
+    Ok(Event::make(alloc, checked, 1, 1_700_000_000, "111122223333")?)
+}
+
+#[test]
+fn an_event_has_its_moment_and_an_entry_its_bus(rt: HostRuntime) -> Result<(), Fail> {
+    assert_eq!(rt; first_event(rt.alloc())?.moment(), 1_700_000_000);
+    let checked = check(rt.alloc(), entry(rt.alloc(), "a", "b", "{}")?)?;
     assert_eq!(rt; checked.bus(), "default");
-    let event = Event::make(alloc, checked, 1, 1_700_000_000, "111122223333")?;
-    assert_eq!(rt; event.moment(), 1_700_000_000);
-    let text = event.text(alloc, None)?;
-    assert_eq!(rt; text.as_str(), FIRST);
-    let replayed = event.text(alloc, Some("nightly"))?;
-    assert!(rt;
-        replayed.as_str().ends_with("\"detail\":{\"total\":12.50},\"replay-name\":\"nightly\"}")
-    );
-    assert!(rt; !is_read(alloc, replayed.as_str())?);
     Ok(())
 }
 
@@ -310,12 +325,21 @@ fn a_size_is_the_sum_of_its_bytes(rt: HostRuntime) -> Result<(), Fail> {
     assert_eq!(rt; size(&entry), 18);
     entry.bus = Some(Text::from_str(alloc, "shop")?);
     assert_eq!(rt; size(&entry), 18);
+    Ok(())
+}
+
+#[test]
+fn a_long_entry_is_measured(rt: HostRuntime) -> Result<(), Fail> {
     for (letters, sum) in [(262_134, 262_144), (262_135, 262_145)] {
-        let letters = letters_of(alloc, letters)?;
-        let detail = format!(in alloc; "{{\"p\":\"{letters}\"}}")?;
-        let long = self::entry(alloc, "a", "b", detail.as_str())?;
+        let long = long_entry(rt.alloc(), letters)?;
         assert_eq!(rt; size(&long), sum);
-        assert_eq!(rt; fault_of(alloc, long)?, None);
+        assert_eq!(rt; fault_of(rt.alloc(), long)?, None);
     }
     Ok(())
+}
+
+fn long_entry(alloc: Global, letters: usize) -> Result<EventEntry, Fail> {
+    let letters = letters_of(alloc, letters)?;
+    let detail = format!(in alloc; "{{\"p\":\"{letters}\"}}")?;
+    entry(alloc, "a", "b", detail.as_str())
 }
