@@ -43,3 +43,7 @@ pub(crate) const DROPPED_REPLY: &str =
 /// The reply to `PEEK_MESSAGES` if the queue is empty.
 pub(crate) const NO_MESSAGES_REPLY: &str =
     "HTTP/1.1 200 OK\r\nContent-Type: application/x-amz-json-1.1\r\nContent-Length: 15\r\n\r\n{\"Messages\":[]}";
+
+/// The reply to `PEEK_MESSAGES` if the event was put at the last moment, 250,000,000,000 seconds after the start of 1970.
+pub(crate) const LAST_MOMENT_REPLY: &str =
+    "HTTP/1.1 200 OK\r\nContent-Type: application/x-amz-json-1.1\r\nContent-Length: 307\r\n\r\n{\"Messages\":[{\"Number\":1,\"Body\":\"{\\\"version\\\":\\\"0\\\",\\\"id\\\":\\\"00000000-0000-8000-8000-000000000001\\\",\\\"detail-type\\\":\\\"Order\\\",\\\"source\\\":\\\"shop.orders\\\",\\\"account\\\":\\\"111122223333\\\",\\\"time\\\":\\\"9892-03-08T12:26:40Z\\\",\\\"region\\\":\\\"us-east-1\\\",\\\"resources\\\":[],\\\"detail\\\":{\\\"total\\\":12.50}}\",\"Attributes\":{}}]}";

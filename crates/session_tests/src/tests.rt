@@ -1,7 +1,7 @@
 use crate::first_run::{
     CREATE_QUEUE, CREATE_QUEUE_REPLY, DELIVER_DUE, DELIVER_DUE_REPLY, DROPPED_REPLY,
-    NO_MESSAGES_REPLY, PEEK_MESSAGES, PEEK_MESSAGES_REPLY, PUT_EVENTS, PUT_EVENTS_REPLY, PUT_RULE,
-    PUT_RULE_REPLY, PUT_TARGETS, PUT_TARGETS_REPLY,
+    LAST_MOMENT_REPLY, NO_MESSAGES_REPLY, PEEK_MESSAGES, PEEK_MESSAGES_REPLY, PUT_EVENTS,
+    PUT_EVENTS_REPLY, PUT_RULE, PUT_RULE_REPLY, PUT_TARGETS, PUT_TARGETS_REPLY,
 };
 use bus_server::{Book, SessionEnd, run_session};
 use json_text::NoMemory;
@@ -158,6 +158,28 @@ fn a_delivery_has_the_reading_of_its_own_step(rt: HostRuntime) -> Result<(), Fai
             PUT_EVENTS_REPLY,
             DROPPED_REPLY,
             NO_MESSAGES_REPLY,
+        ],
+    )?;
+    assert_eq!(rt; output.bytes(), want.as_slice());
+    Ok(())
+}
+
+#[test]
+fn a_reading_past_the_last_moment_counts_as_the_last_moment(rt: HostRuntime) -> Result<(), Fail> {
+    let mut input = MemSource::new(messages(rt.alloc())?);
+    let mut output = MemSink::new(rt.alloc());
+    let mut clock = MemClock::always(rt.alloc(), 250_000_000_001);
+    let end = session(rt.alloc(), &mut input, &mut output, &mut clock)?;
+    assert_eq!(rt; end, SessionEnd::Closed);
+    let want = joined(
+        rt.alloc(),
+        &[
+            CREATE_QUEUE_REPLY,
+            PUT_RULE_REPLY,
+            PUT_TARGETS_REPLY,
+            PUT_EVENTS_REPLY,
+            DELIVER_DUE_REPLY,
+            LAST_MOMENT_REPLY,
         ],
     )?;
     assert_eq!(rt; output.bytes(), want.as_slice());
