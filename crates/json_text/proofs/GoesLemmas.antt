@@ -8,7 +8,7 @@ use Rattle.json_text.specs.declared.state.Kept.{Kept}
 use Rattle.json_text.specs.declared.state.Next.{Next}
 use Rattle.json_text.specs.declared.fault.JsonFault.{JsonFault}
 use Rattle.json_text.specs.declared.fault.JsonFault.TheVariants.{NotJson, TooDeep, KeyTwice, NoMemory}
-use Rattle.json_text.proofs.StepLemmas.{leads, stays_out}
+use Rattle.json_text.proofs.TokenRuns.{by_byte}
 
 -- the same fault where the same is read
 pub fails_same : (a b : Result Node Fault) (f : JsonFault) → a ≡ b → FailsSo b f → FailsSo a f
@@ -27,8 +27,8 @@ goes_same L s t place (Err f) ks repeat e g = fails_same (read_at L place s) (re
 pub led : (L : ℕ) (s next : State) (byte : ℕ) (place there : Place) → StartsWith byte place.rest.now → step L place.at s byte ≡ Ok next → there.at ≡ place.at + 1 → there.rest.now ≡ drop 1 place.rest.now
     → read_at L place s ≡ read_at L there next
 led L s next byte place there h goes at rest =
-    leads L place.at s next byte place.rest.now h goes ∙ ap (λ k. read_from L k next (drop 1 place.rest.now)) (sym at) ∙ ap (read_from L there.at next) (sym rest)
+    by_byte L place.at s byte place.rest.now (Ok next) h goes ∙ ap (λ k. read_from L k next (drop 1 place.rest.now)) (sym at) ∙ ap (read_from L there.at next) (sym rest)
 
 -- a byte that can't stand there
 pub barred : (L : ℕ) (s : State) (byte : ℕ) (place : Place) (f : JsonFault) → StartsWith byte place.rest.now → step L place.at s byte ≡ Err unexpected → f ≡ NotJson place.at → FailsSo (read_at L place s) f
-barred L s byte place f h goes is = subst (FailsSo (read_at L place s)) (sym is) (stays_out L place.at s byte place.rest.now h goes)
+barred L s byte place f h goes is = subst (FailsSo (read_at L place s)) (sym is) (by_byte L place.at s byte place.rest.now (Err unexpected) h goes)

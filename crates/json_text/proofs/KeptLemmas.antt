@@ -1,4 +1,4 @@
--- What the reader keeps, as it goes on: `put_whole`, `put_in_list`, `put_in_object`; a key and its place: `key_waits`.
+-- What the reader keeps, as it goes on: `put_in_list`, `put_in_object`; a key and its place: `key_waits`.
 use Rattle.std.proofs.Common.{◌≡◌, ℕ, suc, ◌+◌, List, [], ◌∷◌, ◌++◌, length, map, reverse, Bool, true, false, Option, Some, None, refl, sym, ap, ◌∙◌, subst, arith, cond, if◌then◌else◌, ◌||◌, ◌⊎◌, inl, inr}
 use Rattle.std.specs.Prelude.{unwrap_or}
 use Rattle.std.proofs.lemmas.Slice.Eq.{bytes_eq-Decides}
@@ -66,10 +66,6 @@ keeps_last ks k (w ∷ rest) h = let g : KeepsAll (k ∷ reverse ks) (w ∷ rest
 -- a list or an object more waits
 pub keeps_more : (ks : List Kept) (k : Kept) (outer : List Waiting) (w : Waiting) → KeepsAll (reverse ks) outer → Keeps k w → KeepsAll (reverse (ks ++ k ∷ [])) (w ∷ outer)
 keeps_more ks k outer w h here = rw reverse-append (here, h)
-
-pub put_whole : (outer : List Waiting) → KeepsAll [] outer → outer ≡ []
-put_whole [] h = refl
-put_whole (w ∷ outer) h = absurd h
 
 -- whether a member has the key
 abbrev has : {V : Type 0} → List ℕ → List (List ℕ × V) → Bool

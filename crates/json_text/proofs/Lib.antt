@@ -1,30 +1,37 @@
-pub mod Choices
-pub mod CompactLemmas
-pub mod Completes
+-- The idea of the proof, lowest layer first. What may still come at each state of the reader is a predicate by cases on the bytes
+-- (Following). Inside a token it is what the number's and the string's machine take, and `NumberReads` and `CharacterReads` show,
+-- in both directions, that this is the grammar's spelling. `Productions` shows the same of values, lists and objects: they are the
+-- same sequence of other elements. One byte leads from what may follow it to what may follow with it, and back (ByteSteps), so the
+-- machine reads exactly the texts of the grammar (WholeTexts). Each state has some text to come (Completions), and a byte does the
+-- same at one level more but for a bracket (OneLevelMore). So the place of a fault is the longest front of some text (TextReads).
+-- The code does what the machine does: a token by itself (StringScan, UnitScan), the same token within a text (TokenRuns,
+-- TurnLemmas), one byte between tokens (StepLemmas), what the reader keeps (KeptLemmas, ObjectLemmas). The public clauses follow
+-- (ReadLemmas). What is written is spelled (CompactLemmas, SpelledBack) and UTF-8 (WrittenUtf8).
 pub mod Encoded
-pub mod Fares
-pub mod GoesLemmas
-pub mod Joined
-pub mod KeptLemmas
+pub mod Following
 pub mod NumberReads
-pub mod NumberText
-pub mod ObjectLemmas
-pub mod OneValue
-pub mod ReadSpelled
-pub mod ReaderLemmas
-pub mod Rest
-pub mod Runs
-pub mod SpelledBack
-pub mod SpelledRead
-pub mod StepLemmas
-pub mod StringReads
-pub mod StringRuns
-pub mod StringScan
+pub mod CharacterReads
+pub mod Productions
+pub mod ReadingSteps
+pub mod ByteSteps
+pub mod WholeTexts
+pub mod Completions
+pub mod OneLevelMore
 pub mod TextReads
+pub mod NumberText
+pub mod StringScan
+pub mod UnitScan
 pub mod TokenRuns
 pub mod TurnLemmas
-pub mod UnitScan
-pub mod ValueLemmas
+pub mod StepLemmas
+pub mod ReaderLemmas
+pub mod GoesLemmas
 pub mod ViewLemmas
-pub mod WrittenUtf8
+pub mod ObjectLemmas
+pub mod KeptLemmas
+pub mod ValueLemmas
 pub mod ReadLemmas
+pub mod OneValue
+pub mod CompactLemmas
+pub mod SpelledBack
+pub mod WrittenUtf8

@@ -1,10 +1,18 @@
--- A number's machine reads exactly the spellings of numbers.
-use Rattle.std.proofs.Common.{◌≡◌, ℕ, ◌≤◌, true, false, not, ◌||◌, ◌==◌, List, [], ◌∷◌, ◌++◌, Option, Some, None, inl, inr, ⊎_elim, refl, sym, ap, ◌∙◌, subst, arith, eqb-true, eq-eqb, ne_eqb, leb-true}
+-- A number's machine reads exactly the spellings of numbers: `starts`, `minus_number`, `zero_number`, `int_number`. What may still
+-- come inside a number: `digits_spelled`, `digits_from`. Which way a test went: `choose`.
+use Rattle.std.proofs.Common.{◌≡◌, ℕ, true, false, ◌||◌, ◌==◌, List, [], ◌∷◌, ◌++◌, Option, Some, None, inl, inr, refl, sym, ap, ◌∙◌, subst, arith, eqb-true, eq-eqb}
 use Rattle.std.specs.Char.{is_ascii_digit}
-use Rattle.std.proofs.lemmas.Bool.{and_parts, or_cases, cond-true, cond-false, not-true}
-use Rattle.json_text.proofs.Choices.{choose, or_none}
+use Rattle.std.proofs.lemmas.Bool.Decides.{nat_tests}
+use Rattle.std.proofs.lemmas.Bool.{cond-true}
 use Rattle.json_text.specs.Number.{IsNumber, is_digit_above_zero, AreDigits, IsDigits, IsInt, IsFraction, IsSignedDigits, IsExponent, IsMinus}
 use Rattle.json_text.specs.Reading.{NumberPart, number_step, may_end, digit_goes, exponent_goes, minus, zero_int, int, point, fraction, exponent, exponent_sign, exponent_digits}
+use Rattle.std.proofs.Common.{Bool, subst, inl, inr, append_assoc, append-nil, cond}
+use Rattle.json_text.proofs.Following.{Digits}
+
+-- which way a test went
+pub choose : {P A : Type 0} (b : Bool) (x y z : A) → (b ≡ true → x ≡ z → P) → (b ≡ false → y ≡ z → P) → cond b x y ≡ z → P
+choose true x y z f g e = f refl e
+choose false x y z f g e = g refl e
 
 -- the bytes take a number from this part to an end
 abbrev pub Accepts : NumberPart → List ℕ → Type 0
@@ -125,34 +133,27 @@ int_number b t d h = let u = tail_of t int h in let v = u.4 in record {
   is_exponent = v.4;
 }
 
--- the other way
-digit_from : (b : ℕ) → is_ascii_digit b ≡ true → 48 ≤ b
-digit_from b t = leb-true 48 b (and_parts _ _ t).0
-
-digit_to : (b : ℕ) → is_ascii_digit b ≡ true → b ≤ 57
-digit_to b t = leb-true b 57 (and_parts _ _ t).1
-
-not_point : (b : ℕ) → is_ascii_digit b ≡ true → (b == 46) ≡ false
-not_point b t = let h : 48 ≤ b = digit_from b t in ne_eqb b 46 (λ e. omega arith)
-
-not_exponent : (b : ℕ) → is_ascii_digit b ≡ true → (b == 101) || (b == 69) ≡ false
-not_exponent b t = let h : b ≤ 57 = digit_to b t in or_none (b == 101) (b == 69) (ne_eqb b 101 (λ e. omega arith)) (ne_eqb b 69 (λ e. omega arith))
-
-not_sign : (b : ℕ) → is_ascii_digit b ≡ true → (b == 45) || (b == 43) ≡ false
-not_sign b t = let h : 48 ≤ b = digit_from b t in or_none (b == 45) (b == 43) (ne_eqb b 45 (λ e. omega arith)) (ne_eqb b 43 (λ e. omega arith))
-
-exponent_not_point : (b : ℕ) → (b == 101) || (b == 69) ≡ true → (b == 46) ≡ false
-exponent_not_point b t = ⊎_elim (λ e. let h : b ≡ 101 = eqb-true b 101 e in ne_eqb b 46 (λ e. omega arith)) (λ e. let h : b ≡ 69 = eqb-true b 69 e in ne_eqb b 46 (λ e. omega arith)) (or_cases _ _ t)
-
--- the parts that digits repeat
+-- the other way: the parts that digits repeat
 int_digit : (b : ℕ) → is_ascii_digit b ≡ true → number_step int b ≡ Some int
-int_digit b t = cond-false _ _ _ (not_point b t) ∙ (cond-false _ _ _ (not_exponent b t) ∙ cond-true _ _ _ t)
+int_digit b t = grind (arith, nat_tests)
 
 fraction_digit : (b : ℕ) → is_ascii_digit b ≡ true → number_step fraction b ≡ Some fraction
-fraction_digit b t = cond-false _ _ _ (not_exponent b t) ∙ cond-true _ _ _ t
+fraction_digit b t = grind (arith, nat_tests)
 
 exponent_digit : (b : ℕ) → is_ascii_digit b ≡ true → number_step exponent_digits b ≡ Some exponent_digits
 exponent_digit b t = cond-true _ _ _ t
+
+no_sign : (b : ℕ) → is_ascii_digit b ≡ true → number_step exponent b ≡ Some exponent_digits
+no_sign b t = grind (arith, nat_tests)
+
+zero_exponent : (b : ℕ) → (b == 101) || (b == 69) ≡ true → number_step zero_int b ≡ Some exponent
+zero_exponent b t = grind (arith, nat_tests)
+
+int_exponent : (b : ℕ) → (b == 101) || (b == 69) ≡ true → number_step int b ≡ Some exponent
+int_exponent b t = grind (arith, nat_tests)
+
+minus_digit : (b : ℕ) → is_digit_above_zero b ≡ true → number_step minus b ≡ Some int
+minus_digit b t = grind (arith, nat_tests)
 
 digits_accepted : (part : NumberPart) → ((b : ℕ) → is_ascii_digit b ≡ true → number_step part b ≡ Some part) → (ds t : List ℕ) → AreDigits ds → Accepts part t → Accepts part (ds ++ t)
 digits_accepted part f [] t d h = h
@@ -166,7 +167,7 @@ signed_accepted : (bs : List ℕ) → IsSignedDigits bs → Accepts exponent bs
 signed_accepted [] h = absurd h
 signed_accepted (b ∷ []) (inl h) = absurd h.1
 signed_accepted (b ∷ c ∷ ds) (inl h) = (exponent_sign, cond-true _ _ _ h.0, (exponent_digits, cond-true _ _ _ h.1.0, exponent_only ds h.1.1))
-signed_accepted (b ∷ bs) (inr h) = (exponent_digits, cond-false _ _ _ (not_sign b h.0) ∙ cond-true _ _ _ h.0, exponent_only bs h.1)
+signed_accepted (b ∷ bs) (inr h) = (exponent_digits, no_sign b h.0, exponent_only bs h.1)
 
 exponent_accepted : (part : NumberPart) → may_end part ≡ true → ((b : ℕ) → (b == 101) || (b == 69) ≡ true → number_step part b ≡ Some exponent) → (e : List ℕ) → IsExponent e → Accepts part e
 exponent_accepted part m f [] h = m
@@ -185,10 +186,10 @@ tail_accepted part m p g [] e i h = exponent_accepted part m g e h
 tail_accepted part m p g (b ∷ ds) e i h = (point, ap (λ x. number_step part x) i.0 ∙ p, point_accepted ds e i.1 h)
 
 zero_accepted : (f e : List ℕ) → IsFraction f → IsExponent e → Accepts zero_int (f ++ e)
-zero_accepted f e i h = tail_accepted zero_int refl refl (λ b t. cond-false _ _ _ (exponent_not_point b t) ∙ cond-true _ _ _ t) f e i h
+zero_accepted f e i h = tail_accepted zero_int refl refl zero_exponent f e i h
 
 int_accepted : (ds f e : List ℕ) → AreDigits ds → IsFraction f → IsExponent e → Accepts int (ds ++ (f ++ e))
-int_accepted ds f e d i h = digits_accepted int int_digit ds (f ++ e) d (tail_accepted int refl refl (λ b t. cond-false _ _ _ (exponent_not_point b t) ∙ cond-true _ _ _ t) f e i h)
+int_accepted ds f e d i h = digits_accepted int int_digit ds (f ++ e) d (tail_accepted int refl refl int_exponent f e i h)
 
 -- how a number begins, and the part that it begins with
 pub data Starts : List ℕ → Type 0 where
@@ -196,16 +197,10 @@ pub data Starts : List ℕ → Type 0 where
   with_zero : (t : List ℕ) → Accepts zero_int t → Starts (48 ∷ t)
   with_digit : (b : ℕ) (t : List ℕ) → is_digit_above_zero b ≡ true → Accepts int t → Starts (b ∷ t)
 
-above_not_zero : (b : ℕ) → is_digit_above_zero b ≡ true → (b == 48) ≡ false
-above_not_zero b t = not-true (b == 48) (and_parts _ _ t).1
-
-above_is_digit : (b : ℕ) → is_digit_above_zero b ≡ true → is_ascii_digit b ≡ true
-above_is_digit b t = (and_parts (is_ascii_digit b) (not (b == 48)) t).0
-
 minus_accepted : (i f e : List ℕ) → IsInt i → IsFraction f → IsExponent e → Accepts minus (i ++ (f ++ e))
 minus_accepted [] f e i u h = absurd i
 minus_accepted (b ∷ bs) f e (inl i) u h = subst (λ x. Accepts minus (b ∷ (x ++ (f ++ e)))) (sym i.1) (zero_int, cond-true _ _ _ (eq-eqb b 48 i.0), zero_accepted f e u h)
-minus_accepted (b ∷ bs) f e (inr i) u h = (int, cond-false _ _ _ (above_not_zero b i.0) ∙ cond-true _ _ _ (above_is_digit b i.0), int_accepted bs f e i.1 u h)
+minus_accepted (b ∷ bs) f e (inr i) u h = (int, minus_digit b i.0, int_accepted bs f e i.1 u h)
 
 int_starts : (i f e : List ℕ) → IsInt i → IsFraction f → IsExponent e → Starts (i ++ (f ++ e))
 int_starts [] f e i u h = absurd i
@@ -219,3 +214,22 @@ number_starts (b ∷ bs) i f e m n u h = subst (λ x. Starts (x ∷ (bs ++ (i ++
 -- each number begins so
 pub starts : (bytes : List ℕ) → IsNumber bytes → Starts bytes
 starts bytes n = subst Starts (sym n.spelled) (number_starts n.minus n.int n.fraction n.exponent n.is_minus n.is_int n.is_fraction n.is_exponent)
+
+-- the same by what may still come
+pub digits_spelled : (part : NumberPart) (spelling : List ℕ) (K : List ℕ → List ℕ → Type 0) (bytes : List ℕ) → Digits part spelling K bytes
+    → (tail back : List ℕ) × (bytes ≡ tail ++ back) × Accepts part tail × K (spelling ++ tail) back
+digits_spelled part spelling K [] h = ([], [], refl, h.0, subst (λ s. K s []) (sym (append-nil spelling)) h.1)
+digits_spelled part spelling K (b ∷ bs) (inl h) = ([], b ∷ bs, refl, h.0, subst (λ s. K s (b ∷ bs)) (sym (append-nil spelling)) h.1)
+digits_spelled part spelling K (b ∷ bs) (inr (p, e, h)) =
+    let (tail, back, is, accepts, k) = digits_spelled p (spelling ++ b ∷ []) K bs h in
+    (b ∷ tail, back, ap (λ t. b ∷ t) is, (p, e, accepts), subst (λ s. K s back) (append_assoc spelling (b ∷ []) tail) k)
+
+pub digits_end : (part : NumberPart) (spelling : List ℕ) (K : List ℕ → List ℕ → Type 0) (bytes : List ℕ) → may_end part ≡ true → K spelling bytes → Digits part spelling K bytes
+digits_end part spelling K [] e k = (e, k)
+digits_end part spelling K (b ∷ bs) e k = inl (e, k)
+
+pub digits_from : (part : NumberPart) (spelling : List ℕ) (K : List ℕ → List ℕ → Type 0) (tail back : List ℕ) → Accepts part tail → K (spelling ++ tail) back
+    → Digits part spelling K (tail ++ back)
+digits_from part spelling K [] back h k = digits_end part spelling K back h (subst (λ s. K s back) (append-nil spelling) k)
+digits_from part spelling K (b ∷ tail) back h k =
+    inr (h.0, h.1, digits_from h.0 (spelling ++ b ∷ []) K tail back h.2 (subst (λ s. K s back) (sym (append_assoc spelling (b ∷ []) tail)) k))

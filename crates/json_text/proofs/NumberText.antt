@@ -15,7 +15,7 @@ abbrev failed : Result (List ℕ × ℕ) ℕ → ℕ
 failed (Ok x) = x.1
 failed (Err n) = n
 
-goes_ascii : (part : NumberPart) (b : ℕ) (p : NumberPart) → number_step part b ≡ Some p → b < 128
+pub goes_ascii : (part : NumberPart) (b : ℕ) (p : NumberPart) → number_step part b ≡ Some p → b < 128
 goes_ascii minus b p h = grind (arith, nat_tests)
 goes_ascii zero_int b p h = grind (arith, nat_tests)
 goes_ascii int b p h = grind (arith, nat_tests)

@@ -2,7 +2,7 @@
 use Rattle.std.proofs.Common.{◌≡◌, ℕ, ◌+◌, ◌≤◌, List, Ok, sym, ◌∙◌, arith}
 use Rattle.json_text.specs.Node.{Node}
 use Rattle.json_text.specs.Grammar.{IsText}
-use Rattle.json_text.proofs.SpelledRead.{spelled_read}
+use Rattle.json_text.proofs.WholeTexts.{spelled_read}
 
 -- more levels are allowed
 deeper : (a b : ℕ) (bytes : List ℕ) (n : Node) → a ≤ b → IsText a bytes n → IsText b bytes n

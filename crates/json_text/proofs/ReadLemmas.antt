@@ -39,9 +39,6 @@ deep_so L bs f at g is =
     let e : read_text L bs ≡ Err (record { why = too_deep; at = at }) = subst (FailsSo (read_text L bs)) is g in
     (read_fails L bs (record { why = too_deep; at = at }) e, opens_too_many L bs (record { why = too_deep; at = at }) e refl)
 
-pub never_so : (L : ℕ) (bs : List ℕ) (f : JsonFault) (at : ℕ) → FailsSo (read_text L bs) f → f ≡ KeyTwice at → ⊥
-never_so L bs f at g is = subst (FailsSo (read_text L bs)) is g
-
 abbrev fault_in : {A : Type 0} → Result A JsonFault → JsonFault
 fault_in (Ok x) = NoMemory
 fault_in (Err f) = f

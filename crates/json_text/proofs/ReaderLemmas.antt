@@ -1,4 +1,4 @@
--- What the reader's turns rest on.
+-- White space that the reader passes over: `behind_space`, `IsSpace-more`.
 use Rattle.std.proofs.Common.{◌≡◌, ◌≤◌, ℕ, ◌+◌, List, [], ◌∷◌, ◌++◌, length, take, drop, true, sym, ap, ◌∙◌}
 use Rattle.std.proofs.lemmas.List.{take-append-drop, length-take-le}
 use Rattle.json_text.specs.Grammar.{is_space, IsSpace}

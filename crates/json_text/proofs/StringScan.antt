@@ -8,7 +8,8 @@ use Rattle.json_text.specs.declared.fault.TokenFault.TheVariants.{Stop, NoMemory
 use Rattle.json_text.specs.Characters.{escape_of}
 use Rattle.json_text.specs.Reading.{StringPart, between, backslash, hex, high, high_backslash, tail, StringStep, goes_on, ends, stops, string_step, tail_after, is_within, unescaped_step, escape_step}
 use Rattle.json_text.specs.Scan.{scan_string, string_on, Passes, Scanned, Taken, HasRoom, behind_of, first_step, IsUnit}
-use Rattle.json_text.proofs.StringReads.{IsTextOf, text_goes, text_ends}
+use Rattle.json_text.proofs.Following.{Characters, StringOn}
+use Rattle.json_text.proofs.CharacterReads.{characters_spelled, characters_utf8}
 
 module _ (part : StringPart) (text : List ℕ) (b : ℕ) (bs : List ℕ) where
   pub scan_goes : (p : StringPart) (t : List ℕ) (base : ℕ) → string_step part text b ≡ goes_on p t → scan_string part text base (b ∷ bs) ≡ scan_string p t (base + 1) bs
@@ -176,41 +177,21 @@ unfolding scan_string
 at_end bytes text at e = ap (λ l. scan_string between text at l) (drop_all at bytes (omega arith))
 
 -- what a string holds is UTF-8
-text_of : Result (List ℕ × ℕ) ℕ → List ℕ
-text_of (Ok x) = x.0
-text_of (Err n) = []
+abbrev held : Result (List ℕ × ℕ) ℕ → List ℕ
+held (Ok x) = x.0
+held (Err n) = []
 
-ended_text : (text t : List ℕ) (m n : ℕ) → ◌≡◌ {A = Result (List ℕ × ℕ) ℕ} (Ok (text, m)) (Ok (t, n)) → text ≡ t
-unfolding text_of
-ended_text text t m n f = ap text_of f
+scan_on : (t text bs : List ℕ) (m n : ℕ) (s : StringStep) → ((p : StringPart) (u : List ℕ) → scan_string p u (m + 1) bs ≡ Ok (t, n) → Characters p u (λ u _. u ≡ t) bs)
+    → string_on s text m (λ p u. scan_string p u (m + 1) bs) ≡ Ok (t, n) → StringOn s (λ p u. Characters p u (λ u _. u ≡ t) bs) (text ≡ t)
+scan_on t text bs m n (goes_on p u) f e = f p u e
+scan_on t text bs m n ends f e = ap held e
+scan_on t text bs m n stops f e = cc
 
-on_utf8 : (part : StringPart) (text t : List ℕ) (b m n : ℕ) (x : StringStep) (next : StringPart → List ℕ → Result (List ℕ × ℕ) ℕ) → IsTextOf part text → string_step part text b ≡ x
-    → ((p : StringPart) (u : List ℕ) → IsTextOf p u → next p u ≡ Ok (t, n) → IsUtf8 t) → string_on x text m next ≡ Ok (t, n) → IsUtf8 t
-on_utf8 part text t b m n (goes_on p u) next h e ih f = ih p u (text_goes part p text u b h e) f
-on_utf8 part text t b m n ends next h e ih f = subst IsUtf8 (ended_text text t (m + 1) n f) (text_ends part text b h e)
-on_utf8 part text t b m n stops next h e ih f = cc
-
-pub scan_utf8 : (bytes : List ℕ) (part : StringPart) (text t : List ℕ) (m n : ℕ) → IsTextOf part text → scan_string part text m bytes ≡ Ok (t, n) → IsUtf8 t
+scan_characters : (bytes : List ℕ) (part : StringPart) (text t : List ℕ) (m n : ℕ) → scan_string part text m bytes ≡ Ok (t, n) → Characters part text (λ u _. u ≡ t) bytes
 unfolding scan_string
-scan_utf8 [] part text t m n h f = cc
-scan_utf8 (b ∷ bs) part text t m n h f = on_utf8 part text t b m n (string_step part text b) (λ p u. scan_string p u (m + 1) bs) h refl (λ p u g. scan_utf8 bs p u t (m + 1) n g) f
+scan_characters [] part text t m n e = cc
+scan_characters (b ∷ bs) part text t m n e = scan_on t text bs m n (string_step part text b) (λ p u g. scan_characters bs p u t (m + 1) n g) e
 
--- the place where a string stops lies within the bytes
-stop_of : Result (List ℕ × ℕ) ℕ → ℕ
-stop_of (Ok x) = 0
-stop_of (Err n) = n
-
-stopped_at : (m e : ℕ) → ◌≡◌ {A = Result (List ℕ × ℕ) ℕ} (Err m) (Err e) → m ≡ e
-unfolding stop_of
-stopped_at m e f = ap stop_of f
-
-on_within : (text bs : List ℕ) (m e : ℕ) (x : StringStep) (next : StringPart → List ℕ → Result (List ℕ × ℕ) ℕ)
-    → ((p : StringPart) (u : List ℕ) → next p u ≡ Err e → e ≤ (m + 1) + length bs) → string_on x text m next ≡ Err e → e ≤ m + suc (length bs)
-on_within text bs m e (goes_on p u) next ih f = let h : e ≤ (m + 1) + length bs = ih p u f in omega arith
-on_within text bs m e ends next ih f = cc
-on_within text bs m e stops next ih f = let h : m ≡ e = stopped_at m e f in omega arith
-
-pub stop_within : (bytes : List ℕ) (part : StringPart) (text : List ℕ) (m e : ℕ) → scan_string part text m bytes ≡ Err e → e ≤ m + length bytes
-unfolding scan_string
-stop_within [] part text m e f = let h : m ≡ e = stopped_at m e f in omega arith
-stop_within (b ∷ bs) part text m e f = on_within text bs m e (string_step part text b) (λ p u. scan_string p u (m + 1) bs) (λ p u g. stop_within bs p u (m + 1) e g) f
+pub scan_utf8 : (bytes t : List ℕ) (n : ℕ) → scan_string between [] 0 bytes ≡ Ok (t, n) → IsUtf8 t
+scan_utf8 bytes t n e = let (inside, text, back, is, spelled, same) = characters_spelled (λ u _. u ≡ t) bytes (scan_characters bytes between [] t 0 n e) in
+    subst IsUtf8 same (characters_utf8 spelled)

@@ -1,98 +1,58 @@
--- A token by itself, and the same token within a text: `string_runs`, `string_stops`, `key_runs`, `key_stops`, `number_runs`,
--- `number_stops`, `word_runs`, `word_stops`; white space: `space_runs`.
-use Rattle.std.proofs.Common.{◌≡◌, ℕ, suc, ◌+◌, List, [], ◌∷◌, ◌++◌, length, take, drop, true, false, Option, Some, None, Result, Ok, Err, refl, sym, ap, ◌∙◌, arith, append_assoc, ◌==◌, cond}
-use Rattle.std.proofs.lemmas.List.{append-nil}
-use Rattle.json_text.specs.Node.{Node, text_node, number_node}
+-- A byte at the front: `by_byte`. A token by itself, and the same token within a text: `string_ok`, `string_err`, `number_ok`,
+-- `number_err`, `word_ok`, `word_err`; white space: `space_runs`.
+use Rattle.std.proofs.Common.{◌≡◌, ℕ, suc, ◌+◌, List, [], ◌∷◌, ◌++◌, length, take, drop, true, false, Option, Some, None, Result, Ok, Err, refl, sym, ap, ◌∙◌, subst, arith, append_assoc, append-nil, Bool, ◌==◌, cond}
+use Rattle.json_text.specs.Node.{Node, number_node}
 use Rattle.json_text.specs.Grammar.{IsSpace}
-use Rattle.json_text.specs.Reading.{NumberPart, number_step, may_end, StringPart, StringStep, goes_on, ends, stops, string_step, Member, Waiting, in_list, in_object, State, colon, string, key_string, digits, word, word_step, digits_step, put, step, string_goes, go_on, read_from, Fault, unexpected, end_of, ended, after_step}
-use Rattle.json_text.specs.Kept.{SkipsSpace}
+use Rattle.json_text.specs.Reading.{Stop, NumberPart, number_step, may_end, StringPart, StringStep, goes_on, ends, stops, string_step, between, Waiting, in_list, in_object, State, string, Hole, fill, digits, word, word_step, digits_step, put, step, string_goes, go_on, read_from, Fault, unexpected, end_of, ended, after_step}
+use Rattle.json_text.specs.Kept.{SkipsSpace, StartsWith}
 use Rattle.json_text.specs.Scan.{scan_string, string_on, scan_number, number_on, number_end, scan_word}
 
 abbrev pub fault : ℕ → Result Node Fault
 fault at = Err (record { why = unexpected; at = at })
 
--- from a place, so many bytes lead to another state
-abbrev pub Runs : ℕ → ℕ → State → List ℕ → ℕ → State → Type 0
-Runs L at s bs n other = read_from L at s bs ≡ read_from L (at + n) other (drop n bs)
+-- what a byte does is what is read
+pub by_byte : (L at : ℕ) (s : State) (byte : ℕ) (rest : List ℕ) (r : Result State Stop) → StartsWith byte rest → step L at s byte ≡ r
+    → read_from L at s rest ≡ go_on at r (λ t. read_from L (at + 1) t (drop 1 rest))
+unfolding read_from
+by_byte L at s byte [] r h e = absurd h
+by_byte L at s byte (b ∷ bs) r h e = ap (λ x. go_on at x (λ t. read_from L (at + 1) t bs)) (ap (step L at s) h ∙ e)
 
--- of a token that holds something, what it holds and how many bytes it takes
-abbrev holds : Result (List ℕ × ℕ) ℕ → List ℕ × ℕ
-holds (Ok x) = x
-holds (Err e) = ([], e)
+-- Of a token with m bytes before it: what is read goes on behind the bytes that a scan counts, or has its fault.
+abbrev Agrees : {A : Type 0} → ℕ → ℕ → ℕ → List ℕ → (A → ℕ) → (A → ℕ → State) → Result Node Fault → Result A ℕ → Type 0
+Agrees L at m bs count state read (Ok x) = (n : ℕ) × (count x ≡ m + n) × (read ≡ read_from L (at + n) (state x n) (drop n bs))
+Agrees L at m bs count state read (Err e) = (n : ℕ) × (e ≡ m + n) × (read ≡ fault (at + n))
 
-abbrev counts : Result ℕ ℕ → ℕ
-counts (Ok n) = n
-counts (Err n) = n
+later : {A : Type 0} (L at m b : ℕ) (bs : List ℕ) (count : A → ℕ) (state next : A → ℕ → State) (read : Result Node Fault) (r : Result A ℕ)
+    → ((x : A) (n : ℕ) → next x n ≡ state x (suc n)) → Agrees L (at + 1) (m + 1) bs count next read r → Agrees L at m (b ∷ bs) count state read r
+later L at m b bs count state next read (Ok x) same (n, e, h) =
+    (suc n, omega (arith, e), h ∙ ap (λ s. read_from L ((at + 1) + n) s (drop n bs)) (same x n) ∙ ap (λ k. read_from L k (state x (suc n)) (drop n bs)) (omega arith))
+later L at m b bs count state next read (Err k) same (n, e, h) = (suc n, omega (arith, e), h ∙ ap fault (omega arith))
 
--- a string that is a value or a key
-module _ (L : ℕ) (within : StringPart → List ℕ → State) (end : List ℕ → State)
-    (steps : (at : ℕ) (part : StringPart) (text : List ℕ) (b : ℕ) → step L at (within part text) b ≡ string_goes (string_step part text b) within (end text))
-    (stays : (part : StringPart) (text : List ℕ) → end_of (within part text) ≡ None) where
-  on_runs : (at m e : ℕ) (text t : List ℕ) (b : ℕ) (bs : List ℕ) (x : StringStep)
-      → ((p : StringPart) (u : List ℕ) → scan_string p u (m + 1) bs ≡ Ok (t, e) → (n : ℕ) × (e ≡ (m + 1) + n) × Runs L (at + 1) (within p u) bs n (end t))
-      → string_on x text m (λ p u. scan_string p u (m + 1) bs) ≡ Ok (t, e)
-      → (n : ℕ) × (e ≡ m + n) × (go_on at (string_goes x within (end text)) (λ s. read_from L (at + 1) s bs) ≡ read_from L (at + n) (end t) (drop n (b ∷ bs)))
-  on_runs at m e text t b bs (goes_on p u) ih h =
-      let r = ih p u h in
-      (suc r.0, omega (arith, r.1), r.2 ∙ ap (λ k. read_from L k (end t) (drop r.0 bs)) (omega arith))
-  on_runs at m e text t b bs ends ih h =
-      (1, sym (ap (λ r. (holds r).1) h), ap (λ r. read_from L (at + 1) (end (holds r).0) bs) h)
-  on_runs at m e text t b bs stops ih h = cc
+stops_here : (at m : ℕ) (read : Result Node Fault) → read ≡ fault at → (n : ℕ) × (m ≡ m + n) × (read ≡ fault (at + n))
+stops_here at m read h = (0, omega arith, h ∙ ap fault (omega arith))
 
-  runs : (at m e : ℕ) (part : StringPart) (text t : List ℕ) (bs : List ℕ) → scan_string part text m bs ≡ Ok (t, e)
-      → (n : ℕ) × (e ≡ m + n) × Runs L at (within part text) bs n (end t)
+module _ (L : ℕ) (hole : Hole) where
+  abbrev StringAgrees : ℕ → ℕ → List ℕ → Result Node Fault → Result (List ℕ × ℕ) ℕ → Type 0
+  StringAgrees at m bs = Agrees L at m bs (λ x. x.1) (λ x _. fill hole x.0)
+
+  string_by : (at m : ℕ) (text : List ℕ) (b : ℕ) (bs : List ℕ) (s : StringStep)
+      → ((p : StringPart) (u : List ℕ) → StringAgrees (at + 1) (m + 1) bs (read_from L (at + 1) (string p u hole) bs) (scan_string p u (m + 1) bs))
+      → StringAgrees at m (b ∷ bs) (go_on at (string_goes s (λ p u. string p u hole) (fill hole text)) (λ t. read_from L (at + 1) t bs)) (string_on s text m (λ p u. scan_string p u (m + 1) bs))
+  string_by at m text b bs (goes_on p u) f = later L at m b bs _ _ _ _ (scan_string p u (m + 1) bs) (λ _ _. refl) (f p u)
+  string_by at m text b bs ends f = (1, refl, refl)
+  string_by at m text b bs stops f = stops_here at m _ refl
+
+  string_agrees : (bs : List ℕ) (at m : ℕ) (part : StringPart) (text : List ℕ) → StringAgrees at m bs (read_from L at (string part text hole) bs) (scan_string part text m bs)
   unfolding scan_string read_from
-  runs at m e part text t [] h = cc
-  runs at m e part text t (b ∷ bs) h =
-      let r = on_runs at m e text t b bs (string_step part text b) (λ p u k. runs (at + 1) (m + 1) e p u t bs k) h in
-      (r.0, r.1, ap (λ x. go_on at x (λ s. read_from L (at + 1) s bs)) (steps at part text b) ∙ r.2)
+  string_agrees [] at m part text = stops_here at m _ refl
+  string_agrees (b ∷ bs) at m part text = string_by at m text b bs (string_step part text b) (λ p u. string_agrees bs (at + 1) (m + 1) p u)
 
-  on_stops : (at m e : ℕ) (text : List ℕ) (bs : List ℕ) (x : StringStep)
-      → ((p : StringPart) (u : List ℕ) → scan_string p u (m + 1) bs ≡ Err e → (n : ℕ) × (e ≡ (m + 1) + n) × (read_from L (at + 1) (within p u) bs ≡ fault ((at + 1) + n)))
-      → string_on x text m (λ p u. scan_string p u (m + 1) bs) ≡ Err e
-      → (n : ℕ) × (e ≡ m + n) × (go_on at (string_goes x within (end text)) (λ s. read_from L (at + 1) s bs) ≡ fault (at + n))
-  on_stops at m e text bs (goes_on p u) ih h =
-      let r = ih p u h in
-      (suc r.0, omega (arith, r.1), r.2 ∙ ap fault (omega arith))
-  on_stops at m e text bs ends ih h = cc
-  on_stops at m e text bs stops ih h =
-      (0, sym (ap (λ r. (holds r).1) h) ∙ omega arith, ap fault (omega arith))
+  pub string_ok : (at : ℕ) (bs t : List ℕ) (n : ℕ) → scan_string between [] 0 bs ≡ Ok (t, n) → read_from L at (string between [] hole) bs ≡ read_from L (at + n) (fill hole t) (drop n bs)
+  string_ok at bs t n e = let (k, f, g) = subst (StringAgrees at 0 bs (read_from L at (string between [] hole) bs)) e (string_agrees bs at 0 between []) in
+      g ∙ ap (λ k. read_from L (at + k) (fill hole t) (drop k bs)) (omega (arith, f))
 
-  halts : (at m e : ℕ) (part : StringPart) (text : List ℕ) (bs : List ℕ) → scan_string part text m bs ≡ Err e
-      → (n : ℕ) × (e ≡ m + n) × (read_from L at (within part text) bs ≡ fault (at + n))
-  unfolding scan_string read_from
-  halts at m e part text [] h =
-      (0, sym (ap (λ r. (holds r).1) h) ∙ omega arith, ap (ended at) (stays part text) ∙ ap fault (omega arith))
-  halts at m e part text (b ∷ bs) h =
-      let r = on_stops at m e text bs (string_step part text b) (λ p u k. halts (at + 1) (m + 1) e p u bs k) h in
-      (r.0, r.1, ap (λ x. go_on at x (λ s. read_from L (at + 1) s bs)) (steps at part text b) ∙ r.2)
-
-module _ (L : ℕ) (outer : List Waiting) (at : ℕ) (part : StringPart) (text : List ℕ) (bs : List ℕ) where
-  pub string_runs : (t : List ℕ) (n : ℕ) → scan_string part text 0 bs ≡ Ok (t, n) → Runs L at (string part text outer) bs n (put (text_node t) outer)
-  string_runs t n h =
-      let r = runs L (λ p u. string p u outer) (λ u. put (text_node u) outer) (λ a p u b. refl) (λ p u. refl) at 0 n part text t bs h in
-      let same : n ≡ r.0 = omega (arith, r.1) in
-      r.2 ∙ ap (λ k. read_from L (at + k) (put (text_node t) outer) (drop k bs)) (sym same)
-
-  pub string_stops : (n : ℕ) → scan_string part text 0 bs ≡ Err n → read_from L at (string part text outer) bs ≡ fault (at + n)
-  string_stops n h =
-      let r = halts L (λ p u. string p u outer) (λ u. put (text_node u) outer) (λ a p u b. refl) (λ p u. refl) at 0 n part text bs h in
-      let same : n ≡ r.0 = omega (arith, r.1) in
-      r.2 ∙ ap (λ k. fault (at + k)) (sym same)
-
-  pub key_runs : (place : ℕ) (ms : List Member) (t : List ℕ) (n : ℕ) → scan_string part text 0 bs ≡ Ok (t, n)
-      → Runs L at (key_string part text place ms outer) bs n (colon ms place t outer)
-  key_runs place ms t n h =
-      let r = runs L (λ p u. key_string p u place ms outer) (λ u. colon ms place u outer) (λ a p u b. refl) (λ p u. refl) at 0 n part text t bs h in
-      let same : n ≡ r.0 = omega (arith, r.1) in
-      r.2 ∙ ap (λ k. read_from L (at + k) (colon ms place t outer) (drop k bs)) (sym same)
-
-  pub key_stops : (place : ℕ) (ms : List Member) (n : ℕ) → scan_string part text 0 bs ≡ Err n
-      → read_from L at (key_string part text place ms outer) bs ≡ fault (at + n)
-  key_stops place ms n h =
-      let r = halts L (λ p u. key_string p u place ms outer) (λ u. colon ms place u outer) (λ a p u b. refl) (λ p u. refl) at 0 n part text bs h in
-      let same : n ≡ r.0 = omega (arith, r.1) in
-      r.2 ∙ ap (λ k. fault (at + k)) (sym same)
+  pub string_err : (at : ℕ) (bs : List ℕ) (n : ℕ) → scan_string between [] 0 bs ≡ Err n → read_from L at (string between [] hole) bs ≡ fault (at + n)
+  string_err at bs n e = let (k, f, g) = subst (StringAgrees at 0 bs (read_from L at (string between [] hole) bs)) e (string_agrees bs at 0 between []) in g ∙ ap fault (omega (arith, f))
 
 -- white space changes nothing
 pub space_runs : (L : ℕ) (s : State) → SkipsSpace L s → (at : ℕ) (front rest : List ℕ) → IsSpace front → read_from L at s (front ++ rest) ≡ read_from L (at + length front) s rest
@@ -102,148 +62,86 @@ space_runs L s skips at (b ∷ bs) rest h =
     ap (λ x. go_on at x (λ other. read_from L (at + 1) other (bs ++ rest))) (skips at b h.0)
     ∙ space_runs L s skips (at + 1) bs rest h.1 ∙ ap (λ k. read_from L k s rest) (omega arith)
 
--- a number ends where what waits goes on
-ends_with : (at : ℕ) (part : NumberPart) (spelling : List ℕ) (outer : List Waiting) → may_end part ≡ true
-    → ended at (end_of (digits part spelling outer)) ≡ ended at (end_of (put (number_node (spelling ++ [])) outer))
-ends_with at part spelling [] h = ap (λ b. ended at (cond b (Some (number_node spelling)) None)) h ∙ ap (λ s. Ok (number_node s)) (sym (append-nil spelling))
-ends_with at part spelling (in_list ns ∷ outer) h = refl
-ends_with at part spelling (in_object ms place key ∷ outer) h = refl
-
-goes_with : (L at : ℕ) (part : NumberPart) (spelling : List ℕ) (outer : List Waiting) (b : ℕ) → may_end part ≡ true
-    → digits_step None part spelling outer b ≡ step L at (put (number_node (spelling ++ [])) outer) b
-goes_with L at part spelling [] b h = ap (λ e. cond e (after_step (put (number_node spelling) []) b) (Err unexpected)) h ∙ ap (λ s. after_step (put (number_node s) []) b) (sym (append-nil spelling))
-goes_with L at part spelling (in_list ns ∷ outer) b h =
-    ap (λ e. cond e (after_step (put (number_node spelling) (in_list ns ∷ outer)) b) (Err unexpected)) h ∙ ap (λ s. after_step (put (number_node s) (in_list ns ∷ outer)) b) (sym (append-nil spelling))
-goes_with L at part spelling (in_object ms place key ∷ outer) b h =
-    ap (λ e. cond e (after_step (put (number_node spelling) (in_object ms place key ∷ outer)) b) (Err unexpected)) h ∙ ap (λ s. after_step (put (number_node s) (in_object ms place key ∷ outer)) b) (sym (append-nil spelling))
-
--- where it can't end, nothing follows
-never_ends : (at : ℕ) (part : NumberPart) (spelling : List ℕ) (outer : List Waiting) → may_end part ≡ false
-    → ended at (end_of (digits part spelling outer)) ≡ fault at
-never_ends at part spelling [] h = ap (λ b. ended at (cond b (Some (number_node spelling)) None)) h
-never_ends at part spelling (w ∷ outer) h = refl
-
-ended_ok : (part : NumberPart) (m e : ℕ) → number_end part m ≡ Ok e → (may_end part ≡ true) × (m ≡ e)
-ended_ok part m e = elim (may_end part) as (λ b. cond b (Ok m) (Err m) ≡ Ok e → (b ≡ true) × (m ≡ e)) [ true ↦ λ h. (refl, ap counts h) | false ↦ λ h. cc ]
-
-ended_err : (part : NumberPart) (m e : ℕ) → number_end part m ≡ Err e → (may_end part ≡ false) × (m ≡ e)
-ended_err part m e = elim (may_end part) as (λ b. cond b (Ok m) (Err m) ≡ Err e → (b ≡ false) × (m ≡ e)) [ true ↦ λ h. cc | false ↦ λ h. (refl, ap counts h) ]
-
 module _ (L : ℕ) (outer : List Waiting) where
   -- the number that a spelling and what is read behind it make
-  abbrev spelled : List ℕ → List ℕ → ℕ → State
-  spelled spelling bs n = put (number_node (spelling ++ take n bs)) outer
+  abbrev Spelled : List ℕ → List ℕ → ℕ → ℕ → State
+  Spelled spelling bs e n = put (number_node (spelling ++ take n bs)) outer
 
-  number_on_runs : (at m e : ℕ) (part : NumberPart) (spelling : List ℕ) (b : ℕ) (bs : List ℕ) (x : Option NumberPart)
-      → ((p : NumberPart) → scan_number p (m + 1) bs ≡ Ok e → (n : ℕ) × (e ≡ (m + 1) + n) × Runs L (at + 1) (digits p (spelling ++ b ∷ []) outer) bs n (spelled (spelling ++ b ∷ []) bs n))
-      → number_on x part m (λ p. scan_number p (m + 1) bs) ≡ Ok e
-      → (n : ℕ) × (e ≡ m + n) × (go_on at (digits_step x part spelling outer b) (λ s. read_from L (at + 1) s bs) ≡ read_from L (at + n) (spelled spelling (b ∷ bs) n) (drop n (b ∷ bs)))
+  whole_read : (at : ℕ) (spelling : List ℕ) (b : ℕ) (bs : List ℕ) (outer : List Waiting)
+      → go_on at (after_step (put (number_node spelling) outer) b) (λ s. read_from L (at + 1) s bs) ≡ read_from L at (put (number_node spelling) outer) (b ∷ bs)
   unfolding read_from
-  number_on_runs at m e part spelling b bs None ih h =
-      let end = ended_ok part m e h in (
-        0,
-        sym end.1 ∙ omega arith,
-        ap (λ x. go_on at x (λ s. read_from L (at + 1) s bs)) (goes_with L at part spelling outer b end.0)
-            ∙ ap (λ k. read_from L k (put (number_node (spelling ++ [])) outer) (b ∷ bs)) (omega arith),
-      )
-  number_on_runs at m e part spelling b bs (Some p) ih h =
-      let r = ih p h in (
-        suc r.0,
-        omega (arith, r.1),
-        r.2 ∙ ap (λ s. read_from L ((at + 1) + r.0) (put (number_node s) outer) (drop r.0 bs)) (append_assoc spelling (b ∷ []) (take r.0 bs))
-            ∙ ap (λ k. read_from L k (spelled spelling (b ∷ bs) (suc r.0)) (drop r.0 bs)) (omega arith),
-      )
+  whole_read at spelling b bs [] = refl
+  whole_read at spelling b bs (in_list ns ∷ outer) = refl
+  whole_read at spelling b bs (in_object ms place key ∷ outer) = refl
 
-  number_runs_from : (at m e : ℕ) (part : NumberPart) (spelling : List ℕ) (bs : List ℕ) → scan_number part m bs ≡ Ok e
-      → (n : ℕ) × (e ≡ m + n) × Runs L at (digits part spelling outer) bs n (spelled spelling bs n)
+  -- a number that may end here
+  ends_here : (at m : ℕ) (spelling bs : List ℕ) (read : Result Node Fault) → read ≡ read_from L at (put (number_node spelling) outer) bs → Agrees L at m bs (λ e. e) (Spelled spelling bs) read (Ok m)
+  ends_here at m spelling bs read h =
+      (0, omega arith, h ∙ ap (λ s. read_from L at (put (number_node s) outer) bs) (sym (append-nil spelling)) ∙ ap (λ k. read_from L k (put (number_node (spelling ++ [])) outer) bs) (omega arith))
+
+  number_by : (at m : ℕ) (part : NumberPart) (spelling : List ℕ) (b : ℕ) (bs : List ℕ) (o : Option NumberPart)
+      → ((p : NumberPart) → Agrees L (at + 1) (m + 1) bs (λ e. e) (Spelled (spelling ++ b ∷ []) bs) (read_from L (at + 1) (digits p (spelling ++ b ∷ []) outer) bs) (scan_number p (m + 1) bs))
+      → Agrees L at m (b ∷ bs) (λ e. e) (Spelled spelling (b ∷ bs)) (go_on at (digits_step o part spelling outer b) (λ s. read_from L (at + 1) s bs)) (number_on o part m (λ p. scan_number p (m + 1) bs))
+  number_by at m part spelling b bs (Some p) f = later L at m b bs _ _ _ _ (scan_number p (m + 1) bs) (λ _ n. ap (λ s. put (number_node s) outer) (append_assoc spelling (b ∷ []) (take n bs))) (f p)
+  number_by at m part spelling b bs None f =
+      elim (may_end part) as (λ v. Agrees L at m (b ∷ bs) (λ e. e) (Spelled spelling (b ∷ bs)) (go_on at (cond v (after_step (put (number_node spelling) outer) b) (Err unexpected)) (λ s. read_from L (at + 1) s bs)) (cond v (Ok m) (Err m)))
+      [ true ↦ ends_here at m spelling (b ∷ bs) _ (whole_read at spelling b bs outer) | false ↦ stops_here at m _ refl ]
+
+  end_read : (at : ℕ) (s : State) → ended at (end_of s) ≡ read_from L at s []
+  unfolding read_from
+  end_read at s = refl
+
+  end_by : (v : Bool) (outer : List Waiting) (part : NumberPart) (spelling : List ℕ) → may_end part ≡ v → end_of (digits part spelling outer) ≡ cond (may_end part) (end_of (put (number_node spelling) outer)) None
+  end_by v [] part spelling h = refl
+  end_by true (in_list ns ∷ outer) part spelling h = rw h refl
+  end_by false (in_list ns ∷ outer) part spelling h = rw h refl
+  end_by true (in_object ms place key ∷ outer) part spelling h = rw h refl
+  end_by false (in_object ms place key ∷ outer) part spelling h = rw h refl
+
+  number_ends : (at m : ℕ) (part : NumberPart) (spelling : List ℕ) → Agrees L at m [] (λ e. e) (Spelled spelling []) (ended at (end_of (digits part spelling outer))) (number_end part m)
+  number_ends at m part spelling = subst (λ o. Agrees L at m [] (λ e. e) (Spelled spelling []) (ended at o) (number_end part m)) (sym (end_by (may_end part) outer part spelling refl))
+      (elim (may_end part) as (λ v. Agrees L at m [] (λ e. e) (Spelled spelling []) (ended at (cond v (end_of (put (number_node spelling) outer)) None)) (cond v (Ok m) (Err m)))
+      [ true ↦ ends_here at m spelling [] _ (end_read at (put (number_node spelling) outer)) | false ↦ stops_here at m _ refl ])
+  number_agrees : (bs : List ℕ) (at m : ℕ) (part : NumberPart) (spelling : List ℕ) → Agrees L at m bs (λ e. e) (Spelled spelling bs) (read_from L at (digits part spelling outer) bs) (scan_number part m bs)
   unfolding scan_number read_from
-  number_runs_from at m e part spelling [] h =
-      let end = ended_ok part m e h in
-      (0, sym end.1 ∙ omega arith, ends_with at part spelling outer end.0 ∙ ap (λ k. ended k (end_of (put (number_node (spelling ++ [])) outer))) (omega arith))
-  number_runs_from at m e part spelling (b ∷ bs) h =
-      number_on_runs at m e part spelling b bs (number_step part b) (λ p k. number_runs_from (at + 1) (m + 1) e p (spelling ++ b ∷ []) bs k) h
+  number_agrees [] at m part spelling = number_ends at m part spelling
+  number_agrees (b ∷ bs) at m part spelling = number_by at m part spelling b bs (number_step part b) (λ p. number_agrees bs (at + 1) (m + 1) p (spelling ++ b ∷ []))
 
-  number_on_stops : (at m e : ℕ) (part : NumberPart) (spelling : List ℕ) (b : ℕ) (bs : List ℕ) (x : Option NumberPart)
-      → ((p : NumberPart) → scan_number p (m + 1) bs ≡ Err e → (n : ℕ) × (e ≡ (m + 1) + n) × (read_from L (at + 1) (digits p (spelling ++ b ∷ []) outer) bs ≡ fault ((at + 1) + n)))
-      → number_on x part m (λ p. scan_number p (m + 1) bs) ≡ Err e
-      → (n : ℕ) × (e ≡ m + n) × (go_on at (digits_step x part spelling outer b) (λ s. read_from L (at + 1) s bs) ≡ fault (at + n))
-  number_on_stops at m e part spelling b bs None ih h =
-      let end = ended_err part m e h in (
-        0,
-        sym end.1 ∙ omega arith,
-        ap (λ v. go_on at (cond v (after_step (put (number_node spelling) outer) b) (Err unexpected)) (λ s. read_from L (at + 1) s bs)) end.0
-            ∙ ap fault (omega arith),
-      )
-  number_on_stops at m e part spelling b bs (Some p) ih h =
-      let r = ih p h in
-      (suc r.0, omega (arith, r.1), r.2 ∙ ap fault (omega arith))
+  pub number_ok : (at : ℕ) (part : NumberPart) (spelling bs : List ℕ) (n : ℕ) → scan_number part 0 bs ≡ Ok n
+      → read_from L at (digits part spelling outer) bs ≡ read_from L (at + n) (put (number_node (spelling ++ take n bs)) outer) (drop n bs)
+  number_ok at part spelling bs n e = let (k, f, g) = subst (Agrees L at 0 bs (λ e. e) (Spelled spelling bs) (read_from L at (digits part spelling outer) bs)) e (number_agrees bs at 0 part spelling) in
+      g ∙ ap (λ k. read_from L (at + k) (put (number_node (spelling ++ take k bs)) outer) (drop k bs)) (omega (arith, f))
 
-  number_stops_from : (at m e : ℕ) (part : NumberPart) (spelling : List ℕ) (bs : List ℕ) → scan_number part m bs ≡ Err e
-      → (n : ℕ) × (e ≡ m + n) × (read_from L at (digits part spelling outer) bs ≡ fault (at + n))
-  unfolding scan_number read_from
-  number_stops_from at m e part spelling [] h =
-      let end = ended_err part m e h in
-      (0, sym end.1 ∙ omega arith, never_ends at part spelling outer end.0 ∙ ap fault (omega arith))
-  number_stops_from at m e part spelling (b ∷ bs) h =
-      number_on_stops at m e part spelling b bs (number_step part b) (λ p k. number_stops_from (at + 1) (m + 1) e p (spelling ++ b ∷ []) bs k) h
-
-  pub number_runs : (at : ℕ) (part : NumberPart) (spelling bs : List ℕ) (n : ℕ) → scan_number part 0 bs ≡ Ok n
-      → Runs L at (digits part spelling outer) bs n (put (number_node (spelling ++ take n bs)) outer)
-  number_runs at part spelling bs n h =
-      let r = number_runs_from at 0 n part spelling bs h in
-      let same : r.0 ≡ n = omega (arith, r.1) in
-      r.2 ∙ ap (λ k. read_from L (at + k) (put (number_node (spelling ++ take k bs)) outer) (drop k bs)) same
-
-  pub number_stops : (at : ℕ) (part : NumberPart) (spelling bs : List ℕ) (n : ℕ) → scan_number part 0 bs ≡ Err n
-      → read_from L at (digits part spelling outer) bs ≡ fault (at + n)
-  number_stops at part spelling bs n h =
-      let r = number_stops_from at 0 n part spelling bs h in
-      let same : r.0 ≡ n = omega (arith, r.1) in
-      r.2 ∙ ap (λ k. fault (at + k)) same
+  pub number_err : (at : ℕ) (part : NumberPart) (spelling bs : List ℕ) (n : ℕ) → scan_number part 0 bs ≡ Err n → read_from L at (digits part spelling outer) bs ≡ fault (at + n)
+  number_err at part spelling bs n e =
+      let (k, f, g) = subst (Agrees L at 0 bs (λ e. e) (Spelled spelling bs) (read_from L at (digits part spelling outer) bs)) e (number_agrees bs at 0 part spelling) in g ∙ ap fault (omega (arith, f))
 
 -- a word, from its second byte on
 module _ (L : ℕ) (outer : List Waiting) (n : Node) where
   -- what is there once the bytes of the word have come
-  abbrev worded : List ℕ → State
-  worded [] = put n outer
-  worded (c ∷ cs) = word c cs n outer
+  abbrev Worded : List ℕ → State
+  Worded [] = put n outer
+  Worded (c ∷ cs) = word c cs n outer
 
-  word_step_is : (c : ℕ) (cs : List ℕ) → word_step c cs n outer ≡ worded cs
+  word_step_is : (c : ℕ) (cs : List ℕ) → word_step c cs n outer ≡ Worded cs
   word_step_is c [] = refl
   word_step_is c (d ∷ ds) = refl
 
-  word_runs_from : (at m e : ℕ) (cs bs : List ℕ) → scan_word cs m bs ≡ Ok e → (k : ℕ) × (e ≡ m + k) × Runs L at (worded cs) bs k (put n outer)
+  word_agrees : (cs bs : List ℕ) (at m : ℕ) → Agrees L at m bs (λ e. e) (λ _ _. put n outer) (read_from L at (Worded cs) bs) (scan_word cs m bs)
   unfolding scan_word read_from
-  word_runs_from at m e [] bs h = (0, sym (ap counts h) ∙ omega arith, ap (λ k. read_from L k (put n outer) bs) (omega arith))
-  word_runs_from at m e (c ∷ cs) [] h = cc
-  word_runs_from at m e (c ∷ cs) (b ∷ bs) h =
-      elim (b == c) as (λ v. cond v (scan_word cs (m + 1) bs) (Err m) ≡ Ok e
-      → (k : ℕ) × (e ≡ m + k) × (go_on at (cond v (Ok (word_step c cs n outer)) (Err unexpected)) (λ s. read_from L (at + 1) s bs) ≡ read_from L (at + k) (put n outer) (drop k (b ∷ bs)))) [
-        | true ↦ λ g. let r = word_runs_from (at + 1) (m + 1) e cs bs g in
-            (suc r.0, omega (arith, r.1), ap (λ s. read_from L (at + 1) s bs) (word_step_is c cs) ∙ r.2 ∙ ap (λ k. read_from L k (put n outer) (drop r.0 bs)) (omega arith))
-        | false ↦ λ g. cc
-      ] h
+  word_agrees [] bs at m = (0, omega arith, ap (λ k. read_from L k (put n outer) bs) (omega arith))
+  word_agrees (c ∷ cs) [] at m = stops_here at m _ refl
+  word_agrees (c ∷ cs) (b ∷ bs) at m =
+      elim (b == c) as (λ v. Agrees L at m (b ∷ bs) (λ e. e) (λ _ _. put n outer) (go_on at (cond v (Ok (word_step c cs n outer)) (Err unexpected)) (λ s. read_from L (at + 1) s bs)) (cond v (scan_word cs (m + 1) bs) (Err m)))
+      [
+        | true ↦ later L at m b bs _ _ _ _ (scan_word cs (m + 1) bs) (λ _ _. refl)
+            (subst (λ s. Agrees L (at + 1) (m + 1) bs (λ e. e) (λ _ _. put n outer) (read_from L (at + 1) s bs) (scan_word cs (m + 1) bs)) (sym (word_step_is c cs)) (word_agrees cs bs (at + 1) (m + 1)))
+        | false ↦ stops_here at m _ refl
+      ]
 
-  word_stops_from : (at m e : ℕ) (cs bs : List ℕ) → scan_word cs m bs ≡ Err e → (k : ℕ) × (e ≡ m + k) × (read_from L at (worded cs) bs ≡ fault (at + k))
-  unfolding scan_word read_from
-  word_stops_from at m e [] bs h = cc
-  word_stops_from at m e (c ∷ cs) [] h = (0, sym (ap counts h) ∙ omega arith, ap fault (omega arith))
-  word_stops_from at m e (c ∷ cs) (b ∷ bs) h =
-      elim (b == c) as (λ v. cond v (scan_word cs (m + 1) bs) (Err m) ≡ Err e
-      → (k : ℕ) × (e ≡ m + k) × (go_on at (cond v (Ok (word_step c cs n outer)) (Err unexpected)) (λ s. read_from L (at + 1) s bs) ≡ fault (at + k))) [
-        | true ↦ λ g. let r = word_stops_from (at + 1) (m + 1) e cs bs g in
-            (suc r.0, omega (arith, r.1), ap (λ s. read_from L (at + 1) s bs) (word_step_is c cs) ∙ r.2 ∙ ap fault (omega arith))
-        | false ↦ λ g. (0, sym (ap counts g) ∙ omega arith, ap fault (omega arith))
-      ] h
+  pub word_ok : (at len c : ℕ) (cs bs : List ℕ) → scan_word (c ∷ cs) 0 bs ≡ Ok len → read_from L at (word c cs n outer) bs ≡ read_from L (at + len) (put n outer) (drop len bs)
+  word_ok at len c cs bs e = let (k, f, g) = subst (Agrees L at 0 bs (λ e. e) (λ _ _. put n outer) (read_from L at (word c cs n outer) bs)) e (word_agrees (c ∷ cs) bs at 0) in
+      g ∙ ap (λ k. read_from L (at + k) (put n outer) (drop k bs)) (omega (arith, f))
 
-  pub word_runs : (at e : ℕ) (c : ℕ) (cs bs : List ℕ) → scan_word (c ∷ cs) 0 bs ≡ Ok e → Runs L at (word c cs n outer) bs e (put n outer)
-  word_runs at e c cs bs h =
-      let r = word_runs_from at 0 e (c ∷ cs) bs h in
-      let same : r.0 ≡ e = omega (arith, r.1) in
-      r.2 ∙ ap (λ k. read_from L (at + k) (put n outer) (drop k bs)) same
-
-  pub word_stops : (at e : ℕ) (c : ℕ) (cs bs : List ℕ) → scan_word (c ∷ cs) 0 bs ≡ Err e → read_from L at (word c cs n outer) bs ≡ fault (at + e)
-  word_stops at e c cs bs h =
-      let r = word_stops_from at 0 e (c ∷ cs) bs h in
-      let same : r.0 ≡ e = omega (arith, r.1) in
-      r.2 ∙ ap (λ k. fault (at + k)) same
+  pub word_err : (at len c : ℕ) (cs bs : List ℕ) → scan_word (c ∷ cs) 0 bs ≡ Err len → read_from L at (word c cs n outer) bs ≡ fault (at + len)
+  word_err at len c cs bs e = let (k, f, g) = subst (Agrees L at 0 bs (λ e. e) (λ _ _. put n outer) (read_from L at (word c cs n outer) bs)) e (word_agrees (c ∷ cs) bs at 0) in g ∙ ap fault (omega (arith, f))

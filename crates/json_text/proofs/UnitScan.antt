@@ -1,12 +1,12 @@
--- A code unit of four hexadecimal digits, as `scan_string` reads it.
-use Rattle.std.proofs.Common.{◌≡◌, ℕ, zero, suc, ◌+◌, ◌-◌, ◌*◌, ◌<◌, ◌≤◌, true, false, List, [], ◌∷◌, ◌++◌, length, drop, get_or, cond, Option, Some, None, Result, Err, refl, ap, ◌∙◌, subst, arith, ◌⊎◌, inl, inr, ◌==◌, ne_eqb, encode_utf8}
+-- A code unit of four hexadecimal digits, as `scan_string` reads it: `place_goes`, `place_no_digit`, `place_no_fit`, `place_empty`.
+use Rattle.std.proofs.Common.{◌≡◌, ℕ, zero, suc, ◌+◌, ◌-◌, ◌*◌, ◌<◌, ◌≤◌, true, false, List, [], ◌∷◌, ◌++◌, length, drop, get_or, cond, Option, Some, None, Result, Err, refl, ap, ◌∙◌, subst, arith, ◌==◌, ne_eqb, encode_utf8}
 use Rattle.std.proofs.Math.ListN.{drop_of_length-le}
 use Rattle.std.proofs.lemmas.List.{drop_more}
 use Rattle.json_text.specs.Characters.{hex_digit_of}
 use Rattle.json_text.specs.Reading.{StringPart, between, hex, high, StringStep, goes_on, stops, digit_fits, unit_step, hex_step, is_within}
 use Rattle.json_text.specs.Scan.{scan_string, string_on, unit_left, IsUnitSoFar, GoesToUnit, StopsAt}
 use Rattle.json_text.proofs.StringScan.{scan_stops}
-use Rattle.json_text.proofs.StringReads.{hex_below, alone_fits, low_fits_first, low_fits_second}
+use Rattle.json_text.proofs.CharacterReads.{hex_below, so_far_more}
 
 -- a whole unit neither ends a string nor stops it
 from_anywhere : (text : List ℕ) (lead : Option ℕ) (unit n m : ℕ) (next : StringPart → List ℕ → Result (List ℕ × ℕ) ℕ) → string_on (unit_step text lead unit) text n next ≡ string_on (unit_step text lead unit) text m next
@@ -37,36 +37,6 @@ module _ (lead : Option ℕ) (unit : ℕ) (text : List ℕ) (base b : ℕ) (bs :
   hex_nothing : (left : ℕ) → unit_left lead (suc left) unit text base [] ≡ Err base
   unfolding scan_string
   hex_nothing left = refl
-
-alone_second : (unit d : ℕ) → unit < 16 → d < 16 → (unit ≡ 13 → d < 12) → (16 * unit + d < 0xDC) ⊎ (0xE0 ≤ 16 * unit + d)
-alone_second unit d h i f = grind arith
-
--- one digit more
-so_far_more : (lead : Option ℕ) (left unit d : ℕ) → left < 4 → IsUnitSoFar lead (suc left) unit → d < 16 → digit_fits lead (suc left) unit d ≡ true → IsUnitSoFar lead left (16 * unit + d)
-so_far_more None zero unit d l (h, inl i) k f = (omega arith, inl (omega arith))
-so_far_more None zero unit d l (h, inr i) k f = (omega arith, inr (omega arith))
-so_far_more None (suc zero) unit d l (h, inl i) k f = (omega arith, inl (omega arith))
-so_far_more None (suc zero) unit d l (h, inr i) k f = (omega arith, inr (omega arith))
-so_far_more None (suc (suc zero)) unit d l h k f = let e : unit ≡ 13 → d < 12 = alone_fits 3 unit d f refl in (omega arith, alone_second unit d h k e)
-so_far_more None (suc (suc (suc zero))) unit d l h k f = omega arith
-so_far_more None (suc (suc (suc (suc left)))) unit d l h k f = absurd (omega arith)
-so_far_more (Some lead) zero unit d l h k f = (omega arith, omega arith)
-so_far_more (Some lead) (suc zero) unit d l h k f = (omega arith, omega arith)
-so_far_more (Some lead) (suc (suc zero)) unit d l h k f = let e : 12 ≤ d = low_fits_second lead 3 unit d f refl in (omega arith, omega arith)
-so_far_more (Some lead) (suc (suc (suc zero))) unit d l h k f = let e : d ≡ 13 = low_fits_first lead 4 unit d f refl in omega arith
-so_far_more (Some lead) (suc (suc (suc (suc left)))) unit d l h k f = absurd (omega arith)
-
--- there is room for a digit more
-pub so_far_below : (lead : Option ℕ) (left unit : ℕ) → 0 < left → IsUnitSoFar lead left unit → unit < 4096
-so_far_below lead zero unit l h = absurd (omega arith)
-so_far_below None (suc zero) unit l h = h.0
-so_far_below None (suc (suc zero)) unit l h = omega (arith, h.0)
-so_far_below None (suc (suc (suc zero))) unit l h = omega arith
-so_far_below None (suc (suc (suc (suc left)))) unit l h = omega arith
-so_far_below (Some lead) (suc zero) unit l h = omega (arith, h.1)
-so_far_below (Some lead) (suc (suc zero)) unit l h = omega (arith, h.1)
-so_far_below (Some lead) (suc (suc (suc zero))) unit l h = omega arith
-so_far_below (Some lead) (suc (suc (suc (suc left)))) unit l h = omega arith
 
 pub place_goes : (lead : Option ℕ) (digits : List ℕ) (place unit d : ℕ) → place < 4 → place < length digits → IsUnitSoFar lead (4 - place) unit
     → hex_digit_of (get_or digits place 0) ≡ Some d → digit_fits lead (4 - place) unit d ≡ true → GoesToUnit lead digits place unit (16 * unit + d)

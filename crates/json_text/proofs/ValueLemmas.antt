@@ -8,7 +8,7 @@ use Rattle.json_text.specs.Characters.{SpellsString}
 use Rattle.json_text.specs.Node.{Node, null_node, truth_node, number_node, text_node, list_node, object_node, Nodes, no_nodes, node, Fields, no_fields, field, with_member, value_of, values_of, members_after, levels_of, levels_of_nodes, levels_of_fields}
 use Rattle.json_text.specs.Grammar.{SpellsValue, SpellsItems, SpellsMoreItems, SpellsMembers, SpellsMoreMembers, IsText}
 use Rattle.json_text.specs.Compact.{LacksKey, IsValue, AreItems, AreMembers, tree_levels, items_levels, members_levels}
-use Rattle.json_text.proofs.StringReads.{characters_utf8}
+use Rattle.json_text.proofs.CharacterReads.{characters_utf8}
 
 string_utf8 : (bytes t : List ℕ) → SpellsString bytes t → IsUtf8 t
 string_utf8 bytes t h = characters_utf8 h.2
@@ -58,9 +58,6 @@ mutual
   more_fields_are_members (field place key n fs) at bytes ms h g =
       more_fields_are_members fs (at + 1 + length h.0) h.1 (with_member key (value_of n) ms) h.4
       (with_member_are key (value_of n) ms (string_utf8 h.3.1 key h.3.7) (node_is_value n (at + 1 + length h.3.0 + length h.3.1 + length h.3.2 + 1 + length h.3.9.0) h.3.9.1 h.3.9.5) g)
-
-pub value_of-IsValue : (at : ℕ) (bytes : List ℕ) (n : Node) → SpellsValue at bytes n → IsValue (value_of n)
-value_of-IsValue at bytes n h = node_is_value n at bytes h
 
 pub text_is_value : (levels : ℕ) (bytes : List ℕ) (n : Node) → IsText levels bytes n → IsValue (value_of n)
 text_is_value levels bytes n h = let s = h.spelled in node_is_value n (0 + length s.0) s.1 s.5

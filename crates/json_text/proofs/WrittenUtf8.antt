@@ -1,8 +1,8 @@
 -- The compact text of a value is UTF-8: `compact_utf8`.
-use Rattle.std.proofs.Common.{◌≡◌, ℕ, ◌/◌, ◌%◌, ◌<◌, Bool, true, false, if◌then◌else◌, ◌==◌, ◌||◌, nat_lt, List, [], ◌∷◌, inl, inr, refl, sym, subst, arith, append-nil, flat_map, codes}
+use Rattle.std.proofs.Common.{◌≡◌, ℕ, ◌/◌, ◌%◌, ◌<◌, Bool, true, false, if◌then◌else◌, ◌==◌, nat_lt, List, [], ◌∷◌, refl, sym, subst, arith, append-nil, flat_map, codes}
 use Rattle.std.specs.Prelude.{encode_utf8, encode_utf8_all}
 use Rattle.std.specs.Str.{IsUtf8, all_scalars}
-use Rattle.std.specs.Char.{IsScalar, is_ascii_digit}
+use Rattle.std.specs.Char.{IsScalar}
 use Rattle.std.specs.List.{list_all}
 use Rattle.std.proofs.lemmas.Str.{IsUtf8-append, IsUtf8-encode, IsUtf8-nil}
 use Rattle.std.proofs.lemmas.Grind.{flat_map-append}
@@ -10,8 +10,10 @@ use Rattle.std.proofs.lemmas.Bool.{and_parts, cases_lt}
 use Rattle.std.proofs.lemmas.Bool.Decides.{nat_tests}
 use Rattle.std.proofs.Common.{⊎_elim}
 use Rattle.json_text.specs.Tree.{Tree, null, truth, number, text, list, object, Items, no_items, item, Members, no_members, member}
-use Rattle.json_text.specs.Number.{AreDigits, IsDigits, IsInt, IsFraction, IsExponent, IsSignedDigits, IsMinus, IsNumber, is_digit_above_zero}
 use Rattle.json_text.specs.Compact.{lower_hex, escape, quoted, compact_text, items_text, more_items_text, members_text, more_members_text, IsValue, AreItems, AreMembers}
+use Rattle.json_text.specs.Reading.{NumberPart, minus, zero_int, int}
+use Rattle.json_text.proofs.NumberReads.{Accepts, Starts, with_minus, with_zero, with_digit, starts}
+use Rattle.json_text.proofs.NumberText.{goes_ascii}
 use Rattle.json_text.proofs.Encoded.{encode_1, low_is_scalar}
 use Rattle.json_text.proofs.SpelledBack.{long_plain}
 
@@ -69,59 +71,21 @@ quoted_utf8 : (bytes : List ℕ) → IsUtf8 bytes → IsUtf8 (quoted bytes)
 quoted_utf8 bytes u =
     ascii_cons 34 _ (omega arith) (IsUtf8-append _ _ (subst (λ x. IsUtf8 (flat_map escape x)) u.1.1 (escaped_utf8 u.0 u.1.0)) (byte_utf8 34 (omega arith)))
 
-digit_small : (b : ℕ) → is_ascii_digit b ≡ true → b < 128
-digit_small b h = grind (arith, nat_tests)
+accepted_utf8 : (part : NumberPart) (bs : List ℕ) → Accepts part bs → IsUtf8 bs
+accepted_utf8 part [] h = IsUtf8-nil
+accepted_utf8 part (b ∷ bs) (p, e, h) = ascii_cons b bs (goes_ascii part b p e) (accepted_utf8 p bs h)
 
-digits_utf8 : (bs : List ℕ) → AreDigits bs → IsUtf8 bs
-digits_utf8 [] h = IsUtf8-nil
-digits_utf8 (b ∷ bs) h = ascii_cons b bs (digit_small b h.0) (digits_utf8 bs h.1)
-
-some_digits_utf8 : (bs : List ℕ) → IsDigits bs → IsUtf8 bs
-some_digits_utf8 [] h = absurd h
-some_digits_utf8 (b ∷ bs) h = digits_utf8 (b ∷ bs) h
-
-above_small : (b : ℕ) → is_digit_above_zero b ≡ true → b < 128
-above_small b h = digit_small b (and_parts _ _ h).0
-
-minus_utf8 : (bs : List ℕ) → IsMinus bs → IsUtf8 bs
-minus_utf8 [] h = IsUtf8-nil
-minus_utf8 (b ∷ bs) h = ascii_cons b bs (omega (arith, h.0)) (subst IsUtf8 (sym h.1) IsUtf8-nil)
-
-int_utf8 : (bs : List ℕ) → IsInt bs → IsUtf8 bs
-int_utf8 [] h = absurd h
-int_utf8 (b ∷ bs) (inl h) = ascii_cons b bs (omega (arith, h.0)) (subst IsUtf8 (sym h.1) IsUtf8-nil)
-int_utf8 (b ∷ bs) (inr h) = ascii_cons b bs (above_small b h.0) (digits_utf8 bs h.1)
-
-pub fraction_utf8 : (bs : List ℕ) → IsFraction bs → IsUtf8 bs
-fraction_utf8 [] h = IsUtf8-nil
-fraction_utf8 (b ∷ bs) h = ascii_cons b bs (omega (arith, h.0)) (some_digits_utf8 bs h.1)
-
-sign_small : (b : ℕ) → ((b == 45) || (b == 43)) ≡ true → b < 128
-sign_small b h = grind (arith, nat_tests)
-
-signed_utf8 : (bs : List ℕ) → IsSignedDigits bs → IsUtf8 bs
-signed_utf8 [] h = absurd h
-signed_utf8 (b ∷ bs) (inl h) = ascii_cons b bs (sign_small b h.0) (some_digits_utf8 bs h.1)
-signed_utf8 (b ∷ bs) (inr h) = digits_utf8 (b ∷ bs) h
-
-mark_small : (b : ℕ) → ((b == 101) || (b == 69)) ≡ true → b < 128
-mark_small b h = grind (arith, nat_tests)
-
-exponent_utf8 : (bs : List ℕ) → IsExponent bs → IsUtf8 bs
-exponent_utf8 [] h = IsUtf8-nil
-exponent_utf8 (b ∷ bs) h = ascii_cons b bs (mark_small b h.0) (signed_utf8 bs h.1)
-
-number_utf8 : (bs : List ℕ) → IsNumber bs → IsUtf8 bs
-number_utf8 bs n =
-    subst IsUtf8 (sym n.spelled) (IsUtf8-append _ _ (minus_utf8 n.minus n.is_minus) (IsUtf8-append _ _ (int_utf8 n.int n.is_int)
-    (IsUtf8-append _ _ (fraction_utf8 n.fraction n.is_fraction) (exponent_utf8 n.exponent n.is_exponent))))
+number_utf8 : (bs : List ℕ) → Starts bs → IsUtf8 bs
+number_utf8 _ (with_minus t h) = ascii_cons 45 t (omega arith) (accepted_utf8 minus t h)
+number_utf8 _ (with_zero t h) = ascii_cons 48 t (omega arith) (accepted_utf8 zero_int t h)
+number_utf8 _ (with_digit b t d h) = ascii_cons b t (grind (arith, nat_tests)) (accepted_utf8 int t h)
 
 mutual
   pub compact_utf8 : (t : Tree) → IsValue t → IsUtf8 (compact_text t)
   compact_utf8 null v = small_utf8 (codes "null") refl
   compact_utf8 (truth true) v = small_utf8 (codes "true") refl
   compact_utf8 (truth false) v = small_utf8 (codes "false") refl
-  compact_utf8 (number spelling) v = number_utf8 spelling v
+  compact_utf8 (number spelling) v = number_utf8 spelling (starts spelling v)
   compact_utf8 (text t) v = quoted_utf8 t v
   compact_utf8 (list items) v = ascii_cons 91 _ (omega arith) (IsUtf8-append _ _ (items_utf8 items v) (byte_utf8 93 (omega arith)))
   compact_utf8 (object inside) v = ascii_cons 123 _ (omega arith) (IsUtf8-append _ _ (members_utf8 inside v) (byte_utf8 125 (omega arith)))

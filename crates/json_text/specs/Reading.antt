@@ -127,13 +127,25 @@ pub data Waiting : Type 0 where
   in_list : List Node → Waiting
   in_object : List Member → ℕ → List ℕ → Waiting
 
+-- nodes and members after others
+abbrev pub then_nodes : List Node → Nodes → Nodes
+then_nodes [] xs = xs
+then_nodes (n ∷ ns) xs = node n (then_nodes ns xs)
+
+abbrev pub then_fields : List Member → Fields → Fields
+then_fields [] xs = xs
+then_fields (m ∷ ms) xs = field m.place m.key m.of (then_fields ms xs)
+
 abbrev pub nodes_of : List Node → Nodes
-nodes_of [] = no_nodes
-nodes_of (n ∷ ns) = node n (nodes_of ns)
+nodes_of ns = then_nodes ns no_nodes
 
 abbrev pub fields_of : List Member → Fields
-fields_of [] = no_fields
-fields_of (m ∷ ms) = field m.place m.key m.of (fields_of ms)
+fields_of ms = then_fields ms no_fields
+
+-- what a string's text goes to: a value, or a member's key with its place
+pub data Hole : Type 0 where
+  in_value : List Waiting → Hole
+  in_key : ℕ → List Member → List Waiting → Hole
 
 -- the state between two bytes of a text
 pub data State : Type 0 where
@@ -153,11 +165,10 @@ pub data State : Type 0 where
   after_member : List Member → List Waiting → State
   -- after the text's own value
   whole : Node → State
-  -- within a word, a number, a string, a key: the bytes of the word that are left, the spelling and the text so far
+  -- within a word, a number, a string: the bytes of the word that are left, the spelling and the text so far
   word : ℕ → List ℕ → Node → List Waiting → State
   digits : NumberPart → List ℕ → List Waiting → State
-  string : StringPart → List ℕ → List Waiting → State
-  key_string : StringPart → List ℕ → ℕ → List Member → List Waiting → State
+  string : StringPart → List ℕ → Hole → State
 
 -- a value is whole: what waits for it has it
 abbrev pub put : Node → List Waiting → State
@@ -165,13 +176,18 @@ put n [] = whole n
 put n (in_list ns ∷ outer) = after_item (ns ++ n ∷ []) outer
 put n (in_object ms place key ∷ outer) = after_member (ms ++ record { place = place; key = key; of = n } ∷ []) outer
 
+-- a string's text is whole
+abbrev pub fill : Hole → List ℕ → State
+fill (in_value outer) t = put (text_node t) outer
+fill (in_key place ms outer) t = colon ms place t outer
+
 abbrev pub opened : ℕ → List Waiting → State → Result State Stop
 opened levels outer state = if nat_lt (length outer) levels then Ok state else Err too_deep
 
 -- the first byte of a value
 abbrev pub value_step : ℕ → List Waiting → ℕ → Result State Stop
 value_step levels outer b =
-    if b == 34 then Ok (string between [] outer) else
+    if b == 34 then Ok (string between [] (in_value outer)) else
     if b == 91 then opened levels outer (first_item outer) else
     if b == 123 then opened levels outer (first_key outer) else
     if b == 45 then Ok (digits minus (b ∷ []) outer) else
@@ -216,11 +232,11 @@ step levels at (first_item outer) b =
 step levels at (after_item ns outer) b = after_step (after_item ns outer) b
 step levels at (first_key outer) b =
     if is_space b then Ok (first_key outer) else
-    if b == 34 then Ok (key_string between [] at [] outer) else
+    if b == 34 then Ok (string between [] (in_key at [] outer)) else
     if b == 125 then Ok (put (object_node no_fields) outer) else Err unexpected
 step levels at (next_key ms outer) b =
     if is_space b then Ok (next_key ms outer) else
-    if b == 34 then Ok (key_string between [] at ms outer) else Err unexpected
+    if b == 34 then Ok (string between [] (in_key at ms outer)) else Err unexpected
 step levels at (colon ms place key outer) b =
     if is_space b then Ok (colon ms place key outer) else
     if b == 58 then Ok (value (in_object ms place key ∷ outer)) else Err unexpected
@@ -228,8 +244,7 @@ step levels at (after_member ms outer) b = after_step (after_member ms outer) b
 step levels at (whole n) b = after_step (whole n) b
 step levels at (word c rest n outer) b = if b == c then Ok (word_step c rest n outer) else Err unexpected
 step levels at (digits part spelling outer) b = digits_step (number_step part b) part spelling outer b
-step levels at (string part text outer) b = string_goes (string_step part text b) (λ p t. string p t outer) (put (text_node text) outer)
-step levels at (key_string part text place ms outer) b = string_goes (string_step part text b) (λ p t. key_string p t place ms outer) (colon ms place text outer)
+step levels at (string part text hole) b = string_goes (string_step part text b) (λ p t. string p t hole) (fill hole text)
 
 -- a fault: why, and the number of bytes before the first one that no JSON text goes on with
 pub record Fault : Type 0 where
@@ -249,8 +264,7 @@ end_of (whole n) = Some n
 end_of (word c rest n outer) = None
 end_of (digits part spelling []) = if may_end part then Some (number_node spelling) else None
 end_of (digits part spelling (w ∷ outer)) = None
-end_of (string part text outer) = None
-end_of (key_string part text place ms outer) = None
+end_of (string part text hole) = None
 
 abbrev pub ended : ℕ → Option Node → Result Node Fault
 ended at None = Err (record { why = unexpected; at = at })

@@ -1,6 +1,4 @@
-use Rattle.std.proofs.Common.{◌≡◌, ◌+◌, [], Ok, Err, get_or, arith, sym, ap, ◌∙◌}
-use Rattle.json_text.specs.Reading.{between}
-use Rattle.json_text.proofs.StringReads.{text_starts}
+use Rattle.std.proofs.Common.{◌≡◌, ◌+◌, Ok, Err, get_or, arith, sym, ap, ◌∙◌}
 use Rattle.json_text.proofs.StringScan.{at_mark, at_end, scan_utf8}
 use Rattle.json_text.proofs.string.string.Goals as goal
 use Rattle.json_text.proofs.string.string.Goals.{then-loop-at-test+else-bytes-at-ne34, else-loop-at-test}
@@ -10,7 +8,7 @@ returns-then-at-bytes-clause-stop c n e = c.loop-at.invariant.same ∙ at_end c.
 
 pub from_utf8_unchecked-text-requires : goal.from_utf8_unchecked-text-requires
 from_utf8_unchecked-text-requires c =
-    scan_utf8 c.args.bytes.now between [] c.loop-at.text.items 0 (c.loop-at.at + 1) text_starts (
+    scan_utf8 c.args.bytes.now c.loop-at.text.items (c.loop-at.at + 1) (
     let mark : get_or c.args.bytes.now c.loop-at.at 0 ≡ 34 = elim c.loop-at-test.branch [ then-loop-at-test+else-bytes-at-ne34 w ↦ omega arith | else-loop-at-test w ↦ absurd (omega arith) ] in
     c.loop-at.invariant.same ∙ at_mark c.args.bytes.now c.loop-at.text.items c.loop-at.at (omega arith) mark)
 

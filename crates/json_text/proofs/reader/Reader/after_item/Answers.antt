@@ -4,11 +4,11 @@ use Rattle.json_text.specs.declared.state.Kept.TheVariants.{List as kept_list}
 use Rattle.std.proofs.Common.{◌∙◌, ◌∷◌, refl, sym, ap, arith, subst}
 use Rattle.json_text.specs.Tree.{list, items_of}
 use Rattle.json_text.specs.Node.{list_node}
-use Rattle.json_text.specs.Reading.{put, value, after_item, in_list, nodes_of}
+use Rattle.json_text.specs.Reading.{step, put, value, after_item, in_list, nodes_of}
 use Rattle.json_text.specs.Kept.{read_at}
 use Rattle.json_text.proofs.ViewLemmas.{tree_of_list}
 use Rattle.json_text.proofs.KeptLemmas.{keeps_more, values_of-nodes}
-use Rattle.json_text.proofs.StepLemmas.{less, item_comma, item_closes, item_other}
+use Rattle.json_text.proofs.StepLemmas.{less, item_other}
 use Rattle.json_text.proofs.GoesLemmas.{fails_same, led, barred}
 use Rattle.json_text.proofs.reader.Reader.after_item.Goals as goal
 
@@ -22,7 +22,7 @@ returns-in_ok-push-in-44-clause-goes c s st = (
     st.4,
   ),
   ap (read_at c.args.self.now.levels c.args.place) st.2 ∙ led c.args.self.now.levels (after_item st.0 st.1) (value (in_list st.0 ∷ st.1)) c.args.byte c.args.place c.behind.result c.requires.first
-      (item_comma c.args.self.now.levels c.args.place.at st.0 st.1 c.args.byte c.in-44.is) c.behind.ensures.at c.behind.ensures.rest,
+      (ap (step c.args.self.now.levels c.args.place.at (after_item st.0 st.1)) c.in-44.is) c.behind.ensures.at c.behind.ensures.rest,
   less c.args.byte c.args.place.rest.now c.behind.result.rest.now c.requires.first c.behind.ensures.rest,
 )
 
@@ -32,7 +32,7 @@ returns-in_ok-next-in-93-clause-goes c s st =
       put n st.1,
       c.in_ok-next-in-93.ensures.ok n st.1 (tree_of_list c.args.items ∙ ap (λ ts. list (items_of ts)) (st.5 ∙ sym (values_of-nodes st.0))) st.3 st.4,
       ap (read_at c.args.self.now.levels c.args.place) st.2 ∙ led c.args.self.now.levels (after_item st.0 st.1) (put n st.1) c.args.byte c.args.place c.behind-in-93.result c.requires.first
-          (item_closes c.args.self.now.levels c.args.place.at st.0 st.1 c.args.byte c.in-93.is) c.behind-in-93.ensures.at c.behind-in-93.ensures.rest,
+          (ap (step c.args.self.now.levels c.args.place.at (after_item st.0 st.1)) c.in-93.is) c.behind-in-93.ensures.at c.behind-in-93.ensures.rest,
       less c.args.byte c.args.place.rest.now c.behind-in-93.result.rest.now c.requires.first c.behind-in-93.ensures.rest,
     )
 

@@ -2,10 +2,10 @@ use Rattle.std.proofs.Common.{◌∙◌, refl, ap, arith}
 use Rattle.json_text.specs.Tree.{object, members_of}
 use Rattle.json_text.specs.View.{pairs_of}
 use Rattle.json_text.specs.Node.{object_node}
-use Rattle.json_text.specs.Reading.{put, next_key, after_member, fields_of}
+use Rattle.json_text.specs.Reading.{step, put, next_key, after_member, fields_of}
 use Rattle.json_text.specs.Kept.{read_at}
 use Rattle.json_text.proofs.ViewLemmas.{tree_of_object}
-use Rattle.json_text.proofs.StepLemmas.{less, member_comma, member_closes, member_other}
+use Rattle.json_text.proofs.StepLemmas.{less, member_other}
 use Rattle.json_text.proofs.GoesLemmas.{fails_same, led, barred}
 use Rattle.json_text.proofs.reader.Reader.after_member.Goals as goal
 
@@ -14,7 +14,7 @@ returns-in-44-clause-goes c s st = (
   next_key st.0 st.1,
   (st.0, st.1, refl, st.3, st.4, st.5),
   ap (read_at c.args.self.now.levels c.args.place) st.2 ∙ led c.args.self.now.levels (after_member st.0 st.1) (next_key st.0 st.1) c.args.byte c.args.place c.behind.result c.requires.first
-      (member_comma c.args.self.now.levels c.args.place.at st.0 st.1 c.args.byte c.in-44.is) c.behind.ensures.at c.behind.ensures.rest,
+      (ap (step c.args.self.now.levels c.args.place.at (after_member st.0 st.1)) c.in-44.is) c.behind.ensures.at c.behind.ensures.rest,
   less c.args.byte c.args.place.rest.now c.behind.result.rest.now c.requires.first c.behind.ensures.rest,
 )
 
@@ -25,7 +25,7 @@ returns-in_ok-next-in-125-clause-goes c s st =
       c.in_ok-next-in-125.ensures.ok n st.1 (tree_of_object c.into_inner-members.result.members
           ∙ ap (λ o. object (members_of (pairs_of o.members.items))) c.into_inner-members.ensures ∙ ap (λ ms. object (members_of ms)) st.5) st.3 st.4,
       ap (read_at c.args.self.now.levels c.args.place) st.2 ∙ led c.args.self.now.levels (after_member st.0 st.1) (put n st.1) c.args.byte c.args.place c.behind-in-125.result c.requires.first
-          (member_closes c.args.self.now.levels c.args.place.at st.0 st.1 c.args.byte c.in-125.is) c.behind-in-125.ensures.at c.behind-in-125.ensures.rest,
+          (ap (step c.args.self.now.levels c.args.place.at (after_member st.0 st.1)) c.in-125.is) c.behind-in-125.ensures.at c.behind-in-125.ensures.rest,
       less c.args.byte c.args.place.rest.now c.behind-in-125.result.rest.now c.requires.first c.behind-in-125.ensures.rest,
     )
 

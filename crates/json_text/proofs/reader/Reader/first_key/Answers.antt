@@ -2,11 +2,11 @@ use Rattle.std.proofs.Common.{◌∙◌, [], sym, ap, arith}
 use Rattle.json_text.specs.Tree.{object, members_of}
 use Rattle.json_text.specs.View.{pairs_of}
 use Rattle.json_text.specs.Node.{object_node, no_fields}
-use Rattle.json_text.specs.Reading.{put, first_key, next_key}
+use Rattle.json_text.specs.Reading.{step, put, first_key, next_key}
 use Rattle.json_text.specs.Kept.{repeat_of}
 use Rattle.json_text.proofs.ViewLemmas.{tree_of_object}
 use Rattle.json_text.proofs.KeptLemmas.{first_of-none}
-use Rattle.json_text.proofs.StepLemmas.{alike, less, first_key_is, first_key_closes, first_key_other}
+use Rattle.json_text.proofs.StepLemmas.{alike, less, first_key_is, first_key_other}
 use Rattle.json_text.proofs.GoesLemmas.{goes_same, led, barred}
 use Rattle.json_text.proofs.reader.Reader.first_key.Goals as goal
 
@@ -21,7 +21,7 @@ returns-in_ok-next-in-125-clause-goes c outer kept r =
     let n = object_node no_fields in (
       put n outer,
       c.in_ok-next-in-125.ensures.ok n outer (tree_of_object c.new-in-125.result ∙ ap (λ ms. object (members_of (pairs_of ms))) c.new-in-125.ensures.items) kept (r ∙ sym (first_of-none (repeat_of outer))),
-      led c.args.self.now.levels (first_key outer) (put n outer) c.args.byte c.args.place c.behind.result c.requires.first (first_key_closes c.args.self.now.levels c.args.place.at outer c.args.byte c.in-125.is) c.behind.ensures.at c.behind.ensures.rest,
+      led c.args.self.now.levels (first_key outer) (put n outer) c.args.byte c.args.place c.behind.result c.requires.first (ap (step c.args.self.now.levels c.args.place.at (first_key outer)) c.in-125.is) c.behind.ensures.at c.behind.ensures.rest,
       less c.args.byte c.args.place.rest.now c.behind.result.rest.now c.requires.first c.behind.ensures.rest,
     )
 

@@ -1,4 +1,4 @@
--- One step of a reading at a time.
+-- One step of a reading at a time: `read_ok`, `read_err`, `read_nil`, `cons_ok`, `ended_ok`.
 use Rattle.std.proofs.Common.{◌≡◌, ℕ, ◌+◌, List, [], ◌∷◌, Option, Some, None, Result, Ok, Err, refl, sym, ap, ◌∙◌, ◌⊎◌, inl, inr}
 use Rattle.json_text.specs.Node.{Node}
 use Rattle.json_text.specs.Reading.{Stop, State, step, go_on, ended, end_of, read_from, Fault}
@@ -16,11 +16,6 @@ read_ok levels at state next b bs e = read_cons levels at state b bs ∙ ap (λ 
 
 pub read_err : (levels at : ℕ) (state : State) (why : Stop) (b : ℕ) (bs : List ℕ) → step levels at state b ≡ Err why → read_from levels at state (b ∷ bs) ≡ Err (record { why = why; at = at })
 read_err levels at state why b bs e = read_cons levels at state b bs ∙ ap (λ s. go_on at s (λ next. read_from levels (at + 1) next bs)) e
-
--- what a step gave
-pub step_cases : (s : Result State Stop) → ((next : State) × (s ≡ Ok next)) ⊎ ((why : Stop) × (s ≡ Err why))
-step_cases (Ok next) = inl (next, refl)
-step_cases (Err why) = inr (why, refl)
 
 pub went_on : (at : ℕ) (s : Result State Stop) (f : State → Result Node Fault) (r : Node) → go_on at s f ≡ Ok r → (next : State) × (s ≡ Ok next) × (f next ≡ Ok r)
 went_on at (Ok next) f r h = (next, refl, h)

@@ -1,15 +1,19 @@
--- How a byte fares where one level more is allowed.
+-- A byte does the same where one level more is allowed, but for a bracket too many: `fares`.
 use Rattle.std.proofs.Common.{◌≡◌, ℕ, zero, suc, ◌+◌, ◌-◌, ◌*◌, ◌<◌, ◌≤◌, Bool, true, false, cond, ◌==◌, nat_lt, List, [], ◌∷◌, ◌++◌, length, Option, Some, None, Result, Ok, Err, refl, sym, subst, ◌⊎◌, inl, inr, arith, ⊎_elim, ltb-true, lt-ltb, codes}
 use Rattle.std.proofs.lemmas.Bool.{cond-true, cond-false, cond_both, eqb-false, cases_Bool}
 use Rattle.json_text.specs.Number.{is_digit_above_zero}
 use Rattle.json_text.specs.Node.{Node, null_node, truth_node, list_node, object_node, number_node, text_node, no_nodes, no_fields}
 use Rattle.json_text.specs.Grammar.{is_space}
 use Rattle.json_text.specs.Characters.{hex_digit_of, escape_of}
-use Rattle.json_text.specs.Reading.{Stop, unexpected, too_deep, Member, Waiting, in_list, in_object, nodes_of, fields_of, State, value, first_item, after_item, first_key, next_key, colon, after_member, whole, word, digits, string, key_string, StringPart, between, backslash, hex, high, high_backslash, tail, NumberPart, minus, zero_int, int, number_step, may_end, string_step, goes_on, ends, stops, StringStep, string_goes, put, opened, value_step, word_step, after_step, digits_step, step, unit_step, escape_step, digit_fits, hex_step, tail_after, is_within}
-use Rattle.json_text.proofs.StringReads.{unescaped_by}
-use Rattle.json_text.proofs.Completes.{SoundPart, SoundParts}
+use Rattle.json_text.specs.Reading.{Stop, unexpected, too_deep, Member, Waiting, in_list, in_object, nodes_of, fields_of, State, value, first_item, after_item, first_key, next_key, colon, after_member, whole, word, digits, string, Hole, in_value, in_key, fill, StringPart, between, backslash, hex, high, high_backslash, tail, NumberPart, minus, zero_int, int, number_step, may_end, string_step, goes_on, ends, stops, StringStep, string_goes, put, opened, value_step, word_step, after_step, digits_step, step, unit_step, escape_step, digit_fits, hex_step, tail_after, is_within}
+use Rattle.json_text.proofs.CharacterReads.{unescaped_by}
+use Rattle.json_text.proofs.Completions.{SoundPart, SoundParts}
 
 -- how many lists and objects are open
+abbrev hole_depth : Hole → ℕ
+hole_depth (in_value outer) = length outer
+hole_depth (in_key place ms outer) = suc (length outer)
+
 abbrev depth : State → ℕ
 depth (value outer) = length outer
 depth (first_item outer) = suc (length outer)
@@ -21,8 +25,7 @@ depth (after_member ms outer) = suc (length outer)
 depth (whole n) = 0
 depth (word c rest n outer) = length outer
 depth (digits part spelling outer) = length outer
-depth (string part text outer) = length outer
-depth (key_string part text place ms outer) = suc (length outer)
+depth (string part text hole) = hole_depth hole
 
 -- what holds of each state that the machine comes to
 pub record Sound (levels : ℕ) (state : State) : Type 0 where
@@ -108,7 +111,7 @@ module _ (levels : ℕ) where
 
   value_fares : (outer : List Waiting) (b : ℕ) → length outer ≤ levels → Fares (value_step levels outer b) (value_step (suc levels) outer b)
   value_fares outer b l =
-      fares_if (b == 34) _ _ _ _ (on (string between [] outer) l tt) (
+      fares_if (b == 34) _ _ _ _ (on (string between [] (in_value outer)) l tt) (
       fares_if (b == 91) _ _ _ _ (opened_fares outer (first_item outer) refl tt l) (
       fares_if (b == 123) _ _ _ _ (opened_fares outer (first_key outer) refl tt l) (
       fares_if (b == 45) _ _ _ _ (on (digits minus (b ∷ []) outer) l tt) (
@@ -146,15 +149,15 @@ module _ (levels : ℕ) where
   word_fares c [] n outer l = on_put n outer l
   word_fares c (d ∷ rest) n outer l = on (word d rest n outer) l tt
 
-  string_fares : (s : StringStep) (text : List ℕ) (outer : List Waiting) → SoundStep s → length outer ≤ levels → Fares (string_goes s (λ p t. string p t outer) (put (text_node text) outer)) (string_goes s (λ p t. string p t outer) (put (text_node text) outer))
-  string_fares (goes_on p t) text outer h l = on (string p t outer) l h
-  string_fares ends text outer h l = on_put (text_node text) outer l
-  string_fares stops text outer h l = no
+  filled_on : (hole : Hole) (text : List ℕ) → hole_depth hole ≤ levels → Fares (Ok (fill hole text)) (Ok (fill hole text))
+  filled_on (in_value outer) text l = on_put (text_node text) outer l
+  filled_on (in_key place ms outer) text l = on (colon ms place text outer) l tt
 
-  key_fares : (s : StringStep) (text : List ℕ) (place : ℕ) (ms : List Member) (outer : List Waiting) → SoundStep s → suc (length outer) ≤ levels → Fares (string_goes s (λ p t. key_string p t place ms outer) (colon ms place text outer)) (string_goes s (λ p t. key_string p t place ms outer) (colon ms place text outer))
-  key_fares (goes_on p t) text place ms outer h l = on (key_string p t place ms outer) l h
-  key_fares ends text place ms outer h l = on (colon ms place text outer) l tt
-  key_fares stops text place ms outer h l = no
+  string_fares : (s : StringStep) (text : List ℕ) (hole : Hole) → SoundStep s → hole_depth hole ≤ levels
+      → Fares (string_goes s (λ p t. string p t hole) (fill hole text)) (string_goes s (λ p t. string p t hole) (fill hole text))
+  string_fares (goes_on p t) text hole h l = on (string p t hole) l h
+  string_fares ends text hole h l = filled_on hole text l
+  string_fares stops text hole h l = no
 
   pub fares : (state : State) (at b : ℕ) → Sound levels state → Fares (step levels at state b) (step (suc levels) at state b)
   fares (value outer) at b h = fares_if (is_space b) _ _ _ _ (on (value outer) h.shallow tt) (value_fares outer b h.shallow)
@@ -164,11 +167,11 @@ module _ (levels : ℕ) where
   fares (after_item ns outer) at b h = after_item_fares ns outer b h.shallow
   fares (first_key outer) at b h =
       fares_if (is_space b) _ _ _ _ (on (first_key outer) h.shallow tt) (
-      fares_if (b == 34) _ _ _ _ (on (key_string between [] at [] outer) h.shallow tt) (
+      fares_if (b == 34) _ _ _ _ (on (string between [] (in_key at [] outer)) h.shallow tt) (
       fares_if (b == 125) _ _ _ _ (on_put (object_node no_fields) outer (less (length outer) h.shallow)) no))
   fares (next_key ms outer) at b h =
       fares_if (is_space b) _ _ _ _ (on (next_key ms outer) h.shallow tt) (
-      fares_if (b == 34) _ _ _ _ (on (key_string between [] at ms outer) h.shallow tt) no)
+      fares_if (b == 34) _ _ _ _ (on (string between [] (in_key at ms outer)) h.shallow tt) no)
   fares (colon ms place key outer) at b h =
       fares_if (is_space b) _ _ _ _ (on (colon ms place key outer) h.shallow tt) (
       fares_if (b == 58) _ _ _ _ (on (value (in_object ms place key ∷ outer)) h.shallow tt) no)
@@ -176,5 +179,4 @@ module _ (levels : ℕ) where
   fares (whole n) at b h = whole_fares n b
   fares (word c rest n outer) at b h = fares_if (b == c) _ _ _ _ (word_fares c rest n outer h.shallow) no
   fares (digits part spelling outer) at b h = digits_fares (number_step part b) part spelling outer b h.shallow
-  fares (string part text outer) at b h = string_fares (string_step part text b) text outer (sound_string part text b h.parts) h.shallow
-  fares (key_string part text place ms outer) at b h = key_fares (string_step part text b) text place ms outer (sound_string part text b h.parts) h.shallow
+  fares (string part text hole) at b h = string_fares (string_step part text b) text hole (sound_string part text b h.parts) h.shallow
