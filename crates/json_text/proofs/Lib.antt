@@ -3,9 +3,9 @@
 -- in both directions, that this is the grammar's spelling. `Productions` shows the same of values, lists and objects: they are the
 -- same sequence of other elements. One byte leads from what may follow it to what may follow with it, and back (ByteSteps), so the
 -- machine reads exactly the texts of the grammar (WholeTexts). Each state has some text to come (Completions), and a byte does the
--- same at one level more but for a bracket (OneLevelMore). So the place of a fault is the longest front of some text (TextReads).
--- The code does what the machine does: a token by itself (StringScan, UnitScan), the same token within a text (TokenRuns,
--- TurnLemmas), one byte between tokens (StepLemmas), what the reader keeps (KeptLemmas, ObjectLemmas). The public clauses follow
+-- same at one level more but for a bracket (OneLevelMore). So the place of a fault is the longest front of some text (FaultPlaces).
+-- The code does what the machine does: a token by itself (StringScan), the same token within a text (TokenRuns),
+-- one byte between tokens (StepLemmas), what the reader keeps (KeptLemmas, ObjectLemmas). The public clauses follow
 -- (ReadLemmas). What is written is spelled (CompactLemmas, SpelledBack) and UTF-8 (WrittenUtf8).
 pub mod Encoded
 pub mod Following
@@ -17,15 +17,11 @@ pub mod ByteSteps
 pub mod WholeTexts
 pub mod Completions
 pub mod OneLevelMore
-pub mod TextReads
+pub mod FaultPlaces
 pub mod NumberText
 pub mod StringScan
-pub mod UnitScan
 pub mod TokenRuns
-pub mod TurnLemmas
 pub mod StepLemmas
-pub mod ReaderLemmas
-pub mod GoesLemmas
 pub mod ViewLemmas
 pub mod ObjectLemmas
 pub mod KeptLemmas

@@ -8,7 +8,8 @@ use Rattle.json_text.specs.Reading.{Fault, unexpected, too_deep, read_text}
 use Rattle.json_text.specs.Kept.{FailsSo}
 use Rattle.json_text.specs.declared.fault.JsonFault.{JsonFault}
 use Rattle.json_text.specs.declared.fault.JsonFault.TheVariants.{NotJson, TooDeep, KeyTwice, NoMemory}
-use Rattle.json_text.proofs.TextReads.{spelled_read, read_fails, opens_too_many, opens_no_more}
+use Rattle.json_text.proofs.WholeTexts.{spelled_read}
+use Rattle.json_text.proofs.FaultPlaces.{read_fails, opens_too_many, opens_no_more}
 
 abbrev node_in : Result Node Fault → Node
 node_in (Ok n) = n

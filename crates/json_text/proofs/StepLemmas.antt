@@ -1,18 +1,20 @@
--- One byte that is no white space, at each place between tokens: `by_byte`, `begins_word`, `opened_goes`, and a lemma for the bytes that stop each state.
-use Rattle.json_text.specs.Reading.{Stop, word}
-use Rattle.std.proofs.Common.{Result, ◌≡◌, ◌≢◌, ◌≤◌, ◌<◌, ℕ, ◌+◌, List, [], ◌∷◌, length, drop, reverse, true, false, Option, Ok, Err, refl, sym, ap, ◌∙◌, arith, cond, ◌==◌, ◌⊎◌}
+-- One byte that is no white space, at each place between tokens: `begins_word`, `opened_goes`, and a lemma for the bytes that stop
+-- each state. Turns seen from another state: `goes_same`, `fails_same`, `led`, `barred`.
+use Rattle.json_text.specs.Reading.{Stop, word, Member, Waiting, in_list, in_object, State, value, first_item, after_item, first_key, next_key, colon, after_member, whole, put, step, value_step, go_on, read_from, too_deep, unexpected, opened, nodes_of, fields_of, ended, end_of, Fault}
+use Rattle.std.proofs.Common.{Result, ◌≡◌, ◌≢◌, ◌≤◌, ◌<◌, ℕ, ◌+◌, List, [], ◌∷◌, length, drop, reverse, true, false, Option, Ok, Err, refl, sym, ap, ◌∙◌, arith, cond, ◌==◌, ◌⊎◌, subst}
 use Rattle.std.proofs.lemmas.Bool.Decides.{nat_tests}
 use Rattle.json_text.specs.Node.{Node, null_node, truth_node, list_node, object_node, no_nodes, no_fields}
 use Rattle.json_text.specs.Grammar.{is_space}
-use Rattle.json_text.specs.Reading.{Member, Waiting, in_list, in_object, State, value, first_item, after_item, first_key, next_key, colon, after_member, whole, put, step, value_step, go_on, read_from, too_deep, unexpected, opened, nodes_of, fields_of, ended, end_of}
-use Rattle.json_text.specs.Kept.{StartsWith, StartsWithNoSpace, BeginsWord, SkipsSpace, KeepsAll, Opens, IsState, repeat_of}
+use Rattle.json_text.specs.Kept.{StartsWith, StartsWithNoSpace, BeginsWord, SkipsSpace, KeepsAll, Opens, IsState, repeat_of, FailsSo, Goes, read_at}
 use Rattle.json_text.specs.declared.value.Json.{Json}
 use Rattle.json_text.specs.declared.state.Kept.{Kept}
 use Rattle.json_text.specs.declared.state.Next.{Next}
 use Rattle.json_text.specs.declared.state.Next.TheVariants.{Value, FirstItem, AfterItem, FirstKey, NextKey, AfterMember, End}
 use Rattle.std.proofs.lemmas.List.{length-reverse}
-use Rattle.json_text.proofs.TokenRuns.{fault, by_byte}
-use Rattle.json_text.proofs.TurnLemmas.{deep, keeps_length}
+use Rattle.json_text.proofs.TokenRuns.{fault, by_byte, deep, keeps_length}
+use Rattle.json_text.specs.declared.state.Place.{Place}
+use Rattle.json_text.specs.declared.fault.JsonFault.{JsonFault}
+use Rattle.json_text.specs.declared.fault.JsonFault.TheVariants.{NotJson, TooDeep, KeyTwice, NoMemory}
 
 -- the first byte of a word
 pub begins_word : (byte first c : ℕ) (cs : List ℕ) (n : Node) (rest : List ℕ) → ((L at : ℕ) (outer : List Waiting) → step L at (value outer) first ≡ Ok (word c cs n outer))
@@ -135,3 +137,26 @@ unfinished (End json) ks repeat s L at st h = absurd (h json refl)
 pub finished : (n : Node) (s : State) (L at : ℕ) → s ≡ whole n → read_from L at s [] ≡ Ok n
 unfolding read_from
 finished n s L at h = ap (λ t. ended at (end_of t)) h
+
+-- the same fault where the same is read
+pub fails_same : (a b : Result Node Fault) (f : JsonFault) → a ≡ b → FailsSo b f → FailsSo a f
+fails_same a b (NotJson at) e h = e ∙ h
+fails_same a b (TooDeep at) e h = e ∙ h
+fails_same a b (KeyTwice at) e h = h
+fails_same a b NoMemory e h = tt
+
+-- the same turn where the same is read
+pub goes_same : (L : ℕ) (s t : State) (place : Place) (r : Result (Next × Place) JsonFault) (ks : List Kept) (repeat : Option ℕ)
+    → read_at L place s ≡ read_at L place t → Goes L t place r ks repeat → Goes L s place r ks repeat
+goes_same L s t place (Ok x) ks repeat e g = (g.0, g.1, e ∙ g.2, g.3)
+goes_same L s t place (Err f) ks repeat e g = fails_same (read_at L place s) (read_at L place t) f e g
+
+-- a byte that leads from a state to another
+pub led : (L : ℕ) (s next : State) (byte : ℕ) (place there : Place) → StartsWith byte place.rest.now → step L place.at s byte ≡ Ok next → there.at ≡ place.at + 1 → there.rest.now ≡ drop 1 place.rest.now
+    → read_at L place s ≡ read_at L there next
+led L s next byte place there h goes at rest =
+    by_byte L place.at s byte place.rest.now (Ok next) h goes ∙ ap (λ k. read_from L k next (drop 1 place.rest.now)) (sym at) ∙ ap (read_from L there.at next) (sym rest)
+
+-- a byte that can't stand there
+pub barred : (L : ℕ) (s : State) (byte : ℕ) (place : Place) (f : JsonFault) → StartsWith byte place.rest.now → step L place.at s byte ≡ Err unexpected → f ≡ NotJson place.at → FailsSo (read_at L place s) f
+barred L s byte place f h goes is = subst (FailsSo (read_at L place s)) (sym is) (by_byte L place.at s byte place.rest.now (Err unexpected) h goes)

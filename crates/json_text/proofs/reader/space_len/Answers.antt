@@ -1,7 +1,7 @@
 use Rattle.std.proofs.Common.{◌∙◌, subst, take, sym, get_or}
 use Rattle.std.proofs.lemmas.List.{take_more}
 use Rattle.json_text.specs.Grammar.{IsSpace}
-use Rattle.json_text.proofs.ReaderLemmas.{IsSpace-more}
+use Rattle.json_text.proofs.TokenRuns.{IsSpace-more}
 use Rattle.json_text.proofs.reader.space_len.Goals as goal
 
 pub loop-n-preserved : goal.loop-n-preserved

@@ -1,6 +1,6 @@
 use Rattle.std.proofs.Common.{sym, ◌∙◌, ap}
 use Rattle.json_text.specs.Characters.{hex_digit_of}
-use Rattle.json_text.proofs.UnitScan.{place_goes, place_no_digit, place_no_fit, place_empty}
+use Rattle.json_text.proofs.StringScan.{place_goes, place_no_digit, place_no_fit, place_empty}
 use Rattle.json_text.proofs.string.with_digit.Goals as goal
 
 pub returns-in_err-get-clause-none : goal.returns-in_err-get-clause-none

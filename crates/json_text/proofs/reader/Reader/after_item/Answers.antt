@@ -1,15 +1,12 @@
-use Rattle.std.proofs.Common.{reverse}
-use Rattle.json_text.specs.Kept.{KeepsAll}
+use Rattle.std.proofs.Common.{reverse, ◌∙◌, ◌∷◌, refl, sym, ap, arith, subst}
+use Rattle.json_text.specs.Kept.{KeepsAll, read_at}
 use Rattle.json_text.specs.declared.state.Kept.TheVariants.{List as kept_list}
-use Rattle.std.proofs.Common.{◌∙◌, ◌∷◌, refl, sym, ap, arith, subst}
 use Rattle.json_text.specs.Tree.{list, items_of}
 use Rattle.json_text.specs.Node.{list_node}
 use Rattle.json_text.specs.Reading.{step, put, value, after_item, in_list, nodes_of}
-use Rattle.json_text.specs.Kept.{read_at}
 use Rattle.json_text.proofs.ViewLemmas.{tree_of_list}
 use Rattle.json_text.proofs.KeptLemmas.{keeps_more, values_of-nodes}
-use Rattle.json_text.proofs.StepLemmas.{less, item_other}
-use Rattle.json_text.proofs.GoesLemmas.{fails_same, led, barred}
+use Rattle.json_text.proofs.StepLemmas.{less, item_other, fails_same, led, barred}
 use Rattle.json_text.proofs.reader.Reader.after_item.Goals as goal
 
 pub returns-in_ok-push-in-44-clause-goes : goal.returns-in_ok-push-in-44-clause-goes

@@ -5,8 +5,7 @@ use Rattle.json_text.specs.Node.{object_node}
 use Rattle.json_text.specs.Reading.{step, put, next_key, after_member, fields_of}
 use Rattle.json_text.specs.Kept.{read_at}
 use Rattle.json_text.proofs.ViewLemmas.{tree_of_object}
-use Rattle.json_text.proofs.StepLemmas.{less, member_other}
-use Rattle.json_text.proofs.GoesLemmas.{fails_same, led, barred}
+use Rattle.json_text.proofs.StepLemmas.{less, member_other, fails_same, led, barred}
 use Rattle.json_text.proofs.reader.Reader.after_member.Goals as goal
 
 pub returns-in-44-clause-goes : goal.returns-in-44-clause-goes

@@ -1,16 +1,13 @@
-use Rattle.std.proofs.Common.{reverse}
-use Rattle.json_text.specs.Kept.{KeepsAll}
+use Rattle.std.proofs.Common.{reverse, ◌∙◌, ◌∷◌, [], sym, ap, arith, subst}
+use Rattle.json_text.specs.Kept.{KeepsAll, repeat_of}
 use Rattle.json_text.specs.declared.state.Kept.TheVariants.{List as kept_list}
-use Rattle.std.proofs.Common.{◌∙◌, ◌∷◌, [], sym, ap, arith, subst}
 use Rattle.json_text.specs.Tree.{list, items_of}
 use Rattle.json_text.specs.View.{trees_of}
 use Rattle.json_text.specs.Node.{list_node, no_nodes}
 use Rattle.json_text.specs.Reading.{step, put, value, first_item, in_list}
-use Rattle.json_text.specs.Kept.{repeat_of}
 use Rattle.json_text.proofs.ViewLemmas.{tree_of_list}
 use Rattle.json_text.proofs.KeptLemmas.{first_of-none, keeps_more}
-use Rattle.json_text.proofs.StepLemmas.{alike, less, first_item_goes}
-use Rattle.json_text.proofs.GoesLemmas.{goes_same, led}
+use Rattle.json_text.proofs.StepLemmas.{alike, less, first_item_goes, goes_same, led}
 use Rattle.json_text.proofs.reader.Reader.first_item.Goals as goal
 
 pub returns-then-byte-eq93-clause-goes : goal.returns-then-byte-eq93-clause-goes

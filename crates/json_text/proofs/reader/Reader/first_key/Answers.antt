@@ -6,8 +6,7 @@ use Rattle.json_text.specs.Reading.{step, put, first_key, next_key}
 use Rattle.json_text.specs.Kept.{repeat_of}
 use Rattle.json_text.proofs.ViewLemmas.{tree_of_object}
 use Rattle.json_text.proofs.KeptLemmas.{first_of-none}
-use Rattle.json_text.proofs.StepLemmas.{alike, less, first_key_is, first_key_other}
-use Rattle.json_text.proofs.GoesLemmas.{goes_same, led, barred}
+use Rattle.json_text.proofs.StepLemmas.{alike, less, first_key_is, first_key_other, goes_same, led, barred}
 use Rattle.json_text.proofs.reader.Reader.first_key.Goals as goal
 
 pub returns-in_ok-object-in-34-clause-goes : goal.returns-in_ok-object-in-34-clause-goes

@@ -1,19 +1,13 @@
-use Rattle.std.proofs.Common.{length, if◌then◌else◌, Some, None}
+use Rattle.std.proofs.Common.{length, if◌then◌else◌, Some, None, reverse, ◌∙◌, ◌∷◌, [], refl, sym, ap, arith, subst}
 use Rattle.std.proofs.lemmas.List.{length-drop}
-use Rattle.json_text.specs.Node.{first_repeat_behind}
-use Rattle.json_text.specs.Kept.{repeat_at}
-use Rattle.std.proofs.Common.{reverse}
-use Rattle.json_text.specs.Kept.{KeepsAll}
+use Rattle.json_text.specs.Node.{first_repeat_behind, first_of}
+use Rattle.json_text.specs.Kept.{repeat_at, KeepsAll, repeat_of, read_at, FailsSo, keys_behind}
 use Rattle.json_text.specs.declared.state.Kept.TheVariants.{Object as kept_object}
-use Rattle.std.proofs.Common.{◌∙◌, ◌∷◌, [], refl, sym, ap, arith, subst}
 use Rattle.json_text.specs.View.{pairs_of}
-use Rattle.json_text.specs.Node.{first_of}
 use Rattle.json_text.specs.Reading.{in_key, value, next_key, colon, in_object, fields_of}
-use Rattle.json_text.specs.Kept.{repeat_of, read_at, FailsSo, keys_behind}
 use Rattle.json_text.proofs.KeptLemmas.{first_of-assoc, keeps_more, key_waits, key_repeats}
-use Rattle.json_text.proofs.StepLemmas.{colon_goes, colon_other, colon_skips}
-use Rattle.json_text.proofs.TurnLemmas.{string_takes, string_faults}
-use Rattle.json_text.proofs.GoesLemmas.{led}
+use Rattle.json_text.proofs.StepLemmas.{colon_goes, colon_other, colon_skips, led}
+use Rattle.json_text.proofs.TokenRuns.{string_takes, string_faults}
 use Rattle.json_text.proofs.reader.Reader.key.Goals as goal
 
 pub returns-in-Err-clause-goes : goal.returns-in-Err-clause-goes

@@ -1,8 +1,7 @@
 use Rattle.std.proofs.Common.{ap, arith}
 use Rattle.json_text.specs.Reading.{next_key}
 use Rattle.json_text.specs.Kept.{read_at}
-use Rattle.json_text.proofs.StepLemmas.{next_key_other}
-use Rattle.json_text.proofs.GoesLemmas.{goes_same, fails_same, barred}
+use Rattle.json_text.proofs.StepLemmas.{next_key_other, goes_same, fails_same, barred}
 use Rattle.json_text.proofs.reader.Reader.next_key.Goals as goal
 
 pub returns-in-34-clause-goes : goal.returns-in-34-clause-goes

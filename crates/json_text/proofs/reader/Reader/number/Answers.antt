@@ -7,7 +7,7 @@ use Rattle.json_text.specs.Parts.{part_of}
 use Rattle.json_text.specs.Kept.{repeat_of}
 use Rattle.json_text.proofs.KeptLemmas.{first_of-none}
 use Rattle.json_text.proofs.ViewLemmas.{tree_of_number}
-use Rattle.json_text.proofs.TurnLemmas.{value_number, value_number_stops, number_front, shorter, number_is_some}
+use Rattle.json_text.proofs.TokenRuns.{value_number, value_number_stops, number_front, shorter, number_is_some}
 use Rattle.json_text.proofs.reader.Reader.number.Goals as goal
 
 pub from_utf8-requires : goal.from_utf8-requires

@@ -4,7 +4,7 @@ use Rattle.json_text.specs.Reading.{put, value, in_value}
 use Rattle.json_text.specs.Kept.{repeat_of}
 use Rattle.json_text.proofs.KeptLemmas.{first_of-none}
 use Rattle.json_text.proofs.ViewLemmas.{tree_of_text}
-use Rattle.json_text.proofs.TurnLemmas.{string_takes, string_faults}
+use Rattle.json_text.proofs.TokenRuns.{string_takes, string_faults}
 use Rattle.json_text.proofs.reader.Reader.string.Goals as goal
 
 pub returns-in-Err-clause-goes : goal.returns-in-Err-clause-goes

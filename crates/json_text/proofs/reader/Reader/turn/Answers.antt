@@ -1,9 +1,7 @@
-use Rattle.json_text.specs.Kept.{IsState}
+use Rattle.json_text.specs.Kept.{IsState, read_at}
 use Rattle.std.proofs.Common.{ap, subst}
 use Rattle.json_text.specs.Reading.{whole}
-use Rattle.json_text.specs.Kept.{read_at}
-use Rattle.json_text.proofs.StepLemmas.{whole_other}
-use Rattle.json_text.proofs.GoesLemmas.{fails_same, barred}
+use Rattle.json_text.proofs.StepLemmas.{whole_other, fails_same, barred}
 use Rattle.json_text.proofs.reader.Reader.turn.Goals as goal
 
 pub returns-clause-goes : goal.returns-clause-goes

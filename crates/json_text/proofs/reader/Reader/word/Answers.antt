@@ -4,7 +4,7 @@ use Rattle.json_text.specs.Reading.{put}
 use Rattle.json_text.specs.Node.{first_of}
 use Rattle.json_text.specs.Kept.{repeat_of}
 use Rattle.json_text.proofs.KeptLemmas.{first_of-none}
-use Rattle.json_text.proofs.TurnLemmas.{value_word, value_word_stops, shorter, word_is_some}
+use Rattle.json_text.proofs.TokenRuns.{value_word, value_word_stops, shorter, word_is_some}
 use Rattle.json_text.proofs.reader.Reader.word.Goals as goal
 
 pub returns-in_ok-next-in-Ok-clause-goes : goal.returns-in_ok-next-in-Ok-clause-goes

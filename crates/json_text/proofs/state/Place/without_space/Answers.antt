@@ -1,4 +1,4 @@
-use Rattle.json_text.proofs.ReaderLemmas.{behind_space}
+use Rattle.json_text.proofs.TokenRuns.{behind_space}
 use Rattle.json_text.proofs.state.Place.without_space.Goals as goal
 
 pub returns-clause-same : goal.returns-clause-same

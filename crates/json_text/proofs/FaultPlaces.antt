@@ -1,5 +1,5 @@
 -- The byte machine stops where no text goes on: `read_fails`, `opens_too_many`, `opens_no_more`.
-pub use Rattle.json_text.proofs.WholeTexts.{read_spelled, spelled_read}
+use Rattle.json_text.proofs.WholeTexts.{read_spelled, spelled_read}
 use Rattle.std.proofs.Common.{◌≡◌, ℕ, suc, ◌+◌, ◌-◌, ◌<◌, ◌≤◌, List, [], ◌∷◌, ◌++◌, length, take, Option, Some, None, Result, Ok, Err, refl, sym, ap, ◌∙◌, subst, arith, append_assoc, append-nil, length-append, add-zero, zero-add, take_at}
 use Rattle.json_text.specs.Node.{Node}
 use Rattle.json_text.specs.Faults.{FailsAt, OpensTooMany}
