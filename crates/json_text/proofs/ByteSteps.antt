@@ -7,7 +7,7 @@ use Rattle.json_text.proofs.NumberReads.{choose}
 use Rattle.json_text.specs.Number.{IsNumber, is_digit_above_zero}
 use Rattle.json_text.specs.Node.{Node, null_node, truth_node, list_node, object_node, number_node, text_node, Nodes, no_nodes, node, Fields, no_fields, field}
 use Rattle.json_text.specs.Grammar.{is_space}
-use Rattle.json_text.specs.Reading.{Stop, unexpected, too_deep, Member, Waiting, in_list, in_object, then_nodes, then_fields, nodes_of, fields_of, State, value, first_item, after_item, first_key, next_key, colon, after_member, whole, word, digits, string, Hole, in_value, in_key, fill, StringPart, StringStep, goes_on, ends, stops, string_step, string_goes, between, NumberPart, number_step, may_end, minus, zero_int, int, point, fraction, exponent, exponent_sign, exponent_digits, put, opened, value_step, word_step, after_step, digits_step, step, end_of}
+use Rattle.json_text.specs.Reading.{Stop, unexpected, too_deep, Member, Waiting, in_list, in_object, then_nodes, then_fields, nodes_of, fields_of, State, value, first_item, after_item, first_key, next_key, colon, after_member, whole, word, digits, string, Hole, in_value, in_key, fill, StringStep, goes_on, ends, stops, string_step, string_goes, between, NumberPart, number_step, may_end, minus, zero_int, int, point, fraction, exponent, exponent_sign, exponent_digits, put, opened, value_step, word_step, after_step, digits_step, step, end_of}
 use Rattle.json_text.proofs.Following.{Byte, Space, Literal, Characters, StringOn, Future, Key, Value, Items, MoreItems, Members, MoreMembers, After, Ended, Colon, Filled, Following}
 use Rattle.json_text.proofs.NumberReads.{Accepts, Starts, with_minus, with_zero, with_digit, starts, minus_number, zero_number, int_number}
 use Rattle.json_text.proofs.NumberReads.{digits_spelled, digits_from}
@@ -70,17 +70,31 @@ module _ (size levels : ℕ) (r : Node) where
   -- a value is whole: what waits for it goes on
   pub put_follows : (n : Node) (outer : List Waiting) (bytes : List ℕ) → Done outer n bytes → Follows (put n outer) bytes
   put_follows n [] bytes h = h
-  put_follows n (in_list ns ∷ outer) bytes ((xs, future), h) = (xs, future, subst
-      (λ all. Space (MoreItems size xs (levels - suc (length outer)) (Byte 93 (Space (Waits outer future (list_node all))))) bytes) (sym (then_node ns n xs)) h)
-  put_follows n (in_object ms place key ∷ outer) bytes ((xs, future), h) = (xs, future, subst
-      (λ all. Space (MoreMembers size xs (levels - suc (length outer)) (Byte 125 (Space (Waits outer future (object_node all))))) bytes) (sym (then_field ms place key n xs)) h)
+  put_follows n (in_list ns ∷ outer) bytes ((xs, future), h) = (
+    xs,
+    future,
+    subst
+        (λ all. Space (MoreItems size xs (levels - suc (length outer)) (Byte 93 (Space (Waits outer future (list_node all))))) bytes) (sym (then_node ns n xs)) h,
+  )
+  put_follows n (in_object ms place key ∷ outer) bytes ((xs, future), h) = (
+    xs,
+    future,
+    subst
+        (λ all. Space (MoreMembers size xs (levels - suc (length outer)) (Byte 125 (Space (Waits outer future (object_node all))))) bytes) (sym (then_field ms place key n xs)) h,
+  )
 
   pub follows_put : (n : Node) (outer : List Waiting) (bytes : List ℕ) → Follows (put n outer) bytes → Done outer n bytes
   follows_put n [] bytes h = h
-  follows_put n (in_list ns ∷ outer) bytes (xs, future, h) = ((xs, future), subst
-      (λ all. Space (MoreItems size xs (levels - suc (length outer)) (Byte 93 (Space (Waits outer future (list_node all))))) bytes) (then_node ns n xs) h)
-  follows_put n (in_object ms place key ∷ outer) bytes (xs, future, h) = ((xs, future), subst
-      (λ all. Space (MoreMembers size xs (levels - suc (length outer)) (Byte 125 (Space (Waits outer future (object_node all))))) bytes) (then_field ms place key n xs) h)
+  follows_put n (in_list ns ∷ outer) bytes (xs, future, h) = (
+    (xs, future),
+    subst
+        (λ all. Space (MoreItems size xs (levels - suc (length outer)) (Byte 93 (Space (Waits outer future (list_node all))))) bytes) (then_node ns n xs) h,
+  )
+  follows_put n (in_object ms place key ∷ outer) bytes (xs, future, h) = (
+    (xs, future),
+    subst
+        (λ all. Space (MoreMembers size xs (levels - suc (length outer)) (Byte 125 (Space (Waits outer future (object_node all))))) bytes) (then_field ms place key n xs) h,
+  )
 
   came_put : (n : Node) (outer : List Waiting) (next : State) (bytes : List ℕ) → went (put n outer) ≡ Ok next → Follows next bytes → Done outer n bytes
   came_put n outer next bytes e h = follows_put n outer bytes (came (put n outer) next bytes e h)
@@ -239,8 +253,12 @@ module _ (size levels : ℕ) (r : Node) where
   value_goes (truth_node false) outer future b bs h = value_at outer b 102 bs h.0 refl refl (word 97 (codes "lse") (truth_node false) outer, refl, (future, h.1))
   value_goes (number_node spelling) outer future b bs (back, is, number, k) = numbers_go outer spelling b bs back future (starts spelling number) is k
   value_goes (text_node t) outer future b bs (inside, back, is, spelled, k) = let (f, g) = heads b 34 bs (inside ++ 34 ∷ back) is in
-      value_at outer b 34 bs f refl refl (string between [] (in_value outer), refl, subst (λ bs. Follows (string between [] (in_value outer)) bs) (sym g)
-      (characters_from (λ t. Done outer (text_node t)) inside t back spelled (future, k)))
+      value_at outer b 34 bs f refl refl (
+        string between [] (in_value outer),
+        refl,
+        subst (λ bs. Follows (string between [] (in_value outer)) bs) (sym g)
+            (characters_from (λ t. Done outer (text_node t)) inside t back spelled (future, k)),
+      )
   value_goes (list_node ns) outer future b bs (m, e, (f, k)) = let (o, same) = opens outer (first_item outer) m e in
       value_at outer b 91 bs f refl refl (first_item outer, o, (ns, future, subst (λ l. Space (Items size ns l (Byte 93 (Space (Waits outer future (list_node ns))))) bs) same k))
   value_goes (object_node fs) outer future b bs (m, e, (f, k)) = let (o, same) = opens outer (first_key outer) m e in
@@ -249,9 +267,11 @@ module _ (size levels : ℕ) (r : Node) where
   key_goes : (ms : List Member) (outer : List Waiting) (at place b : ℕ) (key bs : List ℕ) (n : Node) (future : Future (in_object ms place key ∷ outer)) → at + suc (length bs) ≡ size
       → Key size place key (Space (Byte 58 (Space (Value size n (levels - suc (length outer)) (Space (Waits (in_object ms place key ∷ outer) future n)))))) (b ∷ bs)
       → (b ≡ 34) × Follows (string between [] (in_key at ms outer)) bs
-  key_goes ms outer at place b key bs n future s (p, (inside, back, is, spelled, k)) = let (f, g) = heads b 34 bs (inside ++ 34 ∷ back) is in
-      (f, subst (λ p. Follows (string between [] (in_key p ms outer)) bs) (omega (arith, s, p)) (subst (λ bs. Follows (string between [] (in_key place ms outer)) bs) (sym g)
-      (characters_from (Colon size levels r ms place outer) inside key back spelled (n, future, k))))
+  key_goes ms outer at place b key bs n future s (p, (inside, back, is, spelled, k)) = let (f, g) = heads b 34 bs (inside ++ 34 ∷ back) is in (
+    f,
+    subst (λ p. Follows (string between [] (in_key p ms outer)) bs) (omega (arith, s, p)) (subst (λ bs. Follows (string between [] (in_key place ms outer)) bs) (sym g)
+        (characters_from (Colon size levels r ms place outer) inside key back spelled (n, future, k))),
+  )
 
   put_goes : (n : Node) (outer : List Waiting) (future : Future outer) (bs : List ℕ) → Space (Waits outer future n) bs → Goes bs (Ok (put n outer))
   put_goes n outer future bs h = (put n outer, refl, put_follows n outer bs (future, h))

@@ -148,12 +148,14 @@ all_fit None u w x y z so e f g h i = (refl, second w x (λ o. first u w x y z s
     first : (u w x y z : ℕ) → (u < 0xDC00) ⊎ (0xE000 ≤ u) → u ≡ 16 * (16 * (16 * w + x) + y) + z → x < 16 → y < 16 → z < 16 → w ≡ 13 → x < 12
     first u w x y z (inl s) e g h i o = omega arith
     first u w x y z (inr s) e g h i o = omega arith
+
     second : (w x : ℕ) → (w ≡ 13 → x < 12) → digit_fits None 3 w x ≡ true
     second w x h = grind (arith, nat_tests)
 all_fit (Some lead) u w x y z so e f g h i = (first w (omega (arith, so.0, so.1)), second x (omega (arith, so.0, so.1)), refl, refl)
   where
     first : (w : ℕ) → w ≡ 13 → digit_fits (Some lead) 4 0 w ≡ true
     first w h = grind (arith, nat_tests)
+
     second : (x : ℕ) → 12 ≤ x → digit_fits (Some lead) 3 w x ≡ true
     second x h = grind (arith, nat_tests)
 
@@ -386,4 +388,3 @@ character_utf8 (pair first second lead low h i j k) = IsUtf8-encode (pair_of lea
 pub characters_utf8 : {bytes text : List ℕ} → SpellsCharacters bytes text → IsUtf8 text
 characters_utf8 none = IsUtf8-nil
 characters_utf8 (more {a = a} {x = x} {b = b} {y = y} p ps) = IsUtf8-append x y (character_utf8 p) (characters_utf8 ps)
-

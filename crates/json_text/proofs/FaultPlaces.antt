@@ -113,13 +113,21 @@ opens_too_many levels bytes f h w = by (stopped levels bytes (value []) 0 f (sta
     deep : (s : Stopped levels (value []) 0 f bytes) (b : ℕ) (bs : List ℕ) → s.rest ≡ b ∷ bs → Fares levels (Err too_deep) (step (suc levels) f.at s.state b) → OpensTooMany levels bytes f.at
     deep s b bs e (next, o, parts) =
         let (within, front) = next_byte levels bytes f s b bs e in
-        let (more, n, k) = completes (suc levels) next parts (f.at + 1) in
-        (within, (more, n, read_spelled (suc levels) (take (suc f.at) bytes ++ more) n
-        (ap (λ t. read_text (suc levels) (t ++ more)) front ∙ ap (read_text (suc levels)) (append_assoc s.front (b ∷ []) more)
-        ∙ s.deeper (b ∷ more) ∙ read_ok (suc levels) f.at s.state next b more o ∙ k)))
+        let (more, n, k) = completes (suc levels) next parts (f.at + 1) in (
+          within,
+          (
+            more,
+            n,
+            read_spelled (suc levels) (take (suc f.at) bytes ++ more) n
+                (ap (λ t. read_text (suc levels) (t ++ more)) front ∙ ap (read_text (suc levels)) (append_assoc s.front (b ∷ []) more)
+                ∙ s.deeper (b ∷ more) ∙ read_ok (suc levels) f.at s.state next b more o ∙ k),
+          ),
+        )
+
     at : (s : Stopped levels (value []) 0 f bytes) (rest : List ℕ) → s.rest ≡ rest → StopsAt levels s.state f rest → OpensTooMany levels bytes f.at
     at s [] e t = unlike (sym t ∙ w)
     at s (b ∷ bs) e t = deep s b bs e (subst (λ r. Fares levels r (step (suc levels) f.at s.state b)) (t ∙ ap Err w) (fares levels s.state f.at b s.sound))
+
     by : Stopped levels (value []) 0 f bytes → OpensTooMany levels bytes f.at
     by s = at s s.rest refl s.stops
 
@@ -133,5 +141,6 @@ opens_no_more levels bytes f h w (within, (more, n, text)) = by (stopped levels 
         both (read_text (suc levels) (take (suc f.at) bytes ++ more)) n (fault unexpected f.at) (spelled_read (suc levels) (take (suc f.at) bytes ++ more) n text)
         (ap (λ t. read_text (suc levels) (t ++ more)) (next_byte levels bytes f s b bs e).1 ∙ ap (read_text (suc levels)) (append_assoc s.front (b ∷ []) more)
         ∙ s.deeper (b ∷ more) ∙ read_err (suc levels) f.at s.state unexpected b more o)
+
     by : Stopped levels (value []) 0 f bytes → ⊥
     by s = at s s.rest refl s.stops

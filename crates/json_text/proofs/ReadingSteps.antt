@@ -1,5 +1,5 @@
 -- One step of a reading at a time: `read_ok`, `read_err`, `read_nil`, `cons_ok`, `ended_ok`.
-use Rattle.std.proofs.Common.{◌≡◌, ℕ, ◌+◌, List, [], ◌∷◌, Option, Some, None, Result, Ok, Err, refl, sym, ap, ◌∙◌, ◌⊎◌, inl, inr}
+use Rattle.std.proofs.Common.{◌≡◌, ℕ, ◌+◌, List, [], ◌∷◌, Option, Some, None, Result, Ok, Err, refl, sym, ap, ◌∙◌}
 use Rattle.json_text.specs.Node.{Node}
 use Rattle.json_text.specs.Reading.{Stop, State, step, go_on, ended, end_of, read_from, Fault}
 

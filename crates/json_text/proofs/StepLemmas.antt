@@ -1,9 +1,9 @@
 -- One byte that is no white space, at each place between tokens: `begins_word`, `opened_goes`, and a lemma for the bytes that stop
 -- each state. Turns seen from another state: `goes_same`, `fails_same`, `led`, `barred`.
-use Rattle.json_text.specs.Reading.{Stop, word, Member, Waiting, in_list, in_object, State, value, first_item, after_item, first_key, next_key, colon, after_member, whole, put, step, value_step, go_on, read_from, too_deep, unexpected, opened, nodes_of, fields_of, ended, end_of, Fault}
-use Rattle.std.proofs.Common.{Result, ◌≡◌, ◌≢◌, ◌≤◌, ◌<◌, ℕ, ◌+◌, List, [], ◌∷◌, length, drop, reverse, true, false, Option, Ok, Err, refl, sym, ap, ◌∙◌, arith, cond, ◌==◌, ◌⊎◌, subst}
+use Rattle.json_text.specs.Reading.{word, Member, Waiting, in_list, in_object, State, value, first_item, after_item, first_key, next_key, colon, after_member, whole, step, value_step, go_on, read_from, too_deep, unexpected, opened, ended, end_of, Fault}
+use Rattle.std.proofs.Common.{Result, ◌≡◌, ◌≢◌, ◌≤◌, ◌<◌, ℕ, ◌+◌, List, [], ◌∷◌, length, drop, reverse, false, Option, Ok, Err, refl, sym, ap, ◌∙◌, arith, cond, ◌==◌, ◌⊎◌, subst}
 use Rattle.std.proofs.lemmas.Bool.Decides.{nat_tests}
-use Rattle.json_text.specs.Node.{Node, null_node, truth_node, list_node, object_node, no_nodes, no_fields}
+use Rattle.json_text.specs.Node.{Node}
 use Rattle.json_text.specs.Grammar.{is_space}
 use Rattle.json_text.specs.Kept.{StartsWith, StartsWithNoSpace, BeginsWord, SkipsSpace, KeepsAll, Opens, IsState, repeat_of, FailsSo, Goes, read_at}
 use Rattle.json_text.specs.declared.value.Json.{Json}

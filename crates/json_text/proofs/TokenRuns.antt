@@ -1,9 +1,9 @@
 -- A byte at the front: `by_byte`. A token by itself, and the same token at the front of a text: `string_takes`, `value_number`,
 -- `value_word` and where they stop. White space that the reader passes over: `behind_space`, `IsSpace-more`.
 use Rattle.std.proofs.Common.{◌≡◌, ℕ, suc, ◌+◌, List, [], ◌∷◌, ◌++◌, length, take, drop, true, false, Option, Some, None, Result, Ok, Err, refl, sym, ap, ◌∙◌, subst, arith, append_assoc, append-nil, Bool, ◌==◌, cond, ◌<◌, ◌≤◌}
-use Rattle.json_text.specs.Node.{Node, number_node, text_node}
+use Rattle.json_text.specs.Node.{Node, number_node}
 use Rattle.json_text.specs.Grammar.{IsSpace, is_space}
-use Rattle.json_text.specs.Reading.{Stop, NumberPart, number_step, may_end, StringPart, StringStep, goes_on, ends, stops, string_step, between, Waiting, in_list, in_object, State, string, Hole, fill, digits, word, word_step, digits_step, put, step, string_goes, go_on, read_from, Fault, unexpected, end_of, ended, after_step, Member, value, next_key, colon, too_deep}
+use Rattle.json_text.specs.Reading.{Stop, NumberPart, number_step, may_end, StringPart, StringStep, goes_on, ends, stops, string_step, between, Waiting, in_list, in_object, State, string, Hole, fill, digits, word, word_step, digits_step, put, step, string_goes, go_on, read_from, Fault, unexpected, end_of, ended, after_step, value, too_deep}
 use Rattle.json_text.specs.Kept.{SkipsSpace, StartsWith, BeginsNumber, BeginsWord, KeepsAll, StringFault, FailsSo, read_at}
 use Rattle.json_text.specs.Scan.{scan_string, string_on, scan_number, number_on, number_end, scan_word}
 use Rattle.json_text.specs.declared.state.Place.{Place}
@@ -109,6 +109,7 @@ module _ (L : ℕ) (outer : List Waiting) where
   number_ends at m part spelling = subst (λ o. Agrees L at m [] (λ e. e) (Spelled spelling []) (ended at o) (number_end part m)) (sym (end_by (may_end part) outer part spelling refl))
       (elim (may_end part) as (λ v. Agrees L at m [] (λ e. e) (Spelled spelling []) (ended at (cond v (end_of (put (number_node spelling) outer)) None)) (cond v (Ok m) (Err m)))
       [ true ↦ ends_here at m spelling [] _ (end_read at (put (number_node spelling) outer)) | false ↦ stops_here at m _ refl ])
+
   number_agrees : (bs : List ℕ) (at m : ℕ) (part : NumberPart) (spelling : List ℕ) → Agrees L at m bs (λ e. e) (Spelled spelling bs) (read_from L at (digits part spelling outer) bs) (scan_number part m bs)
   unfolding scan_number read_from
   number_agrees [] at m part spelling = number_ends at m part spelling
@@ -139,8 +140,7 @@ module _ (L : ℕ) (outer : List Waiting) (n : Node) where
   word_agrees [] bs at m = (0, omega arith, ap (λ k. read_from L k (put n outer) bs) (omega arith))
   word_agrees (c ∷ cs) [] at m = stops_here at m _ refl
   word_agrees (c ∷ cs) (b ∷ bs) at m =
-      elim (b == c) as (λ v. Agrees L at m (b ∷ bs) (λ e. e) (λ _ _. put n outer) (go_on at (cond v (Ok (word_step c cs n outer)) (Err unexpected)) (λ s. read_from L (at + 1) s bs)) (cond v (scan_word cs (m + 1) bs) (Err m)))
-      [
+      elim (b == c) as (λ v. Agrees L at m (b ∷ bs) (λ e. e) (λ _ _. put n outer) (go_on at (cond v (Ok (word_step c cs n outer)) (Err unexpected)) (λ s. read_from L (at + 1) s bs)) (cond v (scan_word cs (m + 1) bs) (Err m))) [
         | true ↦ later L at m b bs _ _ _ _ (scan_word cs (m + 1) bs) (λ _ _. refl)
             (subst (λ s. Agrees L (at + 1) (m + 1) bs (λ e. e) (λ _ _. put n outer) (read_from L (at + 1) s bs) (scan_word cs (m + 1) bs)) (sym (word_step_is c cs)) (word_agrees cs bs (at + 1) (m + 1)))
         | false ↦ stops_here at m _ refl

@@ -31,5 +31,5 @@ pub spelled_read : (levels : ℕ) (bytes : List ℕ) (n : Node) → IsText level
 spelled_read levels bytes n h =
     let size = length bytes in
     let f = (text_reads size n (levels - 0)).from 0 (After size levels n [] tt n) bytes [] (zero-add (length (bytes ++ [])) ∙ ap length (append-nil bytes)) h.spelled (omega (arith, h.within)) (refl, refl) in
-    read_follows size levels n bytes (value []) 0 (zero-add size) 
+    read_follows size levels n bytes (value []) 0 (zero-add size)
     (n, tt, subst (Space (Value size n (levels - 0) (Space (After size levels n [] tt n)))) (append-nil bytes) f)
