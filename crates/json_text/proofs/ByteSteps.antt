@@ -74,13 +74,15 @@ module _ (size levels : ℕ) (r : Node) where
     xs,
     future,
     subst
-        (λ all. Space (MoreItems size xs (levels - suc (length outer)) (Byte 93 (Space (Waits outer future (list_node all))))) bytes) (sym (then_node ns n xs)) h,
+        (λ all. Space (MoreItems size xs (levels - suc (length outer)) (Byte 93 (Space (Waits outer future (list_node all))))) bytes)
+        (sym (then_node ns n xs)) h,
   )
   put_follows n (in_object ms place key ∷ outer) bytes ((xs, future), h) = (
     xs,
     future,
     subst
-        (λ all. Space (MoreMembers size xs (levels - suc (length outer)) (Byte 125 (Space (Waits outer future (object_node all))))) bytes) (sym (then_field ms place key n xs)) h,
+        (λ all. Space (MoreMembers size xs (levels - suc (length outer)) (Byte 125 (Space (Waits outer future (object_node all))))) bytes)
+        (sym (then_field ms place key n xs)) h,
   )
 
   pub follows_put : (n : Node) (outer : List Waiting) (bytes : List ℕ) → Follows (put n outer) bytes → Done outer n bytes
@@ -93,7 +95,8 @@ module _ (size levels : ℕ) (r : Node) where
   follows_put n (in_object ms place key ∷ outer) bytes (xs, future, h) = (
     (xs, future),
     subst
-        (λ all. Space (MoreMembers size xs (levels - suc (length outer)) (Byte 125 (Space (Waits outer future (object_node all))))) bytes) (then_field ms place key n xs) h,
+        (λ all. Space (MoreMembers size xs (levels - suc (length outer)) (Byte 125 (Space (Waits outer future (object_node all))))) bytes)
+        (then_field ms place key n xs) h,
   )
 
   came_put : (n : Node) (outer : List Waiting) (next : State) (bytes : List ℕ) → went (put n outer) ≡ Ok next → Follows next bytes → Done outer n bytes
@@ -108,73 +111,97 @@ module _ (size levels : ℕ) (r : Node) where
       let (inside, t, back, is, spelled, (future, k)) = characters_spelled (λ t. Done outer (text_node t)) bs h in
       (text_node t, future, (inside, back, ap (λ c. c ∷ bs) e ∙ ap (λ t. 34 ∷ t) is, spelled, k))
 
-  number_value : (part : NumberPart) (outer : List Waiting) (b : ℕ) (bs : List ℕ) → ((t : List ℕ) → Accepts part t → IsNumber (b ∷ t)) → Follows (digits part (b ∷ []) outer) bs → ValueFollows outer (b ∷ bs)
+  number_value : (part : NumberPart) (outer : List Waiting) (b : ℕ) (bs : List ℕ) → ((t : List ℕ) → Accepts part t → IsNumber (b ∷ t))
+      → Follows (digits part (b ∷ []) outer) bs → ValueFollows outer (b ∷ bs)
   number_value part outer b bs f h =
       let (tail, back, is, accepts, (future, k)) = digits_spelled part (b ∷ []) (λ s. Done outer (number_node s)) bs h in
       (number_node (b ∷ tail), future, (back, ap (λ t. b ∷ t) is, f tail accepts, k))
 
   opened_value : (outer : List Waiting) (s next : State) → opened levels outer s ≡ Ok next → (length outer < levels) × (went s ≡ Ok next)
-  opened_value outer s next e = choose (nat_lt (length outer) levels) (went s) (Err too_deep) (went next) (λ t f. (ltb-true (length outer) levels t, f)) (λ t f. refused too_deep next f) e
+  opened_value outer s next e = choose (nat_lt (length outer) levels) (went s) (Err too_deep) (went next) (λ t f. (ltb-true (length outer) levels t, f))
+      (λ t f. refused too_deep next f) e
 
-  list_value : (outer : List Waiting) (next : State) (b : ℕ) (bs : List ℕ) → b ≡ 91 → opened levels outer (first_item outer) ≡ Ok next → Follows next bs → ValueFollows outer (b ∷ bs)
-  list_value outer next b bs e o h = let (deep, f) = opened_value outer (first_item outer) next o in let (ns, future, i) = came (first_item outer) next bs f h in
+  list_value : (outer : List Waiting) (next : State) (b : ℕ) (bs : List ℕ) → b ≡ 91 → opened levels outer (first_item outer) ≡ Ok next → Follows next bs
+      → ValueFollows outer (b ∷ bs)
+  list_value outer next b bs e o h = let (deep, f) = opened_value outer (first_item outer) next o in
+      let (ns, future, i) = came (first_item outer) next bs f h in
       (list_node ns, future, (levels - suc (length outer), omega (arith, deep), (e, i)))
 
-  object_value : (outer : List Waiting) (next : State) (b : ℕ) (bs : List ℕ) → b ≡ 123 → opened levels outer (first_key outer) ≡ Ok next → Follows next bs → ValueFollows outer (b ∷ bs)
-  object_value outer next b bs e o h = let (deep, f) = opened_value outer (first_key outer) next o in let (fs, future, i) = came (first_key outer) next bs f h in
+  object_value : (outer : List Waiting) (next : State) (b : ℕ) (bs : List ℕ) → b ≡ 123 → opened levels outer (first_key outer) ≡ Ok next → Follows next bs
+      → ValueFollows outer (b ∷ bs)
+  object_value outer next b bs e o h = let (deep, f) = opened_value outer (first_key outer) next o in
+      let (fs, future, i) = came (first_key outer) next bs f h in
       (object_node fs, future, (levels - suc (length outer), omega (arith, deep), (e, i)))
 
-  word_value : (outer : List Waiting) (c : ℕ) (rest : List ℕ) (n : Node) (next : State) (b : ℕ) (bs : List ℕ) → ((future : Future outer) → Literal (c ∷ rest) (Space (Waits outer future n)) bs → Value size n (levels - length outer) (Space (Waits outer future n)) (b ∷ bs))
+  word_value : (outer : List Waiting) (c : ℕ) (rest : List ℕ) (n : Node) (next : State) (b : ℕ) (bs : List ℕ) → ((future : Future outer)
+      → Literal (c ∷ rest) (Space (Waits outer future n)) bs → Value size n (levels - length outer) (Space (Waits outer future n)) (b ∷ bs))
       → went (word c rest n outer) ≡ Ok next → Follows next bs → ValueFollows outer (b ∷ bs)
   word_value outer c rest n next b bs f e h = let (future, k) = came (word c rest n outer) next bs e h in (n, future, f future k)
 
-  value_follows : (outer : List Waiting) (next : State) (b : ℕ) (bs : List ℕ) → value_step levels outer b ≡ Ok next → Follows next bs → ValueFollows outer (b ∷ bs)
+  value_follows : (outer : List Waiting) (next : State) (b : ℕ) (bs : List ℕ) → value_step levels outer b ≡ Ok next → Follows next bs
+      → ValueFollows outer (b ∷ bs)
   value_follows outer next b bs e h =
       choose (b == 34) _ _ _ (λ t e. string_value outer b bs (eqb-true b 34 t) (came _ next bs e h)) (λ _ e.
       choose (b == 91) _ _ _ (λ t e. list_value outer next b bs (eqb-true b 91 t) e h) (λ _ e.
       choose (b == 123) _ _ _ (λ t e. object_value outer next b bs (eqb-true b 123 t) e h) (λ _ e.
-      choose (b == 45) _ _ _ (λ t e. number_value minus outer b bs (λ a x. subst (λ c. IsNumber (c ∷ a)) (sym (eqb-true b 45 t)) (minus_number a x)) (came _ next bs e h)) (λ _ e.
-      choose (b == 48) _ _ _ (λ t e. number_value zero_int outer b bs (λ a x. subst (λ c. IsNumber (c ∷ a)) (sym (eqb-true b 48 t)) (zero_number a x)) (came _ next bs e h)) (λ _ e.
+      choose (b == 45) _ _ _
+      (λ t e. number_value minus outer b bs (λ a x. subst (λ c. IsNumber (c ∷ a)) (sym (eqb-true b 45 t)) (minus_number a x)) (came _ next bs e h)) (λ _ e.
+      choose (b == 48) _ _ _ (λ t e. number_value zero_int outer b bs (λ a x. subst (λ c. IsNumber (c ∷ a)) (sym (eqb-true b 48 t)) (zero_number a x))
+      (came _ next bs e h)) (λ _ e.
       choose (is_digit_above_zero b) _ _ _ (λ t e. number_value int outer b bs (λ a x. int_number b a t x) (came _ next bs e h)) (λ _ e.
       choose (b == 110) _ _ _ (λ t e. word_value outer 117 (codes "ll") null_node next b bs (λ _ k. (eqb-true b 110 t, k)) e h) (λ _ e.
       choose (b == 116) _ _ _ (λ t e. word_value outer 114 (codes "ue") (truth_node true) next b bs (λ _ k. (eqb-true b 116 t, k)) e h) (λ _ e.
       choose (b == 102) _ _ _ (λ t e. word_value outer 97 (codes "lse") (truth_node false) next b bs (λ _ k. (eqb-true b 102 t, k)) e h) (λ _ e.
       refused unexpected next e) e) e) e) e) e) e) e) e) e
 
-  item_follows : (ns : List Node) (outer : List Waiting) (next : State) (b : ℕ) (bs : List ℕ) → after_step (after_item ns outer) b ≡ Ok next → Follows next bs → Follows (after_item ns outer) (b ∷ bs)
+  item_follows : (ns : List Node) (outer : List Waiting) (next : State) (b : ℕ) (bs : List ℕ) → after_step (after_item ns outer) b ≡ Ok next → Follows next bs
+      → Follows (after_item ns outer) (b ∷ bs)
   item_follows ns outer next b bs e h =
       choose (is_space b) _ _ _ (λ t e. let (xs, future, k) = came (after_item ns outer) next bs e h in (xs, future, inr (t, k))) (λ _ e.
-      choose (b == 44) _ _ _ (λ t e. let (n, future, k) = came (value (in_list ns ∷ outer)) next bs e h in (node n future.0, future.1, inl (eqb-true b 44 t, k))) (λ _ e.
-      choose (b == 93) _ _ _ (λ t e. let (future, k) = came_put (list_node (nodes_of ns)) outer next bs e h in (no_nodes, future, inl (eqb-true b 93 t, k))) (λ _ e.
+      choose (b == 44) _ _ _ (λ t e. let (n, future, k) = came (value (in_list ns ∷ outer)) next bs e h in
+      (node n future.0, future.1, inl (eqb-true b 44 t, k))) (λ _ e.
+      choose (b == 93) _ _ _ (λ t e. let (future, k) = came_put (list_node (nodes_of ns)) outer next bs e h in (no_nodes, future, inl (eqb-true b 93 t, k)))
+      (λ _ e.
       refused unexpected next e) e) e) e
 
-  member_follows : (ms : List Member) (outer : List Waiting) (next : State) (b : ℕ) (bs : List ℕ) → after_step (after_member ms outer) b ≡ Ok next → Follows next bs → Follows (after_member ms outer) (b ∷ bs)
+  member_follows : (ms : List Member) (outer : List Waiting) (next : State) (b : ℕ) (bs : List ℕ) → after_step (after_member ms outer) b ≡ Ok next
+      → Follows next bs → Follows (after_member ms outer) (b ∷ bs)
   member_follows ms outer next b bs e h =
       choose (is_space b) _ _ _ (λ t e. let (xs, future, k) = came (after_member ms outer) next bs e h in (xs, future, inr (t, k))) (λ _ e.
-      choose (b == 44) _ _ _ (λ t e. let (place, key, n, future, k) = came (next_key ms outer) next bs e h in (field place key n future.0, future.1, inl (eqb-true b 44 t, k))) (λ _ e.
-      choose (b == 125) _ _ _ (λ t e. let (future, k) = came_put (object_node (fields_of ms)) outer next bs e h in (no_fields, future, inl (eqb-true b 125 t, k))) (λ _ e.
+      choose (b == 44) _ _ _ (λ t e. let (place, key, n, future, k) = came (next_key ms outer) next bs e h in
+      (field place key n future.0, future.1, inl (eqb-true b 44 t, k))) (λ _ e.
+      choose (b == 125) _ _ _ (λ t e. let (future, k) = came_put (object_node (fields_of ms)) outer next bs e h in
+      (no_fields, future, inl (eqb-true b 125 t, k))) (λ _ e.
       refused unexpected next e) e) e) e
 
   whole_follows : (n : Node) (next : State) (b : ℕ) (bs : List ℕ) → after_step (whole n) b ≡ Ok next → Follows next bs → Follows (whole n) (b ∷ bs)
-  whole_follows n next b bs e h = choose (is_space b) _ _ _ (λ t e. let (future, k) = came (whole n) next bs e h in (future, inr (t, k))) (λ _ e. refused unexpected next e) e
+  whole_follows n next b bs e h = choose (is_space b) _ _ _ (λ t e. let (future, k) = came (whole n) next bs e h in (future, inr (t, k)))
+      (λ _ e. refused unexpected next e) e
 
-  put_step_follows : (n : Node) (outer : List Waiting) (next : State) (b : ℕ) (bs : List ℕ) → after_step (put n outer) b ≡ Ok next → Follows next bs → Done outer n (b ∷ bs)
+  put_step_follows : (n : Node) (outer : List Waiting) (next : State) (b : ℕ) (bs : List ℕ) → after_step (put n outer) b ≡ Ok next → Follows next bs
+      → Done outer n (b ∷ bs)
   put_step_follows n [] next b bs e h = whole_follows n next b bs e h
   put_step_follows n (in_list ns ∷ outer) next b bs e h = follows_put n (in_list ns ∷ outer) (b ∷ bs) (item_follows (ns ++ n ∷ []) outer next b bs e h)
-  put_step_follows n (in_object ms place key ∷ outer) next b bs e h = follows_put n (in_object ms place key ∷ outer) (b ∷ bs) (member_follows (ms ++ record { place = place; key = key; of = n } ∷ []) outer next b bs e h)
+  put_step_follows n (in_object ms place key ∷ outer) next b bs e h =
+      follows_put n (in_object ms place key ∷ outer) (b ∷ bs) (member_follows (ms ++ record { place = place; key = key; of = n } ∷ []) outer next b bs e h)
 
   -- a key's quotation mark
-  key_follows : (ms : List Member) (outer : List Waiting) (next : State) (at b : ℕ) (bs : List ℕ) → at + suc (length bs) ≡ size → (b == 34) ≡ true → went (string between [] (in_key at ms outer)) ≡ Ok next → Follows next bs
-      → (key : List ℕ) × (n : Node) × (future : Future (in_object ms at key ∷ outer)) × Key size at key (Space (Byte 58 (Space (Value size n (levels - suc (length outer)) (Space (Waits (in_object ms at key ∷ outer) future n)))))) (b ∷ bs)
+  key_follows : (ms : List Member) (outer : List Waiting) (next : State) (at b : ℕ) (bs : List ℕ) → at + suc (length bs) ≡ size → (b == 34) ≡ true
+      → went (string between [] (in_key at ms outer)) ≡ Ok next → Follows next bs
+      → (key : List ℕ) × (n : Node) × (future : Future (in_object ms at key ∷ outer)) × Key size at key
+      (Space (Byte 58 (Space (Value size n (levels - suc (length outer)) (Space (Waits (in_object ms at key ∷ outer) future n)))))) (b ∷ bs)
   key_follows ms outer next at b bs s t e h =
-      let (inside, key, back, is, spelled, (n, future, k)) = characters_spelled (Colon size levels r ms at outer) bs (came (string between [] (in_key at ms outer)) next bs e h) in
+      let (inside, key, back, is, spelled, (n, future, k)) = characters_spelled (Colon size levels r ms at outer) bs
+      (came (string between [] (in_key at ms outer)) next bs e h) in
       (key, n, future, (s, (inside, back, ap (λ c. c ∷ bs) (eqb-true b 34 t) ∙ ap (λ t. 34 ∷ t) is, spelled, k)))
 
-  word_follows : (c : ℕ) (rest : List ℕ) (n : Node) (outer : List Waiting) (bs : List ℕ) → Follows (word_step c rest n outer) bs → (future : Future outer) × Literal rest (Space (Waits outer future n)) bs
+  word_follows : (c : ℕ) (rest : List ℕ) (n : Node) (outer : List Waiting) (bs : List ℕ) → Follows (word_step c rest n outer) bs
+      → (future : Future outer) × Literal rest (Space (Waits outer future n)) bs
   word_follows c [] n outer bs h = follows_put n outer bs h
   word_follows c (d ∷ rest) n outer bs h = h
 
-  digits_follow : (o : Option NumberPart) (part : NumberPart) (spelling : List ℕ) (outer : List Waiting) (next : State) (b : ℕ) (bs : List ℕ) → number_step part b ≡ o → digits_step o part spelling outer b ≡ Ok next → Follows next bs → Follows (digits part spelling outer) (b ∷ bs)
+  digits_follow : (o : Option NumberPart) (part : NumberPart) (spelling : List ℕ) (outer : List Waiting) (next : State) (b : ℕ) (bs : List ℕ)
+      → number_step part b ≡ o → digits_step o part spelling outer b ≡ Ok next → Follows next bs → Follows (digits part spelling outer) (b ∷ bs)
   digits_follow (Some p) part spelling outer next b bs o e h = inr (p, o, came (digits p (spelling ++ b ∷ []) outer) next bs e h)
   digits_follow None part spelling outer next b bs o e h =
       choose (may_end part) _ _ _ (λ t e. inl (t, put_step_follows (number_node spelling) outer next b bs e h)) (λ _ e. refused unexpected next e) e
@@ -183,15 +210,18 @@ module _ (size levels : ℕ) (r : Node) where
   filled (in_value outer) text bs h = follows_put (text_node text) outer bs h
   filled (in_key place ms outer) text bs h = h
 
-  string_follows : (hole : Hole) (next : State) (text bs : List ℕ) (s : StringStep) → string_goes s (λ p t. string p t hole) (fill hole text) ≡ Ok next → Follows next bs
+  string_follows : (hole : Hole) (next : State) (text bs : List ℕ) (s : StringStep) → string_goes s (λ p t. string p t hole) (fill hole text) ≡ Ok next
+      → Follows next bs
       → StringOn s (λ p t. Characters p t (Filled size levels r hole) bs) (Filled size levels r hole text bs)
   string_follows hole next text bs (goes_on p t) e h = came (string p t hole) next bs e h
   string_follows hole next text bs ends e h = filled hole text bs (came (fill hole text) next bs e h)
   string_follows hole next text bs stops e h = refused unexpected next e
 
-  pub follows_step : (state next : State) (at b : ℕ) (bs : List ℕ) → at + suc (length bs) ≡ size → step levels at state b ≡ Ok next → Follows next bs → Follows state (b ∷ bs)
+  pub follows_step : (state next : State) (at b : ℕ) (bs : List ℕ) → at + suc (length bs) ≡ size → step levels at state b ≡ Ok next → Follows next bs
+      → Follows state (b ∷ bs)
   follows_step (value outer) next at b bs s e h =
-      choose (is_space b) _ _ _ (λ t e. let (n, future, k) = came (value outer) next bs e h in (n, future, inr (t, k))) (λ _ e. let (n, future, k) = value_follows outer next b bs e h in (n, future, inl k)) e
+      choose (is_space b) _ _ _ (λ t e. let (n, future, k) = came (value outer) next bs e h in (n, future, inr (t, k)))
+      (λ _ e. let (n, future, k) = value_follows outer next b bs e h in (n, future, inl k)) e
   follows_step (first_item outer) next at b bs s e h =
       choose (is_space b) _ _ _ (λ t e. let (ns, future, k) = came (first_item outer) next bs e h in (ns, future, inr (t, k))) (λ _ e.
       choose (b == 93) _ _ _ (λ t e. let (future, k) = came_put (list_node no_nodes) outer next bs e h in (no_nodes, future, inl (eqb-true b 93 t, k))) (λ _ e.
@@ -200,7 +230,8 @@ module _ (size levels : ℕ) (r : Node) where
   follows_step (first_key outer) next at b bs s e h =
       choose (is_space b) _ _ _ (λ t e. let (fs, future, k) = came (first_key outer) next bs e h in (fs, future, inr (t, k))) (λ _ e.
       choose (b == 34) _ _ _ (λ t e. let (key, n, future, k) = key_follows [] outer next at b bs s t e h in (field at key n future.0, future.1, inl k)) (λ _ e.
-      choose (b == 125) _ _ _ (λ t e. let (future, k) = came_put (object_node no_fields) outer next bs e h in (no_fields, future, inl (eqb-true b 125 t, k))) (λ _ e.
+      choose (b == 125) _ _ _ (λ t e. let (future, k) = came_put (object_node no_fields) outer next bs e h in (no_fields, future, inl (eqb-true b 125 t, k)))
+      (λ _ e.
       refused unexpected next e) e) e) e
   follows_step (next_key ms outer) next at b bs s e h =
       choose (is_space b) _ _ _ (λ t e. let (place, key, n, future, k) = came (next_key ms outer) next bs e h in (place, key, n, future, inr (t, k))) (λ _ e.
@@ -208,12 +239,14 @@ module _ (size levels : ℕ) (r : Node) where
       refused unexpected next e) e) e
   follows_step (colon ms place key outer) next at b bs s e h =
       choose (is_space b) _ _ _ (λ t e. let (n, future, k) = came (colon ms place key outer) next bs e h in (n, future, inr (t, k))) (λ _ e.
-      choose (b == 58) _ _ _ (λ t e. let (n, future, k) = came (value (in_object ms place key ∷ outer)) next bs e h in (n, future, inl (eqb-true b 58 t, k))) (λ _ e.
+      choose (b == 58) _ _ _ (λ t e. let (n, future, k) = came (value (in_object ms place key ∷ outer)) next bs e h in (n, future, inl (eqb-true b 58 t, k)))
+      (λ _ e.
       refused unexpected next e) e) e
   follows_step (after_member ms outer) next at b bs s e h = member_follows ms outer next b bs e h
   follows_step (whole n) next at b bs s e h = whole_follows n next b bs e h
   follows_step (word c rest n outer) next at b bs s e h =
-      choose (b == c) _ _ _ (λ t e. let (future, k) = word_follows c rest n outer bs (came (word_step c rest n outer) next bs e h) in (future, (eqb-true b c t, k))) (λ _ e. refused unexpected next e) e
+      choose (b == c) _ _ _ (λ t e. let (future, k) = word_follows c rest n outer bs (came (word_step c rest n outer) next bs e h) in
+      (future, (eqb-true b c t, k))) (λ _ e. refused unexpected next e) e
   follows_step (digits part spelling outer) next at b bs s e h = digits_follow (number_step part b) part spelling outer next b bs refl e h
   follows_step (string part text hole) next at b bs s e h = string_follows hole next text bs (string_step part text b) e h
 
@@ -227,7 +260,8 @@ module _ (size levels : ℕ) (r : Node) where
   abbrev ValueGoes : List Waiting → ℕ → List ℕ → Type 0
   ValueGoes outer b bs = (is_space b ≡ false) × ((b == 93) ≡ false) × Goes bs (value_step levels outer b)
 
-  value_at : (outer : List Waiting) (b c : ℕ) (bs : List ℕ) → b ≡ c → is_space c ≡ false → (c == 93) ≡ false → Goes bs (value_step levels outer c) → ValueGoes outer b bs
+  value_at : (outer : List Waiting) (b c : ℕ) (bs : List ℕ) → b ≡ c → is_space c ≡ false → (c == 93) ≡ false → Goes bs (value_step levels outer c)
+      → ValueGoes outer b bs
   value_at outer b c bs e s t g = (ap is_space e ∙ s, ap (λ x. x == 93) e ∙ t, goes_by bs _ _ (ap (value_step levels outer) e) g)
 
   number_goes : (outer : List Waiting) (part : NumberPart) (b : ℕ) (tail back bs : List ℕ) (future : Future outer) → bs ≡ tail ++ back → Accepts part tail
@@ -247,10 +281,12 @@ module _ (size levels : ℕ) (r : Node) where
   opens : (outer : List Waiting) (s : State) (m : ℕ) → levels - length outer ≡ suc m → (opened levels outer s ≡ Ok s) × (m ≡ levels - suc (length outer))
   opens outer s m e = (cond-true _ _ _ (lt-ltb (length outer) levels (omega (arith, e))), omega (arith, e))
 
-  value_goes : (n : Node) (outer : List Waiting) (future : Future outer) (b : ℕ) (bs : List ℕ) → Value size n (levels - length outer) (Space (Waits outer future n)) (b ∷ bs) → ValueGoes outer b bs
+  value_goes : (n : Node) (outer : List Waiting) (future : Future outer) (b : ℕ) (bs : List ℕ)
+      → Value size n (levels - length outer) (Space (Waits outer future n)) (b ∷ bs) → ValueGoes outer b bs
   value_goes null_node outer future b bs h = value_at outer b 110 bs h.0 refl refl (word 117 (codes "ll") null_node outer, refl, (future, h.1))
   value_goes (truth_node true) outer future b bs h = value_at outer b 116 bs h.0 refl refl (word 114 (codes "ue") (truth_node true) outer, refl, (future, h.1))
-  value_goes (truth_node false) outer future b bs h = value_at outer b 102 bs h.0 refl refl (word 97 (codes "lse") (truth_node false) outer, refl, (future, h.1))
+  value_goes (truth_node false) outer future b bs h = value_at outer b 102 bs h.0 refl refl
+      (word 97 (codes "lse") (truth_node false) outer, refl, (future, h.1))
   value_goes (number_node spelling) outer future b bs (back, is, number, k) = numbers_go outer spelling b bs back future (starts spelling number) is k
   value_goes (text_node t) outer future b bs (inside, back, is, spelled, k) = let (f, g) = heads b 34 bs (inside ++ 34 ∷ back) is in
       value_at outer b 34 bs f refl refl (
@@ -260,31 +296,42 @@ module _ (size levels : ℕ) (r : Node) where
             (characters_from (λ t. Done outer (text_node t)) inside t back spelled (future, k)),
       )
   value_goes (list_node ns) outer future b bs (m, e, (f, k)) = let (o, same) = opens outer (first_item outer) m e in
-      value_at outer b 91 bs f refl refl (first_item outer, o, (ns, future, subst (λ l. Space (Items size ns l (Byte 93 (Space (Waits outer future (list_node ns))))) bs) same k))
+      value_at outer b 91 bs f refl refl
+      (first_item outer, o, (ns, future, subst (λ l. Space (Items size ns l (Byte 93 (Space (Waits outer future (list_node ns))))) bs) same k))
   value_goes (object_node fs) outer future b bs (m, e, (f, k)) = let (o, same) = opens outer (first_key outer) m e in
-      value_at outer b 123 bs f refl refl (first_key outer, o, (fs, future, subst (λ l. Space (Members size fs l (Byte 125 (Space (Waits outer future (object_node fs))))) bs) same k))
+      value_at outer b 123 bs f refl refl
+      (first_key outer, o, (fs, future, subst (λ l. Space (Members size fs l (Byte 125 (Space (Waits outer future (object_node fs))))) bs) same k))
 
-  key_goes : (ms : List Member) (outer : List Waiting) (at place b : ℕ) (key bs : List ℕ) (n : Node) (future : Future (in_object ms place key ∷ outer)) → at + suc (length bs) ≡ size
-      → Key size place key (Space (Byte 58 (Space (Value size n (levels - suc (length outer)) (Space (Waits (in_object ms place key ∷ outer) future n)))))) (b ∷ bs)
+  key_goes : (ms : List Member) (outer : List Waiting) (at place b : ℕ) (key bs : List ℕ) (n : Node) (future : Future (in_object ms place key ∷ outer))
+      → at + suc (length bs) ≡ size
+      → Key size place key (Space (Byte 58 (Space (Value size n (levels - suc (length outer)) (Space (Waits (in_object ms place key ∷ outer) future n))))))
+      (b ∷ bs)
       → (b ≡ 34) × Follows (string between [] (in_key at ms outer)) bs
   key_goes ms outer at place b key bs n future s (p, (inside, back, is, spelled, k)) = let (f, g) = heads b 34 bs (inside ++ 34 ∷ back) is in (
     f,
-    subst (λ p. Follows (string between [] (in_key p ms outer)) bs) (omega (arith, s, p)) (subst (λ bs. Follows (string between [] (in_key place ms outer)) bs) (sym g)
+    subst (λ p. Follows (string between [] (in_key p ms outer)) bs) (omega (arith, s, p))
+        (subst (λ bs. Follows (string between [] (in_key place ms outer)) bs) (sym g)
         (characters_from (Colon size levels r ms place outer) inside key back spelled (n, future, k))),
   )
 
   put_goes : (n : Node) (outer : List Waiting) (future : Future outer) (bs : List ℕ) → Space (Waits outer future n) bs → Goes bs (Ok (put n outer))
   put_goes n outer future bs h = (put n outer, refl, put_follows n outer bs (future, h))
 
-  item_goes : (ns : List Node) (outer : List Waiting) (b : ℕ) (bs : List ℕ) → Follows (after_item ns outer) (b ∷ bs) → Goes bs (after_step (after_item ns outer) b)
+  item_goes : (ns : List Node) (outer : List Waiting) (b : ℕ) (bs : List ℕ) → Follows (after_item ns outer) (b ∷ bs)
+      → Goes bs (after_step (after_item ns outer) b)
   item_goes ns outer b bs (xs, future, inr (t, k)) = (after_item ns outer, cond-true _ _ _ t, (xs, future, k))
-  item_goes ns outer b bs (no_nodes, future, inl (e, k)) = goes_by bs _ _ (ap (after_step (after_item ns outer)) e) (put_goes (list_node (nodes_of ns)) outer future bs k)
-  item_goes ns outer b bs (node n xs, future, inl (e, k)) = goes_by bs _ _ (ap (after_step (after_item ns outer)) e) (value (in_list ns ∷ outer), refl, (n, (xs, future), k))
+  item_goes ns outer b bs (no_nodes, future, inl (e, k)) = goes_by bs _ _ (ap (after_step (after_item ns outer)) e)
+      (put_goes (list_node (nodes_of ns)) outer future bs k)
+  item_goes ns outer b bs (node n xs, future, inl (e, k)) = goes_by bs _ _ (ap (after_step (after_item ns outer)) e)
+      (value (in_list ns ∷ outer), refl, (n, (xs, future), k))
 
-  member_goes : (ms : List Member) (outer : List Waiting) (b : ℕ) (bs : List ℕ) → Follows (after_member ms outer) (b ∷ bs) → Goes bs (after_step (after_member ms outer) b)
+  member_goes : (ms : List Member) (outer : List Waiting) (b : ℕ) (bs : List ℕ) → Follows (after_member ms outer) (b ∷ bs)
+      → Goes bs (after_step (after_member ms outer) b)
   member_goes ms outer b bs (xs, future, inr (t, k)) = (after_member ms outer, cond-true _ _ _ t, (xs, future, k))
-  member_goes ms outer b bs (no_fields, future, inl (e, k)) = goes_by bs _ _ (ap (after_step (after_member ms outer)) e) (put_goes (object_node (fields_of ms)) outer future bs k)
-  member_goes ms outer b bs (field place key n xs, future, inl (e, k)) = goes_by bs _ _ (ap (after_step (after_member ms outer)) e) (next_key ms outer, refl, (place, key, n, (xs, future), k))
+  member_goes ms outer b bs (no_fields, future, inl (e, k)) =
+      goes_by bs _ _ (ap (after_step (after_member ms outer)) e) (put_goes (object_node (fields_of ms)) outer future bs k)
+  member_goes ms outer b bs (field place key n xs, future, inl (e, k)) =
+      goes_by bs _ _ (ap (after_step (after_member ms outer)) e) (next_key ms outer, refl, (place, key, n, (xs, future), k))
 
   whole_goes : (n : Node) (b : ℕ) (bs : List ℕ) → Follows (whole n) (b ∷ bs) → Goes bs (after_step (whole n) b)
   whole_goes n b bs (future, inr (t, k)) = (whole n, cond-true _ _ _ t, (future, k))
@@ -321,13 +368,15 @@ module _ (size levels : ℕ) (r : Node) where
   fills (in_value outer) text bs h = put_follows (text_node text) outer bs h
   fills (in_key place ms outer) text bs h = h
 
-  string_go : (hole : Hole) (text bs : List ℕ) (s : StringStep) → StringOn s (λ p t. Characters p t (Filled size levels r hole) bs) (Filled size levels r hole text bs)
+  string_go : (hole : Hole) (text bs : List ℕ) (s : StringStep)
+      → StringOn s (λ p t. Characters p t (Filled size levels r hole) bs) (Filled size levels r hole text bs)
       → Goes bs (string_goes s (λ p t. string p t hole) (fill hole text))
   string_go hole text bs (goes_on p t) h = (string p t hole, refl, h)
   string_go hole text bs ends h = (fill hole text, refl, fills hole text bs h)
   string_go hole text bs stops h = absurd h
 
-  word_goes : (c : ℕ) (rest : List ℕ) (n : Node) (outer : List Waiting) (future : Future outer) (bs : List ℕ) → Literal rest (Space (Waits outer future n)) bs → Follows (word_step c rest n outer) bs
+  word_goes : (c : ℕ) (rest : List ℕ) (n : Node) (outer : List Waiting) (future : Future outer) (bs : List ℕ) → Literal rest (Space (Waits outer future n)) bs
+      → Follows (word_step c rest n outer) bs
   word_goes c [] n outer future bs h = put_follows n outer bs (future, h)
   word_goes c (d ∷ rest) n outer future bs h = (future, h)
 
@@ -335,12 +384,14 @@ module _ (size levels : ℕ) (r : Node) where
   step_follows (value outer) at b bs s (n, future, inr (t, k)) = (value outer, cond-true _ _ _ t, (n, future, k))
   step_follows (value outer) at b bs s (n, future, inl k) = let (t, _, g) = value_goes n outer future b bs k in goes_by bs _ _ (cond-false _ _ _ t) g
   step_follows (first_item outer) at b bs s (ns, future, inr (t, k)) = (first_item outer, cond-true _ _ _ t, (ns, future, k))
-  step_follows (first_item outer) at b bs s (no_nodes, future, inl (e, k)) = goes_by bs _ _ (ap (step levels at (first_item outer)) e) (put_goes (list_node no_nodes) outer future bs k)
+  step_follows (first_item outer) at b bs s (no_nodes, future, inl (e, k)) =
+      goes_by bs _ _ (ap (step levels at (first_item outer)) e) (put_goes (list_node no_nodes) outer future bs k)
   step_follows (first_item outer) at b bs s (node n xs, future, inl k) =
       let (t, u, g) = value_goes n (in_list [] ∷ outer) (xs, future) b bs k in goes_by bs _ _ (cond-false _ _ _ t ∙ cond-false _ _ _ u) g
   step_follows (after_item ns outer) at b bs s h = item_goes ns outer b bs h
   step_follows (first_key outer) at b bs s (fs, future, inr (t, k)) = (first_key outer, cond-true _ _ _ t, (fs, future, k))
-  step_follows (first_key outer) at b bs s (no_fields, future, inl (e, k)) = goes_by bs _ _ (ap (step levels at (first_key outer)) e) (put_goes (object_node no_fields) outer future bs k)
+  step_follows (first_key outer) at b bs s (no_fields, future, inl (e, k)) =
+      goes_by bs _ _ (ap (step levels at (first_key outer)) e) (put_goes (object_node no_fields) outer future bs k)
   step_follows (first_key outer) at b bs s (field place key n xs, future, inl k) = let (e, g) = key_goes [] outer at place b key bs n (xs, future) s k in
       goes_by bs _ _ (ap (step levels at (first_key outer)) e) (string between [] (in_key at [] outer), refl, g)
   step_follows (next_key ms outer) at b bs s (place, key, n, future, inr (t, k)) = (next_key ms outer, cond-true _ _ _ t, (place, key, n, future, k))
@@ -351,7 +402,8 @@ module _ (size levels : ℕ) (r : Node) where
       goes_by bs _ _ (ap (step levels at (colon ms place key outer)) e) (value (in_object ms place key ∷ outer), refl, (n, future, k))
   step_follows (after_member ms outer) at b bs s h = member_goes ms outer b bs h
   step_follows (whole n) at b bs s h = whole_goes n b bs h
-  step_follows (word c rest n outer) at b bs s (future, (e, k)) = (word_step c rest n outer, cond-true _ _ _ (eq-eqb b c e), word_goes c rest n outer future bs k)
+  step_follows (word c rest n outer) at b bs s (future, (e, k)) =
+      (word_step c rest n outer, cond-true _ _ _ (eq-eqb b c e), word_goes c rest n outer future bs k)
   step_follows (digits part spelling outer) at b bs s h = digits_go part spelling outer b bs h
   step_follows (string part text hole) at b bs s h = string_go hole text bs (string_step part text b) h
 

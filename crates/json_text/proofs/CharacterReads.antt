@@ -56,7 +56,8 @@ unescaped_by P text b f g h =
     cond_both (is_within 194 223 b) _ _ P (λ t. g 128 191 0 (omega arith) (λ x i j. long_2 b x (within_from 194 223 b t) (within_to 194 223 b t) i j)) (λ _.
     cond_both (b == 224) _ _ P (λ t. g 160 191 1 (omega arith) (front_224 b (eqb-true b 224 t))) (λ _.
     cond_both (b == 237) _ _ P (λ t. g 128 159 1 (omega arith) (front_237 b (eqb-true b 237 t))) (λ n.
-    cond_both (is_within 225 239 b) _ _ P (λ t. g 128 191 1 (omega arith) (front_three b (within_from 225 239 b t) (within_to 225 239 b t) (eqb-false b 237 n))) (λ _.
+    cond_both (is_within 225 239 b) _ _ P (λ t. g 128 191 1 (omega arith) (front_three b (within_from 225 239 b t) (within_to 225 239 b t) (eqb-false b 237 n)))
+    (λ _.
     cond_both (b == 240) _ _ P (λ t. g 144 191 2 (omega arith) (front_240 b (eqb-true b 240 t))) (λ _.
     cond_both (is_within 241 243 b) _ _ P (λ t. g 128 191 2 (omega arith) (front_four b (within_from 241 243 b t) (within_to 241 243 b t))) (λ _.
     cond_both (b == 244) _ _ P (λ t. g 128 143 2 (omega arith) (front_244 b (eqb-true b 244 t))) (λ _. h))))))))
@@ -79,7 +80,8 @@ alone_second : (n d : ℕ) → n < 16 → d < 16 → (n ≡ 13 → d < 12) → (
 alone_second n d h i f = grind arith
 
 -- one digit more
-pub so_far_more : (lead : Option ℕ) (left n d : ℕ) → left < 4 → IsUnitSoFar lead (suc left) n → d < 16 → digit_fits lead (suc left) n d ≡ true → IsUnitSoFar lead left (16 * n + d)
+pub so_far_more : (lead : Option ℕ) (left n d : ℕ) → left < 4 → IsUnitSoFar lead (suc left) n → d < 16 → digit_fits lead (suc left) n d ≡ true
+    → IsUnitSoFar lead left (16 * n + d)
 so_far_more None zero n d l (h, inl i) k f = (omega arith, inl (omega arith))
 so_far_more None zero n d l (h, inr i) k f = (omega arith, inr (omega arith))
 so_far_more None (suc zero) n d l (h, inl i) k f = (omega arith, inl (omega arith))
@@ -142,7 +144,8 @@ below c (inr h) = h.1
 
 -- the digits of a code unit fit
 all_fit : (lead : Option ℕ) (u w x y z : ℕ) → IsUnitSoFar lead zero u → u ≡ 16 * (16 * (16 * w + x) + y) + z → w < 16 → x < 16 → y < 16 → z < 16
-    → (digit_fits lead 4 0 w ≡ true) × (digit_fits lead 3 w x ≡ true) × (digit_fits lead 2 (16 * w + x) y ≡ true) × (digit_fits lead 1 (16 * (16 * w + x) + y) z ≡ true)
+    → (digit_fits lead 4 0 w ≡ true) × (digit_fits lead 3 w x ≡ true) × (digit_fits lead 2 (16 * w + x) y ≡ true)
+    × (digit_fits lead 1 (16 * (16 * w + x) + y) z ≡ true)
 all_fit None u w x y z so e f g h i = (refl, second w x (λ o. first u w x y z so.1 e g h i o), refl, refl)
   where
     first : (u w x y z : ℕ) → (u < 0xDC00) ⊎ (0xE000 ≤ u) → u ≡ 16 * (16 * (16 * w + x) + y) + z → x < 16 → y < 16 → z < 16 → w ≡ 13 → x < 12
@@ -186,7 +189,8 @@ module _ (K : List ℕ → List ℕ → Type 0) where
   Digit lead left n text bytes = (b d : ℕ) × (bs : List ℕ) × (bytes ≡ b ∷ bs) × (hex_digit_of b ≡ Some d) × (digit_fits lead left n d ≡ true)
       × Then (cond (left == 1) (unit_step text lead (16 * n + d)) (goes_on (hex lead (left - 1) (16 * n + d)) text)) text bs
 
-  digit_by : (lead : Option ℕ) (left n : ℕ) (text : List ℕ) (b : ℕ) (bs : List ℕ) (o : Option ℕ) → hex_digit_of b ≡ o → Then (hex_step text lead left n o) text bs → Digit lead left n text (b ∷ bs)
+  digit_by : (lead : Option ℕ) (left n : ℕ) (text : List ℕ) (b : ℕ) (bs : List ℕ) (o : Option ℕ) → hex_digit_of b ≡ o
+      → Then (hex_step text lead left n o) text bs → Digit lead left n text (b ∷ bs)
   digit_by lead left n text b bs None e h = absurd h
   digit_by lead left n text b bs (Some d) e h = let (f, k) = cond_on (digit_fits lead left n d) _ _ _ h in (b, d, bs, refl, e, f, k)
 
@@ -195,7 +199,8 @@ module _ (K : List ℕ → List ℕ → Type 0) where
   digit lead left n text (b ∷ bs) h = digit_by lead left n text b bs (hex_digit_of b) refl h
 
   abbrev Unit4 : Option ℕ → List ℕ → List ℕ → Type 0
-  Unit4 lead text bytes = (digits back : List ℕ) × (u : ℕ) × (bytes ≡ digits ++ back) × IsHex digits u × IsUnitSoFar lead zero u × Then (unit_step text lead u) text back
+  Unit4 lead text bytes = (digits back : List ℕ) × (u : ℕ) × (bytes ≡ digits ++ back) × IsHex digits u × IsUnitSoFar lead zero u
+      × Then (unit_step text lead u) text back
 
   four : (lead : Option ℕ) (text bytes : List ℕ) → IsUnitSoFar lead 4 0 → Characters (hex lead 4 0) text K bytes → Unit4 lead text bytes
   four lead text bytes start h =
@@ -216,17 +221,20 @@ module _ (K : List ℕ → List ℕ → Type 0) where
       )
 
   -- one byte that has to come
-  expected : (part p : StringPart) (text bytes : List ℕ) (c : ℕ) → ((b : ℕ) → string_step part text b ≡ cond (b == c) (goes_on p text) stops) → Characters part text K bytes
+  expected : (part p : StringPart) (text bytes : List ℕ) (c : ℕ) → ((b : ℕ) → string_step part text b ≡ cond (b == c) (goes_on p text) stops)
+      → Characters part text K bytes
       → (bs : List ℕ) × (bytes ≡ c ∷ bs) × Characters p text K bs
   expected part p text [] c f h = absurd h
-  expected part p text (b ∷ bs) c f h = let (e, k) = cond_on (b == c) (goes_on p text) _ _ (subst (λ s. Then s text bs) (f b) h) in (bs, ap (λ x. x ∷ bs) (eqb-true b c e), k)
+  expected part p text (b ∷ bs) c f h = let (e, k) = cond_on (b == c) (goes_on p text) _ _ (subst (λ s. Then s text bs) (f b) h) in
+      (bs, ap (λ x. x ∷ bs) (eqb-true b c e), k)
 
   -- a character with this first byte, and the characters behind it
   abbrev One : ℕ → List ℕ → List ℕ → Type 0
   One b text bs = (a x rest : List ℕ) × (bs ≡ a ++ rest) × SpellsCharacter (b ∷ a) x × Characters between (text ++ x) K rest
 
   -- behind a backslash and a `u`
-  unit_by : (text bytes digits back : List ℕ) (u : ℕ) → bytes ≡ 117 ∷ (digits ++ back) → IsHex digits u → IsUnitSoFar None zero u → (v : Bool) → is_within 0xD800 0xDBFF u ≡ v
+  unit_by : (text bytes digits back : List ℕ) (u : ℕ) → bytes ≡ 117 ∷ (digits ++ back) → IsHex digits u → IsUnitSoFar None zero u → (v : Bool)
+      → is_within 0xD800 0xDBFF u ≡ v
       → Then (cond v (goes_on (high u) text) (goes_on between (text ++ encode_utf8 u))) text back → One 92 text bytes
   unit_by text bytes digits back u is hexed so false t h = (117 ∷ digits, encode_utf8 u, back, is, unit digits u hexed (unit_scalar u so t), h)
   unit_by text bytes digits back u is hexed so true t h =
@@ -236,7 +244,8 @@ module _ (K : List ℕ → List ℕ → Type 0) where
         117 ∷ (digits ++ (92 ∷ 117 ∷ second)),
         encode_utf8 (pair_of u low),
         rest,
-        is ∙ ap (λ t. 117 ∷ t) (ap (λ t. digits ++ t) (is_a ∙ ap (λ t. 92 ∷ t) (is_b ∙ ap (λ t. 117 ∷ t) is_l)) ∙ sym (append_assoc digits (92 ∷ 117 ∷ second) rest)),
+        is ∙ ap (λ t. 117 ∷ t) (ap (λ t. digits ++ t) (is_a ∙ ap (λ t. 92 ∷ t) (is_b ∙ ap (λ t. 117 ∷ t) is_l))
+            ∙ sym (append_assoc digits (92 ∷ 117 ∷ second) rest)),
         pair digits second u low hexed hexed_l (within_from 0xD800 0xDBFF u t, within_to 0xD800 0xDBFF u t) (omega arith, omega arith),
         k,
       )
@@ -256,11 +265,17 @@ module _ (K : List ℕ → List ℕ → Type 0) where
   tails : (n low up : ℕ) (front text bytes : List ℕ) → IsFront low up n front → Characters (tail low up n) text K bytes
       → (rest back : List ℕ) × (bytes ≡ rest ++ back) × IsLong (front ++ rest) × Characters between (text ++ rest) K back
   tails n low up front text [] f h = absurd h
-  tails zero low up front text (b ∷ bs) f h = let (t, k) = cond_on (is_within low up b) _ _ _ h in (b ∷ [], bs, refl, f b (within_from low up b t) (within_to low up b t), k)
+  tails zero low up front text (b ∷ bs) f h = let (t, k) = cond_on (is_within low up b) _ _ _ h in
+      (b ∷ [], bs, refl, f b (within_from low up b t) (within_to low up b t), k)
   tails (suc m) low up front text (b ∷ bs) f h =
       let (t, k) = cond_on (is_within low up b) _ _ _ h in
-      let (rest, back, is, long, g) = tails m 128 191 (front ++ b ∷ []) (text ++ b ∷ []) bs (f b (within_from low up b t) (within_to low up b t)) k in
-      (b ∷ rest, back, ap (λ t. b ∷ t) is, subst IsLong (append_assoc front (b ∷ []) rest) long, subst (λ t. Characters between t K back) (append_assoc text (b ∷ []) rest) g)
+      let (rest, back, is, long, g) = tails m 128 191 (front ++ b ∷ []) (text ++ b ∷ []) bs (f b (within_from low up b t) (within_to low up b t)) k in (
+        b ∷ rest,
+        back,
+        ap (λ t. b ∷ t) is,
+        subst IsLong (append_assoc front (b ∷ []) rest) long,
+        subst (λ t. Characters between t K back) (append_assoc text (b ∷ []) rest) g,
+      )
 
   one : (text : List ℕ) (b : ℕ) (bs : List ℕ) → Characters between text K (b ∷ bs) → ((b ≡ 34) × K text bs) ⊎ One b text bs
   one text b bs h =
@@ -273,45 +288,60 @@ module _ (K : List ℕ → List ℕ → Type 0) where
       inr (rest, b ∷ rest, back, is, long_character (b ∷ rest) long, subst (λ t. Characters between t K back) (append_assoc text (b ∷ []) rest) g))
       (λ k. absurd k))) h
 
-  all : (n : ℕ) (text bytes : List ℕ) → length bytes ≤ n → Characters between text K bytes → (inside t back : List ℕ) × (bytes ≡ inside ++ 34 ∷ back) × SpellsCharacters inside t × K (text ++ t) back
+  all : (n : ℕ) (text bytes : List ℕ) → length bytes ≤ n → Characters between text K bytes
+      → (inside t back : List ℕ) × (bytes ≡ inside ++ 34 ∷ back) × SpellsCharacters inside t × K (text ++ t) back
   all n text [] l h = absurd h
   all zero text (b ∷ bs) l h = absurd (omega (arith, l))
   all (suc n) text (b ∷ bs) l h = elim (one text b bs h) [
     | inl mark ↦ ([], [], bs, ap (λ x. x ∷ bs) mark.0, none, subst (λ t. K t bs) (sym (append-nil text)) mark.1)
     | inr character ↦
         let (a, x, rest, is, spelled, k) = character in
-        let (inside, t, back, same, others, g) = all n (text ++ x) rest (omega (arith, l, ap length is, length-append a rest)) k in
-        ((b ∷ a) ++ inside, x ++ t, back, ap (λ t. b ∷ t) (is ∙ ap (λ t. a ++ t) same) ∙ sym (append_assoc (b ∷ a) inside (34 ∷ back)), more spelled others, subst (λ t. K t back) (append_assoc text x t) g)
+        let (inside, t, back, same, others, g) = all n (text ++ x) rest (omega (arith, l, ap length is, length-append a rest)) k in (
+          (b ∷ a) ++ inside,
+          x ++ t,
+          back,
+          ap (λ t. b ∷ t) (is ∙ ap (λ t. a ++ t) same)
+              ∙ sym (append_assoc (b ∷ a) inside (34 ∷ back)),
+          more spelled others,
+          subst (λ t. K t back) (append_assoc text x t) g,
+        )
   ]
 
-  pub characters_spelled : (bytes : List ℕ) → Characters between [] K bytes → (inside text back : List ℕ) × (bytes ≡ inside ++ 34 ∷ back) × SpellsCharacters inside text × K text back
+  pub characters_spelled : (bytes : List ℕ) → Characters between [] K bytes
+      → (inside text back : List ℕ) × (bytes ≡ inside ++ 34 ∷ back) × SpellsCharacters inside text × K text back
   characters_spelled bytes h = all (length bytes) [] bytes (omega arith) h
 
   -- the same steps back
-  back : (part p : StringPart) (text t : List ℕ) (b : ℕ) (bs : List ℕ) → string_step part text b ≡ goes_on p t → Characters p t K bs → Characters part text K (b ∷ bs)
+  back : (part p : StringPart) (text t : List ℕ) (b : ℕ) (bs : List ℕ) → string_step part text b ≡ goes_on p t → Characters p t K bs
+      → Characters part text K (b ∷ bs)
   back part p text t b bs e h = subst (λ s. Then s text bs) (sym e) h
 
-  tail_back : (low up n : ℕ) (text : List ℕ) (b : ℕ) (bs : List ℕ) → low ≤ b → b ≤ up → Characters (tail_after n) (text ++ b ∷ []) K bs → Characters (tail low up n) text K (b ∷ bs)
+  tail_back : (low up n : ℕ) (text : List ℕ) (b : ℕ) (bs : List ℕ) → low ≤ b → b ≤ up → Characters (tail_after n) (text ++ b ∷ []) K bs
+      → Characters (tail low up n) text K (b ∷ bs)
   tail_back low up n text b bs l u h = back (tail low up n) (tail_after n) text (text ++ b ∷ []) b bs (cond-true _ _ _ (inside low up b l u)) h
 
-  back_2 : (text : List ℕ) (a b : ℕ) (bs : List ℕ) → 194 ≤ a → a ≤ 223 → 128 ≤ b → b ≤ 191 → Characters between (text ++ a ∷ b ∷ []) K bs → Characters between text K (a ∷ b ∷ bs)
+  back_2 : (text : List ℕ) (a b : ℕ) (bs : List ℕ) → 194 ≤ a → a ≤ 223 → 128 ≤ b → b ≤ 191 → Characters between (text ++ a ∷ b ∷ []) K bs
+      → Characters between text K (a ∷ b ∷ bs)
   back_2 text a b bs h i j k g = back between (tail 128 191 0) text (text ++ a ∷ []) a (b ∷ bs) (two_step text a h i)
       (tail_back 128 191 0 (text ++ a ∷ []) b bs j k (subst (λ t. Characters between t K bs) (sym (append_assoc text (a ∷ []) (b ∷ []))) g))
 
-  back_3 : (text : List ℕ) (a b c low up : ℕ) (bs : List ℕ) → string_step between text a ≡ goes_on (tail low up 1) (text ++ a ∷ []) → low ≤ b → b ≤ up → 128 ≤ c → c ≤ 191
+  back_3 : (text : List ℕ) (a b c low up : ℕ) (bs : List ℕ) → string_step between text a ≡ goes_on (tail low up 1) (text ++ a ∷ []) → low ≤ b → b ≤ up → 128 ≤ c
+      → c ≤ 191
       → Characters between (text ++ a ∷ b ∷ c ∷ []) K bs → Characters between text K (a ∷ b ∷ c ∷ bs)
   back_3 text a b c low up bs e h i j k g = back between (tail low up 1) text (text ++ a ∷ []) a (b ∷ c ∷ bs) e
       (tail_back low up 1 (text ++ a ∷ []) b (c ∷ bs) h i (tail_back 128 191 0 ((text ++ a ∷ []) ++ b ∷ []) c bs j k
       (subst (λ t. Characters between t K bs) (sym (simp append_assoc)) g)))
 
-  back_4 : (text : List ℕ) (a b c d low up : ℕ) (bs : List ℕ) → string_step between text a ≡ goes_on (tail low up 2) (text ++ a ∷ []) → low ≤ b → b ≤ up → 128 ≤ c → c ≤ 191 → 128 ≤ d → d ≤ 191
+  back_4 : (text : List ℕ) (a b c d low up : ℕ) (bs : List ℕ) → string_step between text a ≡ goes_on (tail low up 2) (text ++ a ∷ []) → low ≤ b → b ≤ up
+      → 128 ≤ c → c ≤ 191 → 128 ≤ d → d ≤ 191
       → Characters between (text ++ a ∷ b ∷ c ∷ d ∷ []) K bs → Characters between text K (a ∷ b ∷ c ∷ d ∷ bs)
   back_4 text a b c d low up bs e h i j k l m g = back between (tail low up 2) text (text ++ a ∷ []) a (b ∷ c ∷ d ∷ bs) e
       (tail_back low up 2 (text ++ a ∷ []) b (c ∷ d ∷ bs) h i (tail_back 128 191 1 ((text ++ a ∷ []) ++ b ∷ []) c (d ∷ bs) j k
       (tail_back 128 191 0 (((text ++ a ∷ []) ++ b ∷ []) ++ c ∷ []) d bs l m (subst (λ t. Characters between t K bs) (sym (simp append_assoc)) g))))
 
   -- an unescaped character by its number of bytes
-  long_3_back : (text : List ℕ) (c : ℕ) (bs : List ℕ) → 2048 ≤ c → c < 65536 → (c < 55296) ⊎ (57344 ≤ c) → (a x y : ℕ) → a ≡ 224 + c / 4096 → x ≡ 128 + (c / 64) % 64 → y ≡ 128 + c % 64
+  long_3_back : (text : List ℕ) (c : ℕ) (bs : List ℕ) → 2048 ≤ c → c < 65536 → (c < 55296) ⊎ (57344 ≤ c) → (a x y : ℕ) → a ≡ 224 + c / 4096
+      → x ≡ 128 + (c / 64) % 64 → y ≡ 128 + c % 64
       → Characters between (text ++ a ∷ x ∷ y ∷ []) K bs → Characters between text K (a ∷ x ∷ y ∷ bs)
   long_3_back text c bs l u s a x y e f g h =
       ⊎_elim (λ n. back_3 text a x y 160 191 bs (step_224 text a n) (omega arith) (omega arith) (omega arith) (omega arith) h) (λ m.
@@ -319,15 +349,20 @@ module _ (K : List ℕ → List ℕ → Type 0) where
       back_3 text a x y 128 191 bs (three_step text a (omega arith) (omega arith) n) (omega arith) (omega arith) (omega arith) (omega arith) h)
       (cases_eq a 237)) (cases_eq a 224)
 
-  long_4_back : (text : List ℕ) (c : ℕ) (bs : List ℕ) → 65536 ≤ c → c < 1114112 → (a x y z : ℕ) → a ≡ 240 + c / 262144 → x ≡ 128 + (c / 4096) % 64 → y ≡ 128 + (c / 64) % 64 → z ≡ 128 + c % 64
+  long_4_back : (text : List ℕ) (c : ℕ) (bs : List ℕ) → 65536 ≤ c → c < 1114112 → (a x y z : ℕ) → a ≡ 240 + c / 262144 → x ≡ 128 + (c / 4096) % 64
+      → y ≡ 128 + (c / 64) % 64 → z ≡ 128 + c % 64
       → Characters between (text ++ a ∷ x ∷ y ∷ z ∷ []) K bs → Characters between text K (a ∷ x ∷ y ∷ z ∷ bs)
   long_4_back text c bs l u a x y z e f g i h =
-      ⊎_elim (λ n. back_4 text a x y z 144 191 bs (step_240 text a n) (omega arith) (omega arith) (omega arith) (omega arith) (omega arith) (omega arith) h) (λ m.
-      ⊎_elim (λ n. back_4 text a x y z 128 143 bs (step_244 text a n) (omega arith) (omega arith) (omega arith) (omega arith) (omega arith) (omega arith) h) (λ n.
-      back_4 text a x y z 128 191 bs (four_step text a (omega arith) (omega arith)) (omega arith) (omega arith) (omega arith) (omega arith) (omega arith) (omega arith) h)
+      ⊎_elim (λ n. back_4 text a x y z 144 191 bs (step_240 text a n) (omega arith) (omega arith) (omega arith) (omega arith) (omega arith) (omega arith) h)
+      (λ m.
+      ⊎_elim (λ n. back_4 text a x y z 128 143 bs (step_244 text a n) (omega arith) (omega arith) (omega arith) (omega arith) (omega arith) (omega arith) h)
+      (λ n.
+      back_4 text a x y z 128 191 bs (four_step text a (omega arith) (omega arith)) (omega arith) (omega arith) (omega arith) (omega arith) (omega arith)
+      (omega arith) h)
       (cases_eq a 244)) (cases_eq a 240)
 
-  unescaped_back : (text : List ℕ) (c : ℕ) (bs : List ℕ) → (c < 55296) ⊎ ((57344 ≤ c) × (c < 1114112)) → 32 ≤ c → c ≢ 34 → c ≢ 92 → Characters between (text ++ encode_utf8 c) K bs → Characters between text K (encode_utf8 c ++ bs)
+  unescaped_back : (text : List ℕ) (c : ℕ) (bs : List ℕ) → (c < 55296) ⊎ ((57344 ≤ c) × (c < 1114112)) → 32 ≤ c → c ≢ 34 → c ≢ 92
+      → Characters between (text ++ encode_utf8 c) K bs → Characters between text K (encode_utf8 c ++ bs)
   unescaped_back text c bs s l q r h =
       let P : List ℕ → Type 0 = λ x. Characters between (text ++ x) K bs → Characters between text K (x ++ bs) in
       ⊎_elim (λ u. subst P (sym (encode_1 c u)) (back between between text (text ++ c ∷ []) c bs (short_step text c l u q r)) h) (λ a.
@@ -337,10 +372,12 @@ module _ (K : List ℕ → List ℕ → Type 0) where
       (cases_lt c 65536)) (cases_lt c 2048)) (cases_lt c 128)
 
   digit_back : (lead : Option ℕ) (left n : ℕ) (text : List ℕ) (b d : ℕ) (bs : List ℕ) → hex_digit_of b ≡ Some d → digit_fits lead left n d ≡ true
-      → Then (cond (left == 1) (unit_step text lead (16 * n + d)) (goes_on (hex lead (left - 1) (16 * n + d)) text)) text bs → Characters (hex lead left n) text K (b ∷ bs)
+      → Then (cond (left == 1) (unit_step text lead (16 * n + d)) (goes_on (hex lead (left - 1) (16 * n + d)) text)) text bs
+      → Characters (hex lead left n) text K (b ∷ bs)
   digit_back lead left n text b d bs e f h = subst (λ s. Then s text bs) (sym (ap (hex_step text lead left n) e ∙ cond-true _ _ _ f)) h
 
-  four_back : (lead : Option ℕ) (text digits bs : List ℕ) (u : ℕ) → IsHex digits u → IsUnitSoFar lead zero u → Then (unit_step text lead u) text bs → Characters (hex lead 4 0) text K (digits ++ bs)
+  four_back : (lead : Option ℕ) (text digits bs : List ℕ) (u : ℕ) → IsHex digits u → IsUnitSoFar lead zero u → Then (unit_step text lead u) text bs
+      → Characters (hex lead 4 0) text K (digits ++ bs)
   four_back lead text digits bs u (a, b, c, d, w, x, y, z, is, e_a, e_b, e_c, e_d, sum) so h =
       let one : 16 * 0 + w ≡ w = omega arith in
       let (f, g, i, j) = all_fit lead u w x y z so sum (hex_below a w e_a) (hex_below b x e_b) (hex_below c y e_c) (hex_below d z e_d) in
@@ -349,7 +386,8 @@ module _ (K : List ℕ → List ℕ → Type 0) where
       (digit_back lead 3 w text b x (c ∷ d ∷ bs) e_b g (digit_back lead 2 (16 * w + x) text c y (d ∷ bs) e_c i
       (digit_back lead 1 (16 * (16 * w + x) + y) text d z bs e_d j (subst (λ n. Then (unit_step text lead n) text bs) sum h))))))
 
-  unit_back : (text digits bs : List ℕ) (u : ℕ) → IsHex digits u → IsUnitSoFar None zero u → Then (unit_step text None u) text bs → Characters between text K (92 ∷ 117 ∷ (digits ++ bs))
+  unit_back : (text digits bs : List ℕ) (u : ℕ) → IsHex digits u → IsUnitSoFar None zero u → Then (unit_step text None u) text bs
+      → Characters between text K (92 ∷ 117 ∷ (digits ++ bs))
   unit_back text digits bs u hexed so h = four_back None text digits bs u hexed so h
 
   character_from : {a x : List ℕ} (text bs : List ℕ) → SpellsCharacter a x → Characters between (text ++ x) K bs → Characters between text K (a ++ bs)
@@ -376,11 +414,13 @@ escape_below : (b c : ℕ) → escape_of b ≡ Some c → c < 128
 escape_below b c e = grind (arith, nat_tests)
 
 pair_scalar : (lead low : ℕ) → IsHighSurrogate lead → IsLowSurrogate low → IsScalar (pair_of lead low)
-pair_scalar lead low h l = let a : 0xD800 ≤ lead = h.0 in let b : lead ≤ 0xDBFF = h.1 in let c : 0xDC00 ≤ low = l.0 in let d : low ≤ 0xDFFF = l.1 in high_is_scalar (pair_of lead low) (omega arith) (omega arith)
+pair_scalar lead low h l = let a : 0xD800 ≤ lead = h.0 in let b : lead ≤ 0xDBFF = h.1 in let c : 0xDC00 ≤ low = l.0 in let d : low ≤ 0xDFFF = l.1 in
+    high_is_scalar (pair_of lead low) (omega arith) (omega arith)
 
 character_utf8 : {bytes text : List ℕ} → SpellsCharacter bytes text → IsUtf8 text
 character_utf8 (unescaped c s l q t) = IsUtf8-encode c s
-character_utf8 (escaped b c e) = subst IsUtf8 (encode_1 c (escape_below b c e)) (IsUtf8-encode c (low_is_scalar c (let h = escape_below b c e in omega (arith, h))))
+character_utf8 (escaped b c e) = subst IsUtf8 (encode_1 c (escape_below b c e))
+    (IsUtf8-encode c (low_is_scalar c (let h = escape_below b c e in omega (arith, h))))
 character_utf8 (unit digits c h s) = IsUtf8-encode c s
 character_utf8 (pair first second lead low h i j k) = IsUtf8-encode (pair_of lead low) (pair_scalar lead low j k)
 

@@ -63,7 +63,8 @@ pub items_closed : (old out inside : List ℕ) (ts : List Tree) (i : ℕ) (front
 items_closed old out inside ts i front back none told =
     closed old out inside front back (ap (λ t. out ++ t) (sym (ap (items_left i) none ∙ items_left_none i)) ∙ told)
 
-pub members_closed : (old out inside : List ℕ) (ms : List (List ℕ × Tree)) (i : ℕ) (front back : ℕ) → ms ≡ [] → out ++ members_left i ms ≡ (old ++ front ∷ []) ++ inside
+pub members_closed : (old out inside : List ℕ) (ms : List (List ℕ × Tree)) (i : ℕ) (front back : ℕ) → ms ≡ []
+    → out ++ members_left i ms ≡ (old ++ front ∷ []) ++ inside
     → out ++ back ∷ [] ≡ old ++ front ∷ (inside ++ back ∷ [])
 members_closed old out inside ms i front back none told =
     closed old out inside front back (ap (λ t. out ++ t) (sym (ap (members_left i) none ∙ members_left_none i)) ∙ told)

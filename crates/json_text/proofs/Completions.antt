@@ -64,18 +64,23 @@ module _ (levels : ℕ) where
   )
 
   complete_digits : (part : NumberPart) (spelling : List ℕ) (outer : List Waiting) → Completes (digits part spelling outer)
-  complete_digits minus spelling outer = by (digits minus spelling outer) (digits zero_int (spelling ++ 48 ∷ []) outer) 48 (λ at. refl) (complete_number zero_int (spelling ++ 48 ∷ []) outer refl)
+  complete_digits minus spelling outer = by (digits minus spelling outer) (digits zero_int (spelling ++ 48 ∷ []) outer) 48 (λ at. refl)
+      (complete_number zero_int (spelling ++ 48 ∷ []) outer refl)
   complete_digits zero_int spelling outer = complete_number zero_int spelling outer refl
   complete_digits int spelling outer = complete_number int spelling outer refl
-  complete_digits point spelling outer = by (digits point spelling outer) (digits fraction (spelling ++ 48 ∷ []) outer) 48 (λ at. refl) (complete_number fraction (spelling ++ 48 ∷ []) outer refl)
+  complete_digits point spelling outer = by (digits point spelling outer) (digits fraction (spelling ++ 48 ∷ []) outer) 48 (λ at. refl)
+      (complete_number fraction (spelling ++ 48 ∷ []) outer refl)
   complete_digits fraction spelling outer = complete_number fraction spelling outer refl
-  complete_digits exponent spelling outer = by (digits exponent spelling outer) (digits exponent_digits (spelling ++ 48 ∷ []) outer) 48 (λ at. refl) (complete_number exponent_digits (spelling ++ 48 ∷ []) outer refl)
-  complete_digits exponent_sign spelling outer = by (digits exponent_sign spelling outer) (digits exponent_digits (spelling ++ 48 ∷ []) outer) 48 (λ at. refl) (complete_number exponent_digits (spelling ++ 48 ∷ []) outer refl)
+  complete_digits exponent spelling outer = by (digits exponent spelling outer) (digits exponent_digits (spelling ++ 48 ∷ []) outer) 48 (λ at. refl)
+      (complete_number exponent_digits (spelling ++ 48 ∷ []) outer refl)
+  complete_digits exponent_sign spelling outer = by (digits exponent_sign spelling outer) (digits exponent_digits (spelling ++ 48 ∷ []) outer) 48 (λ at. refl)
+      (complete_number exponent_digits (spelling ++ 48 ∷ []) outer refl)
   complete_digits exponent_digits spelling outer = complete_number exponent_digits spelling outer refl
 
   complete_word : (rest : List ℕ) (c : ℕ) (n : Node) (outer : List Waiting) → Completes (word c rest n outer)
   complete_word [] c n outer = by (word c [] n outer) (put n outer) c (λ at. cond-true _ _ _ (eq-eqb c c refl)) (complete_put n outer)
-  complete_word (d ∷ rest) c n outer = by (word c (d ∷ rest) n outer) (word d rest n outer) c (λ at. cond-true _ _ _ (eq-eqb c c refl)) (complete_word rest d n outer)
+  complete_word (d ∷ rest) c n outer = by (word c (d ∷ rest) n outer) (word d rest n outer) c (λ at. cond-true _ _ _ (eq-eqb c c refl))
+      (complete_word rest d n outer)
 
   -- strings, within a value or a key
   module _ (hole : Hole) (done : (t : List ℕ) → Completes (fill hole t)) where
@@ -84,7 +89,8 @@ module _ (levels : ℕ) where
     Good text ends = Completes (fill hole text)
     Good text stops = ⊥
 
-    good : (text : List ℕ) (s : StringStep) → Good text s → (next : State) × (string_goes s (λ p t. string p t hole) (fill hole text) ≡ Ok next) × Completes next
+    good : (text : List ℕ) (s : StringStep) → Good text s → (next : State) × (string_goes s (λ p t. string p t hole) (fill hole text) ≡ Ok next)
+        × Completes next
     good text (goes_on p t) c = (string p t hole, refl, c)
     good text ends c = (fill hole text, refl, c)
     good text stops c = absurd c
@@ -119,7 +125,8 @@ module _ (levels : ℕ) where
 
     -- a code unit
     alone_1 : (n : ℕ) (text : List ℕ) → Completes (string (hex None 1 n) text hole)
-    alone_1 n text = string_by (hex None 1 n) text 48 (cond_both (is_within 0xD800 0xDBFF (16 * n + 0)) _ _ (Good text) (λ _. at_high (16 * n + 0) text) (λ _. at_between (text ++ encode_utf8 (16 * n + 0))))
+    alone_1 n text = string_by (hex None 1 n) text 48 (cond_both (is_within 0xD800 0xDBFF (16 * n + 0)) _ _ (Good text) (λ _. at_high (16 * n + 0) text)
+        (λ _. at_between (text ++ encode_utf8 (16 * n + 0))))
 
     alone_2 : (n : ℕ) (text : List ℕ) → Completes (string (hex None 2 n) text hole)
     alone_2 n text = string_by (hex None 2 n) text 48 (alone_1 (16 * n + 0) text)
@@ -137,18 +144,22 @@ module _ (levels : ℕ) where
     at_hex None left n text h =
         ⊎_elim (λ e. subst (λ l. Completes (string (hex None l n) text hole)) (sym e) (alone_4 n text)) (λ h.
         ⊎_elim (λ e. subst (λ l. Completes (string (hex None l n) text hole)) (sym e) (alone_3 n text)) (λ h.
-        ⊎_elim (λ e. subst (λ l. Completes (string (hex None l n) text hole)) (sym e) (alone_2 n text)) (λ e. subst (λ l. Completes (string (hex None l n) text hole)) (sym e) (alone_1 n text)) h) h) h
+        ⊎_elim (λ e. subst (λ l. Completes (string (hex None l n) text hole)) (sym e) (alone_2 n text))
+        (λ e. subst (λ l. Completes (string (hex None l n) text hole)) (sym e) (alone_1 n text)) h) h) h
     at_hex (Some lead) left n text h =
         ⊎_elim (λ e. subst (λ l. Completes (string (hex (Some lead) l n) text hole)) (sym e) (low_4 lead n text)) (λ h.
         ⊎_elim (λ e. subst (λ l. Completes (string (hex (Some lead) l n) text hole)) (sym e) (low_3 lead n text)) (λ h.
-        ⊎_elim (λ e. subst (λ l. Completes (string (hex (Some lead) l n) text hole)) (sym e) (low_2 lead n text)) (λ e. subst (λ l. Completes (string (hex (Some lead) l n) text hole)) (sym e) (low_1 lead n text)) h) h) h
+        ⊎_elim (λ e. subst (λ l. Completes (string (hex (Some lead) l n) text hole)) (sym e) (low_2 lead n text))
+        (λ e. subst (λ l. Completes (string (hex (Some lead) l n) text hole)) (sym e) (low_1 lead n text)) h) h) h
 
     lowest : (low up : ℕ) → low ≤ up → is_within low up low ≡ true
     lowest low up h = and_from (nat_le low low) (nat_le low up) (le-leb low low (omega arith)) (le-leb low up h)
 
     at_tail : (n low up : ℕ) (text : List ℕ) → low ≤ up → Completes (string (tail low up n) text hole)
-    at_tail zero low up text h = string_by (tail low up zero) text low (subst (Good text) (sym (cond-true _ _ _ (lowest low up h))) (at_between (text ++ low ∷ [])))
-    at_tail (suc n) low up text h = string_by (tail low up (suc n)) text low (subst (Good text) (sym (cond-true _ _ _ (lowest low up h))) (at_tail n 128 191 (text ++ low ∷ []) (omega arith)))
+    at_tail zero low up text h = string_by (tail low up zero) text low
+        (subst (Good text) (sym (cond-true _ _ _ (lowest low up h))) (at_between (text ++ low ∷ [])))
+    at_tail (suc n) low up text h = string_by (tail low up (suc n)) text low
+        (subst (Good text) (sym (cond-true _ _ _ (lowest low up h))) (at_tail n 128 191 (text ++ low ∷ []) (omega arith)))
 
     complete_within : (part : StringPart) (text : List ℕ) → SoundPart part → Completes (string part text hole)
     complete_within between text h = at_between text
@@ -165,19 +176,24 @@ module _ (levels : ℕ) where
   complete_value outer = by (value outer) (string between [] (in_value outer)) 34 (λ at. refl) (complete_string between [] outer tt)
 
   complete_colon : (ms : List Member) (place : ℕ) (key : List ℕ) (outer : List Waiting) → Completes (colon ms place key outer)
-  complete_colon ms place key outer = by (colon ms place key outer) (value (in_object ms place key ∷ outer)) 58 (λ at. refl) (complete_value (in_object ms place key ∷ outer))
+  complete_colon ms place key outer = by (colon ms place key outer) (value (in_object ms place key ∷ outer)) 58 (λ at. refl)
+      (complete_value (in_object ms place key ∷ outer))
 
-  complete_key : (part : StringPart) (text : List ℕ) (place : ℕ) (ms : List Member) (outer : List Waiting) → SoundPart part → Completes (string part text (in_key place ms outer))
+  complete_key : (part : StringPart) (text : List ℕ) (place : ℕ) (ms : List Member) (outer : List Waiting) → SoundPart part
+      → Completes (string part text (in_key place ms outer))
   complete_key part text place ms outer h = complete_within (in_key place ms outer) (λ t. complete_colon ms place t outer) part text h
 
   pub completes : (state : State) → SoundParts state → Completes state
   completes (value outer) h = complete_value outer
   completes (first_item outer) h = by (first_item outer) (put (list_node no_nodes) outer) 93 (λ at. refl) (complete_put (list_node no_nodes) outer)
-  completes (after_item ns outer) h = by (after_item ns outer) (put (list_node (nodes_of ns)) outer) 93 (λ at. refl) (complete_put (list_node (nodes_of ns)) outer)
+  completes (after_item ns outer) h = by (after_item ns outer) (put (list_node (nodes_of ns)) outer) 93 (λ at. refl)
+      (complete_put (list_node (nodes_of ns)) outer)
   completes (first_key outer) h = by (first_key outer) (put (object_node no_fields) outer) 125 (λ at. refl) (complete_put (object_node no_fields) outer)
-  completes (next_key ms outer) h = by_byte (next_key ms outer) 34 (λ at. (string between [] (in_key at ms outer), refl, complete_key between [] at ms outer tt))
+  completes (next_key ms outer) h = by_byte (next_key ms outer) 34
+      (λ at. (string between [] (in_key at ms outer), refl, complete_key between [] at ms outer tt))
   completes (colon ms place key outer) h = complete_colon ms place key outer
-  completes (after_member ms outer) h = by (after_member ms outer) (put (object_node (fields_of ms)) outer) 125 (λ at. refl) (complete_put (object_node (fields_of ms)) outer)
+  completes (after_member ms outer) h = by (after_member ms outer) (put (object_node (fields_of ms)) outer) 125 (λ at. refl)
+      (complete_put (object_node (fields_of ms)) outer)
   completes (whole n) h = complete_put n []
   completes (word c rest n outer) h = complete_word rest c n outer
   completes (digits part spelling outer) h = complete_digits part spelling outer

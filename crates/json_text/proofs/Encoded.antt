@@ -42,17 +42,20 @@ three : (a b c n : ℕ) → n ≡ 64 * (64 * (a - 224) + (b - 128)) + (c - 128) 
 three a b c n e h j k l m =
     let f : a ≡ 224 + n / 4096 = omega arith in let g : b ≡ 128 + (n / 64) % 64 = omega arith in let i : c ≡ 128 + n % 64 = omega arith in cc
 
-four : (a b c d n : ℕ) → n ≡ 64 * (64 * (64 * (a - 240) + (b - 128)) + (c - 128)) + (d - 128) → 240 ≤ a → 128 ≤ b → b ≤ 191 → 128 ≤ c → c ≤ 191 → 128 ≤ d → d ≤ 191
+four : (a b c d n : ℕ) → n ≡ 64 * (64 * (64 * (a - 240) + (b - 128)) + (c - 128)) + (d - 128) → 240 ≤ a → 128 ≤ b → b ≤ 191 → 128 ≤ c → c ≤ 191 → 128 ≤ d
+    → d ≤ 191
     → a ∷ b ∷ c ∷ d ∷ [] ≡ (240 + n / 262144) ∷ (128 + (n / 4096) % 64) ∷ (128 + (n / 64) % 64) ∷ (128 + n % 64) ∷ []
 four a b c d n e h j k l m o p =
     let f : a ≡ 240 + n / 262144 = omega arith in let g : b ≡ 128 + (n / 4096) % 64 = omega arith in
     let i : c ≡ 128 + (n / 64) % 64 = omega arith in let q : d ≡ 128 + n % 64 = omega arith in cc
 
-apart : (a b c : ℕ) → 224 ≤ a → a ≤ 239 → 128 ≤ b → b ≤ 191 → 128 ≤ c → c ≤ 191 → (b < 160) ⊎ ((a < 237) ⊎ (237 < a)) → (64 * (64 * (a - 224) + (b - 128)) + (c - 128) < 55296) ⊎ (57344 ≤ 64 * (64 * (a - 224) + (b - 128)) + (c - 128))
+apart : (a b c : ℕ) → 224 ≤ a → a ≤ 239 → 128 ≤ b → b ≤ 191 → 128 ≤ c → c ≤ 191 → (b < 160) ⊎ ((a < 237) ⊎ (237 < a))
+    → (64 * (64 * (a - 224) + (b - 128)) + (c - 128) < 55296) ⊎ (57344 ≤ 64 * (64 * (a - 224) + (b - 128)) + (c - 128))
 apart a b c h i j k l m v = grind arith
 
 -- three bytes, below the surrogates and above them
-pub long_3 : (a b c : ℕ) → 224 ≤ a → a ≤ 239 → 128 ≤ b → b ≤ 191 → 128 ≤ c → c ≤ 191 → (160 ≤ b) ⊎ (225 ≤ a) → (b < 160) ⊎ ((a < 237) ⊎ (237 < a)) → IsLong (a ∷ b ∷ c ∷ [])
+pub long_3 : (a b c : ℕ) → 224 ≤ a → a ≤ 239 → 128 ≤ b → b ≤ 191 → 128 ≤ c → c ≤ 191 → (160 ≤ b) ⊎ (225 ≤ a) → (b < 160) ⊎ ((a < 237) ⊎ (237 < a))
+    → IsLong (a ∷ b ∷ c ∷ [])
 long_3 a b c h i j k l m u v =
     let n : ℕ = 64 * (64 * (a - 224) + (b - 128)) + (c - 128) in
     let low : 2048 ≤ n = omega arith in

@@ -21,7 +21,8 @@ ended_err at (Some n) f h = cc
 unlike : {P : Type 0} → unexpected ≡ too_deep → P
 unlike e = cc
 
-take_past : (front rest : List ℕ) (k : ℕ) → length front < k → k ≤ length (front ++ rest) → (b : ℕ) × (bs more : List ℕ) × (rest ≡ b ∷ bs) × (take k (front ++ rest) ≡ front ++ b ∷ more)
+take_past : (front rest : List ℕ) (k : ℕ) → length front < k → k ≤ length (front ++ rest)
+    → (b : ℕ) × (bs more : List ℕ) × (rest ≡ b ∷ bs) × (take k (front ++ rest) ≡ front ++ b ∷ more)
 take_past [] [] k l u = absurd (omega (arith, l, u))
 take_past [] (b ∷ bs) k l u = (b, bs, take (k - 1) bs, refl, ap (λ k. take k (b ∷ bs)) (let e : k ≡ suc (k - 1) = omega (arith, l) in e))
 take_past (a ∷ front) rest k l u =
@@ -59,8 +60,10 @@ module _ (levels : ℕ) where
     stops = h;
   }
 
-  stopped_by : (from : State) (at b : ℕ) (bs : List ℕ) (f : Fault) (r other : Result State Stop) → step levels at from b ≡ r → step (suc levels) at from b ≡ other → Fares levels r other → Sound levels from
-      → read_from levels at from (b ∷ bs) ≡ Err f → ((next : State) → Sound levels next → read_from levels (at + 1) next bs ≡ Err f → Stopped next (at + 1) f bs) → Stopped from at f (b ∷ bs)
+  stopped_by : (from : State) (at b : ℕ) (bs : List ℕ) (f : Fault) (r other : Result State Stop) → step levels at from b ≡ r
+      → step (suc levels) at from b ≡ other → Fares levels r other → Sound levels from
+      → read_from levels at from (b ∷ bs) ≡ Err f
+      → ((next : State) → Sound levels next → read_from levels (at + 1) next bs ≡ Err f → Stopped next (at + 1) f bs) → Stopped from at f (b ∷ bs)
   stopped_by from at b bs f (Err why) other e o t s h g =
       let is : fault why at ≡ f = let k = sym (read_err levels at from why b bs e) ∙ h in cc in
       stops_here from at f (b ∷ bs) s (ap (λ x. x.at) (sym is)) (subst (λ f. step levels f.at from b ≡ Err f.why) is e)
@@ -78,11 +81,14 @@ module _ (levels : ℕ) where
       }
 
   stopped : (bytes : List ℕ) (from : State) (at : ℕ) (f : Fault) → Sound levels from → read_from levels at from bytes ≡ Err f → Stopped from at f bytes
-  stopped [] from at f s h = let e = ended_err at (end_of from) f (sym (read_nil levels at from) ∙ h) in stops_here from at f [] s (ap (λ x. x.at) e) (ap (λ x. x.why) e)
-  stopped (b ∷ bs) from at f s h = stopped_by from at b bs f (step levels at from b) (step (suc levels) at from b) refl refl (fares levels from at b s) s h (λ next t e. stopped bs next (at + 1) f t e)
+  stopped [] from at f s h = let e = ended_err at (end_of from) f (sym (read_nil levels at from) ∙ h) in
+      stops_here from at f [] s (ap (λ x. x.at) e) (ap (λ x. x.why) e)
+  stopped (b ∷ bs) from at f s h = stopped_by from at b bs f (step levels at from b) (step (suc levels) at from b) refl refl (fares levels from at b s) s h
+      (λ next t e. stopped bs next (at + 1) f t e)
 
   -- no text goes on with the byte
-  bars : (f : Fault) (bytes : List ℕ) (s : Stopped (value []) 0 f bytes) (b : ℕ) (bs more : List ℕ) (n : Node) → s.rest ≡ b ∷ bs → read_text levels (s.front ++ b ∷ more) ≡ Ok n → ⊥
+  bars : (f : Fault) (bytes : List ℕ) (s : Stopped (value []) 0 f bytes) (b : ℕ) (bs more : List ℕ) (n : Node) → s.rest ≡ b ∷ bs
+      → read_text levels (s.front ++ b ∷ more) ≡ Ok n → ⊥
   bars f bytes s b bs more n e h = both (read_text levels (s.front ++ b ∷ more)) n (fault f.why f.at) h
       (s.same (b ∷ more) ∙ read_err levels f.at s.state f.why b more (subst (StopsAt s.state f) e s.stops))
 
@@ -96,21 +102,27 @@ read_fails levels bytes f h =
           (more, n, read_spelled levels (take f.at bytes ++ more) n (ap (λ t. read_text levels (t ++ more)) front ∙ s.same more ∙ e));
       longest = λ k l u (more, n, text).
           let (b, bs, rest, is, e) = take_past s.front s.rest k (omega (arith, l, size)) (omega (arith, u, ap length s.joined)) in
-          bars levels f bytes s b bs (rest ++ more) n is (sym (ap (read_text levels) (ap (λ t. take k t ++ more) s.joined ∙ ap (λ t. t ++ more) e ∙ append_assoc s.front (b ∷ rest) more))
+          bars levels f bytes s b bs (rest ++ more) n is
+          (sym (ap (read_text levels) (ap (λ t. take k t ++ more) s.joined ∙ ap (λ t. t ++ more) e ∙ append_assoc s.front (b ∷ rest) more))
           ∙ spelled_read levels (take k bytes ++ more) n text);
       none = λ n text. both (read_text levels bytes) n f (spelled_read levels bytes n text) h;
     }
 
-next_byte : (levels : ℕ) (bytes : List ℕ) (f : Fault) (s : Stopped levels (value []) 0 f bytes) (b : ℕ) (bs : List ℕ) → s.rest ≡ b ∷ bs → (f.at < length bytes) × (take (suc f.at) bytes ≡ s.front ++ b ∷ [])
+next_byte : (levels : ℕ) (bytes : List ℕ) (f : Fault) (s : Stopped levels (value []) 0 f bytes) (b : ℕ) (bs : List ℕ) → s.rest ≡ b ∷ bs
+    → (f.at < length bytes) × (take (suc f.at) bytes ≡ s.front ++ b ∷ [])
 next_byte levels bytes f s b bs e =
     let all : bytes ≡ (s.front ++ b ∷ []) ++ bs = s.joined ∙ ap (λ t. s.front ++ t) e ∙ sym (append_assoc s.front (b ∷ []) bs) in
-    let size : suc f.at ≡ length (s.front ++ b ∷ []) = omega (arith, s.place, length-append s.front (b ∷ [])) in
-    (omega (arith, size, ap length all, length-append (s.front ++ b ∷ []) bs), ap (λ t. take (suc f.at) t) all ∙ take_at (s.front ++ b ∷ []) bs (suc f.at) (sym size))
+    let size : suc f.at ≡ length (s.front ++ b ∷ []) = omega (arith, s.place, length-append s.front (b ∷ [])) in (
+      omega (arith, size, ap length all, length-append (s.front ++ b ∷ []) bs),
+      ap (λ t. take (suc f.at) t) all
+          ∙ take_at (s.front ++ b ∷ []) bs (suc f.at) (sym size),
+    )
 
 pub opens_too_many : (levels : ℕ) (bytes : List ℕ) (f : Fault) → read_text levels bytes ≡ Err f → f.why ≡ too_deep → OpensTooMany levels bytes f.at
 opens_too_many levels bytes f h w = by (stopped levels bytes (value []) 0 f (start levels) h)
   where
-    deep : (s : Stopped levels (value []) 0 f bytes) (b : ℕ) (bs : List ℕ) → s.rest ≡ b ∷ bs → Fares levels (Err too_deep) (step (suc levels) f.at s.state b) → OpensTooMany levels bytes f.at
+    deep : (s : Stopped levels (value []) 0 f bytes) (b : ℕ) (bs : List ℕ) → s.rest ≡ b ∷ bs → Fares levels (Err too_deep) (step (suc levels) f.at s.state b)
+        → OpensTooMany levels bytes f.at
     deep s b bs e (next, o, parts) =
         let (within, front) = next_byte levels bytes f s b bs e in
         let (more, n, k) = completes (suc levels) next parts (f.at + 1) in (
@@ -137,8 +149,10 @@ opens_no_more levels bytes f h w (within, (more, n, text)) = by (stopped levels 
     at : (s : Stopped levels (value []) 0 f bytes) (rest : List ℕ) → s.rest ≡ rest → StopsAt levels s.state f rest → ⊥
     at s [] e t = omega (arith, within, s.place, ap length (s.joined ∙ ap (λ t. s.front ++ t) e ∙ append-nil s.front))
     at s (b ∷ bs) e t =
-        let o : step (suc levels) f.at s.state b ≡ Err unexpected = subst (λ r. Fares levels r (step (suc levels) f.at s.state b)) (t ∙ ap Err w) (fares levels s.state f.at b s.sound) in
-        both (read_text (suc levels) (take (suc f.at) bytes ++ more)) n (fault unexpected f.at) (spelled_read (suc levels) (take (suc f.at) bytes ++ more) n text)
+        let o : step (suc levels) f.at s.state b ≡ Err unexpected =
+        subst (λ r. Fares levels r (step (suc levels) f.at s.state b)) (t ∙ ap Err w) (fares levels s.state f.at b s.sound) in
+        both (read_text (suc levels) (take (suc f.at) bytes ++ more)) n (fault unexpected f.at)
+        (spelled_read (suc levels) (take (suc f.at) bytes ++ more) n text)
         (ap (λ t. read_text (suc levels) (t ++ more)) (next_byte levels bytes f s b bs e).1 ∙ ap (read_text (suc levels)) (append_assoc s.front (b ∷ []) more)
         ∙ s.deeper (b ∷ more) ∙ read_err (suc levels) f.at s.state unexpected b more o)
 

@@ -90,7 +90,8 @@ module _ (size : ℕ) where
     After (in_list ns ∷ outer) future n bytes =
         MoreItems future.0 (levels - suc (length outer)) (Byte 93 (Space (After outer future.1 (list_node (then_nodes ns (node n future.0)))))) bytes
     After (in_object ms place key ∷ outer) future n bytes =
-        MoreMembers future.0 (levels - suc (length outer)) (Byte 125 (Space (After outer future.1 (object_node (then_fields ms (field place key n future.0)))))) bytes
+        MoreMembers future.0 (levels - suc (length outer))
+        (Byte 125 (Space (After outer future.1 (object_node (then_fields ms (field place key n future.0)))))) bytes
 
     abbrev pub Ended : List Waiting → Node → List ℕ → Type 0
     Ended outer n bytes = (future : Future outer) × Space (After outer future n) bytes
@@ -112,7 +113,8 @@ module _ (size : ℕ) where
     Following (first_key outer) bytes = (fs : Fields) × (future : Future outer)
         × Space (Members fs (levels - suc (length outer)) (Byte 125 (Space (After outer future (object_node fs))))) bytes
     Following (next_key ms outer) bytes = (place : ℕ) × (key : List ℕ) × (n : Node) × (future : Future (in_object ms place key ∷ outer))
-        × Space (Key place key (Space (Byte 58 (Space (Value n (levels - suc (length outer)) (Space (After (in_object ms place key ∷ outer) future n))))))) bytes
+        × Space (Key place key (Space (Byte 58 (Space (Value n (levels - suc (length outer)) (Space (After (in_object ms place key ∷ outer) future n)))))))
+        bytes
     Following (colon ms place key outer) bytes = Colon ms place outer key bytes
     Following (after_member ms outer) bytes = (xs : Fields) × (future : Future outer)
         × Space (MoreMembers xs (levels - suc (length outer)) (Byte 125 (Space (After outer future (object_node (then_fields ms xs)))))) bytes

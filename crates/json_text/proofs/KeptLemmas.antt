@@ -33,7 +33,8 @@ first_of-none (Some at) = refl
 -- one node more
 pub first_repeat_in-more : (ns : List Node) (n : Node) → first_repeat_in (nodes_of (ns ++ n ∷ [])) ≡ first_of (first_repeat_in (nodes_of ns)) (first_repeat n)
 first_repeat_in-more [] n = first_of-none (first_repeat n)
-first_repeat_in-more (m ∷ ns) n = ap (first_of (first_repeat m)) (first_repeat_in-more ns n) ∙ sym (first_of-assoc (first_repeat m) (first_repeat_in (nodes_of ns)) (first_repeat n))
+first_repeat_in-more (m ∷ ns) n = ap (first_of (first_repeat m)) (first_repeat_in-more ns n)
+    ∙ sym (first_of-assoc (first_repeat m) (first_repeat_in (nodes_of ns)) (first_repeat n))
 
 pub values_of-nodes : (ns : List Node) → values_of (nodes_of ns) ≡ map value_of ns
 values_of-nodes [] = refl
@@ -46,7 +47,8 @@ members_after-more acc [] m = refl
 members_after-more acc (o ∷ ms) m = members_after-more (with_member o.key (value_of o.of) acc) ms m
 
 first_repeat_behind-more : (keys : List (List ℕ)) (ms : List Member) (m : Member)
-    → first_repeat_behind keys (fields_of (ms ++ m ∷ [])) ≡ first_of (first_repeat_behind keys (fields_of ms)) (first_of (repeat_at (keys_behind keys ms) m.place m.key) (first_repeat m.of))
+    → first_repeat_behind keys (fields_of (ms ++ m ∷ [])) ≡ first_of (first_repeat_behind keys (fields_of ms))
+    (first_of (repeat_at (keys_behind keys ms) m.place m.key) (first_repeat m.of))
 first_repeat_behind-more keys [] m = ap (first_of (repeat_at keys m.place m.key)) (first_of-none (first_repeat m.of))
 first_repeat_behind-more keys (o ∷ ms) m =
     let key = repeat_at keys o.place o.key in
@@ -64,7 +66,8 @@ keeps_last ks k [] h = absurd (let g : KeepsAll (k ∷ reverse ks) [] = rw rever
 keeps_last ks k (w ∷ rest) h = let g : KeepsAll (k ∷ reverse ks) (w ∷ rest) = rw reverse-append at h in (w, rest, refl, g.0, g.1)
 
 -- a list or an object more waits
-pub keeps_more : (ks : List Kept) (k : Kept) (outer : List Waiting) (w : Waiting) → KeepsAll (reverse ks) outer → Keeps k w → KeepsAll (reverse (ks ++ k ∷ [])) (w ∷ outer)
+pub keeps_more : (ks : List Kept) (k : Kept) (outer : List Waiting) (w : Waiting) → KeepsAll (reverse ks) outer → Keeps k w
+    → KeepsAll (reverse (ks ++ k ∷ [])) (w ∷ outer)
 keeps_more ks k outer w h here = rw reverse-append (here, h)
 
 -- whether a member has the key
@@ -97,7 +100,8 @@ has-members_after : (key : List ℕ) (keys : List (List ℕ)) (acc : List (List 
     → has key acc ≡ list_any (bytes_eq key) keys → has key (members_after acc (fields_of ms)) ≡ list_any (bytes_eq key) (keys_behind keys ms)
 has-members_after key keys acc [] h = h
 has-members_after key keys acc (m ∷ ms) h =
-    has-members_after key (m.key ∷ keys) (with_member m.key (value_of m.of) acc) ms (has-with_member key m.key (value_of m.of) acc ∙ ap (λ b. bytes_eq key m.key || b) h)
+    has-members_after key (m.key ∷ keys) (with_member m.key (value_of m.of) acc) ms
+    (has-with_member key m.key (value_of m.of) acc ∙ ap (λ b. bytes_eq key m.key || b) h)
 
 none_has : {V : Type 0} (at : ℕ) (key : List ℕ) (ms : List (List ℕ × V)) → slot_from at key ms ≡ None → has key ms ≡ false
 none_has at key [] h = refl
@@ -138,7 +142,8 @@ with_value-end at key t u (m ∷ ms) h =
     ] h
 
 -- A key's place was found or made: what the member's object becomes, and whether the key came twice.
-pub key_waits : (old new : List (List ℕ × Tree)) (key : List ℕ) (slot : ℕ) (there : Bool) (ms : List Member) → Reserves old new key slot there → old ≡ members_after [] (fields_of ms)
+pub key_waits : (old new : List (List ℕ × Tree)) (key : List ℕ) (slot : ℕ) (there : Bool) (ms : List Member) → Reserves old new key slot there
+    → old ≡ members_after [] (fields_of ms)
     → ((t : Tree) → with_value slot t new ≡ with_member key t (members_after [] (fields_of ms)))
 key_waits old new key slot true ms h is t =
     let r = with_value-slot 0 slot key t old h.1 in
@@ -146,7 +151,8 @@ key_waits old new key slot true ms h is t =
 key_waits old new key slot false ms h is t =
     ap (with_value slot t) h.0 ∙ ap (λ n. with_value n t (old ++ (key, null) ∷ [])) h.2 ∙ with_value-end 0 key t null old h.1 ∙ ap (with_member key t) is
 
-pub key_repeats : (old new : List (List ℕ × Tree)) (key : List ℕ) (slot place : ℕ) (there : Bool) (ms : List Member) → Reserves old new key slot there → old ≡ members_after [] (fields_of ms)
+pub key_repeats : (old new : List (List ℕ × Tree)) (key : List ℕ) (slot place : ℕ) (there : Bool) (ms : List Member) → Reserves old new key slot there
+    → old ≡ members_after [] (fields_of ms)
     → repeat_at (keys_behind [] ms) place key ≡ (if there then Some place else None)
 key_repeats old new key slot place true ms h is =
     ap (λ b. cond b (Some place) None) (sym (has-members_after key [] [] ms refl) ∙ ap (has key) (sym is) ∙ some_has 0 slot key old h.1)
@@ -156,18 +162,22 @@ key_repeats old new key slot place false ms h is =
 -- a whole value for the innermost of what waits, which is a list
 list_takes : (v : _) (w : Waiting) (rest : List Waiting) (pushed : List Json) (json : Json) (n : Node) (repeat : Option ℕ)
     → Keeps (kept_list v) w → pushed ≡ v.items ++ json ∷ [] → tree_of json ≡ value_of n → repeat ≡ first_of (repeat_of (w ∷ rest)) (first_repeat n)
-    → (x : List Node) × (put n (w ∷ rest) ≡ after_item x rest) × (repeat ≡ first_of (repeat_of rest) (first_repeat_in (nodes_of x))) × (trees_of pushed ≡ map value_of x)
+    → (x : List Node) × (put n (w ∷ rest) ≡ after_item x rest) × (repeat ≡ first_of (repeat_of rest) (first_repeat_in (nodes_of x)))
+    × (trees_of pushed ≡ map value_of x)
 list_takes v (in_list ns) rest pushed json n repeat k more is r = (
   ns ++ n ∷ [],
   refl,
   r ∙ first_of-assoc (repeat_of rest) (first_repeat_in (nodes_of ns)) (first_repeat n) ∙ ap (first_of (repeat_of rest)) (sym (first_repeat_in-more ns n)),
-  ap trees_of more ∙ map-append tree_of v.items (json ∷ []) ∙ ap (λ ts. ts ++ tree_of json ∷ []) k ∙ ap (λ t. map value_of ns ++ t ∷ []) is ∙ sym (map-append value_of ns (n ∷ [])),
+  ap trees_of more ∙ map-append tree_of v.items (json ∷ []) ∙ ap (λ ts. ts ++ tree_of json ∷ []) k ∙ ap (λ t. map value_of ns ++ t ∷ []) is
+      ∙ sym (map-append value_of ns (n ∷ [])),
 )
 list_takes v (in_object ms place key) rest pushed json n repeat k more is r = absurd k
 
 pub put_in_list : (ks all : List Kept) (v : _) (pushed : List Json) (json : Json) (n : Node) (outer : List Waiting) (repeat : Option ℕ)
-    → all ≡ ks ++ kept_list v ∷ [] → pushed ≡ v.items ++ json ∷ [] → tree_of json ≡ value_of n → KeepsAll (reverse all) outer → repeat ≡ first_of (repeat_of outer) (first_repeat n)
-    → (x : List Node) × (x' : List Waiting) × (put n outer ≡ after_item x x') × KeepsAll (reverse ks) x' × (repeat ≡ first_of (repeat_of x') (first_repeat_in (nodes_of x))) × (trees_of pushed ≡ map value_of x)
+    → all ≡ ks ++ kept_list v ∷ [] → pushed ≡ v.items ++ json ∷ [] → tree_of json ≡ value_of n → KeepsAll (reverse all) outer
+    → repeat ≡ first_of (repeat_of outer) (first_repeat n)
+    → (x : List Node) × (x' : List Waiting) × (put n outer ≡ after_item x x') × KeepsAll (reverse ks) x'
+    × (repeat ≡ first_of (repeat_of x') (first_repeat_in (nodes_of x))) × (trees_of pushed ≡ map value_of x)
 put_in_list ks all v pushed json n outer repeat last more is kept r =
     let cut = keeps_last ks (kept_list v) outer (subst (λ xs. KeepsAll (reverse xs) outer) last kept) in
     let done = list_takes v cut.0 cut.1 pushed json n repeat cut.3 more is (r ∙ ap (λ o. first_of (repeat_of o) (first_repeat n)) cut.2) in
@@ -175,21 +185,26 @@ put_in_list ks all v pushed json n outer repeat last more is kept r =
 
 -- the same for an object
 object_takes : (o : _) (w : Waiting) (rest : List Waiting) (set : List (List ℕ × Json)) (json : Json) (n : Node) (repeat : Option ℕ)
-    → Keeps (kept_object o) w → pairs_of set ≡ with_value o.slot (tree_of json) (pairs_of o.object.value.members.items) → tree_of json ≡ value_of n → repeat ≡ first_of (repeat_of (w ∷ rest)) (first_repeat n)
-    → (x : List Member) × (put n (w ∷ rest) ≡ after_member x rest) × (repeat ≡ first_of (repeat_of rest) (first_repeat_behind [] (fields_of x))) × HoldsMembers set x
+    → Keeps (kept_object o) w → pairs_of set ≡ with_value o.slot (tree_of json) (pairs_of o.object.value.members.items) → tree_of json ≡ value_of n
+    → repeat ≡ first_of (repeat_of (w ∷ rest)) (first_repeat n)
+    → (x : List Member) × (put n (w ∷ rest) ≡ after_member x rest) × (repeat ≡ first_of (repeat_of rest) (first_repeat_behind [] (fields_of x)))
+    × HoldsMembers set x
 object_takes o (in_list ns) rest set json n repeat k more is r = absurd k
 object_takes o (in_object ms place key) rest set json n repeat k more is r =
     let m : Member = record { place = place; key = key; of = n } in (
       ms ++ m ∷ [],
       refl,
       r ∙ first_of-assoc (repeat_of rest) (first_of (first_repeat_behind [] (fields_of ms)) (repeat_at (keys_behind [] ms) place key)) (first_repeat n)
-          ∙ ap (first_of (repeat_of rest)) (first_of-assoc (first_repeat_behind [] (fields_of ms)) (repeat_at (keys_behind [] ms) place key) (first_repeat n) ∙ sym (first_repeat_behind-more [] ms m)),
+          ∙ ap (first_of (repeat_of rest)) (first_of-assoc (first_repeat_behind [] (fields_of ms)) (repeat_at (keys_behind [] ms) place key) (first_repeat n)
+          ∙ sym (first_repeat_behind-more [] ms m)),
       more ∙ k (tree_of json) ∙ ap (λ t. with_member key t (members_after [] (fields_of ms))) is ∙ sym (members_after-more [] ms m),
     )
 
 pub put_in_object : (ks all : List Kept) (o : _) (set : List (List ℕ × Json)) (json : Json) (n : Node) (outer : List Waiting) (repeat : Option ℕ)
-    → all ≡ ks ++ kept_object o ∷ [] → pairs_of set ≡ with_value o.slot (tree_of json) (pairs_of o.object.value.members.items) → tree_of json ≡ value_of n → KeepsAll (reverse all) outer → repeat ≡ first_of (repeat_of outer) (first_repeat n)
-    → (x : List Member) × (x' : List Waiting) × (put n outer ≡ after_member x x') × KeepsAll (reverse ks) x' × (repeat ≡ first_of (repeat_of x') (first_repeat_behind [] (fields_of x))) × HoldsMembers set x
+    → all ≡ ks ++ kept_object o ∷ [] → pairs_of set ≡ with_value o.slot (tree_of json) (pairs_of o.object.value.members.items) → tree_of json ≡ value_of n
+    → KeepsAll (reverse all) outer → repeat ≡ first_of (repeat_of outer) (first_repeat n)
+    → (x : List Member) × (x' : List Waiting) × (put n outer ≡ after_member x x') × KeepsAll (reverse ks) x'
+    × (repeat ≡ first_of (repeat_of x') (first_repeat_behind [] (fields_of x))) × HoldsMembers set x
 put_in_object ks all o set json n outer repeat last more is kept r =
     let cut = keeps_last ks (kept_object o) outer (subst (λ xs. KeepsAll (reverse xs) outer) last kept) in
     let done = object_takes o cut.0 cut.1 set json n repeat cut.3 more is (r ∙ ap (λ p. first_of (repeat_of p) (first_repeat n)) cut.2) in

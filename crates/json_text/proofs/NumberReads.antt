@@ -46,7 +46,8 @@ came x p bs e h = subst (λ q. Tail q bs) (sym (same x p e)) h
 step_digit : {P : Type 0} (x p : NumberPart) (b : ℕ) (bs : List ℕ) → digit_goes x b ≡ Some p → (is_ascii_digit b ≡ true → Tail x bs → P) → Tail p bs → P
 step_digit x p b bs e f h = choose (is_ascii_digit b) _ _ _ (λ t e. f t (came x p bs e h)) (λ _ e. none_not p e) e
 
-step_exponent : {P : Type 0} (p : NumberPart) (b : ℕ) (bs : List ℕ) (other : Option NumberPart) → exponent_goes b other ≡ Some p → ((b == 101) || (b == 69) ≡ true → IsSignedDigits bs → P) → (other ≡ Some p → P) → Tail p bs → P
+step_exponent : {P : Type 0} (p : NumberPart) (b : ℕ) (bs : List ℕ) (other : Option NumberPart) → exponent_goes b other ≡ Some p
+    → ((b == 101) || (b == 69) ≡ true → IsSignedDigits bs → P) → (other ≡ Some p → P) → Tail p bs → P
 step_exponent p b bs other e f g h = choose ((b == 101) || (b == 69)) _ _ _ (λ t e. f t (came exponent p bs e h)) (λ _ e. g e) e
 
 -- a point, and behind it digits
@@ -155,7 +156,8 @@ int_exponent b t = grind (arith, nat_tests)
 minus_digit : (b : ℕ) → is_digit_above_zero b ≡ true → number_step minus b ≡ Some int
 minus_digit b t = grind (arith, nat_tests)
 
-digits_accepted : (part : NumberPart) → ((b : ℕ) → is_ascii_digit b ≡ true → number_step part b ≡ Some part) → (ds t : List ℕ) → AreDigits ds → Accepts part t → Accepts part (ds ++ t)
+digits_accepted : (part : NumberPart) → ((b : ℕ) → is_ascii_digit b ≡ true → number_step part b ≡ Some part) → (ds t : List ℕ) → AreDigits ds → Accepts part t
+    → Accepts part (ds ++ t)
 digits_accepted part f [] t d h = h
 digits_accepted part f (b ∷ ds) t d h = (part, f b d.0, digits_accepted part f ds t d.1 h)
 
@@ -169,7 +171,8 @@ signed_accepted (b ∷ []) (inl h) = absurd h.1
 signed_accepted (b ∷ c ∷ ds) (inl h) = (exponent_sign, cond-true _ _ _ h.0, (exponent_digits, cond-true _ _ _ h.1.0, exponent_only ds h.1.1))
 signed_accepted (b ∷ bs) (inr h) = (exponent_digits, no_sign b h.0, exponent_only bs h.1)
 
-exponent_accepted : (part : NumberPart) → may_end part ≡ true → ((b : ℕ) → (b == 101) || (b == 69) ≡ true → number_step part b ≡ Some exponent) → (e : List ℕ) → IsExponent e → Accepts part e
+exponent_accepted : (part : NumberPart) → may_end part ≡ true → ((b : ℕ) → (b == 101) || (b == 69) ≡ true → number_step part b ≡ Some exponent) → (e : List ℕ)
+    → IsExponent e → Accepts part e
 exponent_accepted part m f [] h = m
 exponent_accepted part m f (b ∷ bs) h = (exponent, f b h.0, signed_accepted bs h.1)
 
@@ -178,10 +181,12 @@ fraction_exponent b t = cond-true _ _ _ t
 
 point_accepted : (ds e : List ℕ) → IsDigits ds → IsExponent e → Accepts point (ds ++ e)
 point_accepted [] e d h = absurd d
-point_accepted (b ∷ ds) e d h = (fraction, cond-true _ _ _ d.0, digits_accepted fraction fraction_digit ds e d.1 (exponent_accepted fraction refl fraction_exponent e h))
+point_accepted (b ∷ ds) e d h =
+    (fraction, cond-true _ _ _ d.0, digits_accepted fraction fraction_digit ds e d.1 (exponent_accepted fraction refl fraction_exponent e h))
 
 -- a fraction and an exponent, behind a whole part
-tail_accepted : (part : NumberPart) → may_end part ≡ true → number_step part 46 ≡ Some point → ((b : ℕ) → (b == 101) || (b == 69) ≡ true → number_step part b ≡ Some exponent) → (f e : List ℕ) → IsFraction f → IsExponent e → Accepts part (f ++ e)
+tail_accepted : (part : NumberPart) → may_end part ≡ true → number_step part 46 ≡ Some point
+    → ((b : ℕ) → (b == 101) || (b == 69) ≡ true → number_step part b ≡ Some exponent) → (f e : List ℕ) → IsFraction f → IsExponent e → Accepts part (f ++ e)
 tail_accepted part m p g [] e i h = exponent_accepted part m g e h
 tail_accepted part m p g (b ∷ ds) e i h = (point, ap (λ x. number_step part x) i.0 ∙ p, point_accepted ds e i.1 h)
 
@@ -199,17 +204,20 @@ pub data Starts : List ℕ → Type 0 where
 
 minus_accepted : (i f e : List ℕ) → IsInt i → IsFraction f → IsExponent e → Accepts minus (i ++ (f ++ e))
 minus_accepted [] f e i u h = absurd i
-minus_accepted (b ∷ bs) f e (inl i) u h = subst (λ x. Accepts minus (b ∷ (x ++ (f ++ e)))) (sym i.1) (zero_int, cond-true _ _ _ (eq-eqb b 48 i.0), zero_accepted f e u h)
+minus_accepted (b ∷ bs) f e (inl i) u h = subst (λ x. Accepts minus (b ∷ (x ++ (f ++ e)))) (sym i.1)
+    (zero_int, cond-true _ _ _ (eq-eqb b 48 i.0), zero_accepted f e u h)
 minus_accepted (b ∷ bs) f e (inr i) u h = (int, minus_digit b i.0, int_accepted bs f e i.1 u h)
 
 int_starts : (i f e : List ℕ) → IsInt i → IsFraction f → IsExponent e → Starts (i ++ (f ++ e))
 int_starts [] f e i u h = absurd i
-int_starts (b ∷ bs) f e (inl i) u h = subst (λ x. Starts (x ∷ (bs ++ (f ++ e)))) (sym i.0) (subst (λ x. Starts (48 ∷ (x ++ (f ++ e)))) (sym i.1) (with_zero (f ++ e) (zero_accepted f e u h)))
+int_starts (b ∷ bs) f e (inl i) u h = subst (λ x. Starts (x ∷ (bs ++ (f ++ e)))) (sym i.0)
+    (subst (λ x. Starts (48 ∷ (x ++ (f ++ e)))) (sym i.1) (with_zero (f ++ e) (zero_accepted f e u h)))
 int_starts (b ∷ bs) f e (inr i) u h = with_digit b (bs ++ (f ++ e)) i.0 (int_accepted bs f e i.1 u h)
 
 number_starts : (m i f e : List ℕ) → IsMinus m → IsInt i → IsFraction f → IsExponent e → Starts (m ++ (i ++ (f ++ e)))
 number_starts [] i f e m n u h = int_starts i f e n u h
-number_starts (b ∷ bs) i f e m n u h = subst (λ x. Starts (x ∷ (bs ++ (i ++ (f ++ e))))) (sym m.0) (subst (λ x. Starts (45 ∷ (x ++ (i ++ (f ++ e))))) (sym m.1) (with_minus (i ++ (f ++ e)) (minus_accepted i f e n u h)))
+number_starts (b ∷ bs) i f e m n u h = subst (λ x. Starts (x ∷ (bs ++ (i ++ (f ++ e))))) (sym m.0)
+    (subst (λ x. Starts (45 ∷ (x ++ (i ++ (f ++ e))))) (sym m.1) (with_minus (i ++ (f ++ e)) (minus_accepted i f e n u h)))
 
 -- each number begins so
 pub starts : (bytes : List ℕ) → IsNumber bytes → Starts bytes
@@ -224,7 +232,8 @@ digits_spelled part spelling K (b ∷ bs) (inr (p, e, h)) =
     let (tail, back, is, accepts, k) = digits_spelled p (spelling ++ b ∷ []) K bs h in
     (b ∷ tail, back, ap (λ t. b ∷ t) is, (p, e, accepts), subst (λ s. K s back) (append_assoc spelling (b ∷ []) tail) k)
 
-pub digits_end : (part : NumberPart) (spelling : List ℕ) (K : List ℕ → List ℕ → Type 0) (bytes : List ℕ) → may_end part ≡ true → K spelling bytes → Digits part spelling K bytes
+pub digits_end : (part : NumberPart) (spelling : List ℕ) (K : List ℕ → List ℕ → Type 0) (bytes : List ℕ) → may_end part ≡ true → K spelling bytes
+    → Digits part spelling K bytes
 digits_end part spelling K [] e k = (e, k)
 digits_end part spelling K (b ∷ bs) e k = inl (e, k)
 

@@ -54,14 +54,16 @@ utf8_from m e part [] h = (0, ends_at (may_end part) h, IsUtf8-nil)
 utf8_from m e part (b ∷ bs) h = on_utf8 m e part b bs (number_step part b) (λ p g. goes_ascii part b p g) (λ p g. utf8_from (m + 1) e p bs g) h
 
 -- a first byte and what is read behind it
-pub number_utf8 : (part : NumberPart) (n : ℕ) (bytes : List ℕ) → (b : ℕ) (bs : List ℕ) → bytes ≡ b ∷ bs → b < 128 → scan_number part 0 bs ≡ Ok n → IsUtf8 (take (1 + n) bytes)
+pub number_utf8 : (part : NumberPart) (n : ℕ) (bytes : List ℕ) → (b : ℕ) (bs : List ℕ) → bytes ≡ b ∷ bs → b < 128 → scan_number part 0 bs ≡ Ok n
+    → IsUtf8 (take (1 + n) bytes)
 number_utf8 part n bytes b bs is low h =
     let r = utf8_from 0 n part bs h in
     let same : 1 + n ≡ suc r.0 = omega (arith, r.1) in
     subst (λ k. IsUtf8 (take k bytes)) (sym same) (subst (λ xs. IsUtf8 (take (suc r.0) xs)) (sym is) (IsUtf8-append (b ∷ []) (take r.0 bs) (one b low) r.2))
 
 -- a string's fault lies within the bytes
-on_within : (m e : ℕ) (text : List ℕ) (bs : List ℕ) (x : StringStep) → ((p : StringPart) (u : List ℕ) → scan_string p u (m + 1) bs ≡ Err e → e ≤ (m + 1) + length bs)
+on_within : (m e : ℕ) (text : List ℕ) (bs : List ℕ) (x : StringStep)
+    → ((p : StringPart) (u : List ℕ) → scan_string p u (m + 1) bs ≡ Err e → e ≤ (m + 1) + length bs)
     → string_on x text m (λ p u. scan_string p u (m + 1) bs) ≡ Err e → e ≤ m + suc (length bs)
 on_within m e text bs (goes_on p u) ih h = omega (arith, ih p u h)
 on_within m e text bs ends ih h = cc

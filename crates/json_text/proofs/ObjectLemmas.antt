@@ -1,4 +1,5 @@
--- The index of an object's members: `slot_from-set`, `slot_from-push`, `with_value-set`, `slot_from-pairs`, `slot_from-below`, `slot_from-drop`, `pairs_of-push`, `HasHashes-push`, `HasHashes-set`, `IsIndex-set`.
+-- The index of an object's members: `slot_from-set`, `slot_from-push`, `with_value-set`, `slot_from-pairs`, `slot_from-below`, `slot_from-drop`,
+-- `pairs_of-push`, `HasHashes-push`, `HasHashes-set`, `IsIndex-set`.
 use Rattle.std.proofs.Common.{◌≡◌, ◌<◌, ℕ, zero, suc, ◌+◌, List, [], ◌∷◌, ◌++◌, length, Bool, true, false, Some, None, refl, sym, ap, ◌∙◌, arith, cond, if◌then◌else◌, get_or, drop, ◌⊎◌, inl, inr, ◌≢◌, ◌*◌, ◌%◌, ◌^◌, String, bit_or}
 use Rattle.std.proofs.lemmas.Slice.Eq.{bytes_eq-Decides}
 use Rattle.std.proofs.Math.ListN.{set}
@@ -32,7 +33,8 @@ key_at [] slot d h e = absurd (omega (arith, h))
 key_at (m ∷ ms) zero d h e = sym (ap (λ p. p.0) e)
 key_at (m ∷ ms) (suc slot) d h e = key_at ms slot d (omega (arith, h)) e
 
-kept_slot : (at : ℕ) (key k : List ℕ) (v : Json) (slot : ℕ) (ms : List (List ℕ × Json)) → KeyAt ms slot k → slot_from at key (set ms slot (k, v)) ≡ slot_from at key ms
+kept_slot : (at : ℕ) (key k : List ℕ) (v : Json) (slot : ℕ) (ms : List (List ℕ × Json)) → KeyAt ms slot k
+    → slot_from at key (set ms slot (k, v)) ≡ slot_from at key ms
 kept_slot at key k v slot [] h = absurd h
 kept_slot at key k v zero (m ∷ ms) h = ap (λ n. if bytes_eq key n then Some at else slot_from (at + 1) key ms) (sym h)
 kept_slot at key k v (suc slot) (m ∷ ms) h = ap (λ o. if bytes_eq key m.0 then Some at else o) (kept_slot (at + 1) key k v slot ms h)
@@ -41,7 +43,8 @@ pub slot_from-set : (at : ℕ) (key : List ℕ) (v : Json) (slot : ℕ) (ms : Li
     → slot_from at key (set ms slot (d.0, v)) ≡ slot_from at key ms
 slot_from-set at key v slot ms d h e = kept_slot at key d.0 v slot ms (key_at ms slot d h e)
 
-valued : (k : List ℕ) (v : Json) (slot : ℕ) (ms : List (List ℕ × Json)) → KeyAt ms slot k → pairs_of (set ms slot (k, v)) ≡ with_value slot (tree_of v) (pairs_of ms)
+valued : (k : List ℕ) (v : Json) (slot : ℕ) (ms : List (List ℕ × Json)) → KeyAt ms slot k
+    → pairs_of (set ms slot (k, v)) ≡ with_value slot (tree_of v) (pairs_of ms)
 valued k v slot [] h = absurd h
 valued k v zero (m ∷ ms) h = ap (λ n. (n, tree_of v) ∷ pairs_of ms) (sym h)
 valued k v (suc slot) (m ∷ ms) h = ap (λ rest. (m.0, tree_of m.1) ∷ rest) (valued k v slot ms h)
@@ -75,8 +78,10 @@ bytes_eq-comm a b =
       ])
     ]
 
-not_first : {V : Type 0} (at : ℕ) (k : List ℕ) (m : List ℕ × V) (ms : List (List ℕ × V)) → slot_from at k (m ∷ ms) ≡ None → (bytes_eq k m.0 ≡ false) × (slot_from (at + 1) k ms ≡ None)
-not_first at k m ms = elim (bytes_eq k m.0) as (λ b. cond b (Some at) (slot_from (at + 1) k ms) ≡ None → (b ≡ false) × (slot_from (at + 1) k ms ≡ None)) [ true ↦ λ h. cc | false ↦ λ h. (refl, h) ]
+not_first : {V : Type 0} (at : ℕ) (k : List ℕ) (m : List ℕ × V) (ms : List (List ℕ × V)) → slot_from at k (m ∷ ms) ≡ None
+    → (bytes_eq k m.0 ≡ false) × (slot_from (at + 1) k ms ≡ None)
+not_first at k m ms = elim (bytes_eq k m.0) as (λ b. cond b (Some at) (slot_from (at + 1) k ms) ≡ None
+    → (b ≡ false) × (slot_from (at + 1) k ms ≡ None)) [ true ↦ λ h. cc | false ↦ λ h. (refl, h) ]
 
 -- a member with a new key at the end
 pub slot_from-push : {V : Type 0} (at : ℕ) (key k : List ℕ) (v : V) (ms : List (List ℕ × V)) → slot_from at k ms ≡ None
@@ -87,7 +92,8 @@ slot_from-push at key k v (m ∷ ms) h =
     ap (λ o. if bytes_eq key m.0 then Some at else o) (slot_from-push (at + 1) key k v ms first.1)
     ∙ elim (either (bytes_eq k key)) [
       | inl same ↦
-          ap (λ b. cond b (Some at) (cond (bytes_eq k key) (Some (at + 1 + length ms)) (slot_from (at + 1) key ms))) (ap (λ x. bytes_eq x m.0) (sym ((bytes_eq-Decides k key).0 same)) ∙ first.0)
+          ap (λ b. cond b (Some at) (cond (bytes_eq k key) (Some (at + 1 + length ms)) (slot_from (at + 1) key ms)))
+          (ap (λ x. bytes_eq x m.0) (sym ((bytes_eq-Decides k key).0 same)) ∙ first.0)
           ∙ ap (λ b. cond b (Some (at + 1 + length ms)) (slot_from (at + 1) key ms)) same ∙ ap (λ n. Some n) (omega arith)
           ∙ sym (ap (λ b. cond b (Some (at + suc (length ms))) (cond (bytes_eq key m.0) (Some at) (slot_from (at + 1) key ms))) same)
       | inr other ↦
@@ -111,7 +117,8 @@ abbrev with_bit : ℕ → ℕ → ℕ
 with_bit n k = bit_or n (1 * 2 ^ k % 2 ^ 128)
 
 -- the key at the end has its hash's bit
-pub HasHashes-push : {V : Type 0} (hashes hash : ℕ) (k : List ℕ) (v : V) (ms : List (List ℕ × V)) → hash ≡ hash_of k → hash < 128 → slot_from 0 k ms ≡ None → HasHashes hashes ms
+pub HasHashes-push : {V : Type 0} (hashes hash : ℕ) (k : List ℕ) (v : V) (ms : List (List ℕ × V)) → hash ≡ hash_of k → hash < 128 → slot_from 0 k ms ≡ None
+    → HasHashes hashes ms
     → HasHashes (with_bit hashes hash) (ms ++ (k, v) ∷ [])
 HasHashes-push hashes hash k v ms is small new has q unset =
     elim (cases_eq (hash_of q) hash) [
@@ -129,10 +136,12 @@ HasHashes-push hashes hash k v ms is small new has q unset =
     ]
 
 -- a member's value changes neither the hashes nor the map
-pub HasHashes-set : (hashes : ℕ) (v : Json) (slot : ℕ) (ms : List (List ℕ × Json)) (d : List ℕ × Json) → slot < length ms → d ≡ get_or ms slot d → HasHashes hashes ms → HasHashes hashes (set ms slot (d.0, v))
+pub HasHashes-set : (hashes : ℕ) (v : Json) (slot : ℕ) (ms : List (List ℕ × Json)) (d : List ℕ × Json) → slot < length ms → d ≡ get_or ms slot d
+    → HasHashes hashes ms → HasHashes hashes (set ms slot (d.0, v))
 HasHashes-set hashes v slot ms d h e has q unset = slot_from-set 0 q v slot ms d h e ∙ has q unset
 
-pub IsIndex-set : (slots : BTreeMap (String Global) ℕ) (v : Json) (slot : ℕ) (ms : List (List ℕ × Json)) (d : List ℕ × Json) → slot < length ms → d ≡ get_or ms slot d
+pub IsIndex-set : (slots : BTreeMap (String Global) ℕ) (v : Json) (slot : ℕ) (ms : List (List ℕ × Json)) (d : List ℕ × Json) → slot < length ms
+    → d ≡ get_or ms slot d
     → IsIndex slots ms → IsIndex slots (set ms slot (d.0, v))
 IsIndex-set slots v slot ms d h e index made q = index made q ∙ sym (slot_from-set 0 q v slot ms d h e)
 

@@ -49,21 +49,25 @@ sound_unit : (text : List ℕ) (lead : Option ℕ) (n : ℕ) → SoundStep (unit
 sound_unit text None n = cond_both (is_within 0xD800 0xDBFF n) _ _ SoundStep (λ _. tt) (λ _. tt)
 sound_unit text (Some lead) n = tt
 
-one_less : (left : ℕ) → (left ≡ 4) ⊎ ((left ≡ 3) ⊎ ((left ≡ 2) ⊎ (left ≡ 1))) → (left ≡ 1 → ⊥) → (left - 1 ≡ 4) ⊎ ((left - 1 ≡ 3) ⊎ ((left - 1 ≡ 2) ⊎ (left - 1 ≡ 1)))
+one_less : (left : ℕ) → (left ≡ 4) ⊎ ((left ≡ 3) ⊎ ((left ≡ 2) ⊎ (left ≡ 1))) → (left ≡ 1 → ⊥) → (left - 1 ≡ 4)
+    ⊎ ((left - 1 ≡ 3) ⊎ ((left - 1 ≡ 2) ⊎ (left - 1 ≡ 1)))
 one_less left h n =
-    ⊎_elim (λ e. inr (inl (omega arith))) (λ h. ⊎_elim (λ e. inr (inr (inl (omega arith)))) (λ h. ⊎_elim (λ e. inr (inr (inr (omega arith)))) (λ e. absurd (n e)) h) h) h
+    ⊎_elim (λ e. inr (inl (omega arith)))
+    (λ h. ⊎_elim (λ e. inr (inr (inl (omega arith)))) (λ h. ⊎_elim (λ e. inr (inr (inr (omega arith)))) (λ e. absurd (n e)) h) h) h
 
 sound_hex : (lead : Option ℕ) (left n : ℕ) (text : List ℕ) (o : Option ℕ) → SoundPart (hex lead left n) → SoundStep (hex_step text lead left n o)
 sound_hex lead left n text None h = tt
 sound_hex lead left n text (Some d) h =
-    cond_both (digit_fits lead left n d) _ _ SoundStep (λ _. cond_both (left == 1) _ _ SoundStep (λ _. sound_unit text lead (16 * n + d)) (λ t. one_less left h (eqb-false left 1 t))) (λ _. tt)
+    cond_both (digit_fits lead left n d) _ _ SoundStep
+    (λ _. cond_both (left == 1) _ _ SoundStep (λ _. sound_unit text lead (16 * n + d)) (λ t. one_less left h (eqb-false left 1 t))) (λ _. tt)
 
 sound_tail : (n : ℕ) → SoundPart (tail_after n)
 sound_tail zero = tt
 sound_tail (suc n) = omega arith
 
 sound_string : (part : StringPart) (text : List ℕ) (b : ℕ) → SoundPart part → SoundStep (string_step part text b)
-sound_string between text b h = cond_both (b == 34) _ _ SoundStep (λ _. tt) (λ _. cond_both (b == 92) _ _ SoundStep (λ _. tt) (λ _. unescaped_by SoundStep text b (λ _ _. tt) (λ low up n le _. le) tt))
+sound_string between text b h = cond_both (b == 34) _ _ SoundStep (λ _. tt)
+    (λ _. cond_both (b == 92) _ _ SoundStep (λ _. tt) (λ _. unescaped_by SoundStep text b (λ _ _. tt) (λ low up n le _. le) tt))
 sound_string backslash text b h = cond_both (b == 117) _ _ SoundStep (λ _. inl refl) (λ _. sound_escape text (escape_of b))
 sound_string (hex lead left n) text b h = sound_hex lead left n text (hex_digit_of b) h
 sound_string (high lead) text b h = cond_both (b == 92) _ _ SoundStep (λ _. tt) (λ _. tt)
@@ -98,15 +102,20 @@ module _ (levels : ℕ) where
   less : (n : ℕ) → suc n ≤ levels → n ≤ levels
   less n h = omega arith
 
-  opened_on : (outer : List Waiting) (s : State) → depth s ≡ suc (length outer) → SoundParts s → length outer ≤ levels → nat_lt (length outer) levels ≡ true → Fares (opened levels outer s) (opened (suc levels) outer s)
+  opened_on : (outer : List Waiting) (s : State) → depth s ≡ suc (length outer) → SoundParts s → length outer ≤ levels → nat_lt (length outer) levels ≡ true
+      → Fares (opened levels outer s) (opened (suc levels) outer s)
   opened_on outer s d p l t =
       let h : length outer < levels = ltb-true (length outer) levels t in
-      subst (λ x. Fares x (opened (suc levels) outer s)) (sym (cond-true _ _ _ t)) (cond-true _ _ _ (lt-ltb (length outer) (suc levels) (omega arith)), record { shallow = omega arith; parts = p })
+      subst (λ x. Fares x (opened (suc levels) outer s)) (sym (cond-true _ _ _ t))
+      (cond-true _ _ _ (lt-ltb (length outer) (suc levels) (omega arith)), record { shallow = omega arith; parts = p })
 
-  opened_off : (outer : List Waiting) (s : State) → depth s ≡ suc (length outer) → SoundParts s → length outer ≤ levels → nat_lt (length outer) levels ≡ false → Fares (opened levels outer s) (opened (suc levels) outer s)
-  opened_off outer s d p l t = subst (λ x. Fares x (opened (suc levels) outer s)) (sym (cond-false _ _ _ t)) (s, cond-true _ _ _ (lt-ltb (length outer) (suc levels) (omega arith)), p)
+  opened_off : (outer : List Waiting) (s : State) → depth s ≡ suc (length outer) → SoundParts s → length outer ≤ levels → nat_lt (length outer) levels ≡ false
+      → Fares (opened levels outer s) (opened (suc levels) outer s)
+  opened_off outer s d p l t = subst (λ x. Fares x (opened (suc levels) outer s)) (sym (cond-false _ _ _ t))
+      (s, cond-true _ _ _ (lt-ltb (length outer) (suc levels) (omega arith)), p)
 
-  opened_fares : (outer : List Waiting) (s : State) → depth s ≡ suc (length outer) → SoundParts s → length outer ≤ levels → Fares (opened levels outer s) (opened (suc levels) outer s)
+  opened_fares : (outer : List Waiting) (s : State) → depth s ≡ suc (length outer) → SoundParts s → length outer ≤ levels
+      → Fares (opened levels outer s) (opened (suc levels) outer s)
   opened_fares outer s d p l = ⊎_elim (λ t. opened_on outer s d p l t) (λ t. opened_off outer s d p l t) (cases_Bool (nat_lt (length outer) levels))
 
   value_fares : (outer : List Waiting) (b : ℕ) → length outer ≤ levels → Fares (value_step levels outer b) (value_step (suc levels) outer b)
@@ -121,13 +130,15 @@ module _ (levels : ℕ) where
       fares_if (b == 116) _ _ _ _ (on (word 114 (codes "ue") (truth_node true) outer) l tt) (
       fares_if (b == 102) _ _ _ _ (on (word 97 (codes "lse") (truth_node false) outer) l tt) no))))))))
 
-  after_item_fares : (ns : List Node) (outer : List Waiting) (b : ℕ) → suc (length outer) ≤ levels → Fares (after_step (after_item ns outer) b) (after_step (after_item ns outer) b)
+  after_item_fares : (ns : List Node) (outer : List Waiting) (b : ℕ) → suc (length outer) ≤ levels
+      → Fares (after_step (after_item ns outer) b) (after_step (after_item ns outer) b)
   after_item_fares ns outer b l =
       fares_if (is_space b) _ _ _ _ (on (after_item ns outer) l tt) (
       fares_if (b == 44) _ _ _ _ (on (value (in_list ns ∷ outer)) l tt) (
       fares_if (b == 93) _ _ _ _ (on_put (list_node (nodes_of ns)) outer (omega arith)) no))
 
-  after_member_fares : (ms : List Member) (outer : List Waiting) (b : ℕ) → suc (length outer) ≤ levels → Fares (after_step (after_member ms outer) b) (after_step (after_member ms outer) b)
+  after_member_fares : (ms : List Member) (outer : List Waiting) (b : ℕ) → suc (length outer) ≤ levels
+      → Fares (after_step (after_member ms outer) b) (after_step (after_member ms outer) b)
   after_member_fares ms outer b l =
       fares_if (is_space b) _ _ _ _ (on (after_member ms outer) l tt) (
       fares_if (b == 44) _ _ _ _ (on (next_key ms outer) l tt) (
@@ -141,11 +152,13 @@ module _ (levels : ℕ) where
   put_fares n (in_list ns ∷ outer) b l = after_item_fares (ns ++ n ∷ []) outer b l
   put_fares n (in_object ms place key ∷ outer) b l = after_member_fares (ms ++ record { place = place; key = key; of = n } ∷ []) outer b l
 
-  digits_fares : (o : Option NumberPart) (part : NumberPart) (spelling : List ℕ) (outer : List Waiting) (b : ℕ) → length outer ≤ levels → Fares (digits_step o part spelling outer b) (digits_step o part spelling outer b)
+  digits_fares : (o : Option NumberPart) (part : NumberPart) (spelling : List ℕ) (outer : List Waiting) (b : ℕ) → length outer ≤ levels
+      → Fares (digits_step o part spelling outer b) (digits_step o part spelling outer b)
   digits_fares (Some p) part spelling outer b l = on (digits p (spelling ++ b ∷ []) outer) l tt
   digits_fares None part spelling outer b l = fares_if (may_end part) _ _ _ _ (put_fares (number_node spelling) outer b l) no
 
-  word_fares : (c : ℕ) (rest : List ℕ) (n : Node) (outer : List Waiting) → length outer ≤ levels → Fares (Ok (word_step c rest n outer)) (Ok (word_step c rest n outer))
+  word_fares : (c : ℕ) (rest : List ℕ) (n : Node) (outer : List Waiting) → length outer ≤ levels
+      → Fares (Ok (word_step c rest n outer)) (Ok (word_step c rest n outer))
   word_fares c [] n outer l = on_put n outer l
   word_fares c (d ∷ rest) n outer l = on (word d rest n outer) l tt
 

@@ -52,7 +52,8 @@ module _ (size : ℕ) where
     pub to : (at : ℕ) (K : List ℕ → Type 0) (bytes : List ℕ) → at + length bytes ≡ size → X K bytes → Front (λ front. V at front × W) K bytes
     pub from : (at : ℕ) (K : List ℕ → Type 0) (front back : List ℕ) → at + length (front ++ back) ≡ size → V at front → W → K back → X K (front ++ back)
 
-  padded_joined : (bytes before a inside b after c : List ℕ) → bytes ≡ before ++ a → a ≡ inside ++ b → b ≡ after ++ c → bytes ≡ (before ++ (inside ++ after)) ++ c
+  padded_joined : (bytes before a inside b after c : List ℕ) → bytes ≡ before ++ a → a ≡ inside ++ b → b ≡ after ++ c
+      → bytes ≡ (before ++ (inside ++ after)) ++ c
   padded_joined bytes before a inside b after c e f g = e ∙ ap (λ t. before ++ t) (f ∙ ap (λ t. inside ++ t) g) ∙ simp append_assoc
 
   -- white space on both sides
@@ -92,7 +93,8 @@ module _ (size : ℕ) where
         };
     from = λ at K front back e (inside, is, v) w k.
         let all : front ++ back ≡ a ∷ (inside ++ (c ∷ back)) = ap (λ x. x ++ back) is ∙ ap (λ t. a ∷ t) (append_assoc inside (c ∷ []) back) in
-        subst (Byte a (X (Byte c K))) (sym all) (refl, x.from (at + 1) (Byte c K) inside (c ∷ back) (behind_byte at a (front ++ back) (inside ++ (c ∷ back)) e all) v w (refl, k));
+        subst (Byte a (X (Byte c K))) (sym all)
+        (refl, x.from (at + 1) (Byte c K) inside (c ∷ back) (behind_byte at a (front ++ back) (inside ++ (c ∷ back)) e all) v w (refl, k));
   }
 
   field_at : (at : ℕ) (bytes before name gap back : List ℕ) → at + length bytes ≡ size → bytes ≡ before ++ (name ++ (gap ++ 58 ∷ back))
@@ -182,7 +184,8 @@ module _ (size : ℕ) where
   -- the levels of the parts are those of the whole
   levels_so : (X : (List ℕ → Type 0) → List ℕ → Type 0) (V : ℕ → List ℕ → Type 0) (W Z : Type 0) → (W → Z) → (Z → W) → Reads X V W → Reads X V Z
   levels_so X V W Z f g x = record {
-    to = λ at K bytes e h. let v = x.to at K bytes e h in record { front = v.front; back = v.back; joined = v.joined; first = (v.first.0, f v.first.1); second = v.second };
+    to = λ at K bytes e h. let v = x.to at K bytes e h in
+        record { front = v.front; back = v.back; joined = v.joined; first = (v.first.0, f v.first.1); second = v.second };
     from = λ at K front back e v z k. x.from at K front back e v (g z) k;
   }
 
@@ -203,7 +206,8 @@ module _ (size : ℕ) where
 
   spaces : (W : Type 0) → W → Reads (λ K. Space K) (λ at front. IsSpace front) W
   spaces W w = record {
-    to = λ at K bytes e h. let s = space_front K bytes h in record { front = s.front; back = s.back; joined = s.joined; first = (s.first, w); second = s.second };
+    to = λ at K bytes e h. let s = space_front K bytes h in
+        record { front = s.front; back = s.back; joined = s.joined; first = (s.first, w); second = s.second };
     from = λ at K front back e v w k. space_from K front back v k;
   }
 
@@ -240,7 +244,8 @@ module _ (size : ℕ) where
         first = ((inside, refl, spelled), omega arith);
         second = k;
       };
-      from = λ at K front back e (inside, is, spelled) w k. (inside, back, ap (λ x. x ++ back) is ∙ ap (λ t. 34 ∷ t) (append_assoc inside (34 ∷ []) back), spelled, k);
+      from = λ at K front back e
+          (inside, is, spelled) w k. (inside, back, ap (λ x. x ++ back) is ∙ ap (λ t. 34 ∷ t) (append_assoc inside (34 ∷ []) back), spelled, k);
     }
     value_reads (list_node ns) l = deeper (λ m K. Byte 91 (Space (Items size ns m (Byte 93 K)))) (Spells (list_node ns)) l (levels_of_nodes ns)
         (λ m. enclosed (λ K. Space (Items size ns m K)) (λ at bytes. SpellsItems at bytes ns) (levels_of_nodes ns ≤ m) 91 93 (items_read ns m))
@@ -265,7 +270,8 @@ module _ (size : ℕ) where
     more_members_read : (fs : Fields) (l : ℕ) → Reads (λ K. MoreMembers size fs l K) (λ at bytes. SpellsMoreMembers at bytes fs) (levels_of_fields fs ≤ l)
     more_members_read no_fields l = nothing (levels_of_fields no_fields ≤ l) (omega arith)
     more_members_read (field place key n fs) l = levels_so _ _ _ _ (max_both _ _ l) (max_left _ _ l)
-        (more _ (λ at front. SpellsField (Padded (Spells n)) at front place key) (λ at bytes. SpellsMoreMembers at bytes fs) _ (sequence _ _ _ _ _ _ (member _ _ _ place key (padded _ _ _ (value_reads n l))) (more_members_read fs l)))
+        (more _ (λ at front. SpellsField (Padded (Spells n)) at front place key) (λ at bytes. SpellsMoreMembers at bytes fs) _
+        (sequence _ _ _ _ _ _ (member _ _ _ place key (padded _ _ _ (value_reads n l))) (more_members_read fs l)))
 
   -- white space, a value, white space
   pub text_reads : (n : Node) (l : ℕ) → Reads (λ K. Space (Value size n l (Space K))) (Padded (Spells n)) (levels_of n ≤ l)

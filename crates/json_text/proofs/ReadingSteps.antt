@@ -3,7 +3,8 @@ use Rattle.std.proofs.Common.{◌≡◌, ℕ, ◌+◌, List, [], ◌∷◌, Opti
 use Rattle.json_text.specs.Node.{Node}
 use Rattle.json_text.specs.Reading.{Stop, State, step, go_on, ended, end_of, read_from, Fault}
 
-pub read_cons : (levels at : ℕ) (state : State) (b : ℕ) (bs : List ℕ) → read_from levels at state (b ∷ bs) ≡ go_on at (step levels at state b) (λ next. read_from levels (at + 1) next bs)
+pub read_cons : (levels at : ℕ) (state : State) (b : ℕ) (bs : List ℕ)
+    → read_from levels at state (b ∷ bs) ≡ go_on at (step levels at state b) (λ next. read_from levels (at + 1) next bs)
 unfolding read_from
 read_cons levels at state b bs = refl
 
@@ -11,13 +12,16 @@ pub read_nil : (levels at : ℕ) (state : State) → read_from levels at state [
 unfolding read_from
 read_nil levels at state = refl
 
-pub read_ok : (levels at : ℕ) (state next : State) (b : ℕ) (bs : List ℕ) → step levels at state b ≡ Ok next → read_from levels at state (b ∷ bs) ≡ read_from levels (at + 1) next bs
+pub read_ok : (levels at : ℕ) (state next : State) (b : ℕ) (bs : List ℕ) → step levels at state b ≡ Ok next
+    → read_from levels at state (b ∷ bs) ≡ read_from levels (at + 1) next bs
 read_ok levels at state next b bs e = read_cons levels at state b bs ∙ ap (λ s. go_on at s (λ next. read_from levels (at + 1) next bs)) e
 
-pub read_err : (levels at : ℕ) (state : State) (why : Stop) (b : ℕ) (bs : List ℕ) → step levels at state b ≡ Err why → read_from levels at state (b ∷ bs) ≡ Err (record { why = why; at = at })
+pub read_err : (levels at : ℕ) (state : State) (why : Stop) (b : ℕ) (bs : List ℕ) → step levels at state b ≡ Err why
+    → read_from levels at state (b ∷ bs) ≡ Err (record { why = why; at = at })
 read_err levels at state why b bs e = read_cons levels at state b bs ∙ ap (λ s. go_on at s (λ next. read_from levels (at + 1) next bs)) e
 
-pub went_on : (at : ℕ) (s : Result State Stop) (f : State → Result Node Fault) (r : Node) → go_on at s f ≡ Ok r → (next : State) × (s ≡ Ok next) × (f next ≡ Ok r)
+pub went_on : (at : ℕ) (s : Result State Stop) (f : State → Result Node Fault) (r : Node) → go_on at s f ≡ Ok r
+    → (next : State) × (s ≡ Ok next) × (f next ≡ Ok r)
 went_on at (Ok next) f r h = (next, refl, h)
 went_on at (Err why) f r h = cc
 
@@ -25,5 +29,6 @@ pub ended_ok : (at : ℕ) (o : Option Node) (r : Node) → ended at o ≡ Ok r �
 ended_ok at None r h = cc
 ended_ok at (Some n) r h = cc
 
-pub cons_ok : (levels at : ℕ) (state : State) (b : ℕ) (bs : List ℕ) (r : Node) → read_from levels at state (b ∷ bs) ≡ Ok r → (next : State) × (step levels at state b ≡ Ok next) × (read_from levels (at + 1) next bs ≡ Ok r)
+pub cons_ok : (levels at : ℕ) (state : State) (b : ℕ) (bs : List ℕ) (r : Node) → read_from levels at state (b ∷ bs) ≡ Ok r
+    → (next : State) × (step levels at state b ≡ Ok next) × (read_from levels (at + 1) next bs ≡ Ok r)
 cons_ok levels at state b bs r h = went_on at (step levels at state b) (λ next. read_from levels (at + 1) next bs) r (sym (read_cons levels at state b bs) ∙ h)

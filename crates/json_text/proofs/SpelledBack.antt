@@ -22,10 +22,26 @@ letter_hex : (n : ℕ) → 10 ≤ n → n < 16 → hex_digit_of (87 + n) ≡ Som
 letter_hex n l h = grind (arith, nat_tests)
 
 hex_lower : (n : ℕ) → n < 16 → hex_digit_of (lower_hex n) ≡ Some n
-hex_lower n h = cond_both (nat_lt n 10) (48 + n) (87 + n) (λ x. hex_digit_of x ≡ Some n) (λ t. digit_hex n (ltb-true n 10 t)) (λ f. letter_hex n (ltb-false n 10 f) h)
+hex_lower n h = cond_both (nat_lt n 10) (48 + n) (87 + n) (λ x. hex_digit_of x ≡ Some n) (λ t. digit_hex n (ltb-true n 10 t))
+    (λ f. letter_hex n (ltb-false n 10 f) h)
 
 control_hex : (c : ℕ) → c < 32 → IsHex (48 ∷ 48 ∷ lower_hex (c / 16) ∷ lower_hex (c % 16) ∷ []) c
-control_hex c h = (48, 48, lower_hex (c / 16), lower_hex (c % 16), 0, 0, c / 16, c % 16, refl, refl, refl, hex_lower (c / 16) (omega arith), hex_lower (c % 16) (omega arith), omega arith)
+control_hex c h = (
+  48,
+  48,
+  lower_hex (c / 16),
+  lower_hex (c % 16),
+  0,
+  0,
+  c / 16,
+  c % 16,
+  refl,
+  refl,
+  refl,
+  hex_lower (c / 16) (omega arith),
+  hex_lower (c % 16) (omega arith),
+  omega arith,
+)
 
 one_byte : (c : ℕ) → c < 128 → (a : List ℕ) → SpellsCharacter a (encode_utf8 c) → SpellsCharacter a (c ∷ [])
 one_byte c h a p = subst (SpellsCharacter a) (encode_1 c h) p
@@ -47,7 +63,8 @@ escape_spelled c h =
     cond_both (c == 13) _ _ (λ e. SpellsCharacter e (c ∷ [])) (λ t. two_characters 114 13 c (eqb-true c 13 t) (escaped 114 13 refl)) (λ _.
     cond_both (c == 9) _ _ (λ e. SpellsCharacter e (c ∷ [])) (λ t. two_characters 116 9 c (eqb-true c 9 t) (escaped 116 9 refl)) (λ _.
     cond_both (nat_lt c 32) _ _ (λ e. SpellsCharacter e (c ∷ []))
-    (λ t. one_byte c h (92 ∷ 117 ∷ 48 ∷ 48 ∷ lower_hex (c / 16) ∷ lower_hex (c % 16) ∷ []) (unit (48 ∷ 48 ∷ lower_hex (c / 16) ∷ lower_hex (c % 16) ∷ []) c (control_hex c (ltb-true c 32 t)) (low_is_scalar c (omega arith))))
+    (λ t. one_byte c h (92 ∷ 117 ∷ 48 ∷ 48 ∷ lower_hex (c / 16) ∷ lower_hex (c % 16) ∷ [])
+    (unit (48 ∷ 48 ∷ lower_hex (c / 16) ∷ lower_hex (c % 16) ∷ []) c (control_hex c (ltb-true c 32 t)) (low_is_scalar c (omega arith))))
     (λ f. plain_character c h (ltb-false c 32 f) (eqb-false c 34 q) (eqb-false c 92 s)))))))))
 
 -- a byte of a longer character stands for itself
@@ -77,7 +94,8 @@ long_spelled : (c : ℕ) → IsScalar c → 128 ≤ c → SpellsCharacter (flat_
 long_spelled c s h = subst (λ x. SpellsCharacter x (encode_utf8 c)) (sym (long_plain c h)) (unescaped c s (omega arith) (λ e. omega arith) (λ e. omega arith))
 
 short_spelled : (c : ℕ) → c < 128 → SpellsCharacter (flat_map escape (encode_utf8 c)) (encode_utf8 c)
-short_spelled c h = subst (λ x. SpellsCharacter (flat_map escape x) x) (sym (encode_1 c h)) (subst (λ x. SpellsCharacter x (c ∷ [])) (sym (append-nil (escape c))) (escape_spelled c h))
+short_spelled c h = subst (λ x. SpellsCharacter (flat_map escape x) x) (sym (encode_1 c h))
+    (subst (λ x. SpellsCharacter x (c ∷ [])) (sym (append-nil (escape c))) (escape_spelled c h))
 
 character_spelled : (c : ℕ) → IsScalar c → SpellsCharacter (flat_map escape (encode_utf8 c)) (encode_utf8 c)
 character_spelled c s = ⊎_elim (λ h. short_spelled c h) (λ h. long_spelled c s h) (cases_lt c 128)
@@ -85,7 +103,8 @@ character_spelled c s = ⊎_elim (λ h. short_spelled c h) (λ h. long_spelled c
 characters_spelled : (cs : List ℕ) → all_scalars cs ≡ true → SpellsCharacters (flat_map escape (encode_utf8_all cs)) (encode_utf8_all cs)
 characters_spelled [] h = none
 characters_spelled (c ∷ cs) h = let p = and_parts _ _ h in
-    subst (λ x. SpellsCharacters x (encode_utf8 c ++ encode_utf8_all cs)) (sym (flat_map-append escape (encode_utf8 c) (encode_utf8_all cs))) (more (character_spelled c p.0) (characters_spelled cs p.1))
+    subst (λ x. SpellsCharacters x (encode_utf8 c ++ encode_utf8_all cs)) (sym (flat_map-append escape (encode_utf8 c) (encode_utf8_all cs)))
+    (more (character_spelled c p.0) (characters_spelled cs p.1))
 
 pub quoted_spelled : (bytes : List ℕ) → IsUtf8 bytes → SpellsString (quoted bytes) bytes
 quoted_spelled bytes u = (flat_map escape bytes, refl, subst (λ x. SpellsCharacters (flat_map escape x) x) u.1.1 (characters_spelled u.0 u.1.0))
@@ -102,11 +121,13 @@ data ItemsBack : Nodes → Items → Type 0 where
 
 data MembersBack : Fields → Members → Type 0 where
   no_members_back : MembersBack no_fields no_members
-  member_back : (place : ℕ) (key : List ℕ) {n : Node} {t : Tree} {fs : Fields} {ms : Members} → Back n t → MembersBack fs ms → MembersBack (field place key n fs) (member key t ms)
+  member_back : (place : ℕ) (key : List ℕ) {n : Node} {t : Tree} {fs : Fields} {ms : Members} → Back n t → MembersBack fs ms
+      → MembersBack (field place key n fs) (member key t ms)
 
 items_same : {ns : Nodes} {items : Items} → ItemsBack ns items → items_of (values_of ns) ≡ items
 items_same no_items_back = refl
-items_same (item_back {n = n} {t = t} {ns = ns} {items = items} b bs) = let f : value_of n ≡ t = b.same in let g : items_of (values_of ns) ≡ items = items_same bs in cc
+items_same (item_back {n = n} {t = t} {ns = ns} {items = items} b bs) = let f : value_of n ≡ t = b.same in
+    let g : items_of (values_of ns) ≡ items = items_same bs in cc
 
 items_once : {ns : Nodes} {items : Items} → ItemsBack ns items → first_repeat_in ns ≡ None
 items_once no_items_back = refl
@@ -168,15 +189,18 @@ joined_one [] key t ms = refl
 joined_one (m ∷ before) key t ms = ap (member m.0 m.1) (joined_one before key t ms)
 
 -- a key that is lacking goes to the end
-at_end : (before : List (List ℕ × Tree)) (key : List ℕ) (u t : Tree) (ms : Members) → LackKeys (keys_of before) (member key u ms) → with_member key t before ≡ before ++ (key, t) ∷ []
+at_end : (before : List (List ℕ × Tree)) (key : List ℕ) (u t : Tree) (ms : Members) → LackKeys (keys_of before) (member key u ms)
+    → with_member key t before ≡ before ++ (key, t) ∷ []
 at_end [] key u t ms h = refl
 at_end (m ∷ before) key u t ms h = cond-false _ _ _ (keys_differ key m.0 h.0.0) ∙ ap (λ x. m ∷ x) (at_end before key u t ms h.1)
 
-lack_one_more : (before : List (List ℕ × Tree)) (key : List ℕ) (t : Tree) (ms : Members) → LackKeys (keys_of before) ms → LacksKey key ms → LackKeys (keys_of (before ++ (key, t) ∷ [])) ms
+lack_one_more : (before : List (List ℕ × Tree)) (key : List ℕ) (t : Tree) (ms : Members) → LackKeys (keys_of before) ms → LacksKey key ms
+    → LackKeys (keys_of (before ++ (key, t) ∷ [])) ms
 lack_one_more [] key t ms h l = (l, tt)
 lack_one_more (m ∷ before) key t ms h l = (h.0, lack_one_more before key t ms h.1 l)
 
-members_same : {fs : Fields} {ms : Members} → MembersBack fs ms → (before : List (List ℕ × Tree)) → AreMembers ms → LackKeys (keys_of before) ms → members_of (members_after before fs) ≡ joined before ms
+members_same : {fs : Fields} {ms : Members} → MembersBack fs ms → (before : List (List ℕ × Tree)) → AreMembers ms → LackKeys (keys_of before) ms
+    → members_of (members_after before fs) ≡ joined before ms
 members_same no_members_back before v h = joined_none before
 members_same (member_back place key {n = n} {t = t} {fs = fs} {ms = ms} b bs) before v h =
     ap (λ x. members_of (members_after x fs)) (at_end before key t (value_of n) ms h ∙ ap (λ x. before ++ (key, x) ∷ []) b.same)
@@ -213,15 +237,21 @@ mutual
   items_spelled no_items at v = (no_nodes, tt, no_items_back)
   items_spelled (item t items) at v =
       let r = value_spelled t (at + 0) v.0 in
-      let q = more_items_spelled items (at + length (compact_text t)) v.1 in
-      (node r.0 q.0, (compact_text t, more_items_text items, refl, unpadded (λ place inside. SpellsValue place inside r.0) at (compact_text t) r.1, q.1), item_back r.2 q.2)
+      let q = more_items_spelled items (at + length (compact_text t)) v.1 in (
+        node r.0 q.0,
+        (compact_text t, more_items_text items, refl, unpadded (λ place inside. SpellsValue place inside r.0) at (compact_text t) r.1, q.1),
+        item_back r.2 q.2,
+      )
 
   more_items_spelled : (items : Items) (at : ℕ) → AreItems items → (ns : Nodes) × SpellsMoreItems at (more_items_text items) ns × ItemsBack ns items
   more_items_spelled no_items at v = (no_nodes, refl, no_items_back)
   more_items_spelled (item t items) at v =
       let r = value_spelled t (at + 1 + 0) v.0 in
-      let q = more_items_spelled items (at + 1 + length (compact_text t)) v.1 in
-      (node r.0 q.0, (compact_text t, more_items_text items, refl, unpadded (λ place inside. SpellsValue place inside r.0) (at + 1) (compact_text t) r.1, q.1), item_back r.2 q.2)
+      let q = more_items_spelled items (at + 1 + length (compact_text t)) v.1 in (
+        node r.0 q.0,
+        (compact_text t, more_items_text items, refl, unpadded (λ place inside. SpellsValue place inside r.0) (at + 1) (compact_text t) r.1, q.1),
+        item_back r.2 q.2,
+      )
 
   members_spelled : (ms : Members) (at : ℕ) → AreMembers ms → (fs : Fields) × SpellsMembers at (members_text ms) fs × MembersBack fs ms
   members_spelled no_members at v = (no_fields, tt, no_members_back)
@@ -235,7 +265,18 @@ mutual
           first,
           more_members_text ms,
           sym (append_assoc (quoted key) (58 ∷ compact_text t) (more_members_text ms)),
-          ([], quoted key, [], compact_text t, refl, tt, refl, quoted_spelled key v.0, tt, unpadded (λ place inside. SpellsValue place inside r.0) there (compact_text t) r.1),
+          (
+            [],
+            quoted key,
+            [],
+            compact_text t,
+            refl,
+            tt,
+            refl,
+            quoted_spelled key v.0,
+            tt,
+            unpadded (λ place inside. SpellsValue place inside r.0) there (compact_text t) r.1,
+          ),
           q.1,
         ),
         member_back (at + 0) key r.2 q.2,
@@ -253,7 +294,18 @@ mutual
           first,
           more_members_text ms,
           ap (λ x. 44 ∷ x) (sym (append_assoc (quoted key) (58 ∷ compact_text t) (more_members_text ms))),
-          ([], quoted key, [], compact_text t, refl, tt, refl, quoted_spelled key v.0, tt, unpadded (λ place inside. SpellsValue place inside r.0) there (compact_text t) r.1),
+          (
+            [],
+            quoted key,
+            [],
+            compact_text t,
+            refl,
+            tt,
+            refl,
+            quoted_spelled key v.0,
+            tt,
+            unpadded (λ place inside. SpellsValue place inside r.0) there (compact_text t) r.1,
+          ),
           q.1,
         ),
         member_back (at + 1 + 0) key r.2 q.2,
@@ -264,5 +316,13 @@ at_most a b e = omega arith
 
 -- the compact text of a value is a JSON text of its levels that stands for it, with no key twice
 pub compact_spelled : (t : Tree) → IsValue t → (n : Node) × IsText (tree_levels t) (compact_text t) n × (value_of n ≡ t) × (first_repeat n ≡ None)
-compact_spelled t v = let r = value_spelled t (0 + 0) v in
-    (r.0, record { spelled = unpadded (λ place inside. SpellsValue place inside r.0) 0 (compact_text t) r.1; within = at_most (levels_of r.0) (tree_levels t) r.2.levels }, r.2.same, r.2.once)
+compact_spelled t v = let r = value_spelled t (0 + 0) v in (
+  r.0,
+  record {
+    spelled = unpadded (λ place inside. SpellsValue place inside r.0) 0 (compact_text t) r.1;
+    within =
+        at_most (levels_of r.0) (tree_levels t) r.2.levels;
+  },
+  r.2.same,
+  r.2.once,
+)

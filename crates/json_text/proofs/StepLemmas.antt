@@ -17,13 +17,15 @@ use Rattle.json_text.specs.declared.fault.JsonFault.{JsonFault}
 use Rattle.json_text.specs.declared.fault.JsonFault.TheVariants.{NotJson, TooDeep, KeyTwice, NoMemory}
 
 -- the first byte of a word
-pub begins_word : (byte first c : ℕ) (cs : List ℕ) (n : Node) (rest : List ℕ) → ((L at : ℕ) (outer : List Waiting) → step L at (value outer) first ≡ Ok (word c cs n outer))
+pub begins_word : (byte first c : ℕ) (cs : List ℕ) (n : Node) (rest : List ℕ)
+    → ((L at : ℕ) (outer : List Waiting) → step L at (value outer) first ≡ Ok (word c cs n outer))
     → StartsWith byte rest → byte ≡ first → BeginsWord (c ∷ cs) n rest
 begins_word byte first c cs n [] f h is = absurd h
 begins_word byte first c cs n (b ∷ bs) f h is = λ L at outer. ap (step L at (value outer)) (h ∙ is) ∙ f L at outer
 
 -- two states that take a byte alike
-pub alike : (L at : ℕ) (s t : State) (byte : ℕ) (rest : List ℕ) → StartsWith byte rest → step L at s byte ≡ step L at t byte → read_from L at s rest ≡ read_from L at t rest
+pub alike : (L at : ℕ) (s t : State) (byte : ℕ) (rest : List ℕ) → StartsWith byte rest → step L at s byte ≡ step L at t byte
+    → read_from L at s rest ≡ read_from L at t rest
 alike L at s t byte rest h same = by_byte L at s byte rest (step L at t byte) h same ∙ sym (by_byte L at t byte rest (step L at t byte) h refl)
 
 -- a bracket where there is a level, and where there is none
@@ -34,14 +36,17 @@ pub opens_none : (L : ℕ) (outer : List Waiting) (next : State) → L ≤ lengt
 opens_none L outer next h = grind (arith, nat_tests)
 
 -- bytes that no value begins with
-pub value_other : (L at : ℕ) (outer : List Waiting) (b : ℕ) → is_space b ≡ false → b ≢ 34 → b ≢ 91 → b ≢ 123 → b ≢ 45 → (b < 48) ⊎ (57 < b) → b ≢ 110 → b ≢ 116 → b ≢ 102
+pub value_other : (L at : ℕ) (outer : List Waiting) (b : ℕ) → is_space b ≡ false → b ≢ 34 → b ≢ 91 → b ≢ 123 → b ≢ 45 → (b < 48) ⊎ (57 < b) → b ≢ 110 → b ≢ 116
+    → b ≢ 102
     → step L at (value outer) b ≡ Err unexpected
 value_other L at outer b space h1 h2 h3 h4 h5 h6 h7 h8 = grind (arith, nat_tests)
 
-pub first_item_goes : (L at : ℕ) (outer : List Waiting) (b : ℕ) → is_space b ≡ false → b ≢ 93 → step L at (first_item outer) b ≡ step L at (value (in_list [] ∷ outer)) b
+pub first_item_goes : (L at : ℕ) (outer : List Waiting) (b : ℕ) → is_space b ≡ false → b ≢ 93
+    → step L at (first_item outer) b ≡ step L at (value (in_list [] ∷ outer)) b
 first_item_goes L at outer b space h = grind (arith, nat_tests)
 
-pub item_other : (L at : ℕ) (ns : List Node) (outer : List Waiting) (b : ℕ) → is_space b ≡ false → b ≢ 44 → b ≢ 93 → step L at (after_item ns outer) b ≡ Err unexpected
+pub item_other : (L at : ℕ) (ns : List Node) (outer : List Waiting) (b : ℕ) → is_space b ≡ false → b ≢ 44 → b ≢ 93
+    → step L at (after_item ns outer) b ≡ Err unexpected
 item_other L at ns outer b space h g = grind (arith, nat_tests)
 
 pub first_key_is : (L at : ℕ) (outer : List Waiting) (b : ℕ) → b ≡ 34 → step L at (first_key outer) b ≡ step L at (next_key [] outer) b
@@ -50,20 +55,24 @@ first_key_is L at outer b h = ap (step L at (first_key outer)) h ∙ ap (step L 
 pub first_key_other : (L at : ℕ) (outer : List Waiting) (b : ℕ) → is_space b ≡ false → b ≢ 34 → b ≢ 125 → step L at (first_key outer) b ≡ Err unexpected
 first_key_other L at outer b space h g = grind (arith, nat_tests)
 
-pub next_key_other : (L at : ℕ) (ms : List Member) (outer : List Waiting) (b : ℕ) → is_space b ≡ false → b ≢ 34 → step L at (next_key ms outer) b ≡ Err unexpected
+pub next_key_other : (L at : ℕ) (ms : List Member) (outer : List Waiting) (b : ℕ) → is_space b ≡ false → b ≢ 34
+    → step L at (next_key ms outer) b ≡ Err unexpected
 next_key_other L at ms outer b space h = grind (arith, nat_tests)
 
-pub member_other : (L at : ℕ) (ms : List Member) (outer : List Waiting) (b : ℕ) → is_space b ≡ false → b ≢ 44 → b ≢ 125 → step L at (after_member ms outer) b ≡ Err unexpected
+pub member_other : (L at : ℕ) (ms : List Member) (outer : List Waiting) (b : ℕ) → is_space b ≡ false → b ≢ 44 → b ≢ 125
+    → step L at (after_member ms outer) b ≡ Err unexpected
 member_other L at ms outer b space h g = grind (arith, nat_tests)
 
 pub whole_other : (L at : ℕ) (n : Node) (b : ℕ) → is_space b ≡ false → step L at (whole n) b ≡ Err unexpected
 whole_other L at n b space = ap (λ v. cond v (Ok (whole n)) (Err unexpected)) space
 
-pub colon_goes : (L at : ℕ) (ms : List Member) (place : ℕ) (key : List ℕ) (outer : List Waiting) → step L at (colon ms place key outer) 58 ≡ Ok (value (in_object ms place key ∷ outer))
+pub colon_goes : (L at : ℕ) (ms : List Member) (place : ℕ) (key : List ℕ) (outer : List Waiting)
+    → step L at (colon ms place key outer) 58 ≡ Ok (value (in_object ms place key ∷ outer))
 colon_goes L at ms place key outer = refl
 
 -- behind a key stands no colon
-pub colon_other : (L at : ℕ) (ms : List Member) (place : ℕ) (key : List ℕ) (outer : List Waiting) (rest : List ℕ) → StartsWithNoSpace rest → ¬ (StartsWith 58 rest)
+pub colon_other : (L at : ℕ) (ms : List Member) (place : ℕ) (key : List ℕ) (outer : List Waiting) (rest : List ℕ) → StartsWithNoSpace rest
+    → ¬ (StartsWith 58 rest)
     → read_from L at (colon ms place key outer) rest ≡ fault at
 unfolding read_from
 colon_other L at ms place key outer [] space h = refl
@@ -71,7 +80,8 @@ colon_other L at ms place key outer (b ∷ bs) space h =
     let bad : step L at (colon ms place key outer) b ≡ Err unexpected = colon_step L at ms place key outer b space h in
     ap (λ x. go_on at x (λ t. read_from L (at + 1) t bs)) bad
   where
-    colon_step : (L at : ℕ) (ms : List Member) (place : ℕ) (key : List ℕ) (outer : List Waiting) (b : ℕ) → is_space b ≡ false → b ≢ 58 → step L at (colon ms place key outer) b ≡ Err unexpected
+    colon_step : (L at : ℕ) (ms : List Member) (place : ℕ) (key : List ℕ) (outer : List Waiting) (b : ℕ) → is_space b ≡ false → b ≢ 58
+        → step L at (colon ms place key outer) b ≡ Err unexpected
     colon_step L at ms place key outer b space h = grind (arith, nat_tests)
 
 -- what skips white space
@@ -79,7 +89,8 @@ pub value_skips : (L : ℕ) (outer : List Waiting) → SkipsSpace L (value outer
 value_skips L outer at b h = ap (λ v. cond v (Ok (value outer)) (value_step L outer b)) h
 
 pub colon_skips : (L : ℕ) (ms : List Member) (place : ℕ) (key : List ℕ) (outer : List Waiting) → SkipsSpace L (colon ms place key outer)
-colon_skips L ms place key outer at b h = ap (λ v. cond v (Ok (colon ms place key outer)) (cond (b == 58) (Ok (value (in_object ms place key ∷ outer))) (Err unexpected))) h
+colon_skips L ms place key outer at b h =
+    ap (λ v. cond v (Ok (colon ms place key outer)) (cond (b == 58) (Ok (value (in_object ms place key ∷ outer))) (Err unexpected))) h
 
 -- one byte less is left
 pub less : (byte : ℕ) (rest behind : List ℕ) → StartsWith byte rest → behind ≡ drop 1 rest → length behind < length rest
@@ -95,7 +106,8 @@ record Bracket (next : Next) (rest : List ℕ) : Type 0 where
   state : List Waiting → State
   starts : StartsWith byte rest
   opens : (L at : ℕ) (outer : List Waiting) → step L at (value outer) byte ≡ opened L outer (state outer)
-  is : (ks : List Kept) (repeat : Option ℕ) (outer : List Waiting) → KeepsAll (reverse ks) outer → repeat ≡ repeat_of outer → IsState next ks repeat (state outer)
+  is : (ks : List Kept) (repeat : Option ℕ) (outer : List Waiting) → KeepsAll (reverse ks) outer → repeat ≡ repeat_of outer
+      → IsState next ks repeat (state outer)
 
 bracket : (next : Next) (rest : List ℕ) → Opens next rest → Bracket next rest
 bracket Value rest h = absurd h
@@ -106,10 +118,12 @@ bracket (NextKey object) rest h = absurd h
 bracket (AfterMember object) rest h = absurd h
 bracket (End json) rest h = absurd h
 
-pub opened_too_deep : (next : Next) (L at : ℕ) (ks : List Kept) (outer : List Waiting) (rest : List ℕ) → Opens next rest → KeepsAll (reverse ks) outer → L ≤ length ks
+pub opened_too_deep : (next : Next) (L at : ℕ) (ks : List Kept) (outer : List Waiting) (rest : List ℕ) → Opens next rest → KeepsAll (reverse ks) outer
+    → L ≤ length ks
     → read_from L at (value outer) rest ≡ deep at
 opened_too_deep next L at ks outer rest h k m = let b = bracket next rest h in
-    by_byte L at (value outer) b.byte rest (Err too_deep) b.starts (b.opens L at outer ∙ opens_none L outer (b.state outer) (omega (arith, m, kept_waits ks outer k)))
+    by_byte L at (value outer) b.byte rest (Err too_deep) b.starts
+    (b.opens L at outer ∙ opens_none L outer (b.state outer) (omega (arith, m, kept_waits ks outer k)))
 
 pub opened_goes : (next : Next) (L at : ℕ) (ks : List Kept) (repeat : Option ℕ) (outer : List Waiting) (rest : List ℕ) (there : ℕ) (behind : List ℕ)
     → Opens next rest → KeepsAll (reverse ks) outer → repeat ≡ repeat_of outer → length ks < L → there ≡ at + 1 → behind ≡ drop 1 rest
@@ -124,7 +138,8 @@ opened_goes next L at ks repeat outer rest there behind h k r m place is =
     )
 
 -- the bytes end before the text does
-pub unfinished : (next : Next) (ks : List Kept) (repeat : Option ℕ) (s : State) (L at : ℕ) → IsState next ks repeat s → ((json : Json) → next ≡ End json → ⊥) → read_from L at s [] ≡ fault at
+pub unfinished : (next : Next) (ks : List Kept) (repeat : Option ℕ) (s : State) (L at : ℕ) → IsState next ks repeat s → ((json : Json) → next ≡ End json → ⊥)
+    → read_from L at s [] ≡ fault at
 unfolding read_from
 unfinished Value ks repeat s L at st h = ap (λ t. ended at (end_of t)) st.1
 unfinished FirstItem ks repeat s L at st h = ap (λ t. ended at (end_of t)) st.1
@@ -152,11 +167,14 @@ goes_same L s t place (Ok x) ks repeat e g = (g.0, g.1, e ∙ g.2, g.3)
 goes_same L s t place (Err f) ks repeat e g = fails_same (read_at L place s) (read_at L place t) f e g
 
 -- a byte that leads from a state to another
-pub led : (L : ℕ) (s next : State) (byte : ℕ) (place there : Place) → StartsWith byte place.rest.now → step L place.at s byte ≡ Ok next → there.at ≡ place.at + 1 → there.rest.now ≡ drop 1 place.rest.now
+pub led : (L : ℕ) (s next : State) (byte : ℕ) (place there : Place) → StartsWith byte place.rest.now → step L place.at s byte ≡ Ok next
+    → there.at ≡ place.at + 1 → there.rest.now ≡ drop 1 place.rest.now
     → read_at L place s ≡ read_at L there next
 led L s next byte place there h goes at rest =
-    by_byte L place.at s byte place.rest.now (Ok next) h goes ∙ ap (λ k. read_from L k next (drop 1 place.rest.now)) (sym at) ∙ ap (read_from L there.at next) (sym rest)
+    by_byte L place.at s byte place.rest.now (Ok next) h goes ∙ ap (λ k. read_from L k next (drop 1 place.rest.now)) (sym at)
+    ∙ ap (read_from L there.at next) (sym rest)
 
 -- a byte that can't stand there
-pub barred : (L : ℕ) (s : State) (byte : ℕ) (place : Place) (f : JsonFault) → StartsWith byte place.rest.now → step L place.at s byte ≡ Err unexpected → f ≡ NotJson place.at → FailsSo (read_at L place s) f
+pub barred : (L : ℕ) (s : State) (byte : ℕ) (place : Place) (f : JsonFault) → StartsWith byte place.rest.now → step L place.at s byte ≡ Err unexpected
+    → f ≡ NotJson place.at → FailsSo (read_at L place s) f
 barred L s byte place f h goes is = subst (FailsSo (read_at L place s)) (sym is) (by_byte L place.at s byte place.rest.now (Err unexpected) h goes)

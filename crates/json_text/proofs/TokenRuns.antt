@@ -31,8 +31,12 @@ Agrees L at m bs count state read (Err e) = (n : ℕ) × (e ≡ m + n) × (read 
 
 later : {A : Type 0} (L at m b : ℕ) (bs : List ℕ) (count : A → ℕ) (state next : A → ℕ → State) (read : Result Node Fault) (r : Result A ℕ)
     → ((x : A) (n : ℕ) → next x n ≡ state x (suc n)) → Agrees L (at + 1) (m + 1) bs count next read r → Agrees L at m (b ∷ bs) count state read r
-later L at m b bs count state next read (Ok x) same (n, e, h) =
-    (suc n, omega (arith, e), h ∙ ap (λ s. read_from L ((at + 1) + n) s (drop n bs)) (same x n) ∙ ap (λ k. read_from L k (state x (suc n)) (drop n bs)) (omega arith))
+later L at m b bs count state next read (Ok x) same (n, e, h) = (
+  suc n,
+  omega (arith, e),
+  h ∙ ap (λ s. read_from L ((at + 1) + n) s (drop n bs)) (same x n)
+      ∙ ap (λ k. read_from L k (state x (suc n)) (drop n bs)) (omega arith),
+)
 later L at m b bs count state next read (Err k) same (n, e, h) = (suc n, omega (arith, e), h ∙ ap fault (omega arith))
 
 stops_here : (at m : ℕ) (read : Result Node Fault) → read ≡ fault at → (n : ℕ) × (m ≡ m + n) × (read ≡ fault (at + n))
@@ -44,25 +48,30 @@ module _ (L : ℕ) (hole : Hole) where
 
   string_by : (at m : ℕ) (text : List ℕ) (b : ℕ) (bs : List ℕ) (s : StringStep)
       → ((p : StringPart) (u : List ℕ) → StringAgrees (at + 1) (m + 1) bs (read_from L (at + 1) (string p u hole) bs) (scan_string p u (m + 1) bs))
-      → StringAgrees at m (b ∷ bs) (go_on at (string_goes s (λ p u. string p u hole) (fill hole text)) (λ t. read_from L (at + 1) t bs)) (string_on s text m (λ p u. scan_string p u (m + 1) bs))
+      → StringAgrees at m (b ∷ bs) (go_on at (string_goes s (λ p u. string p u hole) (fill hole text)) (λ t. read_from L (at + 1) t bs))
+      (string_on s text m (λ p u. scan_string p u (m + 1) bs))
   string_by at m text b bs (goes_on p u) f = later L at m b bs _ _ _ _ (scan_string p u (m + 1) bs) (λ _ _. refl) (f p u)
   string_by at m text b bs ends f = (1, refl, refl)
   string_by at m text b bs stops f = stops_here at m _ refl
 
-  string_agrees : (bs : List ℕ) (at m : ℕ) (part : StringPart) (text : List ℕ) → StringAgrees at m bs (read_from L at (string part text hole) bs) (scan_string part text m bs)
+  string_agrees : (bs : List ℕ) (at m : ℕ) (part : StringPart) (text : List ℕ)
+      → StringAgrees at m bs (read_from L at (string part text hole) bs) (scan_string part text m bs)
   unfolding scan_string read_from
   string_agrees [] at m part text = stops_here at m _ refl
   string_agrees (b ∷ bs) at m part text = string_by at m text b bs (string_step part text b) (λ p u. string_agrees bs (at + 1) (m + 1) p u)
 
-  pub string_ok : (at : ℕ) (bs t : List ℕ) (n : ℕ) → scan_string between [] 0 bs ≡ Ok (t, n) → read_from L at (string between [] hole) bs ≡ read_from L (at + n) (fill hole t) (drop n bs)
+  pub string_ok : (at : ℕ) (bs t : List ℕ) (n : ℕ) → scan_string between [] 0 bs ≡ Ok (t, n)
+      → read_from L at (string between [] hole) bs ≡ read_from L (at + n) (fill hole t) (drop n bs)
   string_ok at bs t n e = let (k, f, g) = subst (StringAgrees at 0 bs (read_from L at (string between [] hole) bs)) e (string_agrees bs at 0 between []) in
       g ∙ ap (λ k. read_from L (at + k) (fill hole t) (drop k bs)) (omega (arith, f))
 
   pub string_err : (at : ℕ) (bs : List ℕ) (n : ℕ) → scan_string between [] 0 bs ≡ Err n → read_from L at (string between [] hole) bs ≡ fault (at + n)
-  string_err at bs n e = let (k, f, g) = subst (StringAgrees at 0 bs (read_from L at (string between [] hole) bs)) e (string_agrees bs at 0 between []) in g ∙ ap fault (omega (arith, f))
+  string_err at bs n e = let (k, f, g) = subst (StringAgrees at 0 bs (read_from L at (string between [] hole) bs)) e (string_agrees bs at 0 between []) in g
+      ∙ ap fault (omega (arith, f))
 
 -- white space changes nothing
-pub space_runs : (L : ℕ) (s : State) → SkipsSpace L s → (at : ℕ) (front rest : List ℕ) → IsSpace front → read_from L at s (front ++ rest) ≡ read_from L (at + length front) s rest
+pub space_runs : (L : ℕ) (s : State) → SkipsSpace L s → (at : ℕ) (front rest : List ℕ) → IsSpace front
+    → read_from L at s (front ++ rest) ≡ read_from L (at + length front) s rest
 unfolding read_from
 space_runs L s skips at [] rest h = ap (λ k. read_from L k s rest) (omega arith)
 space_runs L s skips at (b ∷ bs) rest h =
@@ -82,47 +91,65 @@ module _ (L : ℕ) (outer : List Waiting) where
   whole_read at spelling b bs (in_object ms place key ∷ outer) = refl
 
   -- a number that may end here
-  ends_here : (at m : ℕ) (spelling bs : List ℕ) (read : Result Node Fault) → read ≡ read_from L at (put (number_node spelling) outer) bs → Agrees L at m bs (λ e. e) (Spelled spelling bs) read (Ok m)
-  ends_here at m spelling bs read h =
-      (0, omega arith, h ∙ ap (λ s. read_from L at (put (number_node s) outer) bs) (sym (append-nil spelling)) ∙ ap (λ k. read_from L k (put (number_node (spelling ++ [])) outer) bs) (omega arith))
+  ends_here : (at m : ℕ) (spelling bs : List ℕ) (read : Result Node Fault) → read ≡ read_from L at (put (number_node spelling) outer) bs
+      → Agrees L at m bs (λ e. e) (Spelled spelling bs) read (Ok m)
+  ends_here at m spelling bs read h = (
+    0,
+    omega arith,
+    h ∙ ap (λ s. read_from L at (put (number_node s) outer) bs) (sym (append-nil spelling))
+        ∙ ap (λ k. read_from L k (put (number_node (spelling ++ [])) outer) bs) (omega arith),
+  )
 
   number_by : (at m : ℕ) (part : NumberPart) (spelling : List ℕ) (b : ℕ) (bs : List ℕ) (o : Option NumberPart)
-      → ((p : NumberPart) → Agrees L (at + 1) (m + 1) bs (λ e. e) (Spelled (spelling ++ b ∷ []) bs) (read_from L (at + 1) (digits p (spelling ++ b ∷ []) outer) bs) (scan_number p (m + 1) bs))
-      → Agrees L at m (b ∷ bs) (λ e. e) (Spelled spelling (b ∷ bs)) (go_on at (digits_step o part spelling outer b) (λ s. read_from L (at + 1) s bs)) (number_on o part m (λ p. scan_number p (m + 1) bs))
-  number_by at m part spelling b bs (Some p) f = later L at m b bs _ _ _ _ (scan_number p (m + 1) bs) (λ _ n. ap (λ s. put (number_node s) outer) (append_assoc spelling (b ∷ []) (take n bs))) (f p)
+      → ((p : NumberPart) → Agrees L (at + 1) (m + 1) bs (λ e. e) (Spelled (spelling ++ b ∷ []) bs)
+      (read_from L (at + 1) (digits p (spelling ++ b ∷ []) outer) bs) (scan_number p (m + 1) bs))
+      → Agrees L at m (b ∷ bs) (λ e. e) (Spelled spelling (b ∷ bs)) (go_on at (digits_step o part spelling outer b) (λ s. read_from L (at + 1) s bs))
+      (number_on o part m (λ p. scan_number p (m + 1) bs))
+  number_by at m part spelling b bs (Some p) f = later L at m b bs _ _ _ _ (scan_number p (m + 1) bs)
+      (λ _ n. ap (λ s. put (number_node s) outer) (append_assoc spelling (b ∷ []) (take n bs))) (f p)
   number_by at m part spelling b bs None f =
-      elim (may_end part) as (λ v. Agrees L at m (b ∷ bs) (λ e. e) (Spelled spelling (b ∷ bs)) (go_on at (cond v (after_step (put (number_node spelling) outer) b) (Err unexpected)) (λ s. read_from L (at + 1) s bs)) (cond v (Ok m) (Err m)))
+      elim (may_end part) as (λ v. Agrees L at m (b ∷ bs) (λ e. e) (Spelled spelling (b ∷ bs))
+      (go_on at (cond v (after_step (put (number_node spelling) outer) b) (Err unexpected)) (λ s. read_from L (at + 1) s bs)) (cond v (Ok m) (Err m)))
       [ true ↦ ends_here at m spelling (b ∷ bs) _ (whole_read at spelling b bs outer) | false ↦ stops_here at m _ refl ]
 
   end_read : (at : ℕ) (s : State) → ended at (end_of s) ≡ read_from L at s []
   unfolding read_from
   end_read at s = refl
 
-  end_by : (v : Bool) (outer : List Waiting) (part : NumberPart) (spelling : List ℕ) → may_end part ≡ v → end_of (digits part spelling outer) ≡ cond (may_end part) (end_of (put (number_node spelling) outer)) None
+  end_by : (v : Bool) (outer : List Waiting) (part : NumberPart) (spelling : List ℕ) → may_end part ≡ v
+      → end_of (digits part spelling outer) ≡ cond (may_end part) (end_of (put (number_node spelling) outer)) None
   end_by v [] part spelling h = refl
   end_by true (in_list ns ∷ outer) part spelling h = rw h refl
   end_by false (in_list ns ∷ outer) part spelling h = rw h refl
   end_by true (in_object ms place key ∷ outer) part spelling h = rw h refl
   end_by false (in_object ms place key ∷ outer) part spelling h = rw h refl
 
-  number_ends : (at m : ℕ) (part : NumberPart) (spelling : List ℕ) → Agrees L at m [] (λ e. e) (Spelled spelling []) (ended at (end_of (digits part spelling outer))) (number_end part m)
-  number_ends at m part spelling = subst (λ o. Agrees L at m [] (λ e. e) (Spelled spelling []) (ended at o) (number_end part m)) (sym (end_by (may_end part) outer part spelling refl))
-      (elim (may_end part) as (λ v. Agrees L at m [] (λ e. e) (Spelled spelling []) (ended at (cond v (end_of (put (number_node spelling) outer)) None)) (cond v (Ok m) (Err m)))
+  number_ends : (at m : ℕ) (part : NumberPart) (spelling : List ℕ)
+      → Agrees L at m [] (λ e. e) (Spelled spelling []) (ended at (end_of (digits part spelling outer))) (number_end part m)
+  number_ends at m part spelling = subst (λ o. Agrees L at m [] (λ e. e) (Spelled spelling []) (ended at o) (number_end part m))
+      (sym (end_by (may_end part) outer part spelling refl))
+      (elim (may_end part) as
+      (λ v. Agrees L at m [] (λ e. e) (Spelled spelling []) (ended at (cond v (end_of (put (number_node spelling) outer)) None)) (cond v (Ok m) (Err m)))
       [ true ↦ ends_here at m spelling [] _ (end_read at (put (number_node spelling) outer)) | false ↦ stops_here at m _ refl ])
 
-  number_agrees : (bs : List ℕ) (at m : ℕ) (part : NumberPart) (spelling : List ℕ) → Agrees L at m bs (λ e. e) (Spelled spelling bs) (read_from L at (digits part spelling outer) bs) (scan_number part m bs)
+  number_agrees : (bs : List ℕ) (at m : ℕ) (part : NumberPart) (spelling : List ℕ)
+      → Agrees L at m bs (λ e. e) (Spelled spelling bs) (read_from L at (digits part spelling outer) bs) (scan_number part m bs)
   unfolding scan_number read_from
   number_agrees [] at m part spelling = number_ends at m part spelling
-  number_agrees (b ∷ bs) at m part spelling = number_by at m part spelling b bs (number_step part b) (λ p. number_agrees bs (at + 1) (m + 1) p (spelling ++ b ∷ []))
+  number_agrees (b ∷ bs) at m part spelling = number_by at m part spelling b bs (number_step part b)
+      (λ p. number_agrees bs (at + 1) (m + 1) p (spelling ++ b ∷ []))
 
   pub number_ok : (at : ℕ) (part : NumberPart) (spelling bs : List ℕ) (n : ℕ) → scan_number part 0 bs ≡ Ok n
       → read_from L at (digits part spelling outer) bs ≡ read_from L (at + n) (put (number_node (spelling ++ take n bs)) outer) (drop n bs)
-  number_ok at part spelling bs n e = let (k, f, g) = subst (Agrees L at 0 bs (λ e. e) (Spelled spelling bs) (read_from L at (digits part spelling outer) bs)) e (number_agrees bs at 0 part spelling) in
+  number_ok at part spelling bs n e = let (k, f, g) = subst (Agrees L at 0 bs (λ e. e) (Spelled spelling bs) (read_from L at (digits part spelling outer) bs)) e
+      (number_agrees bs at 0 part spelling) in
       g ∙ ap (λ k. read_from L (at + k) (put (number_node (spelling ++ take k bs)) outer) (drop k bs)) (omega (arith, f))
 
-  pub number_err : (at : ℕ) (part : NumberPart) (spelling bs : List ℕ) (n : ℕ) → scan_number part 0 bs ≡ Err n → read_from L at (digits part spelling outer) bs ≡ fault (at + n)
+  pub number_err : (at : ℕ) (part : NumberPart) (spelling bs : List ℕ) (n : ℕ) → scan_number part 0 bs ≡ Err n
+      → read_from L at (digits part spelling outer) bs ≡ fault (at + n)
   number_err at part spelling bs n e =
-      let (k, f, g) = subst (Agrees L at 0 bs (λ e. e) (Spelled spelling bs) (read_from L at (digits part spelling outer) bs)) e (number_agrees bs at 0 part spelling) in g ∙ ap fault (omega (arith, f))
+      let (k, f, g) = subst (Agrees L at 0 bs (λ e. e) (Spelled spelling bs) (read_from L at (digits part spelling outer) bs)) e
+      (number_agrees bs at 0 part spelling) in g ∙ ap fault (omega (arith, f))
 
 -- a word, from its second byte on
 module _ (L : ℕ) (outer : List Waiting) (n : Node) where
@@ -140,36 +167,47 @@ module _ (L : ℕ) (outer : List Waiting) (n : Node) where
   word_agrees [] bs at m = (0, omega arith, ap (λ k. read_from L k (put n outer) bs) (omega arith))
   word_agrees (c ∷ cs) [] at m = stops_here at m _ refl
   word_agrees (c ∷ cs) (b ∷ bs) at m =
-      elim (b == c) as (λ v. Agrees L at m (b ∷ bs) (λ e. e) (λ _ _. put n outer) (go_on at (cond v (Ok (word_step c cs n outer)) (Err unexpected)) (λ s. read_from L (at + 1) s bs)) (cond v (scan_word cs (m + 1) bs) (Err m))) [
+      elim (b == c) as (λ v. Agrees L at m (b ∷ bs) (λ e. e) (λ _ _. put n outer)
+      (go_on at (cond v (Ok (word_step c cs n outer)) (Err unexpected)) (λ s. read_from L (at + 1) s bs)) (cond v (scan_word cs (m + 1) bs) (Err m))) [
         | true ↦ later L at m b bs _ _ _ _ (scan_word cs (m + 1) bs) (λ _ _. refl)
-            (subst (λ s. Agrees L (at + 1) (m + 1) bs (λ e. e) (λ _ _. put n outer) (read_from L (at + 1) s bs) (scan_word cs (m + 1) bs)) (sym (word_step_is c cs)) (word_agrees cs bs (at + 1) (m + 1)))
+            (subst (λ s. Agrees L (at + 1) (m + 1) bs (λ e. e) (λ _ _. put n outer) (read_from L (at + 1) s bs) (scan_word cs (m + 1) bs))
+            (sym (word_step_is c cs)) (word_agrees cs bs (at + 1) (m + 1)))
         | false ↦ stops_here at m _ refl
       ]
 
-  pub word_ok : (at len c : ℕ) (cs bs : List ℕ) → scan_word (c ∷ cs) 0 bs ≡ Ok len → read_from L at (word c cs n outer) bs ≡ read_from L (at + len) (put n outer) (drop len bs)
-  word_ok at len c cs bs e = let (k, f, g) = subst (Agrees L at 0 bs (λ e. e) (λ _ _. put n outer) (read_from L at (word c cs n outer) bs)) e (word_agrees (c ∷ cs) bs at 0) in
+  pub word_ok : (at len c : ℕ) (cs bs : List ℕ) → scan_word (c ∷ cs) 0 bs ≡ Ok len
+      → read_from L at (word c cs n outer) bs ≡ read_from L (at + len) (put n outer) (drop len bs)
+  word_ok at len c cs bs e = let (k, f, g) = subst (Agrees L at 0 bs (λ e. e) (λ _ _. put n outer) (read_from L at (word c cs n outer) bs)) e
+      (word_agrees (c ∷ cs) bs at 0) in
       g ∙ ap (λ k. read_from L (at + k) (put n outer) (drop k bs)) (omega (arith, f))
 
   pub word_err : (at len c : ℕ) (cs bs : List ℕ) → scan_word (c ∷ cs) 0 bs ≡ Err len → read_from L at (word c cs n outer) bs ≡ fault (at + len)
-  word_err at len c cs bs e = let (k, f, g) = subst (Agrees L at 0 bs (λ e. e) (λ _ _. put n outer) (read_from L at (word c cs n outer) bs)) e (word_agrees (c ∷ cs) bs at 0) in g ∙ ap fault (omega (arith, f))
+  word_err at len c cs bs e = let (k, f, g) = subst (Agrees L at 0 bs (λ e. e) (λ _ _. put n outer) (read_from L at (word c cs n outer) bs)) e
+      (word_agrees (c ∷ cs) bs at 0) in g ∙ ap fault (omega (arith, f))
 
 abbrev pub deep : ℕ → Result Node Fault
 deep at = Err (record { why = too_deep; at = at })
 
 module _ (L at : ℕ) where
   -- a string, at the places where one may begin
-  pub string_takes : (s : State) (hole : Hole) (rest t : List ℕ) (n there : ℕ) (behind : List ℕ) → StartsWith 34 rest → step L at s 34 ≡ Ok (string between [] hole)
-      → scan_string between [] 0 (drop 1 rest) ≡ Ok (t, n) → there ≡ at + 1 + n → behind ≡ drop n (drop 1 rest) → read_from L at s rest ≡ read_from L there (fill hole t) behind
-  string_takes s hole rest t n there behind h e scan place is = by_byte L at s 34 rest (Ok (string between [] hole)) h e ∙ string_ok L hole (at + 1) (drop 1 rest) t n scan
+  pub string_takes : (s : State) (hole : Hole) (rest t : List ℕ) (n there : ℕ) (behind : List ℕ) → StartsWith 34 rest
+      → step L at s 34 ≡ Ok (string between [] hole)
+      → scan_string between [] 0 (drop 1 rest) ≡ Ok (t, n) → there ≡ at + 1 + n → behind ≡ drop n (drop 1 rest)
+      → read_from L at s rest ≡ read_from L there (fill hole t) behind
+  string_takes s hole rest t n there behind h e scan place is = by_byte L at s 34 rest (Ok (string between [] hole)) h e
+      ∙ string_ok L hole (at + 1) (drop 1 rest) t n scan
       ∙ ap (λ k. read_from L k (fill hole t) (drop n (drop 1 rest))) (sym place) ∙ ap (read_from L there (fill hole t)) (sym is)
 
   pub string_fails : (s : State) (hole : Hole) (rest : List ℕ) (n there : ℕ) → StartsWith 34 rest → step L at s 34 ≡ Ok (string between [] hole)
       → scan_string between [] 0 (drop 1 rest) ≡ Err n → there ≡ at + 1 + n → read_from L at s rest ≡ fault there
-  string_fails s hole rest n there h e scan place = by_byte L at s 34 rest (Ok (string between [] hole)) h e ∙ string_err L hole (at + 1) (drop 1 rest) n scan ∙ ap fault (sym place)
+  string_fails s hole rest n there h e scan place = by_byte L at s 34 rest (Ok (string between [] hole)) h e ∙ string_err L hole (at + 1) (drop 1 rest) n scan
+      ∙ ap fault (sym place)
 
   -- a number
-  pub value_number : (outer : List Waiting) (part : NumberPart) (rest : List ℕ) (n there : ℕ) (behind : List ℕ) → BeginsNumber part rest → scan_number part 0 (drop 1 rest) ≡ Ok n
-      → there ≡ at + 1 + n → behind ≡ drop n (drop 1 rest) → read_from L at (value outer) rest ≡ read_from L there (put (number_node (take (1 + n) rest)) outer) behind
+  pub value_number : (outer : List Waiting) (part : NumberPart) (rest : List ℕ) (n there : ℕ) (behind : List ℕ) → BeginsNumber part rest
+      → scan_number part 0 (drop 1 rest) ≡ Ok n
+      → there ≡ at + 1 + n → behind ≡ drop n (drop 1 rest)
+      → read_from L at (value outer) rest ≡ read_from L there (put (number_node (take (1 + n) rest)) outer) behind
   value_number outer part [] n there behind h scan place is = absurd h
   value_number outer part (b ∷ bs) n there behind h scan place is =
       by_byte L at (value outer) b (b ∷ bs) (Ok (digits part (b ∷ []) outer)) refl (h.1 L at outer) ∙ number_ok L outer (at + 1) part (b ∷ []) bs n scan
@@ -177,14 +215,17 @@ module _ (L at : ℕ) where
       ∙ ap (λ k. read_from L there (put (number_node (take k (b ∷ bs))) outer) (drop n bs)) (let e : suc n ≡ 1 + n = omega arith in e)
       ∙ ap (read_from L there (put (number_node (take (1 + n) (b ∷ bs))) outer)) (sym is)
 
-  pub value_number_stops : (outer : List Waiting) (part : NumberPart) (rest : List ℕ) (n there : ℕ) → BeginsNumber part rest → scan_number part 0 (drop 1 rest) ≡ Err n → there ≡ at + 1 + n
+  pub value_number_stops : (outer : List Waiting) (part : NumberPart) (rest : List ℕ) (n there : ℕ) → BeginsNumber part rest
+      → scan_number part 0 (drop 1 rest) ≡ Err n → there ≡ at + 1 + n
       → read_from L at (value outer) rest ≡ fault there
   value_number_stops outer part [] n there h scan place = absurd h
   value_number_stops outer part (b ∷ bs) n there h scan place =
-      by_byte L at (value outer) b (b ∷ bs) (Ok (digits part (b ∷ []) outer)) refl (h.1 L at outer) ∙ number_err L outer (at + 1) part (b ∷ []) bs n scan ∙ ap fault (sym place)
+      by_byte L at (value outer) b (b ∷ bs) (Ok (digits part (b ∷ []) outer)) refl (h.1 L at outer) ∙ number_err L outer (at + 1) part (b ∷ []) bs n scan
+      ∙ ap fault (sym place)
 
   -- a word
-  pub value_word : (outer : List Waiting) (w : List ℕ) (n : Node) (rest : List ℕ) (len there : ℕ) (behind : List ℕ) → BeginsWord w n rest → scan_word w 0 (drop 1 rest) ≡ Ok len
+  pub value_word : (outer : List Waiting) (w : List ℕ) (n : Node) (rest : List ℕ) (len there : ℕ) (behind : List ℕ) → BeginsWord w n rest
+      → scan_word w 0 (drop 1 rest) ≡ Ok len
       → there ≡ at + 1 + len → behind ≡ drop len (drop 1 rest) → read_from L at (value outer) rest ≡ read_from L there (put n outer) behind
   value_word outer [] n rest len there behind h scan place is = absurd h
   value_word outer (c ∷ cs) n [] len there behind h scan place is = absurd h
@@ -192,7 +233,8 @@ module _ (L at : ℕ) where
       by_byte L at (value outer) b (b ∷ bs) (Ok (word c cs n outer)) refl (h L at outer) ∙ word_ok L outer n (at + 1) len c cs bs scan
       ∙ ap (λ k. read_from L k (put n outer) (drop len bs)) (sym place) ∙ ap (read_from L there (put n outer)) (sym is)
 
-  pub value_word_stops : (outer : List Waiting) (w : List ℕ) (n : Node) (rest : List ℕ) (len there : ℕ) → BeginsWord w n rest → scan_word w 0 (drop 1 rest) ≡ Err len → there ≡ at + 1 + len
+  pub value_word_stops : (outer : List Waiting) (w : List ℕ) (n : Node) (rest : List ℕ) (len there : ℕ) → BeginsWord w n rest
+      → scan_word w 0 (drop 1 rest) ≡ Err len → there ≡ at + 1 + len
       → read_from L at (value outer) rest ≡ fault there
   value_word_stops outer [] n rest len there h scan place = absurd h
   value_word_stops outer (c ∷ cs) n [] len there h scan place = absurd h
@@ -207,7 +249,8 @@ keeps_length (k ∷ ks) [] h = absurd h
 keeps_length (k ∷ ks) (w ∷ ws) h = ap suc (keeps_length ks ws h.1)
 
 -- a string's fault is the text's
-pub string_faults : (L : ℕ) (s : State) (hole : Hole) (place : Place) (f : JsonFault) → step L place.at s 34 ≡ Ok (string between [] hole) → StartsWith 34 place.rest.now
+pub string_faults : (L : ℕ) (s : State) (hole : Hole) (place : Place) (f : JsonFault) → step L place.at s 34 ≡ Ok (string between [] hole)
+    → StartsWith 34 place.rest.now
     → StringFault place f → FailsSo (read_at L place s) f
 string_faults L s hole place (NotJson at) e h (n, scan, is) = string_fails L place.at s hole place.rest.now n at h e scan is
 string_faults L s hole place (TooDeep at) e h f = absurd f

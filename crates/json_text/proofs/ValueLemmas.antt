@@ -17,13 +17,15 @@ string_utf8 bytes t h = characters_utf8 h.2
 lacks_with : (k key : List ℕ) (t : Tree) (ms : List (List ℕ × Tree)) → k ≢ key → LacksKey k (members_of ms) → LacksKey k (members_of (with_member key t ms))
 lacks_with k key t [] apart h = (apart, tt)
 lacks_with k key t (m ∷ ms) apart h =
-    cond_both (bytes_eq key m.0) ((m.0, t) ∷ ms) (m ∷ with_member key t ms) (λ x. LacksKey k (members_of x)) (λ _. (h.0, h.1)) (λ _. (h.0, lacks_with k key t ms apart h.1))
+    cond_both (bytes_eq key m.0) ((m.0, t) ∷ ms) (m ∷ with_member key t ms) (λ x. LacksKey k (members_of x)) (λ _. (h.0, h.1))
+    (λ _. (h.0, lacks_with k key t ms apart h.1))
 
 other_key : (key k : List ℕ) → bytes_eq key k ≡ false → k ≢ key
 other_key key k f e = both_ways (bytes_eq key k) f ((bytes_eq-Decides key k).1 (sym e))
 
 -- one member more, or another value of one
-with_member_are : (key : List ℕ) (t : Tree) (ms : List (List ℕ × Tree)) → IsUtf8 key → IsValue t → AreMembers (members_of ms) → AreMembers (members_of (with_member key t ms))
+with_member_are : (key : List ℕ) (t : Tree) (ms : List (List ℕ × Tree)) → IsUtf8 key → IsValue t → AreMembers (members_of ms)
+    → AreMembers (members_of (with_member key t ms))
 with_member_are key t [] u v h = (u, tt, v, tt)
 with_member_are key t (m ∷ ms) u v h =
     cond_both (bytes_eq key m.0) ((m.0, t) ∷ ms) (m ∷ with_member key t ms) (λ x. AreMembers (members_of x))
@@ -51,23 +53,29 @@ mutual
   fields_are_members : (fs : Fields) (at : ℕ) (bytes : List ℕ) → SpellsMembers at bytes fs → AreMembers (members_of (members_after [] fs))
   fields_are_members no_fields at bytes h = tt
   fields_are_members (field place key n fs) at bytes h =
-      more_fields_are_members fs (at + length h.0) h.1 ((key, value_of n) ∷ []) h.4 (string_utf8 h.3.1 key h.3.7, tt, node_is_value n (at + length h.3.0 + length h.3.1 + length h.3.2 + 1 + length h.3.9.0) h.3.9.1 h.3.9.5, tt)
+      more_fields_are_members fs (at + length h.0) h.1 ((key, value_of n) ∷ []) h.4
+      (string_utf8 h.3.1 key h.3.7, tt, node_is_value n (at + length h.3.0 + length h.3.1 + length h.3.2 + 1 + length h.3.9.0) h.3.9.1 h.3.9.5, tt)
 
-  more_fields_are_members : (fs : Fields) (at : ℕ) (bytes : List ℕ) (ms : List (List ℕ × Tree)) → SpellsMoreMembers at bytes fs → AreMembers (members_of ms) → AreMembers (members_of (members_after ms fs))
+  more_fields_are_members : (fs : Fields) (at : ℕ) (bytes : List ℕ) (ms : List (List ℕ × Tree)) → SpellsMoreMembers at bytes fs → AreMembers (members_of ms)
+      → AreMembers (members_of (members_after ms fs))
   more_fields_are_members no_fields at bytes ms h g = g
   more_fields_are_members (field place key n fs) at bytes ms h g =
       more_fields_are_members fs (at + 1 + length h.0) h.1 (with_member key (value_of n) ms) h.4
-      (with_member_are key (value_of n) ms (string_utf8 h.3.1 key h.3.7) (node_is_value n (at + 1 + length h.3.0 + length h.3.1 + length h.3.2 + 1 + length h.3.9.0) h.3.9.1 h.3.9.5) g)
+      (with_member_are key (value_of n) ms (string_utf8 h.3.1 key h.3.7)
+      (node_is_value n (at + 1 + length h.3.0 + length h.3.1 + length h.3.2 + 1 + length h.3.9.0) h.3.9.1 h.3.9.5) g)
 
 pub text_is_value : (levels : ℕ) (bytes : List ℕ) (n : Node) → IsText levels bytes n → IsValue (value_of n)
 text_is_value levels bytes n h = let s = h.spelled in node_is_value n (0 + length s.0) s.1 s.5
 
-with_member_levels : (key : List ℕ) (t : Tree) (ms : List (List ℕ × Tree)) → members_levels (members_of (with_member key t ms)) ≤ max (members_levels (members_of ms)) (tree_levels t)
+with_member_levels : (key : List ℕ) (t : Tree) (ms : List (List ℕ × Tree))
+    → members_levels (members_of (with_member key t ms)) ≤ max (members_levels (members_of ms)) (tree_levels t)
 with_member_levels key t [] = omega arith
 with_member_levels key t (m ∷ ms) =
-    cond_both (bytes_eq key m.0) ((m.0, t) ∷ ms) (m ∷ with_member key t ms) (λ x. members_levels (members_of x) ≤ max (members_levels (members_of (m ∷ ms))) (tree_levels t))
+    cond_both (bytes_eq key m.0) ((m.0, t) ∷ ms) (m ∷ with_member key t ms)
+    (λ x. members_levels (members_of x) ≤ max (members_levels (members_of (m ∷ ms))) (tree_levels t))
     (λ _. omega arith)
-    (λ _. let h : members_levels (members_of (with_member key t ms)) ≤ max (members_levels (members_of ms)) (tree_levels t) = with_member_levels key t ms in omega arith)
+    (λ _. let h : members_levels (members_of (with_member key t ms)) ≤ max (members_levels (members_of ms)) (tree_levels t) = with_member_levels key t ms in
+    omega arith)
 
 -- orders of the larger of two
 suc_le : (a b : ℕ) → a ≤ b → suc a ≤ suc b
@@ -95,9 +103,11 @@ mutual
   levels_of_items_kept no_nodes = omega arith
   levels_of_items_kept (node n ns) = max_le _ _ _ _ (levels_kept n) (levels_of_items_kept ns)
 
-  levels_of_members_kept : (fs : Fields) (ms : List (List ℕ × Tree)) → members_levels (members_of (members_after ms fs)) ≤ max (members_levels (members_of ms)) (levels_of_fields fs)
+  levels_of_members_kept : (fs : Fields) (ms : List (List ℕ × Tree))
+      → members_levels (members_of (members_after ms fs)) ≤ max (members_levels (members_of ms)) (levels_of_fields fs)
   levels_of_members_kept no_fields ms = omega arith
-  levels_of_members_kept (field place key n fs) ms = through_max _ _ _ _ _ _ (levels_of_members_kept fs (with_member key (value_of n) ms)) (with_member_levels key (value_of n) ms) (levels_kept n)
+  levels_of_members_kept (field place key n fs) ms = through_max _ _ _ _ _ _ (levels_of_members_kept fs (with_member key (value_of n) ms))
+      (with_member_levels key (value_of n) ms) (levels_kept n)
 
 pub text_within : (levels : ℕ) (bytes : List ℕ) (n : Node) → IsText levels bytes n → tree_levels (value_of n) ≤ levels
 text_within levels bytes n h = let a : tree_levels (value_of n) ≤ levels_of n = levels_kept n in let b : levels_of n ≤ levels = h.within in omega arith

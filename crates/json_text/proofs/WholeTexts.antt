@@ -9,12 +9,14 @@ use Rattle.json_text.proofs.ReadingSteps.{read_ok, read_nil, ended_ok, cons_ok}
 use Rattle.json_text.proofs.ByteSteps.{follows_step, step_follows, follows_end, end_follows}
 
 module _ (size levels : ℕ) (r : Node) where
-  pub follows_read : (bytes : List ℕ) (state : State) (at : ℕ) → at + length bytes ≡ size → read_from levels at state bytes ≡ Ok r → Following size levels r state bytes
+  pub follows_read : (bytes : List ℕ) (state : State) (at : ℕ) → at + length bytes ≡ size → read_from levels at state bytes ≡ Ok r
+      → Following size levels r state bytes
   follows_read [] state at s e = follows_end size levels r state (ended_ok at (end_of state) r (sym (read_nil levels at state) ∙ e))
   follows_read (b ∷ bs) state at s e = let (next, f, g) = cons_ok levels at state b bs r e in
       follows_step size levels r state next at b bs s f (follows_read bs next (at + 1) (omega (arith, s)) g)
 
-  pub read_follows : (bytes : List ℕ) (state : State) (at : ℕ) → at + length bytes ≡ size → Following size levels r state bytes → read_from levels at state bytes ≡ Ok r
+  pub read_follows : (bytes : List ℕ) (state : State) (at : ℕ) → at + length bytes ≡ size → Following size levels r state bytes
+      → read_from levels at state bytes ≡ Ok r
   read_follows [] state at s h = read_nil levels at state ∙ ap (ended at) (end_follows size levels r state h)
   read_follows (b ∷ bs) state at s h = let (next, f, g) = step_follows size levels r state at b bs s h in
       read_ok levels at state next b bs f ∙ read_follows bs next (at + 1) (omega (arith, s)) g
@@ -25,11 +27,13 @@ read_spelled levels bytes n e =
     let (of, future, h) = follows_read size levels n bytes (value []) 0 (zero-add size) e in
     let f = (text_reads size of (levels - 0)).to 0 (After size levels n [] future of) bytes (zero-add size) h in
     let all : bytes ≡ f.front = f.joined ∙ ap (λ t. f.front ++ t) f.second.0 ∙ append-nil f.front in
-    subst (λ m. IsText levels bytes m) (sym f.second.1) (subst (λ t. IsText levels t of) (sym all) (record { spelled = f.first.0; within = omega (arith, f.first.1) }))
+    subst (λ m. IsText levels bytes m) (sym f.second.1)
+    (subst (λ t. IsText levels t of) (sym all) (record { spelled = f.first.0; within = omega (arith, f.first.1) }))
 
 pub spelled_read : (levels : ℕ) (bytes : List ℕ) (n : Node) → IsText levels bytes n → read_text levels bytes ≡ Ok n
 spelled_read levels bytes n h =
     let size = length bytes in
-    let f = (text_reads size n (levels - 0)).from 0 (After size levels n [] tt n) bytes [] (zero-add (length (bytes ++ [])) ∙ ap length (append-nil bytes)) h.spelled (omega (arith, h.within)) (refl, refl) in
+    let f = (text_reads size n (levels - 0)).from 0 (After size levels n [] tt n) bytes []
+    (zero-add (length (bytes ++ [])) ∙ ap length (append-nil bytes)) h.spelled (omega (arith, h.within)) (refl, refl) in
     read_follows size levels n bytes (value []) 0 (zero-add size)
     (n, tt, subst (Space (Value size n (levels - 0) (Space (After size levels n [] tt n)))) (append-nil bytes) f)

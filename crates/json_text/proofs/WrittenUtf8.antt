@@ -100,9 +100,11 @@ mutual
 
   members_utf8 : (ms : Members) → AreMembers ms → IsUtf8 (members_text ms)
   members_utf8 no_members v = IsUtf8-nil
-  members_utf8 (member key t ms) v = IsUtf8-append _ _ (quoted_utf8 key v.0) (ascii_cons 58 _ (omega arith) (IsUtf8-append _ _ (compact_utf8 t v.2) (more_members_utf8 ms v.3)))
+  members_utf8 (member key t ms) v = IsUtf8-append _ _ (quoted_utf8 key v.0)
+      (ascii_cons 58 _ (omega arith) (IsUtf8-append _ _ (compact_utf8 t v.2) (more_members_utf8 ms v.3)))
 
   more_members_utf8 : (ms : Members) → AreMembers ms → IsUtf8 (more_members_text ms)
   more_members_utf8 no_members v = IsUtf8-nil
   more_members_utf8 (member key t ms) v =
-      ascii_cons 44 _ (omega arith) (IsUtf8-append _ _ (quoted_utf8 key v.0) (ascii_cons 58 _ (omega arith) (IsUtf8-append _ _ (compact_utf8 t v.2) (more_members_utf8 ms v.3))))
+      ascii_cons 44 _ (omega arith)
+      (IsUtf8-append _ _ (quoted_utf8 key v.0) (ascii_cons 58 _ (omega arith) (IsUtf8-append _ _ (compact_utf8 t v.2) (more_members_utf8 ms v.3))))

@@ -75,7 +75,8 @@ mutual
   tree_back (object inside) zero rest h = absurd (omega arith)
   tree_back (object inside) (suc steps) rest h = ap (λ p. (object p.0, p.1)) (members_back inside steps rest (omega arith))
 
-  items_back : (items : Items) (steps : ℕ) (rest : List ℕ) → length (items_numbers items) ≤ steps → items_from steps (items_numbers items ++ rest) ≡ (items, rest)
+  items_back : (items : Items) (steps : ℕ) (rest : List ℕ) → length (items_numbers items) ≤ steps
+      → items_from steps (items_numbers items ++ rest) ≡ (items, rest)
   items_back no_items zero rest h = absurd (omega arith)
   items_back no_items (suc steps) rest h = refl
   items_back (item t items) zero rest h = absurd (omega arith)
@@ -95,13 +96,21 @@ mutual
       let longer = length-append key behind in
       let first = tree_back t steps (members_numbers inside ++ rest) (omega (arith, long, longer)) in
       let others = members_back inside steps rest (omega (arith, long, longer)) in
-      rw (append_assoc key behind rest, take_at key (behind ++ rest) (length key) refl, drop_at key (behind ++ rest) (length key) refl, append_assoc (tree_numbers t) (members_numbers inside) rest, first, others) refl
+      rw (
+        append_assoc key behind rest,
+        take_at key (behind ++ rest) (length key) refl,
+        drop_at key (behind ++ rest) (length key) refl,
+        append_assoc (tree_numbers t) (members_numbers inside) rest,
+        first,
+        others,
+      ) refl
 
 abbrev pub tree_of_numbers : List ℕ → Tree
 tree_of_numbers ns = (tree_from (length ns) ns).0
 
 pub tree_given_back : (t : Tree) → tree_of_numbers (tree_numbers t) ≡ t
-tree_given_back t = ap (λ ns. (tree_from (length (tree_numbers t)) ns).0) (sym (append-nil (tree_numbers t))) ∙ ap (λ p. p.0) (tree_back t (length (tree_numbers t)) [] (omega arith))
+tree_given_back t = ap (λ ns. (tree_from (length (tree_numbers t)) ns).0) (sym (append-nil (tree_numbers t)))
+    ∙ ap (λ p. p.0) (tree_back t (length (tree_numbers t)) [] (omega arith))
 
 abbrev pub tree_code : Coded Tree
 tree_code = code_by (List ℕ) (coded_list coded_ℕ) tree_numbers tree_of_numbers tree_given_back

@@ -106,7 +106,8 @@ unit_step text (Some lead) unit = goes_on between (text ++ encode_utf8 (pair_of 
 abbrev pub hex_step : List ℕ → Option ℕ → ℕ → ℕ → Option ℕ → StringStep
 hex_step text lead left unit None = stops
 hex_step text lead left unit (Some d) =
-    if digit_fits lead left unit d then (if left == 1 then unit_step text lead (16 * unit + d) else goes_on (hex lead (left - 1) (16 * unit + d)) text) else stops
+    if digit_fits lead left unit d then
+    (if left == 1 then unit_step text lead (16 * unit + d) else goes_on (hex lead (left - 1) (16 * unit + d)) text) else stops
 
 abbrev pub string_step : StringPart → List ℕ → ℕ → StringStep
 string_step between text b = if b == 34 then ends else if b == 92 then goes_on backslash text else unescaped_step text b

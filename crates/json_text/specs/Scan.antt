@@ -85,7 +85,8 @@ unit_left lead (suc left) unit text base bytes = scan_string (hex lead (suc left
 -- the digit at a place continues the unit so far, or is not allowed there
 abbrev pub GoesToUnit : Option ℕ → List ℕ → ℕ → ℕ → ℕ → Type 0
 GoesToUnit lead digits place unit next = (place < length digits) × IsUnitSoFar lead (4 - (place + 1)) next
-    × ((text : List ℕ) (base : ℕ) → unit_left lead (4 - place) unit text base (drop place digits) ≡ unit_left lead (4 - (place + 1)) next text (base + 1) (drop (place + 1) digits))
+    × ((text : List ℕ) (base : ℕ)
+    → unit_left lead (4 - place) unit text base (drop place digits) ≡ unit_left lead (4 - (place + 1)) next text (base + 1) (drop (place + 1) digits))
 
 abbrev pub StopsAt : Option ℕ → List ℕ → ℕ → ℕ → Type 0
 StopsAt lead digits place unit = (text : List ℕ) (base : ℕ) → unit_left lead (4 - place) unit text base (drop place digits) ≡ Err base

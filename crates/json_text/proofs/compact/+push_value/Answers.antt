@@ -13,7 +13,8 @@ pub returns-in_err-push_value-in-List-clause-kept : goal.returns-in_err-push_val
 returns-in_err-push_value-in-List-clause-kept t c =
     kept_further c.args.out.now c.if-i-gt0.out c.push_value.new.out
     (elim c.if-i-gt0.branch [
-      | then-i-gt0+in_ok-extend-in-List-2 w ↦ kept_behind c.args.out.now c.items.out _ c.if-i-gt0.out c.items.invariant.kept (w.out-is ∙ w.in_ok-extend-in-List-2.ensures.ok)
+      | then-i-gt0+in_ok-extend-in-List-2 w ↦ kept_behind c.args.out.now c.items.out _ c.if-i-gt0.out c.items.invariant.kept
+          (w.out-is ∙ w.in_ok-extend-in-List-2.ensures.ok)
       | else-i-gt0 w ↦ ap (take (length c.args.out.now)) w.out-is ∙ c.items.invariant.kept
     ])
     c.push_value.ensures.kept
@@ -22,7 +23,8 @@ pub returns-in_err-push_quoted-in-Obj-clause-kept : goal.returns-in_err-push_quo
 returns-in_err-push_quoted-in-Obj-clause-kept t c =
     kept_further c.args.out.now c.if-i-gt0-2.out c.push_quoted-in-members.new.out
     (elim c.if-i-gt0-2.branch [
-      | then-i-gt0-2+in_ok-extend-in-Obj-2 w ↦ kept_behind c.args.out.now c.members.out _ c.if-i-gt0-2.out c.members.invariant.kept (w.out-is ∙ w.in_ok-extend-in-Obj-2.ensures.ok)
+      | then-i-gt0-2+in_ok-extend-in-Obj-2 w ↦ kept_behind c.args.out.now c.members.out _ c.if-i-gt0-2.out c.members.invariant.kept
+          (w.out-is ∙ w.in_ok-extend-in-Obj-2.ensures.ok)
       | else-i-gt0-2 w ↦ ap (take (length c.args.out.now)) w.out-is ∙ c.members.invariant.kept
     ])
     c.push_quoted-in-members.ensures.kept
@@ -33,7 +35,8 @@ returns-in_err-push_value-in-Obj-clause-kept t c =
     (kept_behind c.args.out.now c.push_quoted-in-members.new.out _ c.extend-in-members.new.self
     (kept_further c.args.out.now c.if-i-gt0-2.out c.push_quoted-in-members.new.out
     (elim c.if-i-gt0-2.branch [
-      | then-i-gt0-2+in_ok-extend-in-Obj-2 w ↦ kept_behind c.args.out.now c.members.out _ c.if-i-gt0-2.out c.members.invariant.kept (w.out-is ∙ w.in_ok-extend-in-Obj-2.ensures.ok)
+      | then-i-gt0-2+in_ok-extend-in-Obj-2 w ↦ kept_behind c.args.out.now c.members.out _ c.if-i-gt0-2.out c.members.invariant.kept
+          (w.out-is ∙ w.in_ok-extend-in-Obj-2.ensures.ok)
       | else-i-gt0-2 w ↦ ap (take (length c.args.out.now)) w.out-is ∙ c.members.invariant.kept
     ])
     c.push_quoted-in-members.ensures.kept)

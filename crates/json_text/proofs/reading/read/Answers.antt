@@ -13,7 +13,8 @@ pub returns-in-Ok-clause-only : goal.returns-in-Ok-clause-only
 returns-in-Ok-clause-only c m h = let r = c.in-Ok.ensures.ok in r.2 ∙ ap value_of (is_only c.args.levels c.args.bytes.now r.0 m r.1 h)
 
 pub returns-in-Ok-clause-value : goal.returns-in-Ok-clause-value
-returns-in-Ok-clause-value c = let r = c.in-Ok.ensures.ok in subst IsValue (sym r.2) (text_is_value c.args.levels c.args.bytes.now r.0 (read_spelled c.args.levels c.args.bytes.now r.0 r.1))
+returns-in-Ok-clause-value c = let r = c.in-Ok.ensures.ok in
+    subst IsValue (sym r.2) (text_is_value c.args.levels c.args.bytes.now r.0 (read_spelled c.args.levels c.args.bytes.now r.0 r.1))
 
 pub returns-in-Err-clause-only : goal.returns-in-Err-clause-only
 returns-in-Err-clause-only c m h = only_memory c.args.levels c.args.bytes.now m c.in-Err.fault h c.in-Err.ensures.err
@@ -25,4 +26,5 @@ pub returns-in-Err-clause-too_deep : goal.returns-in-Err-clause-too_deep
 returns-in-Err-clause-too_deep c at is = deep_so c.args.levels c.args.bytes.now c.in-Err.fault at c.in-Err.ensures.err (same_fault is)
 
 pub returns-in-Ok-clause-levels : goal.returns-in-Ok-clause-levels
-returns-in-Ok-clause-levels c = let r = c.in-Ok.ensures.ok in subst (λ t. tree_levels t ≤ c.args.levels) (sym r.2) (text_within c.args.levels c.args.bytes.now r.0 (read_spelled c.args.levels c.args.bytes.now r.0 r.1))
+returns-in-Ok-clause-levels c = let r = c.in-Ok.ensures.ok in
+    subst (λ t. tree_levels t ≤ c.args.levels) (sym r.2) (text_within c.args.levels c.args.bytes.now r.0 (read_spelled c.args.levels c.args.bytes.now r.0 r.1))

@@ -14,10 +14,12 @@ returns-in-None-clause-only c m h = let r = c.in-Ok.ensures.ok in let same = is_
     (ap first_repeat (sym same) ∙ sym r.3 ∙ c.in-None.is, r.2 ∙ ap value_of same)
 
 pub returns-in-None-clause-value : goal.returns-in-None-clause-value
-returns-in-None-clause-value c = let r = c.in-Ok.ensures.ok in subst IsValue (sym r.2) (text_is_value c.args.levels c.args.bytes.now r.0 (read_spelled c.args.levels c.args.bytes.now r.0 r.1))
+returns-in-None-clause-value c = let r = c.in-Ok.ensures.ok in
+    subst IsValue (sym r.2) (text_is_value c.args.levels c.args.bytes.now r.0 (read_spelled c.args.levels c.args.bytes.now r.0 r.1))
 
 pub returns-in-Some-clause-only : goal.returns-in-Some-clause-only
-returns-in-Some-clause-only c m h = let r = c.in-Ok.ensures.ok in ap first_repeat (sym (is_only c.args.levels c.args.bytes.now r.0 m r.1 h)) ∙ sym r.3 ∙ c.in-Some.is
+returns-in-Some-clause-only c m h = let r = c.in-Ok.ensures.ok in ap first_repeat (sym (is_only c.args.levels c.args.bytes.now r.0 m r.1 h)) ∙ sym r.3
+    ∙ c.in-Some.is
 
 pub returns-in-Some-clause-key_twice : goal.returns-in-Some-clause-key_twice
 returns-in-Some-clause-key_twice c at is = let r = c.in-Ok.ensures.ok in
@@ -33,4 +35,5 @@ pub returns-in-Err-clause-too_deep : goal.returns-in-Err-clause-too_deep
 returns-in-Err-clause-too_deep c at is = deep_so c.args.levels c.args.bytes.now c.in-Err.fault at c.in-Err.ensures.err (same_fault is)
 
 pub returns-in-None-clause-levels : goal.returns-in-None-clause-levels
-returns-in-None-clause-levels c = let r = c.in-Ok.ensures.ok in subst (λ t. tree_levels t ≤ c.args.levels) (sym r.2) (text_within c.args.levels c.args.bytes.now r.0 (read_spelled c.args.levels c.args.bytes.now r.0 r.1))
+returns-in-None-clause-levels c = let r = c.in-Ok.ensures.ok in
+    subst (λ t. tree_levels t ≤ c.args.levels) (sym r.2) (text_within c.args.levels c.args.bytes.now r.0 (read_spelled c.args.levels c.args.bytes.now r.0 r.1))

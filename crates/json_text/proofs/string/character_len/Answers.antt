@@ -12,14 +12,18 @@ returns-in-32-to-127-clause-taken c =
 
 pub behind-requires : goal.behind-requires
 behind-requires c = let rest = take (length c.args.bytes.now - 1) (drop 1 c.args.bytes.now) in
-    has_room (tail c.in-Some.low c.in-Some.up c.in-Some.more) [] rest between (take (result_unwrap_or c.tail_len.result 0) rest) 1 c.tail_len.result (c.tail_len.ensures [])
+    has_room (tail c.in-Some.low c.in-Some.up c.in-Some.more) [] rest between (take (result_unwrap_or c.tail_len.result 0) rest) 1 c.tail_len.result
+    (c.tail_len.ensures [])
     (rw (rest_is 1 c.args.bytes.now) (omega (arith, length-drop 1 c.args.bytes.now)))
 
 pub returns-in-Some-clause-taken : goal.returns-in-Some-clause-taken
 returns-in-Some-clause-taken c = rw c.behind.ensures
-    (taken_behind between c.args.bytes.now (tail c.in-Some.low c.in-Some.up c.in-Some.more) (take (length c.args.bytes.now - 1) (drop 1 c.args.bytes.now)) c.tail_len.result (omega arith)
-    (λ text. first_goes text (get_or c.args.bytes.now 0 0) c.in-Some.low c.in-Some.up c.in-Some.more c.requires.no_end c.requires.no_escape (c.in-Some.ensures text))
+    (taken_behind between c.args.bytes.now (tail c.in-Some.low c.in-Some.up c.in-Some.more)
+    (take (length c.args.bytes.now - 1) (drop 1 c.args.bytes.now)) c.tail_len.result (omega arith)
+    (λ text. first_goes text (get_or c.args.bytes.now 0 0) c.in-Some.low c.in-Some.up c.in-Some.more c.requires.no_end c.requires.no_escape
+    (c.in-Some.ensures text))
     (rest_is 1 c.args.bytes.now) c.tail_len.ensures)
 
 pub returns-in-None-clause-taken : goal.returns-in-None-clause-taken
-returns-in-None-clause-taken c text = first_stops between text c.args.bytes.now between [] (omega arith) (first_is_none text (get_or c.args.bytes.now 0 0) c.requires.no_end c.requires.no_escape (c.in-None.ensures text))
+returns-in-None-clause-taken c text = first_stops between text c.args.bytes.now between [] (omega arith)
+    (first_is_none text (get_or c.args.bytes.now 0 0) c.requires.no_end c.requires.no_escape (c.in-None.ensures text))

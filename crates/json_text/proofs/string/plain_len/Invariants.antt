@@ -5,4 +5,5 @@ use Rattle.json_text.proofs.string.plain_len.Given as goal
 
 -- what is left gives what all gives
 abbrev pub invariant-loop-n : goal.invariant-loop-n
-invariant-loop-n l = (text : List ℕ) (base : ℕ) → scan_string between text base l.bytes ≡ scan_string between (text ++ take l.n l.bytes) (base + l.n) (drop l.n l.bytes)
+invariant-loop-n l = (text : List ℕ) (base : ℕ)
+    → scan_string between text base l.bytes ≡ scan_string between (text ++ take l.n l.bytes) (base + l.n) (drop l.n l.bytes)

@@ -7,7 +7,8 @@ pub returns-in-92 : goal.returns-in-92
 returns-in-92 c = rw c.behind.ensures
     (scanned_behind (high c.args.lead) c.args.text.now.items c.args.bytes.now (hex (Some c.args.lead) 4 0) c.args.text.now.items 2
     (take (length c.args.bytes.now - 2) (drop 2 c.args.bytes.now)) between c.push_low.new.text.items c.push_low.result
-    (high_passes c.args.lead c.args.text.now.items c.args.bytes.now between [] (omega arith) (omega arith) (omega arith)) (rest_is 2 c.args.bytes.now) c.push_low.ensures)
+    (high_passes c.args.lead c.args.text.now.items c.args.bytes.now between [] (omega arith) (omega arith) (omega arith))
+    (rest_is 2 c.args.bytes.now) c.push_low.ensures)
 
 pub returns-in-92-2 : goal.returns-in-92-2
 returns-in-92-2 c = backslash_ends c.args.lead c.args.text.now.items c.args.bytes.now between [] (omega arith) (omega arith) (omega arith)

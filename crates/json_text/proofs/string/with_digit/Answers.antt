@@ -8,7 +8,8 @@ returns-in_err-get-clause-none c e = place_empty c.args.lead c.args.digits.now c
 
 pub returns-in_err-digit-clause-none : goal.returns-in_err-digit-clause-none
 returns-in_err-digit-clause-none c e = let found = c.in_ok-get.ensures.lookup.3 in
-    place_no_digit c.args.lead c.args.digits.now c.args.place c.args.unit c.requires.place found.0 (ap hex_digit_of (sym (found.1 0)) ∙ sym c.in_err-digit.ensures)
+    place_no_digit c.args.lead c.args.digits.now c.args.place c.args.unit c.requires.place found.0
+    (ap hex_digit_of (sym (found.1 0)) ∙ sym c.in_err-digit.ensures)
 
 pub returns-then-fits-clause-some : goal.returns-then-fits-clause-some
 returns-then-fits-clause-some c = let found = c.in_ok-get.ensures.lookup.3 in

@@ -12,12 +12,15 @@ invariant_of-self-2 c =
     record {
       hashed =
           subst (HasHashes _) (sym (all ∙ ap (λ ms. ms ++ (c.args.key, Null) ∷ []) c.try_reserve.ensures.items))
-          (HasHashes-push c.args.self.now.hashes c.args.hash c.args.key Null c.args.self.now.members.items c.requires.hash c.requires.small c.requires.new c.args.self.now.hashed);
+          (HasHashes-push c.args.self.now.hashes c.args.hash c.args.key Null c.args.self.now.members.items c.requires.hash c.requires.small c.requires.new
+          c.args.self.now.hashed);
       indexed =
           subst (IsIndex c.index_next.new.slots)
-          (sym (all ∙ ap (λ ms. ms ++ (c.args.key, Null) ∷ []) (sym c.deref.ensures.value) ∙ ap (λ k. c.deref.result.now ++ (k, Null) ∷ []) (sym c.as_str.ensures)))
+          (sym (all ∙ ap (λ ms. ms ++ (c.args.key, Null) ∷ []) (sym c.deref.ensures.value)
+          ∙ ap (λ k. c.deref.result.now ++ (k, Null) ∷ []) (sym c.as_str.ensures)))
           (c.in_ok-index_next.ensures.ok Null);
     }
 
 pub returns-clause-pushed : goal.returns-clause-pushed
-returns-clause-pushed c = ap pairs_of (c.in-Ok.ensures.items ∙ ap (λ ms. ms ++ (c.args.key, Null) ∷ []) c.try_reserve.ensures.items) ∙ pairs_of-push c.args.key c.args.self.now.members.items
+returns-clause-pushed c = ap pairs_of (c.in-Ok.ensures.items ∙ ap (λ ms. ms ++ (c.args.key, Null) ∷ []) c.try_reserve.ensures.items)
+    ∙ pairs_of-push c.args.key c.args.self.now.members.items

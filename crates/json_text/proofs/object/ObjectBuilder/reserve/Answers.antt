@@ -27,5 +27,6 @@ returns-in_ok-push-in-None-clause-place c = (
   c.in_ok-push-in-None.ensures.pushed ∙ ap (λ ms. pairs_of ms.items ++ (c.args.key, null) ∷ []) c.in_ok-slot.ensures.same,
   slot_from-pairs 0 c.args.key c.args.self.now.members.items ∙ ap (λ k. slot_from 0 k c.args.self.now.members.items) (sym c.as_str-2.ensures)
       ∙ sym c.in_ok-slot.ensures.slot ∙ c.in-None.is,
-  c.in_ok-push-in-None.ensures.place ∙ ap (λ ms. length ms.items) c.in_ok-slot.ensures.same ∙ sym (length-map c.args.self.now.members.items (λ m. (m.0, tree_of m.1))),
+  c.in_ok-push-in-None.ensures.place ∙ ap (λ ms. length ms.items) c.in_ok-slot.ensures.same
+      ∙ sym (length-map c.args.self.now.members.items (λ m. (m.0, tree_of m.1))),
 )

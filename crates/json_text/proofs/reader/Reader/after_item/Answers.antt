@@ -15,10 +15,12 @@ returns-in_ok-push-in-44-clause-goes c s st = (
   (
     in_list st.0 ∷ st.1,
     refl,
-    subst (λ ks. KeepsAll (reverse ks) (in_list st.0 ∷ st.1)) (sym c.in_ok-push-in-44.ensures.items) (keeps_more c.args.self.now.waiting.items (kept_list c.args.items) st.1 (in_list st.0) st.3 st.5),
+    subst (λ ks. KeepsAll (reverse ks) (in_list st.0 ∷ st.1)) (sym c.in_ok-push-in-44.ensures.items)
+        (keeps_more c.args.self.now.waiting.items (kept_list c.args.items) st.1 (in_list st.0) st.3 st.5),
     st.4,
   ),
-  ap (read_at c.args.self.now.levels c.args.place) st.2 ∙ led c.args.self.now.levels (after_item st.0 st.1) (value (in_list st.0 ∷ st.1)) c.args.byte c.args.place c.behind.result c.requires.first
+  ap (read_at c.args.self.now.levels c.args.place) st.2
+      ∙ led c.args.self.now.levels (after_item st.0 st.1) (value (in_list st.0 ∷ st.1)) c.args.byte c.args.place c.behind.result c.requires.first
       (ap (step c.args.self.now.levels c.args.place.at (after_item st.0 st.1)) c.in-44.is) c.behind.ensures.at c.behind.ensures.rest,
   less c.args.byte c.args.place.rest.now c.behind.result.rest.now c.requires.first c.behind.ensures.rest,
 )
@@ -28,12 +30,15 @@ returns-in_ok-next-in-93-clause-goes c s st =
     let n = list_node (nodes_of st.0) in (
       put n st.1,
       c.in_ok-next-in-93.ensures.ok n st.1 (tree_of_list c.args.items ∙ ap (λ ts. list (items_of ts)) (st.5 ∙ sym (values_of-nodes st.0))) st.3 st.4,
-      ap (read_at c.args.self.now.levels c.args.place) st.2 ∙ led c.args.self.now.levels (after_item st.0 st.1) (put n st.1) c.args.byte c.args.place c.behind-in-93.result c.requires.first
+      ap (read_at c.args.self.now.levels c.args.place) st.2
+          ∙ led c.args.self.now.levels (after_item st.0 st.1) (put n st.1) c.args.byte c.args.place c.behind-in-93.result c.requires.first
           (ap (step c.args.self.now.levels c.args.place.at (after_item st.0 st.1)) c.in-93.is) c.behind-in-93.ensures.at c.behind-in-93.ensures.rest,
       less c.args.byte c.args.place.rest.now c.behind-in-93.result.rest.now c.requires.first c.behind-in-93.ensures.rest,
     )
 
 pub returns-in_default-clause-goes : goal.returns-in_default-clause-goes
 returns-in_default-clause-goes c s st =
-    fails_same (read_at c.args.self.now.levels c.args.place s) (read_at c.args.self.now.levels c.args.place (after_item st.0 st.1)) c.not_json.result (ap (read_at c.args.self.now.levels c.args.place) st.2)
-    (barred c.args.self.now.levels (after_item st.0 st.1) c.args.byte c.args.place c.not_json.result c.requires.first (item_other c.args.self.now.levels c.args.place.at st.0 st.1 c.args.byte c.requires.no_space (omega arith) (omega arith)) c.not_json.ensures)
+    fails_same (read_at c.args.self.now.levels c.args.place s) (read_at c.args.self.now.levels c.args.place (after_item st.0 st.1)) c.not_json.result
+    (ap (read_at c.args.self.now.levels c.args.place) st.2)
+    (barred c.args.self.now.levels (after_item st.0 st.1) c.args.byte c.args.place c.not_json.result c.requires.first
+    (item_other c.args.self.now.levels c.args.place.at st.0 st.1 c.args.byte c.requires.no_space (omega arith) (omega arith)) c.not_json.ensures)

@@ -12,7 +12,8 @@ pub returns-in-44-clause-goes : goal.returns-in-44-clause-goes
 returns-in-44-clause-goes c s st = (
   next_key st.0 st.1,
   (st.0, st.1, refl, st.3, st.4, st.5),
-  ap (read_at c.args.self.now.levels c.args.place) st.2 ∙ led c.args.self.now.levels (after_member st.0 st.1) (next_key st.0 st.1) c.args.byte c.args.place c.behind.result c.requires.first
+  ap (read_at c.args.self.now.levels c.args.place) st.2
+      ∙ led c.args.self.now.levels (after_member st.0 st.1) (next_key st.0 st.1) c.args.byte c.args.place c.behind.result c.requires.first
       (ap (step c.args.self.now.levels c.args.place.at (after_member st.0 st.1)) c.in-44.is) c.behind.ensures.at c.behind.ensures.rest,
   less c.args.byte c.args.place.rest.now c.behind.result.rest.now c.requires.first c.behind.ensures.rest,
 )
@@ -23,12 +24,15 @@ returns-in_ok-next-in-125-clause-goes c s st =
       put n st.1,
       c.in_ok-next-in-125.ensures.ok n st.1 (tree_of_object c.into_inner-members.result.members
           ∙ ap (λ o. object (members_of (pairs_of o.members.items))) c.into_inner-members.ensures ∙ ap (λ ms. object (members_of ms)) st.5) st.3 st.4,
-      ap (read_at c.args.self.now.levels c.args.place) st.2 ∙ led c.args.self.now.levels (after_member st.0 st.1) (put n st.1) c.args.byte c.args.place c.behind-in-125.result c.requires.first
+      ap (read_at c.args.self.now.levels c.args.place) st.2
+          ∙ led c.args.self.now.levels (after_member st.0 st.1) (put n st.1) c.args.byte c.args.place c.behind-in-125.result c.requires.first
           (ap (step c.args.self.now.levels c.args.place.at (after_member st.0 st.1)) c.in-125.is) c.behind-in-125.ensures.at c.behind-in-125.ensures.rest,
       less c.args.byte c.args.place.rest.now c.behind-in-125.result.rest.now c.requires.first c.behind-in-125.ensures.rest,
     )
 
 pub returns-in_default-clause-goes : goal.returns-in_default-clause-goes
 returns-in_default-clause-goes c s st =
-    fails_same (read_at c.args.self.now.levels c.args.place s) (read_at c.args.self.now.levels c.args.place (after_member st.0 st.1)) c.not_json.result (ap (read_at c.args.self.now.levels c.args.place) st.2)
-    (barred c.args.self.now.levels (after_member st.0 st.1) c.args.byte c.args.place c.not_json.result c.requires.first (member_other c.args.self.now.levels c.args.place.at st.0 st.1 c.args.byte c.requires.no_space (omega arith) (omega arith)) c.not_json.ensures)
+    fails_same (read_at c.args.self.now.levels c.args.place s) (read_at c.args.self.now.levels c.args.place (after_member st.0 st.1)) c.not_json.result
+    (ap (read_at c.args.self.now.levels c.args.place) st.2)
+    (barred c.args.self.now.levels (after_member st.0 st.1) c.args.byte c.args.place c.not_json.result c.requires.first
+    (member_other c.args.self.now.levels c.args.place.at st.0 st.1 c.args.byte c.requires.no_space (omega arith) (omega arith)) c.not_json.ensures)

@@ -13,7 +13,8 @@ use Rattle.json_text.proofs.reader.Reader.first_item.Goals as goal
 pub returns-then-byte-eq93-clause-goes : goal.returns-then-byte-eq93-clause-goes
 returns-then-byte-eq93-clause-goes c outer kept r = (
   put (list_node no_nodes) outer,
-  c.in_ok-next.ensures.ok (list_node no_nodes) outer (tree_of_list c.new.result ∙ ap (λ js. list (items_of (trees_of js))) c.new.ensures.items) kept (r ∙ sym (first_of-none (repeat_of outer))),
+  c.in_ok-next.ensures.ok (list_node no_nodes) outer (tree_of_list c.new.result ∙ ap (λ js. list (items_of (trees_of js))) c.new.ensures.items) kept
+      (r ∙ sym (first_of-none (repeat_of outer))),
   led c.args.self.now.levels (first_item outer) (put (list_node no_nodes) outer) c.args.byte c.args.place c.behind.result c.requires.first
       (ap (step c.args.self.now.levels c.args.place.at (first_item outer)) c.if-byte-eq93.true) c.behind.ensures.at c.behind.ensures.rest,
   less c.args.byte c.args.place.rest.now c.behind.result.rest.now c.requires.first c.behind.ensures.rest,
@@ -21,9 +22,11 @@ returns-then-byte-eq93-clause-goes c outer kept r = (
 
 pub returns-clause-goes : goal.returns-clause-goes
 returns-clause-goes c outer kept r =
-    goes_same c.args.self.now.levels (first_item outer) (value (in_list [] ∷ outer)) c.args.place c.value.result c.value.new.self.waiting.items c.value.new.self.repeat
+    goes_same c.args.self.now.levels (first_item outer)
+    (value (in_list [] ∷ outer)) c.args.place c.value.result c.value.new.self.waiting.items c.value.new.self.repeat
     (alike c.args.self.now.levels c.args.place.at (first_item outer) (value (in_list [] ∷ outer)) c.args.byte c.args.place.rest.now c.requires.first
     (first_item_goes c.args.self.now.levels c.args.place.at outer c.args.byte c.requires.no_space (omega arith)))
     (c.value.ensures.goes (in_list [] ∷ outer)
-    (subst (λ ks. KeepsAll (reverse ks) (in_list [] ∷ outer)) (sym c.in_ok-push.ensures.items) (keeps_more c.args.self.now.waiting.items (kept_list c.new-2.result) outer (in_list []) kept (ap trees_of c.new-2.ensures.items)))
+    (subst (λ ks. KeepsAll (reverse ks) (in_list [] ∷ outer)) (sym c.in_ok-push.ensures.items)
+    (keeps_more c.args.self.now.waiting.items (kept_list c.new-2.result) outer (in_list []) kept (ap trees_of c.new-2.ensures.items)))
     (r ∙ sym (first_of-none (repeat_of outer))))

@@ -12,18 +12,23 @@ use Rattle.json_text.proofs.reader.Reader.first_key.Goals as goal
 pub returns-in_ok-object-in-34-clause-goes : goal.returns-in_ok-object-in-34-clause-goes
 returns-in_ok-object-in-34-clause-goes c outer kept r =
     goes_same c.args.self.now.levels (first_key outer) (next_key [] outer) c.args.place c.key.result c.key.new.self.waiting.items c.key.new.self.repeat
-    (alike c.args.self.now.levels c.args.place.at (first_key outer) (next_key [] outer) c.args.byte c.args.place.rest.now c.requires.first (first_key_is c.args.self.now.levels c.args.place.at outer c.args.byte c.in-34.is))
-    (c.key.ensures.goes [] outer kept (r ∙ sym (first_of-none (repeat_of outer))) (ap (λ o. pairs_of o.members.items) c.in_ok-object-in-34.ensures.ok ∙ c.new.ensures))
+    (alike c.args.self.now.levels c.args.place.at (first_key outer) (next_key [] outer) c.args.byte c.args.place.rest.now c.requires.first
+    (first_key_is c.args.self.now.levels c.args.place.at outer c.args.byte c.in-34.is))
+    (c.key.ensures.goes [] outer kept (r ∙ sym (first_of-none (repeat_of outer)))
+    (ap (λ o. pairs_of o.members.items) c.in_ok-object-in-34.ensures.ok ∙ c.new.ensures))
 
 pub returns-in_ok-next-in-125-clause-goes : goal.returns-in_ok-next-in-125-clause-goes
 returns-in_ok-next-in-125-clause-goes c outer kept r =
     let n = object_node no_fields in (
       put n outer,
-      c.in_ok-next-in-125.ensures.ok n outer (tree_of_object c.new-in-125.result ∙ ap (λ ms. object (members_of (pairs_of ms))) c.new-in-125.ensures.items) kept (r ∙ sym (first_of-none (repeat_of outer))),
-      led c.args.self.now.levels (first_key outer) (put n outer) c.args.byte c.args.place c.behind.result c.requires.first (ap (step c.args.self.now.levels c.args.place.at (first_key outer)) c.in-125.is) c.behind.ensures.at c.behind.ensures.rest,
+      c.in_ok-next-in-125.ensures.ok n outer (tree_of_object c.new-in-125.result ∙ ap (λ ms. object (members_of (pairs_of ms))) c.new-in-125.ensures.items) kept
+          (r ∙ sym (first_of-none (repeat_of outer))),
+      led c.args.self.now.levels (first_key outer) (put n outer) c.args.byte c.args.place c.behind.result c.requires.first
+          (ap (step c.args.self.now.levels c.args.place.at (first_key outer)) c.in-125.is) c.behind.ensures.at c.behind.ensures.rest,
       less c.args.byte c.args.place.rest.now c.behind.result.rest.now c.requires.first c.behind.ensures.rest,
     )
 
 pub returns-in_default-clause-goes : goal.returns-in_default-clause-goes
 returns-in_default-clause-goes c outer kept r =
-    barred c.args.self.now.levels (first_key outer) c.args.byte c.args.place c.not_json.result c.requires.first (first_key_other c.args.self.now.levels c.args.place.at outer c.args.byte c.requires.no_space (omega arith) (omega arith)) c.not_json.ensures
+    barred c.args.self.now.levels (first_key outer) c.args.byte c.args.place c.not_json.result c.requires.first
+    (first_key_other c.args.self.now.levels c.args.place.at outer c.args.byte c.requires.no_space (omega arith) (omega arith)) c.not_json.ensures

@@ -11,6 +11,7 @@ returns-in_ok-push-in-Some-List-clause-ok c n outer is kept r =
 
 pub returns-in-Some-Object-clause-ok : goal.returns-in-Some-Object-clause-ok
 returns-in-Some-Object-clause-ok c n outer is kept r =
-    put_in_object c.pop.new.self.items c.args.self.now.waiting.items c.in-Some-Object.field-0-0 c.set.new.self.members.items c.args.json n outer c.args.self.now.repeat
+    put_in_object c.pop.new.self.items c.args.self.now.waiting.items c.in-Some-Object.field-0-0 c.set.new.self.members.items c.args.json n outer
+    c.args.self.now.repeat
     (c.in-Some-Object.ensures.items ∙ ap (λ k. c.pop.new.self.items ++ k ∷ []) c.in-Some-Object.field-0-is)
     (c.set.ensures ∙ ap (λ o. with_value c.in-Some-Object.field-0-0.slot (tree_of c.args.json) (pairs_of o.members.items)) c.deref_mut.ensures.value) is kept r

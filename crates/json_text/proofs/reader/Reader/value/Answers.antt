@@ -10,17 +10,36 @@ use Rattle.json_text.proofs.reader.Reader.value.Goals as goal
 use Rattle.json_text.proofs.reader.Reader.value.Goals.{in_default-via-then-byte-lt48, in_default-via-else-byte-lt48+else-byte-lt58}
 
 pub word-requires : goal.word-requires
-word-requires c = (null_node, tree_of_null, refl, begins_word c.args.byte 110 117 (108 ∷ 108 ∷ []) null_node c.args.place.rest.now (λ L at outer. refl) c.requires.first c.in-110.is)
+word-requires c = (
+  null_node,
+  tree_of_null,
+  refl,
+  begins_word c.args.byte 110 117 (108 ∷ 108 ∷ []) null_node c.args.place.rest.now
+      (λ L at outer. refl) c.requires.first c.in-110.is,
+)
 
 pub word-requires-in-116 : goal.word-requires-in-116
-word-requires-in-116 c = (truth_node true, tree_of_truth true, refl, begins_word c.args.byte 116 114 (117 ∷ 101 ∷ []) (truth_node true) c.args.place.rest.now (λ L at outer. refl) c.requires.first c.in-116.is)
+word-requires-in-116 c = (
+  truth_node true,
+  tree_of_truth true,
+  refl,
+  begins_word c.args.byte 116 114 (117 ∷ 101 ∷ []) (truth_node true) c.args.place.rest.now
+      (λ L at outer. refl) c.requires.first c.in-116.is,
+)
 
 pub word-requires-in-102 : goal.word-requires-in-102
-word-requires-in-102 c = (truth_node false, tree_of_truth false, refl, begins_word c.args.byte 102 97 (108 ∷ 115 ∷ 101 ∷ []) (truth_node false) c.args.place.rest.now (λ L at outer. refl) c.requires.first c.in-102.is)
+word-requires-in-102 c = (
+  truth_node false,
+  tree_of_truth false,
+  refl,
+  begins_word c.args.byte 102 97 (108 ∷ 115 ∷ 101 ∷ []) (truth_node false) c.args.place.rest.now
+      (λ L at outer. refl) c.requires.first c.in-102.is,
+)
 
 pub returns-in_default-clause-goes : goal.returns-in_default-clause-goes
 returns-in_default-clause-goes c outer kept r =
     subst (FailsSo (read_from c.args.self.now.levels c.args.place.at (value outer) c.args.place.rest.now)) (sym c.not_json.ensures)
     (by_byte c.args.self.now.levels c.args.place.at (value outer) c.args.byte c.args.place.rest.now (Err unexpected) c.requires.first
     (value_other c.args.self.now.levels c.args.place.at outer c.args.byte c.requires.no_space (omega arith) (omega arith) (omega arith) (omega arith)
-    (elim c.in_default.branch [ in_default-via-then-byte-lt48 w ↦ inl (omega arith) | in_default-via-else-byte-lt48+else-byte-lt58 w ↦ inr (omega arith) ]) (omega arith) (omega arith) (omega arith)))
+    (elim c.in_default.branch [ in_default-via-then-byte-lt48 w ↦ inl (omega arith) | in_default-via-else-byte-lt48+else-byte-lt58 w ↦ inr (omega arith) ])
+    (omega arith) (omega arith) (omega arith)))
