@@ -217,6 +217,16 @@ module _ (size levels : ℕ) (r : Node) where
   string_follows hole next text bs ends e h = filled hole text bs (came (fill hole text) next bs e h)
   string_follows hole next text bs stops e h = refused unexpected next e
 
+  first_key_follows : (outer : List Waiting) (next : State) (at b : ℕ) (bs : List ℕ) → at + suc (length bs) ≡ size
+      → step levels at (first_key outer) b ≡ Ok next
+      → Follows next bs → Follows (first_key outer) (b ∷ bs)
+  first_key_follows outer next at b bs s e h =
+      choose (is_space b) _ _ _ (λ t e. let (fs, future, k) = came (first_key outer) next bs e h in (fs, future, inr (t, k))) (λ _ e.
+      choose (b == 34) _ _ _ (λ t e. let (key, n, future, k) = key_follows [] outer next at b bs s t e h in (field at key n future.0, future.1, inl k)) (λ _ e.
+      choose (b == 125) _ _ _ (λ t e. let (future, k) = came_put (object_node no_fields) outer next bs e h in (no_fields, future, inl (eqb-true b 125 t, k)))
+      (λ _ e.
+      refused unexpected next e) e) e) e
+
   pub follows_step : (state next : State) (at b : ℕ) (bs : List ℕ) → at + suc (length bs) ≡ size → step levels at state b ≡ Ok next → Follows next bs
       → Follows state (b ∷ bs)
   follows_step (value outer) next at b bs s e h =
@@ -227,12 +237,7 @@ module _ (size levels : ℕ) (r : Node) where
       choose (b == 93) _ _ _ (λ t e. let (future, k) = came_put (list_node no_nodes) outer next bs e h in (no_nodes, future, inl (eqb-true b 93 t, k))) (λ _ e.
       let (n, future, k) = value_follows (in_list [] ∷ outer) next b bs e h in (node n future.0, future.1, inl k)) e) e
   follows_step (after_item ns outer) next at b bs s e h = item_follows ns outer next b bs e h
-  follows_step (first_key outer) next at b bs s e h =
-      choose (is_space b) _ _ _ (λ t e. let (fs, future, k) = came (first_key outer) next bs e h in (fs, future, inr (t, k))) (λ _ e.
-      choose (b == 34) _ _ _ (λ t e. let (key, n, future, k) = key_follows [] outer next at b bs s t e h in (field at key n future.0, future.1, inl k)) (λ _ e.
-      choose (b == 125) _ _ _ (λ t e. let (future, k) = came_put (object_node no_fields) outer next bs e h in (no_fields, future, inl (eqb-true b 125 t, k)))
-      (λ _ e.
-      refused unexpected next e) e) e) e
+  follows_step (first_key outer) next at b bs s e h = first_key_follows outer next at b bs s e h
   follows_step (next_key ms outer) next at b bs s e h =
       choose (is_space b) _ _ _ (λ t e. let (place, key, n, future, k) = came (next_key ms outer) next bs e h in (place, key, n, future, inr (t, k))) (λ _ e.
       choose (b == 34) _ _ _ (λ t e. let (key, n, future, k) = key_follows ms outer next at b bs s t e h in (at, key, n, future, inl k)) (λ _ e.

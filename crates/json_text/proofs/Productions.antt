@@ -102,10 +102,13 @@ module _ (size : ℕ) where
   field_at at bytes before name gap back e j = omega (arith, e, simp length-append at (ap length j))
 
   -- a member: its key, its colon and its value
-  member : (X : (List ℕ → Type 0) → List ℕ → Type 0) (V : ℕ → List ℕ → Type 0) (W : Type 0) (place : ℕ) (key : List ℕ) → Reads X V W
-      → Reads (λ K. Space (Key size place key (Space (Byte 58 (X K))))) (λ at front. SpellsField V at front place key) W
-  member X V W place key x = record {
-    to = λ at K bytes e h.
+  module _ (X : (List ℕ → Type 0) → List ℕ → Type 0) (V : ℕ → List ℕ → Type 0) (W : Type 0) (place : ℕ) (key : List ℕ) (x : Reads X V W) where
+    abbrev Member : (List ℕ → Type 0) → List ℕ → Type 0
+    Member K = Space (Key size place key (Space (Byte 58 (X K))))
+
+    member_to : (at : ℕ) (K : List ℕ → Type 0) (bytes : List ℕ) → at + length bytes ≡ size → Member K bytes
+        → Front (λ front. SpellsField V at front place key × W) K bytes
+    member_to at K bytes e h =
         let s = space_front (Key size place key (Space (Byte 58 (X K)))) bytes h in
         let (inside, rest, is, spelled, k) = s.second.1 in
         let name = 34 ∷ (inside ++ 34 ∷ []) in
@@ -114,30 +117,27 @@ module _ (size : ℕ) where
         let here : place ≡ at + length s.front = omega (arith, behind at bytes s.front s.back e s.joined, s.second.0) in
         let all : bytes ≡ s.front ++ (name ++ (g.front ++ 58 ∷ c.0)) =
         s.joined ∙ ap (λ t. s.front ++ t) (is ∙ ap (λ t. 34 ∷ (inside ++ 34 ∷ t)) (g.joined ∙ ap (λ t. g.front ++ t) c.1)) ∙ simp append_assoc in
-        let there = field_at at bytes s.front name g.front c.0 e all in
-        let v = x.to (at + length s.front + length name + length g.front + 1) K c.0 there c.2 in record {
+        let v = x.to (at + length s.front + length name + length g.front + 1) K c.0 (field_at at bytes s.front name g.front c.0 e all) c.2 in record {
           front = s.front ++ (name ++ (g.front ++ 58 ∷ v.front));
           back = v.back;
           joined = all ∙ ap (λ t. s.front ++ (name ++ (g.front ++ 58 ∷ t))) v.joined ∙ simp append_assoc;
           first = ((s.front, name, g.front, v.front, refl, s.first, here, (inside, refl, spelled), g.first, v.first.0), v.first.1);
           second = v.second;
-        };
-    from = λ at K front back e (before, name, gap, rest, is, s, here, (inside, quoted, spelled), t, v) w k.
-        let all : front ++ back ≡ before ++ (name ++ (gap ++ 58 ∷ (rest ++ back))) = ap (λ x. x ++ back) is ∙ simp append_assoc in
-        let K' = Space (Byte 58 (X K)) in
-        subst (Space (Key size place key K')) (sym all)
-        (space_from (Key size place key K') before (name ++ (gap ++ 58 ∷ (rest ++ back))) s (
-          omega (arith, here, behind at (front ++ back) before (name ++ (gap ++ 58 ∷ (rest ++ back))) e all),
-          (
-            inside,
-            gap ++ 58 ∷ (rest ++ back),
-            ap (λ n. n ++ (gap ++ 58 ∷ (rest ++ back))) quoted ∙ ap (λ t. 34 ∷ t) (append_assoc inside (34 ∷ []) (gap ++ 58 ∷ (rest ++ back))),
-            spelled,
-            space_from (Byte 58 (X K)) gap (58 ∷ (rest ++ back)) t
-                (refl, x.from _ K rest back (field_at at (front ++ back) before name gap (rest ++ back) e all) v w k),
-          ),
-        ));
-  }
+        }
+
+    member_from : (at : ℕ) (K : List ℕ → Type 0) (front back : List ℕ) → at + length (front ++ back) ≡ size → SpellsField V at front place key → W → K back
+        → Member K (front ++ back)
+    member_from at K front back e (before, name, gap, rest, is, s, here, (inside, quoted, spelled), t, v) w k =
+        let left = gap ++ 58 ∷ (rest ++ back) in
+        let all : front ++ back ≡ before ++ (name ++ left) = ap (λ x. x ++ back) is ∙ simp append_assoc in
+        let same : name ++ left ≡ 34 ∷ (inside ++ 34 ∷ left) = ap (λ n. n ++ left) quoted ∙ ap (λ t. 34 ∷ t) (append_assoc inside (34 ∷ []) left) in
+        let there = field_at at (front ++ back) before name gap (rest ++ back) e all in
+        let value = space_from (Byte 58 (X K)) gap (58 ∷ (rest ++ back)) t (refl, x.from _ K rest back there v w k) in
+        let sum : place + length (name ++ left) ≡ size = omega (arith, here, behind at (front ++ back) before (name ++ left) e all) in
+        subst (Member K) (sym all) (space_from (Key size place key (Space (Byte 58 (X K)))) before (name ++ left) s (sum, (inside, left, same, spelled, value)))
+
+    member : Reads Member (λ at front. SpellsField V at front place key) W
+    member = record { to = member_to; from = member_from }
 
   -- an element and more of them
   abbrev Pair : (V U : ℕ → List ℕ → Type 0) → ℕ → List ℕ → Type 0
