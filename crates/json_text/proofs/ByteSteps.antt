@@ -70,34 +70,22 @@ module _ (size levels : ℕ) (r : Node) where
   -- a value is whole: what waits for it goes on
   pub put_follows : (n : Node) (outer : List Waiting) (bytes : List ℕ) → Done outer n bytes → Follows (put n outer) bytes
   put_follows n [] bytes h = h
-  put_follows n (in_list ns ∷ outer) bytes ((xs, future), h) = (
-    xs,
-    future,
-    subst
-        (λ all. Space (MoreItems size xs (levels - suc (length outer)) (Byte 93 (Space (Waits outer future (list_node all))))) bytes)
-        (sym (then_node ns n xs)) h,
-  )
-  put_follows n (in_object ms place key ∷ outer) bytes ((xs, future), h) = (
-    xs,
-    future,
-    subst
-        (λ all. Space (MoreMembers size xs (levels - suc (length outer)) (Byte 125 (Space (Waits outer future (object_node all))))) bytes)
-        (sym (then_field ms place key n xs)) h,
-  )
+  put_follows n (in_list ns ∷ outer) bytes h = h
+  put_follows n (in_object ms place key ∷ outer) bytes h = h
 
   pub follows_put : (n : Node) (outer : List Waiting) (bytes : List ℕ) → Follows (put n outer) bytes → Done outer n bytes
   follows_put n [] bytes h = h
-  follows_put n (in_list ns ∷ outer) bytes (xs, future, h) = (
-    (xs, future),
-    subst
-        (λ all. Space (MoreItems size xs (levels - suc (length outer)) (Byte 93 (Space (Waits outer future (list_node all))))) bytes) (then_node ns n xs) h,
-  )
-  follows_put n (in_object ms place key ∷ outer) bytes (xs, future, h) = (
-    (xs, future),
-    subst
-        (λ all. Space (MoreMembers size xs (levels - suc (length outer)) (Byte 125 (Space (Waits outer future (object_node all))))) bytes)
-        (then_field ms place key n xs) h,
-  )
+  follows_put n (in_list ns ∷ outer) bytes h = h
+  follows_put n (in_object ms place key ∷ outer) bytes h = h
+
+  -- what a comma leads to, where all is the whole list or object
+  abbrev NextItem : (outer : List Waiting) → Node → Nodes × Future outer → Nodes → List ℕ → Type 0
+  NextItem outer n future all = let l = levels - suc (length outer) in
+      Space (Value size n l (Space (MoreItems size future.0 l (Byte 93 (Space (Waits outer future.1 (list_node all)))))))
+
+  abbrev NextMember : (outer : List Waiting) → ℕ → List ℕ → Node → Fields × Future outer → Fields → List ℕ → Type 0
+  NextMember outer place key n future all = let l = levels - suc (length outer) in
+      Space (Key size place key (Space (Byte 58 (Space (Value size n l (Space (MoreMembers size future.0 l (Byte 125 (Space (Waits outer future.1 (object_node all)))))))))))
 
   came_put : (n : Node) (outer : List Waiting) (next : State) (bytes : List ℕ) → went (put n outer) ≡ Ok next → Follows next bytes → Done outer n bytes
   came_put n outer next bytes e h = follows_put n outer bytes (came (put n outer) next bytes e h)
@@ -157,21 +145,21 @@ module _ (size levels : ℕ) (r : Node) where
   item_follows : (ns : List Node) (outer : List Waiting) (next : State) (b : ℕ) (bs : List ℕ) → after_step (after_item ns outer) b ≡ Ok next → Follows next bs
       → Follows (after_item ns outer) (b ∷ bs)
   item_follows ns outer next b bs e h =
-      choose (is_space b) _ _ _ (λ t e. let (xs, future, k) = came (after_item ns outer) next bs e h in (xs, future, inr (t, k))) (λ _ e.
+      choose (is_space b) _ _ _ (λ t e. let (future, k) = came (after_item ns outer) next bs e h in (future, inr (t, k))) (λ _ e.
       choose (b == 44) _ _ _ (λ t e. let (n, future, k) = came (value (in_list ns ∷ outer)) next bs e h in
-      (node n future.0, future.1, inl (eqb-true b 44 t, k))) (λ _ e.
-      choose (b == 93) _ _ _ (λ t e. let (future, k) = came_put (list_node (nodes_of ns)) outer next bs e h in (no_nodes, future, inl (eqb-true b 93 t, k)))
+      ((node n future.0, future.1), inl (eqb-true b 44 t, subst (λ all. NextItem outer n future all bs) (then_node ns n future.0) k))) (λ _ e.
+      choose (b == 93) _ _ _ (λ t e. let (future, k) = came_put (list_node (nodes_of ns)) outer next bs e h in ((no_nodes, future), inl (eqb-true b 93 t, k)))
       (λ _ e.
       refused unexpected next e) e) e) e
 
   member_follows : (ms : List Member) (outer : List Waiting) (next : State) (b : ℕ) (bs : List ℕ) → after_step (after_member ms outer) b ≡ Ok next
       → Follows next bs → Follows (after_member ms outer) (b ∷ bs)
   member_follows ms outer next b bs e h =
-      choose (is_space b) _ _ _ (λ t e. let (xs, future, k) = came (after_member ms outer) next bs e h in (xs, future, inr (t, k))) (λ _ e.
+      choose (is_space b) _ _ _ (λ t e. let (future, k) = came (after_member ms outer) next bs e h in (future, inr (t, k))) (λ _ e.
       choose (b == 44) _ _ _ (λ t e. let (place, key, n, future, k) = came (next_key ms outer) next bs e h in
-      (field place key n future.0, future.1, inl (eqb-true b 44 t, k))) (λ _ e.
+      ((field place key n future.0, future.1), inl (eqb-true b 44 t, subst (λ all. NextMember outer place key n future all bs) (then_field ms place key n future.0) k))) (λ _ e.
       choose (b == 125) _ _ _ (λ t e. let (future, k) = came_put (object_node (fields_of ms)) outer next bs e h in
-      (no_fields, future, inl (eqb-true b 125 t, k))) (λ _ e.
+      ((no_fields, future), inl (eqb-true b 125 t, k))) (λ _ e.
       refused unexpected next e) e) e) e
 
   whole_follows : (n : Node) (next : State) (b : ℕ) (bs : List ℕ) → after_step (whole n) b ≡ Ok next → Follows next bs → Follows (whole n) (b ∷ bs)
@@ -181,9 +169,9 @@ module _ (size levels : ℕ) (r : Node) where
   put_step_follows : (n : Node) (outer : List Waiting) (next : State) (b : ℕ) (bs : List ℕ) → after_step (put n outer) b ≡ Ok next → Follows next bs
       → Done outer n (b ∷ bs)
   put_step_follows n [] next b bs e h = whole_follows n next b bs e h
-  put_step_follows n (in_list ns ∷ outer) next b bs e h = follows_put n (in_list ns ∷ outer) (b ∷ bs) (item_follows (ns ++ n ∷ []) outer next b bs e h)
+  put_step_follows n (in_list ns ∷ outer) next b bs e h = item_follows (ns ++ n ∷ []) outer next b bs e h
   put_step_follows n (in_object ms place key ∷ outer) next b bs e h =
-      follows_put n (in_object ms place key ∷ outer) (b ∷ bs) (member_follows (ms ++ record { place = place; key = key; of = n } ∷ []) outer next b bs e h)
+      member_follows (ms ++ record { place = place; key = key; of = n } ∷ []) outer next b bs e h
 
   -- a key's quotation mark
   key_follows : (ms : List Member) (outer : List Waiting) (next : State) (at b : ℕ) (bs : List ℕ) → at + suc (length bs) ≡ size → (b == 34) ≡ true
@@ -322,21 +310,21 @@ module _ (size levels : ℕ) (r : Node) where
   put_goes : (n : Node) (outer : List Waiting) (future : Future outer) (bs : List ℕ) → Space (Waits outer future n) bs → Goes bs (Ok (put n outer))
   put_goes n outer future bs h = (put n outer, refl, put_follows n outer bs (future, h))
 
-  item_goes : (ns : List Node) (outer : List Waiting) (b : ℕ) (bs : List ℕ) → Follows (after_item ns outer) (b ∷ bs)
-      → Goes bs (after_step (after_item ns outer) b)
-  item_goes ns outer b bs (xs, future, inr (t, k)) = (after_item ns outer, cond-true _ _ _ t, (xs, future, k))
-  item_goes ns outer b bs (no_nodes, future, inl (e, k)) = goes_by bs _ _ (ap (after_step (after_item ns outer)) e)
-      (put_goes (list_node (nodes_of ns)) outer future bs k)
-  item_goes ns outer b bs (node n xs, future, inl (e, k)) = goes_by bs _ _ (ap (after_step (after_item ns outer)) e)
-      (value (in_list ns ∷ outer), refl, (n, (xs, future), k))
+  item_goes : (ns : List Node) (outer : List Waiting) (b : ℕ) (bs : List ℕ) → Follows (after_item ns outer) (b ∷ bs) → Goes bs (after_step (after_item ns outer) b)
+  item_goes ns outer b bs (future, inr (t, k)) = (after_item ns outer, cond-true _ _ _ t, (future, k))
+  item_goes ns outer b bs ((no_nodes, future), inl (e, k)) =
+      goes_by bs _ _ (ap (after_step (after_item ns outer)) e) (put_goes (list_node (nodes_of ns)) outer future bs k)
+  item_goes ns outer b bs ((node n xs, future), inl (e, k)) =
+      let same = subst (λ all. NextItem outer n (xs, future) all bs) (sym (then_node ns n xs)) k in
+      goes_by bs _ _ (ap (after_step (after_item ns outer)) e) (value (in_list ns ∷ outer), refl, (n, (xs, future), same))
 
-  member_goes : (ms : List Member) (outer : List Waiting) (b : ℕ) (bs : List ℕ) → Follows (after_member ms outer) (b ∷ bs)
-      → Goes bs (after_step (after_member ms outer) b)
-  member_goes ms outer b bs (xs, future, inr (t, k)) = (after_member ms outer, cond-true _ _ _ t, (xs, future, k))
-  member_goes ms outer b bs (no_fields, future, inl (e, k)) =
+  member_goes : (ms : List Member) (outer : List Waiting) (b : ℕ) (bs : List ℕ) → Follows (after_member ms outer) (b ∷ bs) → Goes bs (after_step (after_member ms outer) b)
+  member_goes ms outer b bs (future, inr (t, k)) = (after_member ms outer, cond-true _ _ _ t, (future, k))
+  member_goes ms outer b bs ((no_fields, future), inl (e, k)) =
       goes_by bs _ _ (ap (after_step (after_member ms outer)) e) (put_goes (object_node (fields_of ms)) outer future bs k)
-  member_goes ms outer b bs (field place key n xs, future, inl (e, k)) =
-      goes_by bs _ _ (ap (after_step (after_member ms outer)) e) (next_key ms outer, refl, (place, key, n, (xs, future), k))
+  member_goes ms outer b bs ((field place key n xs, future), inl (e, k)) =
+      let same = subst (λ all. NextMember outer place key n (xs, future) all bs) (sym (then_field ms place key n xs)) k in
+      goes_by bs _ _ (ap (after_step (after_member ms outer)) e) (next_key ms outer, refl, (place, key, n, (xs, future), same))
 
   whole_goes : (n : Node) (b : ℕ) (bs : List ℕ) → Follows (whole n) (b ∷ bs) → Goes bs (after_step (whole n) b)
   whole_goes n b bs (future, inr (t, k)) = (whole n, cond-true _ _ _ t, (future, k))
@@ -438,14 +426,14 @@ module _ (size levels : ℕ) (r : Node) where
   end_follows (value outer) (n, future, h) = absurd (no_value n _ _ h)
   end_follows (first_item outer) (no_nodes, future, h) = absurd h
   end_follows (first_item outer) (node n xs, future, h) = absurd (no_value n _ _ h)
-  end_follows (after_item ns outer) (no_nodes, future, h) = absurd h
-  end_follows (after_item ns outer) (node n xs, future, h) = absurd h
+  end_follows (after_item ns outer) ((no_nodes, future), h) = absurd h
+  end_follows (after_item ns outer) ((node n xs, future), h) = absurd h
   end_follows (first_key outer) (no_fields, future, h) = absurd h
   end_follows (first_key outer) (field place key n xs, future, (p, (inside, back, is, spelled, k))) = cc
   end_follows (next_key ms outer) (place, key, n, future, (p, (inside, back, is, spelled, k))) = cc
   end_follows (colon ms place key outer) (n, future, h) = absurd h
-  end_follows (after_member ms outer) (no_fields, future, h) = absurd h
-  end_follows (after_member ms outer) (field place key n xs, future, h) = absurd h
+  end_follows (after_member ms outer) ((no_fields, future), h) = absurd h
+  end_follows (after_member ms outer) ((field place key n xs, future), h) = absurd h
   end_follows (whole n) (future, h) = ap (λ n. Some n) (sym h.1)
   end_follows (word c rest n outer) (future, h) = absurd h
   end_follows (digits part spelling outer) (m, (future, h)) = let (e, same) = no_after outer future (number_node spelling) h in

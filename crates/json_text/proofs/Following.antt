@@ -88,10 +88,10 @@ module _ (size : ℕ) where
     abbrev pub After : (outer : List Waiting) → Future outer → Node → List ℕ → Type 0
     After [] future n bytes = (bytes ≡ []) × (whole_node ≡ n)
     After (in_list ns ∷ outer) future n bytes =
-        MoreItems future.0 (levels - suc (length outer)) (Byte 93 (Space (After outer future.1 (list_node (then_nodes ns (node n future.0)))))) bytes
+        MoreItems future.0 (levels - suc (length outer)) (Byte 93 (Space (After outer future.1 (list_node (then_nodes (ns ++ n ∷ []) future.0))))) bytes
     After (in_object ms place key ∷ outer) future n bytes =
         MoreMembers future.0 (levels - suc (length outer))
-        (Byte 125 (Space (After outer future.1 (object_node (then_fields ms (field place key n future.0)))))) bytes
+        (Byte 125 (Space (After outer future.1 (object_node (then_fields (ms ++ record { place = place; key = key; of = n } ∷ []) future.0))))) bytes
 
     abbrev pub Ended : List Waiting → Node → List ℕ → Type 0
     Ended outer n bytes = (future : Future outer) × Space (After outer future n) bytes
@@ -108,16 +108,16 @@ module _ (size : ℕ) where
     Following (value outer) bytes = (n : Node) × (future : Future outer) × Space (Value n (left outer) (Space (After outer future n))) bytes
     Following (first_item outer) bytes = (ns : Nodes) × (future : Future outer)
         × Space (Items ns (levels - suc (length outer)) (Byte 93 (Space (After outer future (list_node ns))))) bytes
-    Following (after_item ns outer) bytes = (xs : Nodes) × (future : Future outer)
-        × Space (MoreItems xs (levels - suc (length outer)) (Byte 93 (Space (After outer future (list_node (then_nodes ns xs)))))) bytes
+    Following (after_item ns outer) bytes = (future : Nodes × Future outer)
+        × Space (MoreItems future.0 (levels - suc (length outer)) (Byte 93 (Space (After outer future.1 (list_node (then_nodes ns future.0)))))) bytes
     Following (first_key outer) bytes = (fs : Fields) × (future : Future outer)
         × Space (Members fs (levels - suc (length outer)) (Byte 125 (Space (After outer future (object_node fs))))) bytes
     Following (next_key ms outer) bytes = (place : ℕ) × (key : List ℕ) × (n : Node) × (future : Future (in_object ms place key ∷ outer))
         × Space (Key place key (Space (Byte 58 (Space (Value n (levels - suc (length outer)) (Space (After (in_object ms place key ∷ outer) future n)))))))
         bytes
     Following (colon ms place key outer) bytes = Colon ms place outer key bytes
-    Following (after_member ms outer) bytes = (xs : Fields) × (future : Future outer)
-        × Space (MoreMembers xs (levels - suc (length outer)) (Byte 125 (Space (After outer future (object_node (then_fields ms xs)))))) bytes
+    Following (after_member ms outer) bytes = (future : Fields × Future outer)
+        × Space (MoreMembers future.0 (levels - suc (length outer)) (Byte 125 (Space (After outer future.1 (object_node (then_fields ms future.0)))))) bytes
     Following (whole n) bytes = Ended [] n bytes
     Following (word c rest n outer) bytes = (future : Future outer) × Literal (c ∷ rest) (Space (After outer future n)) bytes
     Following (digits part spelling outer) bytes = Digits part spelling (λ s. Ended outer (number_node s)) bytes

@@ -10,7 +10,7 @@ use Rattle.std.proofs.lemmas.Bool.Decides.{nat_tests}
 use Rattle.json_text.specs.Tree.{Tree, null, truth, number, text, list, object, Items, no_items, item, Members, no_members, member, items_of, members_of}
 use Rattle.json_text.specs.Characters.{SpellsCharacter, unescaped, escaped, unit, SpellsCharacters, none, more, SpellsString, IsHex, hex_digit_of}
 use Rattle.json_text.specs.Node.{Node, null_node, truth_node, number_node, text_node, list_node, object_node, Nodes, no_nodes, node, Fields, no_fields, field, with_member, value_of, values_of, members_after, levels_of, levels_of_nodes, levels_of_fields, first_of, first_repeat, first_repeat_in, first_repeat_behind}
-use Rattle.json_text.specs.Grammar.{SpellsValue, SpellsItems, SpellsMoreItems, SpellsMembers, SpellsMoreMembers, IsText, Padded}
+use Rattle.json_text.specs.Grammar.{SpellsValue, SpellsItems, SpellsMoreItems, SpellsMembers, SpellsMoreMembers, IsText, Padded, SpellsField}
 use Rattle.json_text.specs.Compact.{lower_hex, escape, quoted, compact_text, items_text, more_items_text, members_text, more_members_text, LacksKey, IsValue, AreItems, AreMembers, tree_levels, items_levels, members_levels}
 use Rattle.json_text.proofs.Encoded.{encode_1, encode_2, encode_3, encode_4, low_is_scalar}
 
@@ -220,6 +220,17 @@ leaf_back n t e f g = record { same = e; once = f; levels = g }
 unpadded : (P : ℕ → List ℕ → Type 0) (at : ℕ) (bytes : List ℕ) → P (at + 0) bytes → Padded P at bytes
 unpadded P at bytes h = ([], bytes, [], sym (append-nil bytes), tt, h, tt)
 
+plain_value : (n : Node) (at : ℕ) (bytes : List ℕ) → SpellsValue (at + 0) bytes n → Padded (λ place inside. SpellsValue place inside n) at bytes
+plain_value n at bytes h = unpadded (λ place inside. SpellsValue place inside n) at bytes h
+
+-- the place after a key and its colon
+abbrev after_key : ℕ → List ℕ → ℕ
+after_key at key = at + 0 + length (quoted key) + 0 + 1
+
+plain_field : (n : Node) (at : ℕ) (key bytes : List ℕ) → IsUtf8 key → SpellsValue (after_key at key + 0) bytes n
+    → SpellsField (Padded (λ place inside. SpellsValue place inside n)) at (quoted key ++ 58 ∷ bytes) (at + 0) key
+plain_field n at key bytes u h = ([], quoted key, [], bytes, refl, tt, refl, quoted_spelled key u, tt, plain_value n (after_key at key) bytes h)
+
 abbrev IsSpelled : ℕ → List ℕ → Tree → Type 0
 IsSpelled at bytes t = (n : Node) × SpellsValue at bytes n × Back n t
 
@@ -236,93 +247,38 @@ mutual
   items_spelled : (items : Items) (at : ℕ) → AreItems items → (ns : Nodes) × SpellsItems at (items_text items) ns × ItemsBack ns items
   items_spelled no_items at v = (no_nodes, tt, no_items_back)
   items_spelled (item t items) at v =
-      let r = value_spelled t (at + 0) v.0 in
-      let q = more_items_spelled items (at + length (compact_text t)) v.1 in (
-        node r.0 q.0,
-        (compact_text t, more_items_text items, refl, unpadded (λ place inside. SpellsValue place inside r.0) at (compact_text t) r.1, q.1),
-        item_back r.2 q.2,
-      )
+      let (n, here, back) = value_spelled t (at + 0) v.0 in
+      let (ns, rest, others) = more_items_spelled items (at + length (compact_text t)) v.1 in
+      (node n ns, (compact_text t, more_items_text items, refl, plain_value n at (compact_text t) here, rest), item_back back others)
 
   more_items_spelled : (items : Items) (at : ℕ) → AreItems items → (ns : Nodes) × SpellsMoreItems at (more_items_text items) ns × ItemsBack ns items
   more_items_spelled no_items at v = (no_nodes, refl, no_items_back)
   more_items_spelled (item t items) at v =
-      let r = value_spelled t (at + 1 + 0) v.0 in
-      let q = more_items_spelled items (at + 1 + length (compact_text t)) v.1 in (
-        node r.0 q.0,
-        (compact_text t, more_items_text items, refl, unpadded (λ place inside. SpellsValue place inside r.0) (at + 1) (compact_text t) r.1, q.1),
-        item_back r.2 q.2,
-      )
+      let (n, here, back) = value_spelled t (at + 1 + 0) v.0 in
+      let (ns, rest, others) = more_items_spelled items (at + 1 + length (compact_text t)) v.1 in
+      (node n ns, (compact_text t, more_items_text items, refl, plain_value n (at + 1) (compact_text t) here, rest), item_back back others)
 
   members_spelled : (ms : Members) (at : ℕ) → AreMembers ms → (fs : Fields) × SpellsMembers at (members_text ms) fs × MembersBack fs ms
   members_spelled no_members at v = (no_fields, tt, no_members_back)
   members_spelled (member key t ms) at v =
       let first = quoted key ++ 58 ∷ compact_text t in
-      let there = at + 0 + length (quoted key) + 0 + 1 in
-      let r = value_spelled t (there + 0) v.2 in
-      let q = more_members_spelled ms (at + length first) v.3 in (
-        field (at + 0) key r.0 q.0,
-        (
-          first,
-          more_members_text ms,
-          sym (append_assoc (quoted key) (58 ∷ compact_text t) (more_members_text ms)),
-          (
-            [],
-            quoted key,
-            [],
-            compact_text t,
-            refl,
-            tt,
-            refl,
-            quoted_spelled key v.0,
-            tt,
-            unpadded (λ place inside. SpellsValue place inside r.0) there (compact_text t) r.1,
-          ),
-          q.1,
-        ),
-        member_back (at + 0) key r.2 q.2,
-      )
+      let (n, here, back) = value_spelled t (after_key at key + 0) v.2 in
+      let (fs, rest, others) = more_members_spelled ms (at + length first) v.3 in
+      let join = sym (append_assoc (quoted key) (58 ∷ compact_text t) (more_members_text ms)) in
+      (field (at + 0) key n fs, (first, more_members_text ms, join, plain_field n at key (compact_text t) v.0 here, rest), member_back (at + 0) key back others)
 
   more_members_spelled : (ms : Members) (at : ℕ) → AreMembers ms → (fs : Fields) × SpellsMoreMembers at (more_members_text ms) fs × MembersBack fs ms
   more_members_spelled no_members at v = (no_fields, refl, no_members_back)
   more_members_spelled (member key t ms) at v =
       let first = quoted key ++ 58 ∷ compact_text t in
-      let there = at + 1 + 0 + length (quoted key) + 0 + 1 in
-      let r = value_spelled t (there + 0) v.2 in
-      let q = more_members_spelled ms (at + 1 + length first) v.3 in (
-        field (at + 1 + 0) key r.0 q.0,
-        (
-          first,
-          more_members_text ms,
-          ap (λ x. 44 ∷ x) (sym (append_assoc (quoted key) (58 ∷ compact_text t) (more_members_text ms))),
-          (
-            [],
-            quoted key,
-            [],
-            compact_text t,
-            refl,
-            tt,
-            refl,
-            quoted_spelled key v.0,
-            tt,
-            unpadded (λ place inside. SpellsValue place inside r.0) there (compact_text t) r.1,
-          ),
-          q.1,
-        ),
-        member_back (at + 1 + 0) key r.2 q.2,
-      )
-
-at_most : (a b : ℕ) → a ≡ b → a ≤ b
-at_most a b e = omega arith
+      let (n, here, back) = value_spelled t (after_key (at + 1) key + 0) v.2 in
+      let (fs, rest, others) = more_members_spelled ms (at + 1 + length first) v.3 in
+      let join = ap (λ x. 44 ∷ x) (sym (append_assoc (quoted key) (58 ∷ compact_text t) (more_members_text ms))) in
+      let spelled = plain_field n (at + 1) key (compact_text t) v.0 here in
+      (field (at + 1 + 0) key n fs, (first, more_members_text ms, join, spelled, rest), member_back (at + 1 + 0) key back others)
 
 -- the compact text of a value is a JSON text of its levels that stands for it, with no key twice
 pub compact_spelled : (t : Tree) → IsValue t → (n : Node) × IsText (tree_levels t) (compact_text t) n × (value_of n ≡ t) × (first_repeat n ≡ None)
-compact_spelled t v = let r = value_spelled t (0 + 0) v in (
-  r.0,
-  record {
-    spelled = unpadded (λ place inside. SpellsValue place inside r.0) 0 (compact_text t) r.1;
-    within =
-        at_most (levels_of r.0) (tree_levels t) r.2.levels;
-  },
-  r.2.same,
-  r.2.once,
-)
+compact_spelled t v =
+    let (n, here, back) = value_spelled t (0 + 0) v in
+    (n, record { spelled = plain_value n 0 (compact_text t) here; within = omega (arith, back.levels) }, back.same, back.once)
