@@ -85,7 +85,8 @@ module _ (size levels : ℕ) (r : Node) where
 
   abbrev NextMember : (outer : List Waiting) → ℕ → List ℕ → Node → Fields × Future outer → Fields → List ℕ → Type 0
   NextMember outer place key n future all = let l = levels - suc (length outer) in
-      Space (Key size place key (Space (Byte 58 (Space (Value size n l (Space (MoreMembers size future.0 l (Byte 125 (Space (Waits outer future.1 (object_node all)))))))))))
+      Space (Key size place key
+      (Space (Byte 58 (Space (Value size n l (Space (MoreMembers size future.0 l (Byte 125 (Space (Waits outer future.1 (object_node all)))))))))))
 
   came_put : (n : Node) (outer : List Waiting) (next : State) (bytes : List ℕ) → went (put n outer) ≡ Ok next → Follows next bytes → Done outer n bytes
   came_put n outer next bytes e h = follows_put n outer bytes (came (put n outer) next bytes e h)
@@ -156,8 +157,10 @@ module _ (size levels : ℕ) (r : Node) where
       → Follows next bs → Follows (after_member ms outer) (b ∷ bs)
   member_follows ms outer next b bs e h =
       choose (is_space b) _ _ _ (λ t e. let (future, k) = came (after_member ms outer) next bs e h in (future, inr (t, k))) (λ _ e.
-      choose (b == 44) _ _ _ (λ t e. let (place, key, n, future, k) = came (next_key ms outer) next bs e h in
-      ((field place key n future.0, future.1), inl (eqb-true b 44 t, subst (λ all. NextMember outer place key n future all bs) (then_field ms place key n future.0) k))) (λ _ e.
+      choose (b == 44) _ _ _ (λ t e. let (place, key, n, future, k) = came (next_key ms outer) next bs e h in (
+        (field place key n future.0, future.1),
+        inl (eqb-true b 44 t, subst (λ all. NextMember outer place key n future all bs) (then_field ms place key n future.0) k),
+      )) (λ _ e.
       choose (b == 125) _ _ _ (λ t e. let (future, k) = came_put (object_node (fields_of ms)) outer next bs e h in
       ((no_fields, future), inl (eqb-true b 125 t, k))) (λ _ e.
       refused unexpected next e) e) e) e
@@ -310,7 +313,8 @@ module _ (size levels : ℕ) (r : Node) where
   put_goes : (n : Node) (outer : List Waiting) (future : Future outer) (bs : List ℕ) → Space (Waits outer future n) bs → Goes bs (Ok (put n outer))
   put_goes n outer future bs h = (put n outer, refl, put_follows n outer bs (future, h))
 
-  item_goes : (ns : List Node) (outer : List Waiting) (b : ℕ) (bs : List ℕ) → Follows (after_item ns outer) (b ∷ bs) → Goes bs (after_step (after_item ns outer) b)
+  item_goes : (ns : List Node) (outer : List Waiting) (b : ℕ) (bs : List ℕ) → Follows (after_item ns outer) (b ∷ bs)
+      → Goes bs (after_step (after_item ns outer) b)
   item_goes ns outer b bs (future, inr (t, k)) = (after_item ns outer, cond-true _ _ _ t, (future, k))
   item_goes ns outer b bs ((no_nodes, future), inl (e, k)) =
       goes_by bs _ _ (ap (after_step (after_item ns outer)) e) (put_goes (list_node (nodes_of ns)) outer future bs k)
@@ -318,7 +322,8 @@ module _ (size levels : ℕ) (r : Node) where
       let same = subst (λ all. NextItem outer n (xs, future) all bs) (sym (then_node ns n xs)) k in
       goes_by bs _ _ (ap (after_step (after_item ns outer)) e) (value (in_list ns ∷ outer), refl, (n, (xs, future), same))
 
-  member_goes : (ms : List Member) (outer : List Waiting) (b : ℕ) (bs : List ℕ) → Follows (after_member ms outer) (b ∷ bs) → Goes bs (after_step (after_member ms outer) b)
+  member_goes : (ms : List Member) (outer : List Waiting) (b : ℕ) (bs : List ℕ) → Follows (after_member ms outer) (b ∷ bs)
+      → Goes bs (after_step (after_member ms outer) b)
   member_goes ms outer b bs (future, inr (t, k)) = (after_member ms outer, cond-true _ _ _ t, (future, k))
   member_goes ms outer b bs ((no_fields, future), inl (e, k)) =
       goes_by bs _ _ (ap (after_step (after_member ms outer)) e) (put_goes (object_node (fields_of ms)) outer future bs k)

@@ -1,6 +1,7 @@
 -- What the reader keeps, as it goes on: `put_in_list`, `put_in_object`; a key and its place: `key_waits`.
-use Rattle.std.proofs.Common.{◌≡◌, ℕ, suc, ◌+◌, List, [], ◌∷◌, ◌++◌, length, map, reverse, Bool, true, false, Option, Some, None, refl, sym, ap, ◌∙◌, subst, arith, cond, if◌then◌else◌, ◌||◌, ◌⊎◌, inl, inr}
+use Rattle.std.proofs.Common.{◌≡◌, ℕ, suc, ◌+◌, List, [], ◌∷◌, ◌++◌, length, map, reverse, Bool, true, false, Option, Some, None, refl, sym, ap, ◌∙◌, subst, arith, cond, if◌then◌else◌, ◌||◌, inl, inr}
 use Rattle.std.specs.Prelude.{unwrap_or}
+use Rattle.std.proofs.lemmas.Bool.{cases_Bool}
 use Rattle.std.proofs.lemmas.Slice.Eq.{bytes_eq-Decides}
 use Rattle.std.specs.List.{list_any}
 use Rattle.std.specs.Str.{bytes_eq}
@@ -14,13 +15,6 @@ use Rattle.json_text.specs.Kept.{keys_behind, repeat_at, repeat_of, Keeps, Keeps
 use Rattle.json_text.specs.declared.value.Json.{Json}
 use Rattle.json_text.specs.declared.state.Kept.{Kept}
 use Rattle.json_text.specs.declared.state.Kept.TheVariants.{List as kept_list, Object as kept_object}
-
-bool_or : (b : Bool) → (b ≡ true) ⊎ (b ≡ false)
-bool_or true = inl refl
-bool_or false = inr refl
-
-bytes_eq_true : (a b : List ℕ) → bytes_eq a b ≡ true → a ≡ b
-bytes_eq_true a b h = (bytes_eq-Decides a b).0 h
 
 pub first_of-assoc : (a b c : Option ℕ) → first_of (first_of a b) c ≡ first_of a (first_of b c)
 first_of-assoc None b c = refl
@@ -89,9 +83,9 @@ swap_or false false c = refl
 has-with_member : (key k : List ℕ) (t : Tree) (ms : List (List ℕ × Tree)) → has key (with_member k t ms) ≡ (bytes_eq key k || has key ms)
 has-with_member key k t [] = refl
 has-with_member key k t (m ∷ ms) =
-    elim (bool_or (bytes_eq k m.0)) [
+    elim (cases_Bool (bytes_eq k m.0)) [
       | inl same ↦ ap (λ b. has key (cond b ((m.0, t) ∷ ms) (m ∷ with_member k t ms))) same
-          ∙ sym (twice (bytes_eq key k) (bytes_eq key m.0) (has key ms) (ap (bytes_eq key) (bytes_eq_true k m.0 same)))
+          ∙ sym (twice (bytes_eq key k) (bytes_eq key m.0) (has key ms) (ap (bytes_eq key) ((bytes_eq-Decides k m.0).0 same)))
       | inr other ↦ ap (λ b. has key (cond b ((m.0, t) ∷ ms) (m ∷ with_member k t ms))) other
           ∙ ap (λ b. bytes_eq key m.0 || b) (has-with_member key k t ms) ∙ swap_or (bytes_eq key m.0) (bytes_eq key k) (has key ms)
     ]

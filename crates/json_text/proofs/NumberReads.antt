@@ -95,44 +95,21 @@ tail_of : (bs : List ℕ) (part : NumberPart) → Accepts part bs → Tail part 
 tail_of [] part h = tail_end part h
 tail_of (b ∷ bs) part h = tail_step part h.0 b bs h.1 (tail_of bs h.0 h.2)
 
+number_of : (m i f e bytes : List ℕ) → bytes ≡ m ++ (i ++ (f ++ e)) → IsMinus m → IsInt i → IsFraction f → IsExponent e → IsNumber bytes
+number_of m i f e bytes s a b c d =
+    record { minus = m; int = i; fraction = f; exponent = e; spelled = s; is_minus = a; is_int = b; is_fraction = c; is_exponent = d }
+
 pub minus_number : (t : List ℕ) → Accepts minus t → IsNumber (45 ∷ t)
-minus_number t h = let u = tail_of t minus h in let v = u.4 in record {
-  minus = 45 ∷ [];
-  int = u.0;
-  fraction = v.0;
-  exponent = v.1;
-  spelled = ap (λ x. 45 ∷ x) (u.2 ∙ ap (λ x. u.0 ++ x) v.2);
-  is_minus = (refl, refl);
-  is_int = u.3;
-  is_fraction = v.3;
-  is_exponent = v.4;
-}
+minus_number t h = let (i, u, is, whole, (f, e, both, frac, exp)) = tail_of t minus h in
+    number_of (45 ∷ []) i f e (45 ∷ t) (ap (λ x. 45 ∷ x) (is ∙ ap (λ x. i ++ x) both)) (refl, refl) whole frac exp
 
 pub zero_number : (t : List ℕ) → Accepts zero_int t → IsNumber (48 ∷ t)
-zero_number t h = let v = tail_of t zero_int h in record {
-  minus = [];
-  int = 48 ∷ [];
-  fraction = v.0;
-  exponent = v.1;
-  spelled = ap (λ x. 48 ∷ x) v.2;
-  is_minus = tt;
-  is_int = inl (refl, refl);
-  is_fraction = v.3;
-  is_exponent = v.4;
-}
+zero_number t h = let (f, e, both, frac, exp) = tail_of t zero_int h in
+    number_of [] (48 ∷ []) f e (48 ∷ t) (ap (λ x. 48 ∷ x) both) tt (inl (refl, refl)) frac exp
 
 pub int_number : (b : ℕ) (t : List ℕ) → is_digit_above_zero b ≡ true → Accepts int t → IsNumber (b ∷ t)
-int_number b t d h = let u = tail_of t int h in let v = u.4 in record {
-  minus = [];
-  int = b ∷ u.0;
-  fraction = v.0;
-  exponent = v.1;
-  spelled = ap (λ x. b ∷ x) (u.2 ∙ ap (λ x. u.0 ++ x) v.2);
-  is_minus = tt;
-  is_int = inr (d, u.3);
-  is_fraction = v.3;
-  is_exponent = v.4;
-}
+int_number b t d h = let (ds, u, is, are, (f, e, both, frac, exp)) = tail_of t int h in
+    number_of [] (b ∷ ds) f e (b ∷ t) (ap (λ x. b ∷ x) (is ∙ ap (λ x. ds ++ x) both)) tt (inr (d, are)) frac exp
 
 -- the other way: the parts that digits repeat
 int_digit : (b : ℕ) → is_ascii_digit b ≡ true → number_step int b ≡ Some int

@@ -1,10 +1,10 @@
 -- The index of an object's members: `slot_from-set`, `slot_from-push`, `with_value-set`, `slot_from-pairs`, `slot_from-below`, `slot_from-drop`,
 -- `pairs_of-push`, `HasHashes-push`, `HasHashes-set`, `IsIndex-set`.
-use Rattle.std.proofs.Common.{◌≡◌, ◌<◌, ℕ, zero, suc, ◌+◌, List, [], ◌∷◌, ◌++◌, length, Bool, true, false, Some, None, refl, sym, ap, ◌∙◌, arith, cond, if◌then◌else◌, get_or, drop, ◌⊎◌, inl, inr, ◌≢◌, ◌*◌, ◌%◌, ◌^◌, String, bit_or}
+use Rattle.std.proofs.Common.{◌≡◌, ◌<◌, ℕ, zero, suc, ◌+◌, List, [], ◌∷◌, ◌++◌, length, Bool, true, false, Some, None, refl, sym, ap, ◌∙◌, arith, cond, if◌then◌else◌, get_or, drop, inl, inr, ◌≢◌, ◌*◌, ◌%◌, ◌^◌, String, bit_or}
 use Rattle.std.proofs.lemmas.Slice.Eq.{bytes_eq-Decides}
 use Rattle.std.proofs.Math.ListN.{set}
 use Rattle.std.proofs.lemmas.List.{at_drop_more}
-use Rattle.std.proofs.lemmas.Bool.{cases_eq}
+use Rattle.std.proofs.lemmas.Bool.{cases_eq, cases_Bool}
 use Rattle.std.proofs.lemmas.Nat.Bits.{bit_at_set_same, bit_at_set_other}
 use Rattle.std.specs.Prelude.{unwrap_or, IsOk, is_ok, Result, Ok, Err}
 use Rattle.std.specs.Str.{bytes_eq}
@@ -17,10 +17,6 @@ use Rattle.json_text.specs.Tree.{null}
 use Rattle.json_text.specs.declared.value.Json.{Json}
 use Rattle.json_text.specs.declared.value.Json.TheVariants.{Null}
 use Rattle.json_text.proofs.ViewLemmas.{tree_of_null}
-
-either : (b : Bool) → (b ≡ true) ⊎ (b ≡ false)
-either true = inl refl
-either false = inr refl
 
 -- the key of the member at a place
 abbrev KeyAt : List (List ℕ × Json) → ℕ → List ℕ → Type 0
@@ -70,9 +66,9 @@ true_false h g = absurd (cc (h, g))
 
 bytes_eq-comm : (a b : List ℕ) → bytes_eq a b ≡ bytes_eq b a
 bytes_eq-comm a b =
-    elim (either (bytes_eq a b)) [
+    elim (cases_Bool (bytes_eq a b)) [
       | inl same ↦ same ∙ sym ((bytes_eq-Decides b a).1 (sym ((bytes_eq-Decides a b).0 same)))
-      | inr other ↦ other ∙ sym (elim (either (bytes_eq b a)) [
+      | inr other ↦ other ∙ sym (elim (cases_Bool (bytes_eq b a)) [
         | inl back ↦ true_false ((bytes_eq-Decides a b).1 (sym ((bytes_eq-Decides b a).0 back))) other
         | inr none ↦ none
       ])
@@ -90,7 +86,7 @@ slot_from-push at key k v [] h = ap (λ b. if b then Some at else None) (bytes_e
 slot_from-push at key k v (m ∷ ms) h =
     let first = not_first at k m ms h in
     ap (λ o. if bytes_eq key m.0 then Some at else o) (slot_from-push (at + 1) key k v ms first.1)
-    ∙ elim (either (bytes_eq k key)) [
+    ∙ elim (cases_Bool (bytes_eq k key)) [
       | inl same ↦
           ap (λ b. cond b (Some at) (cond (bytes_eq k key) (Some (at + 1 + length ms)) (slot_from (at + 1) key ms)))
           (ap (λ x. bytes_eq x m.0) (sym ((bytes_eq-Decides k key).0 same)) ∙ first.0)
@@ -130,7 +126,7 @@ HasHashes-push hashes hash k v ms is small new has q unset =
     ]
   where
     apart : (a b : List ℕ) → hash_of b ≢ hash_of a → bytes_eq a b ≡ false
-    apart a b other = elim (either (bytes_eq a b)) [
+    apart a b other = elim (cases_Bool (bytes_eq a b)) [
       | inl same ↦ absurd (other (ap hash_of (sym ((bytes_eq-Decides a b).0 same))))
       | inr differ ↦ differ
     ]
