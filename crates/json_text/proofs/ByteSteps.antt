@@ -68,7 +68,7 @@ module _ (size levels : ℕ) (r : Node) where
   came s next bytes e h = subst (λ s. Follows s bytes) (sym (ok_same s next e)) h
 
   -- a value is whole: what waits for it goes on
-  pub put_follows : (n : Node) (outer : List Waiting) (bytes : List ℕ) → Done outer n bytes → Follows (put n outer) bytes
+  put_follows : (n : Node) (outer : List Waiting) (bytes : List ℕ) → Done outer n bytes → Follows (put n outer) bytes
   put_follows n [] bytes h = h
   put_follows n (in_list ns ∷ outer) bytes h = h
   put_follows n (in_object ms place key ∷ outer) bytes h = h

@@ -67,13 +67,13 @@ pub hex_below : (b d : ℕ) → hex_digit_of b ≡ Some d → d < 16
 hex_below b d e = grind (arith, nat_tests)
 
 -- what the tests on the first two digits say
-pub alone_fits : (left n d : ℕ) → digit_fits None left n d ≡ true → left ≡ 3 → n ≡ 13 → d < 12
+alone_fits : (left n d : ℕ) → digit_fits None left n d ≡ true → left ≡ 3 → n ≡ 13 → d < 12
 alone_fits left n d t e f = grind (arith, nat_tests)
 
-pub low_fits_first : (lead left n d : ℕ) → digit_fits (Some lead) left n d ≡ true → left ≡ 4 → d ≡ 13
+low_fits_first : (lead left n d : ℕ) → digit_fits (Some lead) left n d ≡ true → left ≡ 4 → d ≡ 13
 low_fits_first lead left n d t e = grind (arith, nat_tests)
 
-pub low_fits_second : (lead left n d : ℕ) → digit_fits (Some lead) left n d ≡ true → left ≡ 3 → 12 ≤ d
+low_fits_second : (lead left n d : ℕ) → digit_fits (Some lead) left n d ≡ true → left ≡ 3 → 12 ≤ d
 low_fits_second lead left n d t e = grind (arith, nat_tests)
 
 alone_second : (n d : ℕ) → n < 16 → d < 16 → (n ≡ 13 → d < 12) → (16 * n + d < 0xDC) ⊎ (0xE0 ≤ 16 * n + d)

@@ -25,7 +25,7 @@ first_of-none None = refl
 first_of-none (Some at) = refl
 
 -- one node more
-pub first_repeat_in-more : (ns : List Node) (n : Node) → first_repeat_in (nodes_of (ns ++ n ∷ [])) ≡ first_of (first_repeat_in (nodes_of ns)) (first_repeat n)
+first_repeat_in-more : (ns : List Node) (n : Node) → first_repeat_in (nodes_of (ns ++ n ∷ [])) ≡ first_of (first_repeat_in (nodes_of ns)) (first_repeat n)
 first_repeat_in-more [] n = first_of-none (first_repeat n)
 first_repeat_in-more (m ∷ ns) n = ap (first_of (first_repeat m)) (first_repeat_in-more ns n)
     ∙ sym (first_of-assoc (first_repeat m) (first_repeat_in (nodes_of ns)) (first_repeat n))
@@ -35,7 +35,7 @@ values_of-nodes [] = refl
 values_of-nodes (n ∷ ns) = ap (λ ts. value_of n ∷ ts) (values_of-nodes ns)
 
 -- one member more
-pub members_after-more : (acc : List (List ℕ × Tree)) (ms : List Member) (m : Member)
+members_after-more : (acc : List (List ℕ × Tree)) (ms : List Member) (m : Member)
     → members_after acc (fields_of (ms ++ m ∷ [])) ≡ with_member m.key (value_of m.of) (members_after acc (fields_of ms))
 members_after-more acc [] m = refl
 members_after-more acc (o ∷ ms) m = members_after-more (with_member o.key (value_of o.of) acc) ms m

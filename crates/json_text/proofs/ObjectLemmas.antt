@@ -35,7 +35,7 @@ kept_slot at key k v slot [] h = absurd h
 kept_slot at key k v zero (m ∷ ms) h = ap (λ n. if bytes_eq key n then Some at else slot_from (at + 1) key ms) (sym h)
 kept_slot at key k v (suc slot) (m ∷ ms) h = ap (λ o. if bytes_eq key m.0 then Some at else o) (kept_slot (at + 1) key k v slot ms h)
 
-pub slot_from-set : (at : ℕ) (key : List ℕ) (v : Json) (slot : ℕ) (ms : List (List ℕ × Json)) (d : List ℕ × Json) → slot < length ms → d ≡ get_or ms slot d
+slot_from-set : (at : ℕ) (key : List ℕ) (v : Json) (slot : ℕ) (ms : List (List ℕ × Json)) (d : List ℕ × Json) → slot < length ms → d ≡ get_or ms slot d
     → slot_from at key (set ms slot (d.0, v)) ≡ slot_from at key ms
 slot_from-set at key v slot ms d h e = kept_slot at key d.0 v slot ms (key_at ms slot d h e)
 

@@ -13,7 +13,7 @@ pub record Front (P K : List ℕ → Type 0) (bytes : List ℕ) : Type 0 where
   pub first : P front
   pub second : K back
 
-pub space_front : (K : List ℕ → Type 0) (bytes : List ℕ) → Space K bytes → Front IsSpace K bytes
+space_front : (K : List ℕ → Type 0) (bytes : List ℕ) → Space K bytes → Front IsSpace K bytes
 space_front K [] h = record { front = []; back = []; joined = refl; first = tt; second = h }
 space_front K (b ∷ bs) (inl h) = record { front = []; back = b ∷ bs; joined = refl; first = tt; second = h }
 space_front K (b ∷ bs) (inr h) = let r = space_front K bs h.1 in
@@ -23,7 +23,7 @@ pub no_space : (K : List ℕ → Type 0) (bytes : List ℕ) → K bytes → Spac
 no_space K [] h = h
 no_space K (b ∷ bs) h = inl h
 
-pub space_from : (K : List ℕ → Type 0) (front back : List ℕ) → IsSpace front → K back → Space K (front ++ back)
+space_from : (K : List ℕ → Type 0) (front back : List ℕ) → IsSpace front → K back → Space K (front ++ back)
 space_from K [] back s h = no_space K back h
 space_from K (b ∷ front) back s h = inr (s.0, space_from K front back s.1 h)
 
@@ -31,12 +31,12 @@ byte_back : (c : ℕ) (K : List ℕ → Type 0) (bytes : List ℕ) → Byte c K 
 byte_back c K [] h = absurd h
 byte_back c K (b ∷ bs) h = (bs, ap (λ x. x ∷ bs) h.0, h.1)
 
-pub literal_back : (word : List ℕ) (K : List ℕ → Type 0) (bytes : List ℕ) → Literal word K bytes → (back : List ℕ) × (bytes ≡ word ++ back) × K back
+literal_back : (word : List ℕ) (K : List ℕ → Type 0) (bytes : List ℕ) → Literal word K bytes → (back : List ℕ) × (bytes ≡ word ++ back) × K back
 literal_back [] K bytes h = (bytes, refl, h)
 literal_back (c ∷ cs) K [] h = absurd h
 literal_back (c ∷ cs) K (b ∷ bs) h = let r = literal_back cs K bs h.1 in (r.0, ap (λ x. x ∷ bs) h.0 ∙ ap (λ x. c ∷ x) r.1, r.2)
 
-pub literal_from : (word : List ℕ) (K : List ℕ → Type 0) (back : List ℕ) → K back → Literal word K (word ++ back)
+literal_from : (word : List ℕ) (K : List ℕ → Type 0) (back : List ℕ) → K back → Literal word K (word ++ back)
 literal_from [] K back h = h
 literal_from (c ∷ cs) K back h = (refl, literal_from cs K back h)
 
@@ -228,7 +228,7 @@ module _ (size : ℕ) where
 
   mutual
     -- a value is spelled within so many levels
-    pub value_reads : (n : Node) (l : ℕ) → Reads (Value size n l) (Spells n) (levels_of n ≤ l)
+    value_reads : (n : Node) (l : ℕ) → Reads (Value size n l) (Spells n) (levels_of n ≤ l)
     value_reads null_node l = literal (codes "null") (0 ≤ l) (omega arith)
     value_reads (truth_node true) l = literal (codes "true") (0 ≤ l) (omega arith)
     value_reads (truth_node false) l = literal (codes "false") (0 ≤ l) (omega arith)

@@ -3,7 +3,7 @@ use Rattle.std.proofs.Common.{◌≡◌, ℕ, ◌+◌, List, [], ◌∷◌, Opti
 use Rattle.json_text.specs.Node.{Node}
 use Rattle.json_text.specs.Reading.{Stop, State, step, go_on, ended, end_of, read_from, Fault}
 
-pub read_cons : (levels at : ℕ) (state : State) (b : ℕ) (bs : List ℕ)
+read_cons : (levels at : ℕ) (state : State) (b : ℕ) (bs : List ℕ)
     → read_from levels at state (b ∷ bs) ≡ go_on at (step levels at state b) (λ next. read_from levels (at + 1) next bs)
 unfolding read_from
 read_cons levels at state b bs = refl
@@ -20,7 +20,7 @@ pub read_err : (levels at : ℕ) (state : State) (why : Stop) (b : ℕ) (bs : Li
     → read_from levels at state (b ∷ bs) ≡ Err (record { why = why; at = at })
 read_err levels at state why b bs e = read_cons levels at state b bs ∙ ap (λ s. go_on at s (λ next. read_from levels (at + 1) next bs)) e
 
-pub went_on : (at : ℕ) (s : Result State Stop) (f : State → Result Node Fault) (r : Node) → go_on at s f ≡ Ok r
+went_on : (at : ℕ) (s : Result State Stop) (f : State → Result Node Fault) (r : Node) → go_on at s f ≡ Ok r
     → (next : State) × (s ≡ Ok next) × (f next ≡ Ok r)
 went_on at (Ok next) f r h = (next, refl, h)
 went_on at (Err why) f r h = cc

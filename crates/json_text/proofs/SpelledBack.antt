@@ -106,7 +106,7 @@ characters_spelled (c ∷ cs) h = let p = and_parts _ _ h in
     subst (λ x. SpellsCharacters x (encode_utf8 c ++ encode_utf8_all cs)) (sym (flat_map-append escape (encode_utf8 c) (encode_utf8_all cs)))
     (more (character_spelled c p.0) (characters_spelled cs p.1))
 
-pub quoted_spelled : (bytes : List ℕ) → IsUtf8 bytes → SpellsString (quoted bytes) bytes
+quoted_spelled : (bytes : List ℕ) → IsUtf8 bytes → SpellsString (quoted bytes) bytes
 quoted_spelled bytes u = (flat_map escape bytes, refl, subst (λ x. SpellsCharacters (flat_map escape x) x) u.1.1 (characters_spelled u.0 u.1.0))
 
 -- a node that stands for a tree, with no key twice and as many levels

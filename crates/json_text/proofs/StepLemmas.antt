@@ -29,10 +29,10 @@ pub alike : (L at : ℕ) (s t : State) (byte : ℕ) (rest : List ℕ) → Starts
 alike L at s t byte rest h same = by_byte L at s byte rest (step L at t byte) h same ∙ sym (by_byte L at t byte rest (step L at t byte) h refl)
 
 -- a bracket where there is a level, and where there is none
-pub opens_level : (L : ℕ) (outer : List Waiting) (next : State) → length outer < L → opened L outer next ≡ Ok next
+opens_level : (L : ℕ) (outer : List Waiting) (next : State) → length outer < L → opened L outer next ≡ Ok next
 opens_level L outer next h = grind (arith, nat_tests)
 
-pub opens_none : (L : ℕ) (outer : List Waiting) (next : State) → L ≤ length outer → opened L outer next ≡ Err too_deep
+opens_none : (L : ℕ) (outer : List Waiting) (next : State) → L ≤ length outer → opened L outer next ≡ Err too_deep
 opens_none L outer next h = grind (arith, nat_tests)
 
 -- bytes that no value begins with

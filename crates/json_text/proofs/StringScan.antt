@@ -14,22 +14,22 @@ use Rattle.json_text.proofs.CharacterReads.{characters_spelled, characters_utf8,
 use Rattle.std.proofs.Math.ListN.{drop_of_length-le}
 
 module _ (part : StringPart) (text : List ℕ) (b : ℕ) (bs : List ℕ) where
-  pub scan_goes : (p : StringPart) (t : List ℕ) (base : ℕ) → string_step part text b ≡ goes_on p t
+  scan_goes : (p : StringPart) (t : List ℕ) (base : ℕ) → string_step part text b ≡ goes_on p t
       → scan_string part text base (b ∷ bs) ≡ scan_string p t (base + 1) bs
   unfolding scan_string
   scan_goes p t base e = ap (λ s. string_on s text base (λ q u. scan_string q u (base + 1) bs)) e
 
-  pub scan_stops : (base : ℕ) → string_step part text b ≡ stops → scan_string part text base (b ∷ bs) ≡ Err base
+  scan_stops : (base : ℕ) → string_step part text b ≡ stops → scan_string part text base (b ∷ bs) ≡ Err base
   unfolding scan_string
   scan_stops base e = ap (λ s. string_on s text base (λ q u. scan_string q u (base + 1) bs)) e
 
-  pub scan_ends : (base : ℕ) → string_step part text b ≡ ends → scan_string part text base (b ∷ bs) ≡ Ok (text, base + 1)
+  scan_ends : (base : ℕ) → string_step part text b ≡ ends → scan_string part text base (b ∷ bs) ≡ Ok (text, base + 1)
   unfolding scan_string
   scan_ends base e = ap (λ s. string_on s text base (λ q u. scan_string q u (base + 1) bs)) e
 
 -- the first byte goes on, or stops, or none is there
 module _ (part : StringPart) (text : List ℕ) where
-  pub first_passes : (xs : List ℕ) (p : StringPart) (t : List ℕ) → 1 ≤ length xs → string_step part text (get_or xs 0 0) ≡ goes_on p t
+  first_passes : (xs : List ℕ) (p : StringPart) (t : List ℕ) → 1 ≤ length xs → string_step part text (get_or xs 0 0) ≡ goes_on p t
       → Passes part text xs p t 1
   first_passes [] p t h e = absurd (omega arith)
   first_passes (b ∷ bs) p t h e = (h, λ base. scan_goes part text b bs p t base e)

@@ -60,17 +60,17 @@ module _ (L : ℕ) (hole : Hole) where
   string_agrees [] at m part text = stops_here at m _ refl
   string_agrees (b ∷ bs) at m part text = string_by at m text b bs (string_step part text b) (λ p u. string_agrees bs (at + 1) (m + 1) p u)
 
-  pub string_ok : (at : ℕ) (bs t : List ℕ) (n : ℕ) → scan_string between [] 0 bs ≡ Ok (t, n)
+  string_ok : (at : ℕ) (bs t : List ℕ) (n : ℕ) → scan_string between [] 0 bs ≡ Ok (t, n)
       → read_from L at (string between [] hole) bs ≡ read_from L (at + n) (fill hole t) (drop n bs)
   string_ok at bs t n e = let (k, f, g) = subst (StringAgrees at 0 bs (read_from L at (string between [] hole) bs)) e (string_agrees bs at 0 between []) in
       g ∙ ap (λ k. read_from L (at + k) (fill hole t) (drop k bs)) (omega (arith, f))
 
-  pub string_err : (at : ℕ) (bs : List ℕ) (n : ℕ) → scan_string between [] 0 bs ≡ Err n → read_from L at (string between [] hole) bs ≡ fault (at + n)
+  string_err : (at : ℕ) (bs : List ℕ) (n : ℕ) → scan_string between [] 0 bs ≡ Err n → read_from L at (string between [] hole) bs ≡ fault (at + n)
   string_err at bs n e = let (k, f, g) = subst (StringAgrees at 0 bs (read_from L at (string between [] hole) bs)) e (string_agrees bs at 0 between []) in g
       ∙ ap fault (omega (arith, f))
 
 -- white space changes nothing
-pub space_runs : (L : ℕ) (s : State) → SkipsSpace L s → (at : ℕ) (front rest : List ℕ) → IsSpace front
+space_runs : (L : ℕ) (s : State) → SkipsSpace L s → (at : ℕ) (front rest : List ℕ) → IsSpace front
     → read_from L at s (front ++ rest) ≡ read_from L (at + length front) s rest
 unfolding read_from
 space_runs L s skips at [] rest h = ap (λ k. read_from L k s rest) (omega arith)
@@ -139,13 +139,13 @@ module _ (L : ℕ) (outer : List Waiting) where
   number_agrees (b ∷ bs) at m part spelling = number_by at m part spelling b bs (number_step part b)
       (λ p. number_agrees bs (at + 1) (m + 1) p (spelling ++ b ∷ []))
 
-  pub number_ok : (at : ℕ) (part : NumberPart) (spelling bs : List ℕ) (n : ℕ) → scan_number part 0 bs ≡ Ok n
+  number_ok : (at : ℕ) (part : NumberPart) (spelling bs : List ℕ) (n : ℕ) → scan_number part 0 bs ≡ Ok n
       → read_from L at (digits part spelling outer) bs ≡ read_from L (at + n) (put (number_node (spelling ++ take n bs)) outer) (drop n bs)
   number_ok at part spelling bs n e = let (k, f, g) = subst (Agrees L at 0 bs (λ e. e) (Spelled spelling bs) (read_from L at (digits part spelling outer) bs)) e
       (number_agrees bs at 0 part spelling) in
       g ∙ ap (λ k. read_from L (at + k) (put (number_node (spelling ++ take k bs)) outer) (drop k bs)) (omega (arith, f))
 
-  pub number_err : (at : ℕ) (part : NumberPart) (spelling bs : List ℕ) (n : ℕ) → scan_number part 0 bs ≡ Err n
+  number_err : (at : ℕ) (part : NumberPart) (spelling bs : List ℕ) (n : ℕ) → scan_number part 0 bs ≡ Err n
       → read_from L at (digits part spelling outer) bs ≡ fault (at + n)
   number_err at part spelling bs n e =
       let (k, f, g) = subst (Agrees L at 0 bs (λ e. e) (Spelled spelling bs) (read_from L at (digits part spelling outer) bs)) e
@@ -175,13 +175,13 @@ module _ (L : ℕ) (outer : List Waiting) (n : Node) where
         | false ↦ stops_here at m _ refl
       ]
 
-  pub word_ok : (at len c : ℕ) (cs bs : List ℕ) → scan_word (c ∷ cs) 0 bs ≡ Ok len
+  word_ok : (at len c : ℕ) (cs bs : List ℕ) → scan_word (c ∷ cs) 0 bs ≡ Ok len
       → read_from L at (word c cs n outer) bs ≡ read_from L (at + len) (put n outer) (drop len bs)
   word_ok at len c cs bs e = let (k, f, g) = subst (Agrees L at 0 bs (λ e. e) (λ _ _. put n outer) (read_from L at (word c cs n outer) bs)) e
       (word_agrees (c ∷ cs) bs at 0) in
       g ∙ ap (λ k. read_from L (at + k) (put n outer) (drop k bs)) (omega (arith, f))
 
-  pub word_err : (at len c : ℕ) (cs bs : List ℕ) → scan_word (c ∷ cs) 0 bs ≡ Err len → read_from L at (word c cs n outer) bs ≡ fault (at + len)
+  word_err : (at len c : ℕ) (cs bs : List ℕ) → scan_word (c ∷ cs) 0 bs ≡ Err len → read_from L at (word c cs n outer) bs ≡ fault (at + len)
   word_err at len c cs bs e = let (k, f, g) = subst (Agrees L at 0 bs (λ e. e) (λ _ _. put n outer) (read_from L at (word c cs n outer) bs)) e
       (word_agrees (c ∷ cs) bs at 0) in g ∙ ap fault (omega (arith, f))
 
@@ -198,7 +198,7 @@ module _ (L at : ℕ) where
       ∙ string_ok L hole (at + 1) (drop 1 rest) t n scan
       ∙ ap (λ k. read_from L k (fill hole t) (drop n (drop 1 rest))) (sym place) ∙ ap (read_from L there (fill hole t)) (sym is)
 
-  pub string_fails : (s : State) (hole : Hole) (rest : List ℕ) (n there : ℕ) → StartsWith 34 rest → step L at s 34 ≡ Ok (string between [] hole)
+  string_fails : (s : State) (hole : Hole) (rest : List ℕ) (n there : ℕ) → StartsWith 34 rest → step L at s 34 ≡ Ok (string between [] hole)
       → scan_string between [] 0 (drop 1 rest) ≡ Err n → there ≡ at + 1 + n → read_from L at s rest ≡ fault there
   string_fails s hole rest n there h e scan place = by_byte L at s 34 rest (Ok (string between [] hole)) h e ∙ string_err L hole (at + 1) (drop 1 rest) n scan
       ∙ ap fault (sym place)

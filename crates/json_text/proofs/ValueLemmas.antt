@@ -1,4 +1,4 @@
--- What a spelled text stands for is a value: `text_is_value`; its levels are no more than the text's: `levels_kept`.
+-- What a spelled text stands for is a value: `text_is_value`; its levels are no more than the text's: `text_within`.
 use Rattle.std.proofs.Common.{◌≡◌, ◌≢◌, ℕ, suc, max, ◌+◌, ◌≤◌, true, false, List, [], ◌∷◌, length, sym, arith, IsUtf8}
 use Rattle.std.specs.Str.{bytes_eq}
 use Rattle.std.proofs.lemmas.Bool.{cond_both, both_ways}
@@ -91,7 +91,7 @@ through_max : (a b c d e f : ℕ) → a ≤ max b c → b ≤ max d e → e ≤ 
 through_max a b c d e f h i j = omega arith
 
 mutual
-  pub levels_kept : (n : Node) → tree_levels (value_of n) ≤ levels_of n
+  levels_kept : (n : Node) → tree_levels (value_of n) ≤ levels_of n
   levels_kept null_node = omega arith
   levels_kept (truth_node b) = omega arith
   levels_kept (number_node spelling) = omega arith
