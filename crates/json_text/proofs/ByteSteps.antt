@@ -34,7 +34,7 @@ then_field : (ms : List Member) (place : ℕ) (key : List ℕ) (n : Node) (xs : 
 then_field [] place key n xs = refl
 then_field (m ∷ ms) place key n xs = ap (λ x. field m.place m.key m.of x) (then_field ms place key n xs)
 
--- a byte that stands behind a value, and that no number goes on with
+-- a byte after a value, and that no number goes on with
 abbrev is_end : ℕ → Bool
 is_end b = is_space b || ((b == 44) || ((b == 93) || (b == 125)))
 

@@ -1,5 +1,5 @@
 -- The characters of a string, read in both directions: `characters_spelled` takes one character after another from the front of
--- what may still come, and `characters_from` puts them back. What they stand for is UTF-8: `characters_utf8`.
+-- what may still come, and `characters_from` puts them back. What they represent is UTF-8: `characters_utf8`.
 use Rattle.std.proofs.Common.{◌≡◌, ◌≢◌, ℕ, zero, suc, ◌+◌, ◌-◌, ◌*◌, ◌/◌, ◌%◌, ◌<◌, ◌≤◌, Bool, true, false, ◌==◌, cond, List, [], ◌∷◌, ◌++◌, length, Option, Some, None, ◌⊎◌, inl, inr, ⊎_elim, refl, sym, ap, ◌∙◌, subst, arith, append_assoc, append-nil, eqb-true, IsUtf8, encode_utf8, length-append}
 use Rattle.std.specs.Char.{IsScalar}
 use Rattle.std.proofs.Math.Utf8.{scalar_cases}
@@ -12,12 +12,12 @@ use Rattle.json_text.specs.Scan.{IsUnitSoFar}
 use Rattle.json_text.proofs.Following.{Characters, StringOn}
 use Rattle.json_text.proofs.Encoded.{IsLong, long_2, long_3, long_4, encode_1, encode_2, encode_3, encode_4, low_is_scalar, high_is_scalar}
 
--- so many bytes more make the bytes a character
+-- n more bytes make the bytes a character
 abbrev Closes : ℕ → List ℕ → Type 0
 Closes zero bytes = IsLong bytes
 Closes (suc n) bytes = (b : ℕ) → 128 ≤ b → b ≤ 191 → Closes n (bytes ++ b ∷ [])
 
--- a byte of the range does, and so many after it
+-- a byte of the range does, and n bytes after it
 abbrev IsFront : ℕ → ℕ → ℕ → List ℕ → Type 0
 IsFront low up n front = (b : ℕ) → low ≤ b → b ≤ up → Closes n (front ++ b ∷ [])
 
@@ -62,7 +62,7 @@ unescaped_by P text b f g h =
     cond_both (is_within 241 243 b) _ _ P (λ t. g 128 191 2 (omega arith) (front_four b (within_from 241 243 b t) (within_to 241 243 b t))) (λ _.
     cond_both (b == 244) _ _ P (λ t. g 128 143 2 (omega arith) (front_244 b (eqb-true b 244 t))) (λ _. h))))))))
 
--- a digit stands for less than 16
+-- a digit is less than 16
 pub hex_below : (b d : ℕ) → hex_digit_of b ≡ Some d → d < 16
 hex_below b d e = grind (arith, nat_tests)
 
@@ -228,11 +228,11 @@ module _ (K : List ℕ → List ℕ → Type 0) where
   expected part p text (b ∷ bs) c f h = let (e, k) = cond_on (b == c) (goes_on p text) _ _ (subst (λ s. Then s text bs) (f b) h) in
       (bs, ap (λ x. x ∷ bs) (eqb-true b c e), k)
 
-  -- a character with this first byte, and the characters behind it
+  -- a character with this first byte, and the characters after it
   abbrev One : ℕ → List ℕ → List ℕ → Type 0
   One b text bs = (a x rest : List ℕ) × (bs ≡ a ++ rest) × SpellsCharacter (b ∷ a) x × Characters between (text ++ x) K rest
 
-  -- behind a backslash and a `u`
+  -- after a backslash and a `u`
   unit_by : (text bytes digits back : List ℕ) (u : ℕ) → bytes ≡ 117 ∷ (digits ++ back) → IsHex digits u → IsUnitSoFar None zero u → (v : Bool)
       → is_within 0xD800 0xDBFF u ≡ v
       → Then (cond v (goes_on (high u) text) (goes_on between (text ++ encode_utf8 u))) text back → One 92 text bytes
@@ -409,7 +409,7 @@ module _ (K : List ℕ → List ℕ → Type 0) where
   pub characters_from : (inside text back : List ℕ) → SpellsCharacters inside text → K text back → Characters between [] K (inside ++ 34 ∷ back)
   characters_from inside text back s k = from_any [] back s k
 
--- a character behind a backslash is one byte
+-- a character after a backslash is one byte
 escape_below : (b c : ℕ) → escape_of b ≡ Some c → c < 128
 escape_below b c e = grind (arith, nat_tests)
 
@@ -424,7 +424,7 @@ character_utf8 (escaped b c e) = subst IsUtf8 (encode_1 c (escape_below b c e))
 character_utf8 (unit digits c h s) = IsUtf8-encode c s
 character_utf8 (pair first second lead low h i j k) = IsUtf8-encode (pair_of lead low) (pair_scalar lead low j k)
 
--- what characters stand for is UTF-8
+-- what characters represent is UTF-8
 pub characters_utf8 : {bytes text : List ℕ} → SpellsCharacters bytes text → IsUtf8 text
 characters_utf8 none = IsUtf8-nil
 characters_utf8 (more {a = a} {x = x} {b = b} {y = y} p ps) = IsUtf8-append x y (character_utf8 p) (characters_utf8 ps)

@@ -1,4 +1,4 @@
--- A writer that keeps what stands before it: `kept_further` and `kept_behind`; one turn of a quoted text: `quoted_turn`.
+-- A writer that keeps what is before it: `kept_further` and `kept_behind`; one turn of a quoted text: `quoted_turn`.
 use Rattle.std.proofs.Common.{◌≡◌, ℕ, List, [], ◌∷◌, ◌++◌, length, take, drop, flat_map, refl, sym, ap, ◌∙◌, append_assoc}
 use Rattle.std.proofs.Math.Seq.{take-append_seam}
 use Rattle.std.proofs.lemmas.List.{take-append-drop, append-nil}
@@ -34,7 +34,7 @@ quoted_turn out rest behind n b front is plain cut =
     ∙ append_assoc out (take n rest) (escape b ++ flat_map escape behind)
     ∙ ap (λ t. out ++ t) (sym split)
 
--- the text of the items from a place on: behind the first one each has its comma
+-- the text of the items from a place on: after the first one each has its comma
 abbrev pub items_left : ℕ → List Tree → List ℕ
 items_left zero ts = items_text (items_of ts)
 items_left (suc i) ts = more_items_text (items_of ts)
@@ -43,7 +43,7 @@ abbrev pub members_left : ℕ → List (List ℕ × Tree) → List ℕ
 members_left zero ms = members_text (members_of ms)
 members_left (suc i) ms = more_members_text (members_of ms)
 
--- nothing is left behind the last one
+-- nothing is left after the last one
 items_left_none : (i : ℕ) → items_left i [] ≡ []
 items_left_none zero = refl
 items_left_none (suc i) = refl
@@ -52,19 +52,19 @@ members_left_none : (i : ℕ) → members_left i [] ≡ []
 members_left_none zero = refl
 members_left_none (suc i) = refl
 
--- the closing byte behind what stands inside
+-- the closing byte after what is inside
 closed : (old out inside : List ℕ) (front back : ℕ) → out ++ [] ≡ (old ++ front ∷ []) ++ inside → out ++ back ∷ [] ≡ old ++ front ∷ (inside ++ back ∷ [])
-closed old out inside front back told =
-    ap (λ t. t ++ back ∷ []) (sym (append-nil out) ∙ told ∙ append_assoc old (front ∷ []) inside)
+closed old out inside front back whole =
+    ap (λ t. t ++ back ∷ []) (sym (append-nil out) ∙ whole ∙ append_assoc old (front ∷ []) inside)
     ∙ append_assoc old (front ∷ inside) (back ∷ [])
 
 pub items_closed : (old out inside : List ℕ) (ts : List Tree) (i : ℕ) (front back : ℕ) → ts ≡ [] → out ++ items_left i ts ≡ (old ++ front ∷ []) ++ inside
     → out ++ back ∷ [] ≡ old ++ front ∷ (inside ++ back ∷ [])
-items_closed old out inside ts i front back none told =
-    closed old out inside front back (ap (λ t. out ++ t) (sym (ap (items_left i) none ∙ items_left_none i)) ∙ told)
+items_closed old out inside ts i front back none whole =
+    closed old out inside front back (ap (λ t. out ++ t) (sym (ap (items_left i) none ∙ items_left_none i)) ∙ whole)
 
 pub members_closed : (old out inside : List ℕ) (ms : List (List ℕ × Tree)) (i : ℕ) (front back : ℕ) → ms ≡ []
     → out ++ members_left i ms ≡ (old ++ front ∷ []) ++ inside
     → out ++ back ∷ [] ≡ old ++ front ∷ (inside ++ back ∷ [])
-members_closed old out inside ms i front back none told =
-    closed old out inside front back (ap (λ t. out ++ t) (sym (ap (members_left i) none ∙ members_left_none i)) ∙ told)
+members_closed old out inside ms i front back none whole =
+    closed old out inside front back (ap (λ t. out ++ t) (sym (ap (members_left i) none ∙ members_left_none i)) ∙ whole)

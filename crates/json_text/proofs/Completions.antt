@@ -104,7 +104,7 @@ module _ (levels : ℕ) where
     at_backslash : (text : List ℕ) → Completes (string backslash text hole)
     at_backslash text = string_by backslash text 34 (at_between (text ++ 34 ∷ []))
 
-    -- behind a high surrogate
+    -- after a high surrogate
     low_1 : (lead n : ℕ) (text : List ℕ) → Completes (string (hex (Some lead) 1 n) text hole)
     low_1 lead n text = string_by (hex (Some lead) 1 n) text 48 (at_between (text ++ encode_utf8 (pair_of lead (16 * n + 0))))
 

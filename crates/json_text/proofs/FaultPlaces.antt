@@ -35,7 +35,7 @@ module _ (levels : ℕ) where
   StopsAt state f [] = f.why ≡ unexpected
   StopsAt state f (b ∷ bs) = step levels f.at state b ≡ Err f.why
 
-  -- the bytes before a fault and the state behind them, which are the same at one level more
+  -- the bytes before a fault and the state after them, which are the same at one level more
   record Stopped (from : State) (at : ℕ) (f : Fault) (bytes : List ℕ) : Type 0 where
     front : List ℕ
     rest : List ℕ

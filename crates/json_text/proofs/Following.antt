@@ -52,7 +52,7 @@ module _ (size : ℕ) where
   abbrev pub Key : ℕ → List ℕ → (List ℕ → Type 0) → List ℕ → Type 0
   Key place key K bytes = (place + length bytes ≡ size) × Quoted key K bytes
 
-  -- a node within so many levels, and then K
+  -- a node within l levels, and then K
   abbrev mutual
     pub Value : Node → ℕ → (List ℕ → Type 0) → List ℕ → Type 0
     Value null_node l K bytes = Literal (codes "null") K bytes
@@ -84,7 +84,7 @@ module _ (size : ℕ) where
     abbrev pub left : List Waiting → ℕ
     left outer = levels - length outer
 
-    -- behind a value that is whole
+    -- after a value that is whole
     abbrev pub After : (outer : List Waiting) → Future outer → Node → List ℕ → Type 0
     After [] future n bytes = (bytes ≡ []) × (whole_node ≡ n)
     After (in_list ns ∷ outer) future n bytes =

@@ -23,7 +23,7 @@ Accepts part (b ∷ bs) = (p : NumberPart) × (number_step part b ≡ Some p) ×
 abbrev AreFractionExponent : List ℕ → Type 0
 AreFractionExponent t = (f e : List ℕ) × (t ≡ f ++ e) × IsFraction f × IsExponent e
 
--- what stands behind each part of a number
+-- what comes after each part of a number
 abbrev Tail : NumberPart → List ℕ → Type 0
 Tail minus t = (i u : List ℕ) × (t ≡ i ++ u) × IsInt i × AreFractionExponent u
 Tail zero_int t = AreFractionExponent t
@@ -50,7 +50,7 @@ step_exponent : {P : Type 0} (p : NumberPart) (b : ℕ) (bs : List ℕ) (other :
     → ((b == 101) || (b == 69) ≡ true → IsSignedDigits bs → P) → (other ≡ Some p → P) → Tail p bs → P
 step_exponent p b bs other e f g h = choose ((b == 101) || (b == 69)) _ _ _ (λ t e. f t (came exponent p bs e h)) (λ _ e. g e) e
 
--- a point, and behind it digits
+-- a point, and after it digits
 with_point : (b : ℕ) (bs : List ℕ) → (b == 46) ≡ true → Tail point bs → AreFractionExponent (b ∷ bs)
 with_point b bs t h = (b ∷ h.0, h.1, ap (λ u. b ∷ u) h.2, (eqb-true b 46 t, h.3), h.4)
 
@@ -161,7 +161,7 @@ point_accepted [] e d h = absurd d
 point_accepted (b ∷ ds) e d h =
     (fraction, cond-true _ _ _ d.0, digits_accepted fraction fraction_digit ds e d.1 (exponent_accepted fraction refl fraction_exponent e h))
 
--- a fraction and an exponent, behind a whole part
+-- a fraction and an exponent, after a whole part
 tail_accepted : (part : NumberPart) → may_end part ≡ true → number_step part 46 ≡ Some point
     → ((b : ℕ) → (b == 101) || (b == 69) ≡ true → number_step part b ≡ Some exponent) → (f e : List ℕ) → IsFraction f → IsExponent e → Accepts part (f ++ e)
 tail_accepted part m p g [] e i h = exponent_accepted part m g e h

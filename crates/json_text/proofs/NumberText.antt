@@ -53,7 +53,7 @@ utf8_from m e part [] h = (0, ends_at (may_end part) h, IsUtf8-nil)
     ends_at false g = cc
 utf8_from m e part (b ∷ bs) h = on_utf8 m e part b bs (number_step part b) (λ p g. goes_ascii part b p g) (λ p g. utf8_from (m + 1) e p bs g) h
 
--- a first byte and what is read behind it
+-- a first byte and what is read after it
 pub number_utf8 : (part : NumberPart) (n : ℕ) (bytes : List ℕ) → (b : ℕ) (bs : List ℕ) → bytes ≡ b ∷ bs → b < 128 → scan_number part 0 bs ≡ Ok n
     → IsUtf8 (take (1 + n) bytes)
 number_utf8 part n bytes b bs is low h =

@@ -161,7 +161,7 @@ module _ (size : ℕ) where
         (y.from (at + length first) K rest back (behind at (front ++ back) first (rest ++ back) e all) u w.1 k));
   }
 
-  -- the same behind a comma
+  -- the same after a comma
   more : (X : (List ℕ → Type 0) → List ℕ → Type 0) (V U : ℕ → List ℕ → Type 0) (W : Type 0) → Reads X (Pair V U) W
       → Reads (λ K. Byte 44 (X K)) (λ at front. (first rest : List ℕ) × (front ≡ 44 ∷ (first ++ rest)) × V (at + 1) first × U (at + 1 + length first) rest) W
   more X V U W x = record {
@@ -227,7 +227,7 @@ module _ (size : ℕ) where
   Spells n at bytes = SpellsValue at bytes n
 
   mutual
-    -- a value is spelled within so many levels
+    -- a value is spelled within l levels
     value_reads : (n : Node) (l : ℕ) → Reads (Value size n l) (Spells n) (levels_of n ≤ l)
     value_reads null_node l = literal (codes "null") (0 ≤ l) (omega arith)
     value_reads (truth_node true) l = literal (codes "true") (0 ≤ l) (omega arith)

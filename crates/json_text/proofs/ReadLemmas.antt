@@ -29,7 +29,7 @@ only_memory L bs m NoMemory h g = refl
 pub repeat_or_memory : (L : ℕ) (bs : List ℕ) (m : Node) (f : JsonFault) → IsText L bs m → FailsSo (read_text L bs) f → IsRepeatOrMemory m f
 repeat_or_memory L bs m f h g = subst (IsRepeatOrMemory m) (sym (only_memory L bs m f h g)) tt
 
--- the place of what can't stand there
+-- the place of a byte that is not allowed
 pub stands_so : (L : ℕ) (bs : List ℕ) (f : JsonFault) (at : ℕ) → FailsSo (read_text L bs) f → f ≡ NotJson at → FailsAt L bs at × ¬ (OpensTooMany L bs at)
 stands_so L bs f at g is =
     let e : read_text L bs ≡ Err (record { why = unexpected; at = at }) = subst (FailsSo (read_text L bs)) is g in

@@ -67,7 +67,7 @@ escape_spelled c h =
     (unit (48 ∷ 48 ∷ lower_hex (c / 16) ∷ lower_hex (c % 16) ∷ []) c (control_hex c (ltb-true c 32 t)) (low_is_scalar c (omega arith))))
     (λ f. plain_character c h (ltb-false c 32 f) (eqb-false c 34 q) (eqb-false c 92 s)))))))))
 
--- a byte of a longer character stands for itself
+-- a byte of a longer character is not escaped
 escape_high : (b : ℕ) → 128 ≤ b → escape b ≡ b ∷ []
 escape_high b h = grind (arith, nat_tests)
 
@@ -109,7 +109,7 @@ characters_spelled (c ∷ cs) h = let p = and_parts _ _ h in
 quoted_spelled : (bytes : List ℕ) → IsUtf8 bytes → SpellsString (quoted bytes) bytes
 quoted_spelled bytes u = (flat_map escape bytes, refl, subst (λ x. SpellsCharacters (flat_map escape x) x) u.1.1 (characters_spelled u.0 u.1.0))
 
--- a node that stands for a tree, with no key twice and as many levels
+-- a node that represents a tree, with no key twice and as many levels
 record Back (n : Node) (t : Tree) : Type 0 where
   same : value_of n ≡ t
   once : first_repeat n ≡ None
@@ -171,7 +171,7 @@ members_once (member_back place key {n = n} {t = t} {fs = fs} {ms = ms} b bs) ks
     ∙ ap (λ x. first_of x (first_repeat_behind (key ∷ ks) fs)) b.once
     ∙ members_once bs (key ∷ ks) v.3 (v.1, keys_behind_one ks key t ms h)
 
--- members behind others
+-- members after others
 abbrev joined : List (List ℕ × Tree) → Members → Members
 joined [] ms = ms
 joined (m ∷ before) ms = member m.0 m.1 (joined before ms)
@@ -277,7 +277,7 @@ mutual
       let spelled = plain_field n (at + 1) key (compact_text t) v.0 here in
       (field (at + 1 + 0) key n fs, (first, more_members_text ms, join, spelled, rest), member_back (at + 1 + 0) key back others)
 
--- the compact text of a value is a JSON text of its levels that stands for it, with no key twice
+-- the compact text of a value is a JSON text of its levels that represents it, with no key twice
 pub compact_spelled : (t : Tree) → IsValue t → (n : Node) × IsText (tree_levels t) (compact_text t) n × (value_of n ≡ t) × (first_repeat n ≡ None)
 compact_spelled t v =
     let (n, here, back) = value_spelled t (0 + 0) v in

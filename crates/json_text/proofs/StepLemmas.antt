@@ -70,7 +70,7 @@ pub colon_goes : (L at : ℕ) (ms : List Member) (place : ℕ) (key : List ℕ) 
     → step L at (colon ms place key outer) 58 ≡ Ok (value (in_object ms place key ∷ outer))
 colon_goes L at ms place key outer = refl
 
--- behind a key stands no colon
+-- after a key there is no colon
 pub colon_other : (L at : ℕ) (ms : List Member) (place : ℕ) (key : List ℕ) (outer : List Waiting) (rest : List ℕ) → StartsWithNoSpace rest
     → ¬ (StartsWith 58 rest)
     → read_from L at (colon ms place key outer) rest ≡ fault at
@@ -100,7 +100,7 @@ less byte (b ∷ bs) behind h is = let e : length behind ≡ length bs = ap leng
 kept_waits : (ks : List Kept) (outer : List Waiting) → KeepsAll (reverse ks) outer → length outer ≡ length ks
 kept_waits ks outer h = keeps_length (reverse ks) outer h ∙ length-reverse ks
 
--- a bracket and what comes behind it
+-- a bracket and what comes after it
 record Bracket (next : Next) (rest : List ℕ) : Type 0 where
   byte : ℕ
   state : List Waiting → State
@@ -174,7 +174,7 @@ led L s next byte place there h goes at rest =
     by_byte L place.at s byte place.rest.now (Ok next) h goes ∙ ap (λ k. read_from L k next (drop 1 place.rest.now)) (sym at)
     ∙ ap (read_from L there.at next) (sym rest)
 
--- a byte that can't stand there
+-- a byte that is not allowed there
 pub barred : (L : ℕ) (s : State) (byte : ℕ) (place : Place) (f : JsonFault) → StartsWith byte place.rest.now → step L place.at s byte ≡ Err unexpected
     → f ≡ NotJson place.at → FailsSo (read_at L place s) f
 barred L s byte place f h goes is = subst (FailsSo (read_at L place s)) (sym is) (by_byte L place.at s byte place.rest.now (Err unexpected) h goes)

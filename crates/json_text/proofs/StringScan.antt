@@ -44,7 +44,7 @@ module _ (part : StringPart) (text : List ℕ) where
   none_stops [] other new h = (omega arith, λ base. ap Err (omega arith))
   none_stops (b ∷ bs) other new h = absurd (omega arith)
 
--- bytes that are passed over, and what is behind them
+-- bytes that are passed over, and what is after them
 scanned_on : (part : StringPart) (text : List ℕ) (xs : List ℕ) (mid : StringPart) (t : List ℕ) (n : ℕ) (other : StringPart) (new : List ℕ)
     (r : Result ℕ TokenFault)
     → Passes part text xs mid t n → Scanned mid t (drop n xs) other new r → Scanned part text xs other new (behind_of n r)
@@ -57,7 +57,7 @@ scanned_on part text xs mid t n other new (Err (Stop m)) p s =
     (omega (arith, p.0, s.0, length-drop n xs), λ base. p.1 base ∙ s.1 (base + n) ∙ ap Err (omega arith))
 scanned_on part text xs mid t n other new (Err NoMemory) p s = tt
 
--- what a slice pattern leaves behind so many
+-- what a slice pattern leaves after n bytes
 pub rest_is : (n : ℕ) (xs : List ℕ) → take (length xs - n) (drop n xs) ≡ drop n xs
 rest_is n xs = take_all (length xs - n) (drop n xs) (omega (arith, length-drop n xs))
 
@@ -93,7 +93,7 @@ taken_on part (b ∷ bs) p (Err (Stop n)) h e s text =
     (s (text ++ b ∷ []))
 taken_on part (b ∷ bs) p (Err NoMemory) h e s text = tt
 
--- one byte that stands for itself
+-- one byte that is not escaped
 pub taken_behind : (part : StringPart) (xs : List ℕ) (p : StringPart) (rest : List ℕ) (r : Result ℕ TokenFault) → 1 ≤ length xs
     → ((text : List ℕ) → string_step part text (get_or xs 0 0) ≡ goes_on p (text ++ get_or xs 0 0 ∷ [])) → rest ≡ drop 1 xs → Taken p rest r
     → Taken part xs (behind_of 1 r)
@@ -128,7 +128,7 @@ first_goes text b low up more h i e = unescaped_by_first text b h i ∙ e
 pub first_is_none : (text : List ℕ) (b : ℕ) → b ≢ 34 → b ≢ 92 → unescaped_step text b ≡ first_step text b None → string_step between text b ≡ stops
 first_is_none text b h i e = unescaped_by_first text b h i ∙ e
 
--- behind a high surrogate
+-- after a high surrogate
 module _ (lead : ℕ) (text : List ℕ) (xs : List ℕ) (other : StringPart) (new : List ℕ) where
   first_backslash : 1 ≤ length xs → get_or xs 0 0 ≡ 92 → Passes (high lead) text xs (high_backslash lead) text 1
   first_backslash h e = first_passes (high lead) text xs (high_backslash lead) text h (rw (eq-eqb (get_or xs 0 0) 92 e))
@@ -163,7 +163,7 @@ high_unit text digits unit h e = (
       (λ p t. scan_string p t (base + 4) (drop 4 digits))) e,
 )
 
--- behind a backslash
+-- after a backslash
 module _ (text : List ℕ) (xs : List ℕ) (h : 1 ≤ length xs) where
   escaped_step : get_or xs 0 0 ≢ 117 → string_step backslash text (get_or xs 0 0) ≡ escape_step text (escape_of (get_or xs 0 0))
   escaped_step e = ap (λ v. cond v (goes_on (hex None 4 0) text) (escape_step text (escape_of (get_or xs 0 0)))) (ne_eqb (get_or xs 0 0) 117 e)

@@ -24,7 +24,7 @@ unfolding read_from
 by_byte L at s byte [] r h e = absurd h
 by_byte L at s byte (b ∷ bs) r h e = ap (λ x. go_on at x (λ t. read_from L (at + 1) t bs)) (ap (step L at s) h ∙ e)
 
--- Of a token with m bytes before it: what is read goes on behind the bytes that a scan counts, or has its fault.
+-- Of a token with m bytes before it: what is read goes on after the bytes that a scan counts, or has its fault.
 abbrev Agrees : {A : Type 0} → ℕ → ℕ → ℕ → List ℕ → (A → ℕ) → (A → ℕ → State) → Result Node Fault → Result A ℕ → Type 0
 Agrees L at m bs count state read (Ok x) = (n : ℕ) × (count x ≡ m + n) × (read ≡ read_from L (at + n) (state x n) (drop n bs))
 Agrees L at m bs count state read (Err e) = (n : ℕ) × (e ≡ m + n) × (read ≡ fault (at + n))
@@ -79,7 +79,7 @@ space_runs L s skips at (b ∷ bs) rest h =
     ∙ space_runs L s skips (at + 1) bs rest h.1 ∙ ap (λ k. read_from L k s rest) (omega arith)
 
 module _ (L : ℕ) (outer : List Waiting) where
-  -- the number that a spelling and what is read behind it make
+  -- the number that a spelling and what is read after it make
   abbrev Spelled : List ℕ → List ℕ → ℕ → ℕ → State
   Spelled spelling bs e n = put (number_node (spelling ++ take n bs)) outer
 
@@ -261,7 +261,7 @@ pub number_front : (part : NumberPart) (n : ℕ) (rest : List ℕ) → BeginsNum
 number_front part n [] h scan = absurd h
 number_front part n (b ∷ bs) h scan = number_utf8 part n (b ∷ bs) b bs refl h.0 scan
 
--- what is left behind some bytes is shorter
+-- what is left after some bytes is shorter
 pub shorter : (rest behind : List ℕ) (n : ℕ) → 0 < length rest → behind ≡ drop n (drop 1 rest) → length behind < length rest
 shorter rest behind n h is = omega (arith, ap length is, length-drop n (drop 1 rest), length-drop 1 rest)
 
@@ -278,7 +278,7 @@ pub IsSpace-more : (bs : List ℕ) (b : ℕ) → IsSpace bs → is_space b ≡ t
 IsSpace-more [] b h g = (g, tt)
 IsSpace-more (c ∷ cs) b h g = (h.0, IsSpace-more cs b h.1 g)
 
--- a place behind white space
+-- a place after white space
 pub behind_space : (L : ℕ) (s : State) → SkipsSpace L s → (at n : ℕ) (rest : List ℕ) (there : ℕ) (behind : List ℕ) → n ≤ length rest → IsSpace (take n rest)
     → behind ≡ drop n rest → there ≡ at + n → read_from L at s rest ≡ read_from L there s behind
 behind_space L s skips at n rest there behind h space is place =

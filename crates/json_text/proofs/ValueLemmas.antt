@@ -1,4 +1,4 @@
--- What a spelled text stands for is a value: `text_is_value`; its levels are no more than the text's: `text_within`.
+-- What a spelled text represents is a value: `text_is_value`; its levels are no more than the text's: `text_within`.
 use Rattle.std.proofs.Common.{◌≡◌, ◌≢◌, ℕ, suc, max, ◌+◌, ◌≤◌, true, false, List, [], ◌∷◌, length, sym, arith, IsUtf8}
 use Rattle.std.specs.Str.{bytes_eq}
 use Rattle.std.proofs.lemmas.Bool.{cond_both, both_ways}

@@ -49,7 +49,7 @@ returns-after-items-clause-ok t c =
     (λ e. e ∙ items_closed c.args.out.now c.items.out (items_text (items_of (trees_of c.deref-item-items.result.now)))
     (trees_of (drop c.items.i c.deref-item-items.result.now)) c.items.i 91 93
     (ap trees_of (drop_of_length-le c.deref-item-items.result.now c.items-test.false))
-    (c.items.invariant.told ∙ ap (λ t. t ++ items_text (items_of (trees_of c.deref-item-items.result.now))) c.in_ok-extend-in-List.ensures.ok)
+    (c.items.invariant.whole ∙ ap (λ t. t ++ items_text (items_of (trees_of c.deref-item-items.result.now))) c.in_ok-extend-in-List.ensures.ok)
     ∙ ap (λ js. c.args.out.now ++ 91 ∷ (items_text (items_of (trees_of js)) ++ 93 ∷ [])) c.deref-item-items.ensures.value
     ∙ ap (λ t. c.args.out.now ++ compact_text t) (sym (ap tree_of c.in-List.is ∙ tree_of_list c.in-List.items)))
     c.extend-in-List-2.ensures.ok
@@ -60,7 +60,7 @@ returns-after-members-clause-ok t c =
     (λ e. e ∙ members_closed c.args.out.now c.members.out (members_text (members_of (pairs_of c.deref-key-items.result.now)))
     (pairs_of (drop c.members.i c.deref-key-items.result.now)) c.members.i 123 125
     (ap pairs_of (drop_of_length-le c.deref-key-items.result.now c.members-test.false))
-    (c.members.invariant.told ∙ ap (λ t. t ++ members_text (members_of (pairs_of c.deref-key-items.result.now))) c.in_ok-extend-in-Obj.ensures.ok)
+    (c.members.invariant.whole ∙ ap (λ t. t ++ members_text (members_of (pairs_of c.deref-key-items.result.now))) c.in_ok-extend-in-Obj.ensures.ok)
     ∙ ap (λ ms. c.args.out.now ++ 123 ∷ (members_text (members_of (pairs_of ms)) ++ 125 ∷ [])) c.deref-key-items.ensures.value
     ∙ ap (λ t. c.args.out.now ++ compact_text t) (sym (ap tree_of c.in-Obj.is ∙ tree_of_object c.in-Obj.members)))
     c.extend-in-Obj-2.ensures.ok

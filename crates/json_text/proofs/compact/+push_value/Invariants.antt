@@ -11,12 +11,12 @@ decreases-push_value l = goal.size-push_value l
 -- what is written so far and the text of what is left are the text of all
 abbrev pub invariant-items : goal.invariant-items
 invariant-items l = record {
-  told : l.out ++ items_left l.i (trees_of (drop l.i l.item-items)) ≡ l.initial.out ++ items_text (items_of (trees_of l.item-items));
+  whole : l.out ++ items_left l.i (trees_of (drop l.i l.item-items)) ≡ l.initial.out ++ items_text (items_of (trees_of l.item-items));
   kept : take (length l.fn.out) l.out ≡ l.fn.out;
 }
 
 abbrev pub invariant-members : goal.invariant-members
 invariant-members l = record {
-  told : l.out ++ members_left l.i (pairs_of (drop l.i l.key-items)) ≡ l.initial.out ++ members_text (members_of (pairs_of l.key-items));
+  whole : l.out ++ members_left l.i (pairs_of (drop l.i l.key-items)) ≡ l.initial.out ++ members_text (members_of (pairs_of l.key-items));
   kept : take (length l.fn.out) l.out ≡ l.fn.out;
 }

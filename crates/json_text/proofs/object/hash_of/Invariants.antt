@@ -2,7 +2,7 @@ use Rattle.std.proofs.Common.{◌≡◌, ◌<◌, drop}
 use Rattle.json_text.specs.Objects.{hash_from}
 use Rattle.json_text.proofs.object.hash_of.Given as goal
 
--- going on behind the bytes taken gives what all give
+-- hashing what is left is hashing everything
 abbrev pub invariant-loop-byte : goal.invariant-loop-byte
 invariant-loop-byte l = record {
   less : l.hash < 128;

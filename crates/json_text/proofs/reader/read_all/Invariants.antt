@@ -3,7 +3,7 @@ use Rattle.json_text.specs.Reading.{State, read_text}
 use Rattle.json_text.specs.Kept.{IsState, read_at, StartsWithNoSpace}
 use Rattle.json_text.proofs.reader.read_all.Given as goal
 
--- what is left gives what all gives
+-- reading what is left is reading everything
 abbrev pub invariant-loop-byte : goal.invariant-loop-byte
 invariant-loop-byte l = record {
   at_state : (s : State) × IsState l.next l.reader.waiting.items l.reader.repeat s × (read_text l.fn.levels l.fn.bytes ≡ read_at l.fn.levels l.place s);

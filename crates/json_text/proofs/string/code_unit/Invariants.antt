@@ -3,7 +3,7 @@ use Rattle.json_text.specs.Reading.{hex}
 use Rattle.json_text.specs.Scan.{scan_string, unit_left, IsUnitSoFar}
 use Rattle.json_text.proofs.string.code_unit.Given as goal
 
--- what is left gives what all gives
+-- reading what is left is reading everything
 abbrev pub invariant-loop-place : goal.invariant-loop-place
 invariant-loop-place l = record {
   within : l.place ≤ length l.digits;

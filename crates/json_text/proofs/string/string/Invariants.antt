@@ -3,7 +3,7 @@ use Rattle.json_text.specs.Reading.{between}
 use Rattle.json_text.specs.Scan.{scan_string}
 use Rattle.json_text.proofs.string.string.Given as goal
 
--- what is left gives what all gives
+-- reading what is left is reading everything
 abbrev pub invariant-loop-at : goal.invariant-loop-at
 invariant-loop-at l = record {
   within : l.at ≤ length l.bytes;
