@@ -14,7 +14,7 @@ use Rattle.json_text.proofs.WrittenUtf8.{small_utf8}
 use Rattle.event_shape.specs.Names.{is_account, bus_arn}
 use Rattle.json_text.specs.Access.{member_of}
 use Rattle.bus_policy.specs.Parts.{statements_of, has_sid, root_arn}
-use Rattle.bus_policy.specs.Grammar.{each_item, is_object, is_principal, statement_fault, first_fault}
+use Rattle.bus_policy.specs.Grammar.{each_item, is_object, is_principal_value, statement_fault, first_fault}
 use Rattle.bus_policy.specs.Stored.{default_version, policy_with, IsStored}
 use Rattle.bus_policy.specs.Change.{IsAccountGiven, principal_for, allow_for, with_last, first_policy, with_statement, without_sid}
 use Rattle.bus_policy.specs.Change.{without_statement, some_has_sid}
@@ -88,7 +88,7 @@ or_right : (a b : Bool) → b ≡ true → a || b ≡ true
 or_right true b h = refl
 or_right false b h = h
 
-principal_right : (account : Option (List ℕ)) → IsAccountGiven account → is_principal (principal_for account) ≡ true
+principal_right : (account : Option (List ℕ)) → IsAccountGiven account → is_principal_value (principal_for account) ≡ true
 principal_right None h = refl
 principal_right (Some account) h = or_right (is_account (root_arn account)) _ (is_root_of (root_arn account) account refl ∙ h)
 

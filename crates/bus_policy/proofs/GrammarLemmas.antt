@@ -9,7 +9,7 @@ use Rattle.bus_policy.specs.declared.fault.PolicyCause.{PolicyCause}
 use Rattle.bus_policy.specs.declared.fault.PolicyCause.TheVariants.{BadSid, BadEffect, BadPrincipal, BadAction, BadResource, BadCondition, UnknownMember}
 use Rattle.json_text.specs.Access.{member_of}
 use Rattle.bus_policy.specs.Parts.{text_passes, has_sid}
-use Rattle.bus_policy.specs.Grammar.{is_object_of, are_texts, any_text, member_is, is_new_sid, is_effect, is_principal, is_condition}
+use Rattle.bus_policy.specs.Grammar.{is_object_of, are_texts, any_text, member_is, is_new_sid, is_effect, is_principal_value, is_condition}
 use Rattle.bus_policy.specs.Grammar.{is_statement_key, has_fault, statement_fault, fault_or, first_fault}
 use Rattle.bus_policy.specs.Change.{with_last, without_sid}
 
@@ -34,7 +34,7 @@ sid_right earlier s = member_is true (text_passes (is_new_sid earlier)) (member_
 -- the members of a statement but its Sid
 pub record RightParts (s : Tree) : Type 0 where
   pub effect : member_is false (text_passes is_effect) (member_of (codes "Effect") s) ≡ true
-  pub principal : member_is false is_principal (member_of (codes "Principal") s) ≡ true
+  pub principal : member_is false is_principal_value (member_of (codes "Principal") s) ≡ true
   pub action : member_is false (are_texts any_text) (member_of (codes "Action") s) ≡ true
   pub resource : member_is false (are_texts any_text) (member_of (codes "Resource") s) ≡ true
   pub condition : member_is true is_condition (member_of (codes "Condition") s) ≡ true

@@ -10,7 +10,7 @@ use Rattle.json_text.specs.Compact.{LacksKey, IsValue, AreItems, AreMembers, tre
 use Rattle.json_text.specs.Access.{member_in, member_of}
 use Rattle.bus_policy.specs.Parts.{statements_of, text_passes}
 use Rattle.bus_policy.specs.Grammar.{each_item, each_member, is_object_of, are_texts, any_text, member_is, is_version, is_principal_word}
-use Rattle.bus_policy.specs.Grammar.{is_principal, is_operator, is_key, are_keys, is_condition, is_statement_key, first_fault}
+use Rattle.bus_policy.specs.Grammar.{is_principal_value, is_operator, is_key, are_keys, is_condition, is_statement_key, first_fault}
 use Rattle.bus_policy.specs.Stored.{default_version, policy_with, IsStored}
 use Rattle.bus_policy.proofs.GrammarLemmas.{RightParts, right_parts, first_right, sid_right}
 use Rattle.bus_policy.proofs.StoredLemmas.{faultless, versioned, statements_are_values}
@@ -73,7 +73,7 @@ condition_levels : (t : Tree) → is_condition t ≡ true → tree_levels t ≤ 
 condition_levels t h = object_levels 2 (λ operator keys. is_operator operator && are_keys keys)
     (λ operator keys g. keys_levels keys (parts_true (is_operator operator) (are_keys keys) g).1) t h
 
-principal_levels : (t : Tree) → is_principal t ≡ true → tree_levels t ≤ 2
+principal_levels : (t : Tree) → is_principal_value t ≡ true → tree_levels t ≤ 2
 principal_levels (text t) h = omega arith
 principal_levels (object no_members) h = omega arith
 principal_levels (object (member key u no_members)) h =
@@ -105,7 +105,7 @@ member_levels earlier s key t sid r known is =
         | inl b ↦ known_levels false 0 _ (text_levels _) (omega arith) (member_of (codes "Effect") s) t r.effect
             (ap (λ k. member_of k s) (sym (same_key key (codes "Effect") b)) ∙ is)
         | inr b ↦ elim (cases_Bool (bytes_eq key (codes "Principal"))) [
-          | inl c ↦ known_levels false 2 is_principal principal_levels (omega arith) (member_of (codes "Principal") s) t
+          | inl c ↦ known_levels false 2 is_principal_value principal_levels (omega arith) (member_of (codes "Principal") s) t
               r.principal (ap (λ k. member_of k s) (sym (same_key key (codes "Principal") c)) ∙ is)
           | inr c ↦ elim (cases_Bool (bytes_eq key (codes "Action"))) [
             | inl d ↦ known_levels false 1 _ (texts_levels any_text) (omega arith) (member_of (codes "Action") s) t

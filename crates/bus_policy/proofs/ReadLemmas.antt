@@ -14,22 +14,22 @@ use Rattle.bus_policy.specs.Grammar.{IsPolicy, fault_of}
 use Rattle.bus_policy.specs.Stored.{stored_of, IsStored}
 use Rattle.bus_policy.specs.Text.{Spells, SpellsPolicy, IsPolicyText}
 use Rattle.bus_policy.specs.Verdict.{Asker, Verdict, IsVerdict}
-use Rattle.bus_policy.specs.Fault.{Tells, IsFirstFault, IsValueFault}
+use Rattle.bus_policy.specs.Fault.{IsPolicyFaultOf, IsFirstFaultOrMemory, IsValueFault}
 use Rattle.bus_policy.proofs.StoredLemmas.{stored_is_stored}
 
 pub reported_fault : (bytes : List ℕ) (f : JsonFault) (e : PolicyFault) → length bytes ≤ 10240
     → ((at : ℕ) → f ≡ json.NotJson at → FailsAt 100 bytes at × ¬ (OpensTooMany 100 bytes at))
     → ((at : ℕ) → f ≡ json.TooDeep at → FailsAt 100 bytes at × OpensTooMany 100 bytes at)
     → ((at : ℕ) → f ≡ json.KeyTwice at → (n : Node) × IsText 100 bytes n × (first_repeat n ≡ Some at))
-    → Tells f e → IsFirstFault bytes e
+    → IsPolicyFaultOf f e → IsFirstFaultOrMemory bytes e
 reported_fault bytes (json.NotJson at) e short none deep twice h =
-    subst (IsFirstFault bytes) (sym h) (inl ((short, (at, (none at refl).0, (none at refl).1)), refl))
+    subst (IsFirstFaultOrMemory bytes) (sym h) (inl ((short, (at, (none at refl).0, (none at refl).1)), refl))
 reported_fault bytes (json.TooDeep at) e short none deep twice h =
-    subst (IsFirstFault bytes) (sym h) (inl ((short, (at, (deep at refl).0, (deep at refl).1)), refl))
+    subst (IsFirstFaultOrMemory bytes) (sym h) (inl ((short, (at, (deep at refl).0, (deep at refl).1)), refl))
 reported_fault bytes (json.KeyTwice at) e short none deep twice h =
     let t = twice at refl in
-    subst (IsFirstFault bytes) (sym h) (inl ((short, (t.0, at, t.1, t.2)), refl))
-reported_fault bytes json.NoMemory e short none deep twice h = subst (IsFirstFault bytes) (sym h) tt
+    subst (IsFirstFaultOrMemory bytes) (sym h) (inl ((short, (t.0, at, t.1, t.2)), refl))
+reported_fault bytes json.NoMemory e short none deep twice h = subst (IsFirstFaultOrMemory bytes) (sym h) tt
 
 pub read_stored : (value stored : Tree) → IsValue value → fault_of value ≡ None → stored ≡ stored_of value → IsStored stored
 read_stored value stored v f k = subst IsStored (sym k) (stored_is_stored value f v)

@@ -9,19 +9,19 @@ use Rattle.bus_policy.specs.declared.fault.PolicyFault.TheVariants.{Bad, NoMemor
 use Rattle.bus_policy.specs.Grammar.{fault_of}
 use Rattle.bus_policy.specs.Text.{IsTextFault}
 
--- the text's first fault, or memory was refused
-abbrev pub IsFirstFault : List ℕ → PolicyFault → Type 0
-IsFirstFault bytes (Bad cause place) = IsTextFault bytes cause place
-IsFirstFault bytes NoMemory = Unit {0}
+-- the text's first fault, or out of memory
+abbrev pub IsFirstFaultOrMemory : List ℕ → PolicyFault → Type 0
+IsFirstFaultOrMemory bytes (Bad cause place) = IsTextFault bytes cause place
+IsFirstFaultOrMemory bytes NoMemory = Unit {0}
 
--- the value's first fault, or memory was refused (no public clause names this)
+-- the value's first fault, or out of memory (no public clause names this)
 abbrev pub IsValueFault : Tree → PolicyFault → Type 0
 IsValueFault value (Bad cause place) = fault_of value ≡ Some (cause, place)
 IsValueFault value NoMemory = Unit {0}
 
 -- what a fault of the JSON is for the policy (no public clause names this)
-abbrev pub Tells : JsonFault → PolicyFault → Type 0
-Tells (json.NotJson at) e = e ≡ Bad NotJson 0
-Tells (json.TooDeep at) e = e ≡ Bad TooDeep 0
-Tells (json.KeyTwice at) e = e ≡ Bad KeyTwice 0
-Tells json.NoMemory e = e ≡ NoMemory
+abbrev pub IsPolicyFaultOf : JsonFault → PolicyFault → Type 0
+IsPolicyFaultOf (json.NotJson at) e = e ≡ Bad NotJson 0
+IsPolicyFaultOf (json.TooDeep at) e = e ≡ Bad TooDeep 0
+IsPolicyFaultOf (json.KeyTwice at) e = e ≡ Bad KeyTwice 0
+IsPolicyFaultOf json.NoMemory e = e ≡ NoMemory

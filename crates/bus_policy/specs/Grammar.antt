@@ -88,13 +88,13 @@ is_one_principal no_members = false
 is_one_principal (member key t (member _ _ _)) = false
 
 -- `"*"`, or an object whose one member `AWS` has words for accounts
-abbrev pub is_principal : Tree → Bool
-is_principal (text t) = bytes_eq t (codes "*")
-is_principal (object inside) = is_one_principal inside
-is_principal null = false
-is_principal (truth b) = false
-is_principal (number spelling) = false
-is_principal (list items) = false
+abbrev pub is_principal_value : Tree → Bool
+is_principal_value (text t) = bytes_eq t (codes "*")
+is_principal_value (object inside) = is_one_principal inside
+is_principal_value null = false
+is_principal_value (truth b) = false
+is_principal_value (number spelling) = false
+is_principal_value (list items) = false
 
 abbrev pub is_operator : List ℕ → Bool
 is_operator operator = bytes_eq operator (codes "StringEquals") || bytes_eq operator (codes "StringLike")
@@ -118,7 +118,7 @@ is_statement_key key =
 abbrev pub has_fault : List Tree → Tree → PolicyCause → Bool
 has_fault earlier s BadSid = not (member_is true (text_passes (is_new_sid earlier)) (member_of (codes "Sid") s))
 has_fault earlier s BadEffect = not (member_is false (text_passes is_effect) (member_of (codes "Effect") s))
-has_fault earlier s BadPrincipal = not (member_is false is_principal (member_of (codes "Principal") s))
+has_fault earlier s BadPrincipal = not (member_is false is_principal_value (member_of (codes "Principal") s))
 has_fault earlier s BadAction = not (member_is false (are_texts any_text) (member_of (codes "Action") s))
 has_fault earlier s BadResource = not (member_is false (are_texts any_text) (member_of (codes "Resource") s))
 has_fault earlier s BadCondition = not (member_is true is_condition (member_of (codes "Condition") s))

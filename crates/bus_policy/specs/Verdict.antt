@@ -158,14 +158,15 @@ FirstDenies asker place (item statement statements) name =
     (Denies asker statement × (name ≡ name_of place statement))
     ⊎ ((¬ Denies asker statement) × FirstDenies asker (place + 1) statements name)
 
-abbrev pub IsAllowed : Asker → Items → Type 0
-IsAllowed asker statements = (asker.account ≡ owner) ⊎ SomeAllows asker statements
+-- the asker is the owner, or some Allow applies
+abbrev pub IsOwnerOrAllowed : Asker → Items → Type 0
+IsOwnerOrAllowed asker statements = (asker.account ≡ owner) ⊎ SomeAllows asker statements
 
 -- The first Deny that applies, in order, denies by its name. Else the owner is allowed, and whom an Allow that applies allows.
 abbrev pub IsVerdictOf : Items → Asker → Verdict → Type 0
 IsVerdictOf statements asker (denied_by name) = FirstDenies asker 1 statements name
-IsVerdictOf statements asker allowed = NoneDenies asker statements × IsAllowed asker statements
-IsVerdictOf statements asker no_allow = NoneDenies asker statements × (¬ IsAllowed asker statements)
+IsVerdictOf statements asker allowed = NoneDenies asker statements × IsOwnerOrAllowed asker statements
+IsVerdictOf statements asker no_allow = NoneDenies asker statements × (¬ IsOwnerOrAllowed asker statements)
 
 -- of a policy by its JSON value, as it was given or as it is stored
 abbrev pub IsVerdict : Tree → Asker → Verdict → Type 0

@@ -45,12 +45,12 @@ fn has_principal(statement: &Json, account: &str) -> bool
     ensures { IsTrue result ↔ spec.IsPrincipal account.now (member_of (codes "Principal") (tree_of statement.now)) }
 {
     match statement.member("Principal") {
-        Some(principal) => is_principal(principal, account),
+        Some(principal) => names_account(principal, account),
         None => false,
     }
 }
 
-fn is_principal(json: &Json, account: &str) -> bool
+fn names_account(json: &Json, account: &str) -> bool
     ensures { IsTrue result ↔ spec.IsPrincipal account.now (Some (tree_of json.now)) }
 {
     match json {

@@ -44,7 +44,7 @@ fn first_denial<'a>(statements: &[Json], names: &'a [Text], asker: &Asker) -> Op
 }
 
 fn is_allowed(statements: &[Json], asker: &Asker) -> bool
-    ensures { IsTrue result ↔ spec.IsAllowed (asker_of asker.now) (items_of (trees_of statements.now)) }
+    ensures { IsTrue result ↔ spec.IsOwnerOrAllowed (asker_of asker.now) (items_of (trees_of statements.now)) }
 {
     asker.account == OWNER || some_allows(statements, asker)
 }

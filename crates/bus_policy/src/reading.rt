@@ -3,7 +3,7 @@ ghost use Rattle.std.specs.Prelude.{◌≡◌, ◌≤◌, ◌<◌, length, IfOk,
 ghost use Rattle.json_text.specs.Compact.{IsValue};
 ghost use Rattle.json_text.specs.Tree.{Tree};
 ghost use Rattle.json_text.specs.View.{tree_of};
-ghost use Rattle.bus_policy.specs.Fault.{Tells, IsFirstFault, IsValueFault};
+ghost use Rattle.bus_policy.specs.Fault.{IsPolicyFaultOf, IsFirstFaultOrMemory, IsValueFault};
 ghost use Rattle.bus_policy.specs.Grammar.{IsPolicy};
 ghost use Rattle.bus_policy.specs.Stored.{IsStored, stored_of};
 ghost use Rattle.bus_policy.specs.Text.{Spells, IsPolicyText};
@@ -27,7 +27,7 @@ impl Policy {
         ensures found { IfOk result (λ p. IsPolicyText bytes.now p) }
         ensures only { (policy : Tree) → IsPolicyText bytes.now policy
             → MatchResult result (λ p. p ≡ policy) (λ e. e ≡ PolicyFault.NoMemory) }
-        ensures fault { IfErr result (IsFirstFault bytes.now) }
+        ensures fault { IfErr result (IsFirstFaultOrMemory bytes.now) }
         ensures too_long { 10240 < length bytes.now → result ≡ Err (PolicyFault.Bad PolicyCause.TooLong 0) }
         ensures stored { IfOk result (λ p. IsStored p) }
     {
@@ -61,7 +61,7 @@ fn spelled(alloc: Global, bytes: &[u8]) -> Result<Json, PolicyFault>
         × Spells bytes.now (tree_of json) × IsValue (tree_of json)) }
     ensures only { (value : Tree) → length bytes.now ≤ 10240 → Spells bytes.now value
         → MatchResult result (λ json. tree_of json ≡ value) (λ e. e ≡ PolicyFault.NoMemory) }
-    ensures fault { IfErr result (IsFirstFault bytes.now) }
+    ensures fault { IfErr result (IsFirstFaultOrMemory bytes.now) }
     ensures too_long { 10240 < length bytes.now → result ≡ Err (PolicyFault.Bad PolicyCause.TooLong 0) }
 {
     if bytes.len() > MAX_LEN {
@@ -75,7 +75,7 @@ fn spelled(alloc: Global, bytes: &[u8]) -> Result<Json, PolicyFault>
 
 /// What a fault of the JSON is for the policy.
 fn policy_fault(fault: &JsonFault) -> PolicyFault
-    ensures { Tells fault.now result }
+    ensures { IsPolicyFaultOf fault.now result }
 {
     match fault {
         JsonFault::NotJson { at: _ } => whole(PolicyCause::NotJson),

@@ -93,17 +93,17 @@ fn is_effect(json: &Json) -> bool
 }
 
 fn has_right_principal(statement: &Json) -> bool
-    ensures { result ≡ spec.member_is false spec.is_principal
+    ensures { result ≡ spec.member_is false spec.is_principal_value
         (member_of (codes "Principal") (tree_of statement.now)) }
 {
     match statement.member("Principal") {
-        Some(principal) => is_principal(principal),
+        Some(principal) => is_principal_value(principal),
         None => false,
     }
 }
 
-fn is_principal(json: &Json) -> bool
-    ensures { result ≡ spec.is_principal (tree_of json.now) }
+fn is_principal_value(json: &Json) -> bool
+    ensures { result ≡ spec.is_principal_value (tree_of json.now) }
 {
     match json {
         Json::Str(word) => word.as_str() == EVERYONE,

@@ -2,7 +2,7 @@
 ghost use Rattle.std.specs.Prelude.{◌≡◌, ◌<◌, length, IfOk, IfErr, MatchResult};
 ghost use Rattle.std.specs.Option.{option_copied};
 ghost use Rattle.json_text.specs.Tree.{Tree};
-ghost use Rattle.bus_policy.specs.Fault.{IsFirstFault};
+ghost use Rattle.bus_policy.specs.Fault.{IsFirstFaultOrMemory};
 ghost use Rattle.bus_policy.specs.View.{asker_of, verdict_of, owned_verdict_of};
 ghost use Rattle.bus_policy.specs.Text.{SpellsPolicy};
 ghost use Rattle.bus_policy.specs.Verdict.{IsVerdict, IsBusVerdict};
@@ -40,7 +40,7 @@ pub fn text_verdict(alloc: Global, text: &[u8], asker: &Asker) -> Result<OwnedVe
         × IsVerdict value (asker_of asker.now) (owned_verdict_of j)) }
     ensures only { (value : Tree) → SpellsPolicy text.now value → MatchResult result
         (λ j. IsVerdict value (asker_of asker.now) (owned_verdict_of j)) (λ e. e ≡ PolicyFault.NoMemory) }
-    ensures fault { IfErr result (IsFirstFault text.now) }
+    ensures fault { IfErr result (IsFirstFaultOrMemory text.now) }
     ensures too_long { 10240 < length text.now → result ≡ Err (PolicyFault.Bad PolicyCause.TooLong 0) }
 {
     match Policy::read(alloc, text) {

@@ -70,8 +70,8 @@ IsRefusedAt c = NoneCloses c.exchanges × IsBelowLimit c × IsRefused c.rest × 
 abbrev pub IsWholeNow : List ℕ → Type 0
 IsWholeNow bytes = IsLastRead bytes × ((m : Message) × (after : List ℕ) × HoldsMessage bytes m after)
 
--- Out of memory while a message was read, for the bytes after the buffered ones or for the message that is whole in them. No
--- byte is lost. If a whole head is buffered, the reply `out of memory` is written.
+-- Out of memory while a message was read, for the bytes after the buffered ones or for the message that is whole in them.
+-- If a whole head is buffered, the reply `out of memory` is written.
 abbrev pub IsStarvedAt : Course → Type 0
 IsStarvedAt c = NoneCloses c.exchanges × IsBelowLimit c × (IsAwaited c.rest ⊎ IsWholeNow c.rest)
     × ((HasHead c.rest × (c.closing ≡ Some (reply_text no_memory true))) ⊎ ((¬ HasHead c.rest) × (c.closing ≡ None)))

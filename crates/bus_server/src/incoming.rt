@@ -54,7 +54,7 @@ pub(crate) fn next_message<S: Source>(
             Err(WireFault::BadHead) => return Incoming::Lack(Lack::Refused),
             Err(WireFault::NoMemory) => return Incoming::Lack(Lack::NoMemory { head: true }),
         }
-        // Memory is allocated before the bytes are read, so that no byte is lost.
+        // Memory is allocated before the bytes are read, so that every byte taken is in the buffer.
         if let Err(NoMemory) = wire.reserve(piece.len()) {
             let head = wire.has_head();
             return Incoming::Lack(Lack::NoMemory { head });

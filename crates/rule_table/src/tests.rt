@@ -98,7 +98,7 @@ fn after(alloc: Global, set: &RuleSet, step: Step) -> Result<Option<RuleSet>, Fa
     match set.apply(alloc, &control(alloc, step)?) {
         Ok(next) => Ok(Some(next)),
         Err(ControlFault::NotBuilt) => Ok(None),
-        Err(ControlFault::NoMemory) => Err(Fail::from("memory was refused")),
+        Err(ControlFault::NoMemory) => Err(Fail::from("out of memory")),
     }
 }
 
