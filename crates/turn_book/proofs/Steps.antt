@@ -14,6 +14,12 @@ use Rattle.atomic_table.proofs.Lists.{at_set, set_here, set_else, set_again}
 use Rattle.turn_book.specs.declared.view.View.{View}
 use Rattle.turn_book.specs.Rule.{is_number, turns_by, total, Apart, Fits, IsHome, Kept, Holds, opener, note, newcomer, making, learning, waiting, holding, giving, looking, Learns, names_only, AreOf, asked, came, gave, looked}
 
+abbrev Homes : Type 0 → Type 0
+Homes V = List (maybe.Option (Option V))
+
+abbrev Seated : Type 0 → Type 0 → Type 0
+Seated V T = Me (Option V) (View T)
+
 module _ {A : Type 0} where
   at_end : (l : List A) (a b : A) (j : ℕ) → get_elem? (l ++ a ∷ []) j ≡ some b → (get_elem? l j ≡ some b) ⊎ ((j ≡ length l) × (a ≡ b))
   at_end [] a b zero e = inr (refl, some-injective a b e)
@@ -80,8 +86,10 @@ module _ {T : Type 0} where
   total_two : (vs : List (View T)) (i j : ℕ) (v w : View T) → i ≢ j → get_elem? vs i ≡ some v → get_elem? vs j ≡ some w → v.passes + w.passes ≤ total vs
   total_two [] i j v w ne e f = absurd (some-ne-none v (sym e))
   total_two (x ∷ xs) zero zero v w ne e f = absurd (ne refl)
-  total_two (x ∷ xs) zero (suc j) v w ne e f = let h : x.passes ≡ v.passes = ap (λ (z : View T). z.passes) (some-injective x v e) in let g = total_at xs j w f in omega arith
-  total_two (x ∷ xs) (suc i) zero v w ne e f = let h : x.passes ≡ w.passes = ap (λ (z : View T). z.passes) (some-injective x w f) in let g = total_at xs i v e in omega arith
+  total_two (x ∷ xs) zero (suc j) v w ne e f = let h : x.passes ≡ v.passes = ap (λ (z : View T). z.passes) (some-injective x v e) in
+      let g = total_at xs j w f in omega arith
+  total_two (x ∷ xs) (suc i) zero v w ne e f = let h : x.passes ≡ w.passes = ap (λ (z : View T). z.passes) (some-injective x w f) in
+      let g = total_at xs i v e in omega arith
   total_two (x ∷ xs) (suc i) (suc j) v w ne e f = let h = total_two xs i j v w (λ q. ne (ap suc q)) e f in omega arith
 
   each_set : (K : View T → Type 0) (vs : List (View T)) (id : ℕ) (w : View T) → K w → ((j : ℕ) (u : View T) → j ≢ id → get_elem? vs j ≡ some u → K u)
@@ -110,7 +118,8 @@ module _ {T : Type 0} where
       (at_set vs id j w b ej))
       (at_set vs id i w a ei)
 
-  apart_end : (vs : List (View T)) (w : View T) → AllApart vs → ((j : ℕ) (u : View T) → get_elem? vs j ≡ some u → Apart w u × Apart u w) → AllApart (vs ++ w ∷ [])
+  apart_end : (vs : List (View T)) (w : View T) → AllApart vs → ((j : ℕ) (u : View T) → get_elem? vs j ≡ some u → Apart w u × Apart u w)
+      → AllApart (vs ++ w ∷ [])
   apart_end vs w old new i j a b ne ei ej = ⊎_elim
       (λ (t : get_elem? vs i ≡ some a). ⊎_elim
       (λ (r : get_elem? vs j ≡ some b). old i j a b ne t r)
@@ -126,22 +135,23 @@ module _ {V T : Type 0} (turns : V → List T) (made_by : T → Option ℕ) (sou
   abbrev Rule : State (Option V) (View T) → Type 0
   Rule = Holds turns made_by sound
 
-  abbrev KeptAt : ℕ → ℕ → List (maybe.Option (Option V)) → List (View T) → Type 0
+  abbrev KeptAt : ℕ → ℕ → Homes V → List (View T) → Type 0
   KeptAt = Kept made_by turns sound
 
   abbrev FitsAt : ℕ → ℕ → ℕ → List T → View T → Type 0
   FitsAt = Fits made_by
 
   -- how a step goes on from a state
-  record Goes (me : Me (Option V) (View T)) (ticket serving : ℕ) (homes : List (maybe.Option (Option V))) (views : List (View T)) (id : ℕ) (then : Me (Option V) (View T) → Type 0) : Type 0 where
+  record Goes (me : Seated V T) (ticket serving : ℕ) (homes : Homes V) (views : List (View T)) (id : ℕ) (then : Seated V T → Type 0) : Type 0 where
     view : View T
     act : Act (Option V)
     valid : Valid homes me.1 act
     kept : KeptAt ticket serving (homes_after homes me.1 act) (set views id view)
     shows : then (view, carried_after me.1 act)
 
-  at_ticket : (slots id : ℕ) (me : Me (Option V) (View T)) (f : ℕ → ℕ) (then : ℕ → Me (Option V) (View T) → Type 0)
-      → ((ticket serving : ℕ) (homes : List (maybe.Option (Option V))) (views : List (View T)) → KeptAt ticket serving homes views → get_elem? views id ≡ some me.0 → Goes me (f ticket) serving homes views id (then ticket))
+  at_ticket : (slots id : ℕ) (me : Seated V T) (f : ℕ → ℕ) (then : ℕ → Seated V T → Type 0)
+      → ((ticket serving : ℕ) (homes : Homes V) (views : List (View T)) → KeptAt ticket serving homes views → get_elem? views id ≡ some me.0
+      → Goes me (f ticket) serving homes views id (then ticket))
       → Allows Rule slots id me 0 f then
   at_ticket slots id me f then go s h len at small = let g = go h.ticket h.serving s.homes s.views h.kept at in (
     g.view,
@@ -151,8 +161,9 @@ module _ {V T : Type 0} (turns : V → List T) (made_by : T → Option ℕ) (sou
     subst (λ (ws : List ℕ). then (get_or ws 0 0) (g.view, carried_after me.1 g.act)) (sym h.words) g.shows,
   )
 
-  at_serving : (slots id : ℕ) (me : Me (Option V) (View T)) (f : ℕ → ℕ) (then : ℕ → Me (Option V) (View T) → Type 0)
-      → ((ticket serving : ℕ) (homes : List (maybe.Option (Option V))) (views : List (View T)) → KeptAt ticket serving homes views → get_elem? views id ≡ some me.0 → Goes me ticket (f serving) homes views id (then serving))
+  at_serving : (slots id : ℕ) (me : Seated V T) (f : ℕ → ℕ) (then : ℕ → Seated V T → Type 0)
+      → ((ticket serving : ℕ) (homes : Homes V) (views : List (View T)) → KeptAt ticket serving homes views → get_elem? views id ≡ some me.0
+      → Goes me ticket (f serving) homes views id (then serving))
       → Allows Rule slots id me 1 f then
   at_serving slots id me f then go s h len at small = let g = go h.ticket h.serving s.homes s.views h.kept at in (
     g.view,
@@ -163,7 +174,7 @@ module _ {V T : Type 0} (turns : V → List T) (made_by : T → Option ℕ) (sou
   )
 
   -- what is at home stays there, if the seat still holds the turn that it held
-  home_set : (log : List T) (homes : List (maybe.Option (Option V))) (views : List (View T)) (id : ℕ) (v w : View T) → get_elem? views id ≡ some v → (1 < v.stage → 1 < w.stage)
+  home_set : (log : List T) (homes : Homes V) (views : List (View T)) (id : ℕ) (v w : View T) → get_elem? views id ≡ some v → (1 < v.stage → 1 < w.stage)
       → IsHome made_by turns sound log homes views → IsHome made_by turns sound log homes (set views id w)
   home_set log homes views id v w at same (inl h) = inl h
   home_set log homes views id v w at same (inr (e, (i, u, there, held))) = dite (ℕ_discrete i id)
@@ -172,7 +183,8 @@ module _ {V T : Type 0} (turns : V → List T) (made_by : T → Option ℕ) (sou
       inr (e, (id, w, set_here views id w (inside views id v at), held')))
       (λ (not : i ≢ id). inr (e, (i, u, set_else views id i w not ∙ there, held)))
 
-  home_end : (log : List T) (homes : List (maybe.Option (Option V))) (views more : List (View T)) → IsHome made_by turns sound log homes views → IsHome made_by turns sound log homes (views ++ more)
+  home_end : (log : List T) (homes : Homes V) (views more : List (View T)) → IsHome made_by turns sound log homes views
+      → IsHome made_by turns sound log homes (views ++ more)
   home_end log homes views more (inl h) = inl h
   home_end log homes views more (inr (e, (i, u, there, held))) = inr (e, (i, u, at_front views more i u there, held))
 
@@ -180,20 +192,39 @@ module _ {V T : Type 0} (turns : V → List T) (made_by : T → Option ℕ) (sou
   same_total views id v w at same = let h = total_set views id v w at in omega arith
 
   -- A pass draws the next ticket
-  draws : (ticket serving : ℕ) (homes : List (maybe.Option (Option V))) (views : List (View T)) (id : ℕ) (v : View T) → KeptAt ticket serving homes views → get_elem? views id ≡ some v
+  draws : (ticket serving : ℕ) (homes : Homes V) (views : List (View T)) (id : ℕ) (v : View T) → KeptAt ticket serving homes views
+      → get_elem? views id ≡ some v
       → ticket < 2 ^ 63 → v.stage ≡ 0 → 0 < v.passes → KeptAt (ticket + 1) serving homes (set views id (waiting v ticket))
   draws ticket serving homes views id v k at room idle one = let f = k.each id v at in let bound = k.bound.0 in record {
     made = k.made;
     log = k.log;
     bound = (omega arith, omega arith);
     each = each_set (FitsAt k.made (ticket + 1) serving k.log) views id (waiting v ticket)
-        record { seen = f.seen; also = f.also; own = f.own; number = f.number; maker = f.maker; waits = λ _. (one, bound, omega arith); holds = λ l. absurd (omega arith) }
+        record {
+          seen = f.seen;
+          also = f.also;
+          own = f.own;
+          number = f.number;
+          maker = f.maker;
+          waits = λ _. (one, bound, omega arith);
+          holds = λ l. absurd (omega arith);
+        }
         (λ j u ne there. let g = k.each j u there in
-        record { seen = g.seen; also = g.also; own = g.own; number = g.number; maker = g.maker; waits = λ l. let (p, a, b) = g.waits l in (p, a, omega arith); holds = g.holds });
-    apart = apart_set views id (waiting v ticket) k.apart (λ j u ne there. let g = k.each j u there in let one_way = k.apart id j v u (λ e. ne (sym e)) at there in let other_way = k.apart j id u v ne there at in (
-      record { numbers = one_way.numbers; tickets = λ _ l e. let (p, a, b) = g.waits l in omega arith; makers = one_way.makers },
-      record { numbers = other_way.numbers; tickets = λ l _ e. let (p, a, b) = g.waits l in omega arith; makers = other_way.makers },
-    ));
+        record {
+          seen = g.seen;
+          also = g.also;
+          own = g.own;
+          number = g.number;
+          maker = g.maker;
+          waits = λ l. let (p, a, b) = g.waits l in
+              (p, a, omega arith);
+          holds = g.holds;
+        });
+    apart = apart_set views id (waiting v ticket) k.apart (λ j u ne there. let g = k.each j u there in
+        let one_way = k.apart id j v u (λ e. ne (sym e)) at there in let other_way = k.apart j id u v ne there at in (
+          record { numbers = one_way.numbers; tickets = λ _ l e. let (p, a, b) = g.waits l in omega arith; makers = one_way.makers },
+          record { numbers = other_way.numbers; tickets = λ l _ e. let (p, a, b) = g.waits l in omega arith; makers = other_way.makers },
+        ));
     home = home_set k.log homes views id v (waiting v ticket) at (λ l. absurd (omega arith)) k.home;
     passes = same_total views id v (waiting v ticket) at refl ∙ k.passes;
     later = k.later;
@@ -203,7 +234,10 @@ module _ {V T : Type 0} (turns : V → List T) (made_by : T → Option ℕ) (sou
       → Allows Rule slots id (v, held) 0 (λ n. either (eqb n t) (t + 1) n) (asked (step slots 0 t (t + 1) none) (v, held))
   asks slots id t v held room idle one = at_ticket slots id (v, held) (λ n. either (eqb n t) (t + 1) n) (asked (step slots 0 t (t + 1) none) (v, held))
       (λ ticket serving homes views k at. dite (ℕ_discrete ticket t)
-      (λ (is : ticket ≡ t). subst (λ b. Goes (v, held) (either b (t + 1) ticket) serving homes views id (λ m'. MatchBool b (m' ≡ (waiting v ticket, held)) (m' ≡ (v, held)))) (sym (eq-eqb ticket t is)) record {
+      (λ (is : ticket ≡ t). subst (λ b. Goes (v, held) (either b (t + 1) ticket) serving homes views id (λ m'. MatchBool b (m' ≡ (
+        waiting v ticket,
+        held,
+      )) (m' ≡ (v, held)))) (sym (eq-eqb ticket t is)) record {
         view = waiting v ticket;
         act = keeps;
         valid = tt;
@@ -211,7 +245,10 @@ module _ {V T : Type 0} (turns : V → List T) (made_by : T → Option ℕ) (sou
             (draws ticket serving homes views id v k at (subst (λ (n : ℕ). n < 2 ^ 63) (sym is) room) idle one);
         shows = refl;
       })
-      (λ (not : ticket ≢ t). subst (λ b. Goes (v, held) (either b (t + 1) ticket) serving homes views id (λ m'. MatchBool b (m' ≡ (waiting v ticket, held)) (m' ≡ (v, held)))) (sym (ne_eqb ticket t not)) record {
+      (λ (not : ticket ≢ t). subst (λ b. Goes (v, held) (either b (t + 1) ticket) serving homes views id (λ m'. MatchBool b (m' ≡ (
+        waiting v ticket,
+        held,
+      )) (m' ≡ (v, held)))) (sym (ne_eqb ticket t not)) record {
         view = v;
         act = keeps;
         valid = tt;
@@ -220,38 +257,58 @@ module _ {V T : Type 0} (turns : V → List T) (made_by : T → Option ℕ) (sou
       }))
 
   -- A pass takes its turn
-  enters : (ticket serving : ℕ) (homes : List (maybe.Option (Option V))) (views : List (View T)) (id : ℕ) (v : View T) (x : V) (k : KeptAt ticket serving homes views) → get_elem? views id ≡ some v
-      → v.stage ≡ 1 → serving ≡ v.ticket → homes ≡ some (Some x) ∷ [] → turns x ≡ k.log → KeptAt ticket serving (set homes 0 none) (set views id (holding v (turns x)))
-  enters ticket serving homes views id v x k at waits is full story = let f = k.each id v at in let w = holding v (turns x) in let stage = waits in record {
-    made = k.made;
-    log = k.log;
-    bound = k.bound;
-    each = each_set (FitsAt k.made ticket serving k.log) views id w
-        record { seen = ([], append-nil (turns x) ∙ story); also = f.also; own = λ _. ap (turns_by made_by v.number) story; number = f.number; maker = f.maker; waits = λ _. f.waits (omega arith); holds = λ _. (sym is, story) }
-        (λ j u ne there. k.each j u there);
-    apart = apart_set views id w k.apart (λ j u ne there. let one_way = k.apart id j v u (λ e. ne (sym e)) at there in let other_way = k.apart j id u v ne there at in (
-      record { numbers = one_way.numbers; tickets = λ _. one_way.tickets (omega arith); makers = one_way.makers },
-      record { numbers = other_way.numbers; tickets = λ l _. other_way.tickets l (omega arith); makers = other_way.makers },
-    ));
-    home = inr (ap (λ (hs : List (maybe.Option (Option V))). set hs 0 none) full, (id, w, set_here views id w (inside views id v at), omega arith));
-    passes = same_total views id v w at refl ∙ k.passes;
-    later = k.later;
-  }
+  enters : (ticket serving : ℕ) (homes : Homes V) (views : List (View T)) (id : ℕ) (v : View T) (x : V) (k : KeptAt ticket serving homes views)
+      → get_elem? views id ≡ some v
+      → v.stage ≡ 1 → serving ≡ v.ticket → homes ≡ some (Some x) ∷ [] → turns x ≡ k.log
+      → KeptAt ticket serving (set homes 0 none) (set views id (holding v (turns x)))
+  enters ticket serving homes views id v x k at waits is full story = let f = k.each id v at in let w = holding v (turns x) in let stage = waits in
+      record {
+        made = k.made;
+        log = k.log;
+        bound = k.bound;
+        each = each_set (FitsAt k.made ticket serving k.log) views id w
+            record {
+              seen = ([], append-nil (turns x) ∙ story);
+              also = f.also;
+              own = λ _. ap (turns_by made_by v.number) story;
+              number = f.number;
+              maker = f.maker;
+              waits = λ _. f.waits (omega arith);
+              holds = λ _. (sym is, story);
+            }
+            (λ j u ne there. k.each j u there);
+        apart = apart_set views id w k.apart (λ j u ne there. let one_way = k.apart id j v u (λ e. ne (sym e)) at there in
+            let other_way = k.apart j id u v ne there at in (
+              record { numbers = one_way.numbers; tickets = λ _. one_way.tickets (omega arith); makers = one_way.makers },
+              record { numbers = other_way.numbers; tickets = λ l _. other_way.tickets l (omega arith); makers = other_way.makers },
+            ));
+        home = inr (ap (λ (hs : Homes V). set hs 0 none) full, (id, w, set_here views id w (inside views id v at), omega arith));
+        passes = same_total views id v w at refl ∙ k.passes;
+        later = k.later;
+      }
 
-  pub comes : (slots id : ℕ) (v : View T) (held : List (ℕ × Option V)) → v.stage ≡ 1 → 0 < v.passes → Allows Rule slots id (v, held) 1 (λ n. n) (came turns made_by sound (step slots 1 0 0 none) (v, held))
+  pub comes : (slots id : ℕ) (v : View T) (held : List (ℕ × Option V)) → v.stage ≡ 1 → 0 < v.passes
+      → Allows Rule slots id (v, held) 1 (λ n. n) (came turns made_by sound (step slots 1 0 0 none) (v, held))
   comes slots id v held waits one = at_serving slots id (v, held) (λ n. n) (came turns made_by sound (step slots 1 0 0 none) (v, held))
       (λ ticket serving homes views k at.
-      let P : Bool → Me (Option V) (View T) → Type 0 = λ b m'. MatchBool b ((x : V) × (m' ≡ (holding v (turns x), (0, Some x) ∷ held)) × sound x × Learns made_by v (turns x)) (m' ≡ (v, held)) in
+      let P : Bool → Seated V T → Type 0 = λ b m'. MatchBool b ((x : V) × (m' ≡ (
+        holding v (turns x),
+        (
+          0,
+          Some x,
+        ) ∷ held,
+      )) × sound x × Learns made_by v (turns x)) (m' ≡ (v, held)) in
       dite (ℕ_discrete serving v.ticket)
       (λ (is : serving ≡ v.ticket). subst (λ b. Goes (v, held) ticket serving homes views id (P b)) (sym (eq-eqb serving v.ticket is)) (⊎_elim
       (λ (h : (x : V) × (homes ≡ some (Some x) ∷ []) × (turns x ≡ k.log) × sound x). let (x, full, story, fine) = h in let f = k.each id v at in record {
         view = holding v (turns x);
         act = takes 0 (Some x);
-        valid = ap (λ (hs : List (maybe.Option (Option V))). get_elem? hs 0) full;
+        valid = ap (λ (hs : Homes V). get_elem? hs 0) full;
         kept = enters ticket serving homes views id v x k at waits is full story;
         shows = (x, refl, fine, (subst (IsPrefix v.seen) (sym story) f.seen, ap (turns_by made_by v.number) story ∙ sym (f.own one)));
       })
-      (λ (h : (homes ≡ none ∷ []) × ((i : ℕ) × (u : View T) × (get_elem? views i ≡ some u) × (1 < u.stage))). let (empty, (i, u, there, held)) = h in dite (ℕ_discrete i id)
+      (λ (h : (homes ≡ none ∷ []) × ((i : ℕ) × (u : View T) × (get_elem? views i ≡ some u) × (1 < u.stage))). let (empty, (i, u, there, held)) = h in
+      dite (ℕ_discrete i id)
       (λ (same : i ≡ id). let u_is : u ≡ v = one_there views id u v (subst (λ (n : ℕ). get_elem? views n ≡ some u) same there) at in
       let l : 1 < v.stage = subst (λ (z : View T). 1 < z.stage) u_is held in absurd (omega arith))
       (λ (not : i ≢ id). absurd ((k.apart i id u v not there at).tickets (omega arith) (omega arith) (((k.each i u there).holds held).0 ∙ is))))
@@ -265,7 +322,7 @@ module _ {V T : Type 0} (turns : V → List T) (made_by : T → Option ℕ) (sou
       }))
 
   -- A turn ends, and its additions enter the history
-  leaves : (ticket serving : ℕ) (homes : List (maybe.Option (Option V))) (views : List (View T)) (id : ℕ) (v : View T) (x : V) (added : List T) (k : KeptAt ticket serving homes views) → get_elem? views id ≡ some v
+  leaves : (ticket serving : ℕ) (homes : Homes V) (views : List (View T)) (id : ℕ) (v : View T) (x : V) (added : List T) (k : KeptAt ticket serving homes views) → get_elem? views id ≡ some v
       → v.stage ≡ 2 → 0 < v.passes → turns x ≡ v.seen ++ added → AreOf made_by v.number added → sound x
       → KeptAt ticket ((serving + 1) % 18446744073709551616) (set homes 0 (some (Some x))) (set views id (giving v (turns x)))
   leaves ticket serving homes views id v x added k at held one story only fine = let f = k.each id v at in let w = giving v (turns x) in
@@ -274,14 +331,23 @@ module _ {V T : Type 0} (turns : V → List T) (made_by : T → Option ℕ) (sou
       let (_, top) = k.bound in
       let longer : k.log ++ added ≡ turns x = sym (story ∙ ap (λ (l : List T). l ++ added) all) in
       let after : IsPrefix k.log (turns x) = (added, longer) in
-      let same : (n : ℕ) → n ≢ v.number → turns_by made_by n k.log ≡ turns_by made_by n (turns x) = λ n ne. sym (ap (turns_by made_by n) (sym longer) ∙ unchanged made_by n v.number k.log added ne only) in
+      let same : (n : ℕ) → n ≢ v.number
+      → turns_by made_by n k.log ≡ turns_by made_by n (turns x) = λ n ne. sym (ap (turns_by made_by n) (sym longer) ∙ unchanged made_by n v.number k.log added ne only) in
       let one_more : (serving + 1) % 18446744073709551616 ≡ serving + 1 = mod-eq_of_lt (omega arith) in
       subst (λ (n : ℕ). KeptAt ticket n (set homes 0 (some (Some x))) (set views id w)) (sym one_more) record {
         made = k.made;
         log = turns x;
         bound = (omega arith, top);
         each = each_set (FitsAt k.made ticket (serving + 1) (turns x)) views id w
-            record { seen = prefix_refl (turns x); also = prefix_trans v.also k.log (turns x) f.also after; own = λ _. refl; number = f.number; maker = f.maker; waits = λ l. absurd (omega arith); holds = λ l. absurd (omega arith) }
+            record {
+              seen = prefix_refl (turns x);
+              also = prefix_trans v.also k.log (turns x) f.also after;
+              own = λ _. refl;
+              number = f.number;
+              maker = f.maker;
+              waits = λ l. absurd (omega arith);
+              holds = λ l. absurd (omega arith);
+            }
             (λ j u ne there. let g = k.each j u there in let a = k.apart j id u v ne there at in
             record {
               seen = prefix_trans u.seen k.log (turns x) g.seen after;
@@ -292,15 +358,17 @@ module _ {V T : Type 0} (turns : V → List T) (made_by : T → Option ℕ) (sou
               waits = λ l. let (p, b, c) = g.waits l in let d : u.ticket ≢ v.ticket = a.tickets l (omega arith) in (p, omega arith, c);
               holds = λ l. absurd (a.tickets (omega arith) (omega arith) ((g.holds l).0 ∙ sym mine));
             });
-        apart = apart_set views id w k.apart (λ j u ne there. let one_way = k.apart id j v u (λ e. ne (sym e)) at there in let other_way = k.apart j id u v ne there at in (
-          record { numbers = one_way.numbers; tickets = λ l. absurd (omega arith); makers = one_way.makers },
-          record { numbers = other_way.numbers; tickets = λ _ l. absurd (omega arith); makers = other_way.makers },
-        ));
+        apart = apart_set views id w k.apart (λ j u ne there. let one_way = k.apart id j v u (λ e. ne (sym e)) at there in
+            let other_way = k.apart j id u v ne there at in (
+              record { numbers = one_way.numbers; tickets = λ l. absurd (omega arith); makers = one_way.makers },
+              record { numbers = other_way.numbers; tickets = λ _ l. absurd (omega arith); makers = other_way.makers },
+            ));
         home = inl (
           x,
           ⊎_elim
-              (λ (h : (y : V) × (homes ≡ some (Some y) ∷ []) × (turns y ≡ k.log) × sound y). let (y, full, _, _) = h in ap (λ (hs : List (maybe.Option (Option V))). set hs 0 (some (Some x))) full)
-              (λ (h : (homes ≡ none ∷ []) × ((i : ℕ) × (u : View T) × (get_elem? views i ≡ some u) × (1 < u.stage))). ap (λ (hs : List (maybe.Option (Option V))). set hs 0 (some (Some x))) h.0)
+              (λ (h : (y : V) × (homes ≡ some (Some y) ∷ []) × (turns y ≡ k.log) × sound y). let (y, full, _, _) = h in
+              ap (λ (hs : Homes V). set hs 0 (some (Some x))) full)
+              (λ (h : (homes ≡ none ∷ []) × ((i : ℕ) × (u : View T) × (get_elem? views i ≡ some u) × (1 < u.stage))). ap (λ (hs : Homes V). set hs 0 (some (Some x))) h.0)
               k.home,
           refl,
           fine,
@@ -309,9 +377,16 @@ module _ {V T : Type 0} (turns : V → List T) (made_by : T → Option ℕ) (sou
         later = λ n l. let below = f.number one in sym (same n (λ e. omega arith)) ∙ k.later n l;
       }
 
-  pub gives_back : (slots id : ℕ) (v : View T) (x : V) (added : List T) → v.stage ≡ 2 → 0 < v.passes → turns x ≡ v.seen ++ added → AreOf made_by v.number added → sound x
+  pub gives_back : (slots id : ℕ) (v : View T) (x : V) (added : List T) → v.stage ≡ 2 → 0 < v.passes → turns x ≡ v.seen ++ added
+      → AreOf made_by v.number added → sound x
       → Allows Rule slots id (v, (0, Some x) ∷ []) 1 (λ n. (n + 1) % 18446744073709551616) (gave turns (step slots 1 1 0 none) (v, (0, Some x) ∷ []))
-  gives_back slots id v x added held one story only fine = at_serving slots id (v, (0, Some x) ∷ []) (λ n. (n + 1) % 18446744073709551616) (gave turns (step slots 1 1 0 none) (v, (0, Some x) ∷ []))
+  gives_back slots id v x added held one story only fine = at_serving slots id (
+    v,
+    (
+      0,
+      Some x,
+    ) ∷ [],
+  ) (λ n. (n + 1) % 18446744073709551616) (gave turns (step slots 1 1 0 none) (v, (0, Some x) ∷ []))
       (λ ticket serving homes views k at. record {
         view = giving v (turns x);
         act = gives;
@@ -321,25 +396,38 @@ module _ {V T : Type 0} (turns : V → List T) (made_by : T → Option ℕ) (sou
       })
 
   -- A seat sees the history as it is
-  sees : (ticket serving : ℕ) (homes : List (maybe.Option (Option V))) (views : List (View T)) (id : ℕ) (v : View T) (k : KeptAt ticket serving homes views) → get_elem? views id ≡ some v
+  sees : (ticket serving : ℕ) (homes : Homes V) (views : List (View T)) (id : ℕ) (v : View T) (k : KeptAt ticket serving homes views)
+      → get_elem? views id ≡ some v
       → KeptAt ticket serving homes (set views id (looking v k.log))
   sees ticket serving homes views id v k at = let f = k.each id v at in let w = looking v k.log in record {
     made = k.made;
     log = k.log;
     bound = k.bound;
     each = each_set (FitsAt k.made ticket serving k.log) views id w
-        record { seen = prefix_refl k.log; also = (k.log, refl); own = λ _. refl; number = f.number; maker = f.maker; waits = f.waits; holds = λ l. ((f.holds l).0, refl) }
+        record {
+          seen = prefix_refl k.log;
+          also = (k.log, refl);
+          own = λ _. refl;
+          number = f.number;
+          maker = f.maker;
+          waits = f.waits;
+          holds = λ l. ((f.holds l).0, refl);
+        }
         (λ j u ne there. k.each j u there);
-    apart = apart_set views id w k.apart (λ j u ne there. let one_way = k.apart id j v u (λ e. ne (sym e)) at there in let other_way = k.apart j id u v ne there at in (
-      record { numbers = one_way.numbers; tickets = one_way.tickets; makers = one_way.makers },
-      record { numbers = other_way.numbers; tickets = other_way.tickets; makers = other_way.makers },
-    ));
+    apart = apart_set views id w k.apart (λ j u ne there. let one_way = k.apart id j v u (λ e. ne (sym e)) at there in
+        let other_way = k.apart j id u v ne there at in (
+          record { numbers = one_way.numbers; tickets = one_way.tickets; makers = one_way.makers },
+          record { numbers = other_way.numbers; tickets = other_way.tickets; makers = other_way.makers },
+        ));
     home = home_set k.log homes views id v w at (λ l. l) k.home;
     passes = same_total views id v w at refl ∙ k.passes;
     later = k.later;
   }
 
-  pub looks : (slots id : ℕ) (v : View T) (held : List (ℕ × Option V)) → 0 < v.passes → Allows Rule slots id (v, held) 0 (λ n. n) (looked made_by (step slots 0 0 0 none) (v, held))
+  pub looks : (slots id : ℕ) (v : View T) (held : List (ℕ × Option V)) → 0 < v.passes → Allows Rule slots id (
+    v,
+    held,
+  ) 0 (λ n. n) (looked made_by (step slots 0 0 0 none) (v, held))
   looks slots id v held one = at_ticket slots id (v, held) (λ n. n) (looked made_by (step slots 0 0 0 none) (v, held))
       (λ ticket serving homes views k at. let f = k.each id v at in record {
         view = looking v k.log;
@@ -368,7 +456,11 @@ module _ {V T : Type 0} (turns : V → List T) (made_by : T → Option ℕ) (sou
 
   pub notes : (id : ℕ) (v : View T) → Splits Rule id v v (note v.seen)
   notes id v s h at = let k = h.kept in let f = k.each id v at in
-      subst (λ (vs : List (View T)). Rule record { words = s.words; homes = s.homes; views = vs ++ note v.seen ∷ [] }) (sym (set_again s.views id v at)) record {
+      subst (λ (vs : List (View T)). Rule record {
+        words = s.words;
+        homes = s.homes;
+        views = vs ++ note v.seen ∷ [];
+      }) (sym (set_again s.views id v at)) record {
         ticket = h.ticket;
         serving = h.serving;
         words = h.words;
@@ -396,13 +488,40 @@ module _ {V T : Type 0} (turns : V → List T) (made_by : T → Option ℕ) (sou
           log = k.log;
           bound = k.bound;
           each = each_end (FitsAt (suc k.made) h.ticket h.serving k.log) (set s.views id w) n
-              record { seen = f.seen; also = (k.log, refl); own = λ _. own_before made_by v.made v.seen k.log f.seen empty ∙ sym empty; number = λ _. omega arith; maker = λ l. absurd (omega arith); waits = λ l. absurd (omega arith); holds = λ l. absurd (omega arith) }
+              record {
+                seen = f.seen;
+                also = (k.log, refl);
+                own = λ _. own_before made_by v.made v.seen k.log f.seen empty ∙ sym empty;
+                number = λ _. omega arith;
+                maker = λ l. absurd (omega arith);
+                waits = λ l. absurd (omega arith);
+                holds = λ l. absurd (omega arith);
+              }
               (each_set (FitsAt (suc k.made) h.ticket h.serving k.log) s.views id w
-              record { seen = f.seen; also = f.also; own = f.own; number = λ l. let b = f.number l in omega arith; maker = λ _. ap suc is; waits = f.waits; holds = f.holds }
+              record {
+                seen = f.seen;
+                also = f.also;
+                own = f.own;
+                number = λ l. let b = f.number l in
+                    omega arith;
+                maker = λ _. ap suc is;
+                waits = f.waits;
+                holds = f.holds;
+              }
               (λ j u ne there. let g = k.each j u there in let a = k.apart id j v u (λ e. ne (sym e)) at there in
-              record { seen = g.seen; also = g.also; own = g.own; number = λ l. let b = g.number l in omega arith; maker = λ l. let b = a.makers maker in absurd (omega arith); waits = g.waits; holds = g.holds }));
+              record {
+                seen = g.seen;
+                also = g.also;
+                own = g.own;
+                number = λ l. let b = g.number l in
+                    omega arith;
+                maker = λ l. let b = a.makers maker in absurd (omega arith);
+                waits = g.waits;
+                holds = g.holds;
+              }));
           apart = apart_end (set s.views id w) n
-              (apart_set s.views id w k.apart (λ j u ne there. let one_way = k.apart id j v u (λ e. ne (sym e)) at there in let other_way = k.apart j id u v ne there at in (
+              (apart_set s.views id w k.apart (λ j u ne there. let one_way = k.apart id j v u (λ e. ne (sym e)) at there in
+              let other_way = k.apart j id u v ne there at in (
                 record { numbers = one_way.numbers; tickets = one_way.tickets; makers = λ _. one_way.makers maker },
                 record { numbers = other_way.numbers; tickets = other_way.tickets; makers = λ l. let b = one_way.makers maker in absurd (omega arith) },
               )))
@@ -434,10 +553,19 @@ module _ {V T : Type 0} (turns : V → List T) (made_by : T → Option ℕ) (sou
           bound = k.bound;
           each = each_set (FitsAt k.made h.ticket h.serving k.log) (set s.views id l) other (note []) (note_fits k.made h.ticket h.serving k.log [] (k.log, refl))
               (λ j u ne there. each_set (FitsAt k.made h.ticket h.serving k.log) s.views id l
-              record { seen = f.seen; also = g.seen; own = λ _. f.own one; number = λ _. f.number one; maker = f.maker; waits = λ p. let (a, b, c) = f.waits p in (omega arith, b, c); holds = f.holds }
+              record {
+                seen = f.seen;
+                also = g.seen;
+                own = λ _. f.own one;
+                number = λ _. f.number one;
+                maker = f.maker;
+                waits = λ p. let (a, b, c) = f.waits p in (omega arith, b, c);
+                holds = f.holds;
+              }
               (λ j u ne there. k.each j u there) j u there);
           apart = apart_set (set s.views id l) other (note [])
-              (apart_set s.views id l k.apart (λ j u ne there. let one_way = k.apart id j v u (λ e. ne (sym e)) at there in let other_way = k.apart j id u v ne there at in (
+              (apart_set s.views id l k.apart (λ j u ne there. let one_way = k.apart id j v u (λ e. ne (sym e)) at there in
+              let other_way = k.apart j id u v ne there at in (
                 record { numbers = λ _. one_way.numbers one; tickets = one_way.tickets; makers = one_way.makers },
                 record { numbers = λ p _. other_way.numbers p one; tickets = other_way.tickets; makers = other_way.makers },
               )))
@@ -458,7 +586,15 @@ module _ {V T : Type 0} (turns : V → List T) (made_by : T → Option ℕ) (sou
       log = turns x;
       bound = (omega arith, omega arith);
       each = each_end (FitsAt 1 0 0 (turns x)) [] w
-          record { seen = prefix_refl (turns x); also = (turns x, refl); own = λ _. refl; number = λ _. omega arith; maker = λ _. refl; waits = λ l. absurd (omega arith); holds = λ l. absurd (omega arith) }
+          record {
+            seen = prefix_refl (turns x);
+            also = (turns x, refl);
+            own = λ _. refl;
+            number = λ _. omega arith;
+            maker = λ _. refl;
+            waits = λ l. absurd (omega arith);
+            holds = λ l. absurd (omega arith);
+          }
           (λ j u there. absurd (some-ne-none u (sym there)));
       apart = apart_end [] w (λ i j a b ne there. absurd (some-ne-none a (sym there))) (λ j u there. absurd (some-ne-none u (sym there)));
       home = inl (x, refl, refl, fine);
@@ -468,15 +604,25 @@ module _ {V T : Type 0} (turns : V → List T) (made_by : T → Option ℕ) (sou
   }
 
   -- If one seat represents all passes and holds no turn, the value is at home
-  pub closes : (id : ℕ) (v : View T) (s : State (Option V) (View T)) → Rule s → get_elem? s.views id ≡ some v → 0 < v.made → v.passes ≡ v.made → v.stage ≡ 0
+  pub closes : (id : ℕ) (v : View T) (s : State (Option V) (View T)) → Rule s → get_elem? s.views id ≡ some v → 0 < v.made → v.passes ≡ v.made
+      → v.stage ≡ 0
       → (x : V) × (s.homes ≡ some (Some x) ∷ []) × sound x × Learns made_by v (turns x)
   closes id v s h at maker whole idle = let k = h.kept in let f = k.each id v at in let is = f.maker maker in let all = k.passes in ⊎_elim
       (λ (t : (x : V) × (s.homes ≡ some (Some x) ∷ []) × (turns x ≡ k.log) × sound x). let (x, full, story, fine) = t in
       (x, full, fine, (subst (IsPrefix v.seen) (sym story) f.seen, ap (turns_by made_by v.number) story ∙ sym (f.own (omega arith)))))
-      (λ (t : (s.homes ≡ none ∷ []) × ((i : ℕ) × (u : View T) × (get_elem? s.views i ≡ some u) × (1 < u.stage))). let (empty, (i, u, there, held)) = t in dite (ℕ_discrete i id)
+      (λ (t : (s.homes ≡ none ∷ []) × ((i : ℕ) × (u : View T) × (get_elem? s.views i ≡ some u) × (1 < u.stage))). let (
+        empty,
+        (
+          i,
+          u,
+          there,
+          held,
+        ),
+      ) = t in dite (ℕ_discrete i id)
       (λ (same : i ≡ id). let u_is : u ≡ v = one_there s.views id u v (subst (λ (n : ℕ). get_elem? s.views n ≡ some u) same there) at in
       let l : 1 < v.stage = subst (λ (z : View T). 1 < z.stage) u_is held in absurd (omega arith))
-      (λ (not : i ≢ id). let two = total_two s.views i id u v not there at in let (p, _, _) = (k.each i u there).waits (omega arith) in absurd (omega arith)))
+      (λ (not : i ≢ id). let two = total_two s.views i id u v not there at in let (p, _, _) = (k.each i u there).waits (omega arith) in
+      absurd (omega arith)))
       k.home
 
 -- What a `MatchBool` on a test of two numbers says, once they are known to be equal
@@ -485,17 +631,22 @@ if_equal P Q n m e h = subst (λ b. MatchBool b P Q) (eq-eqb n m e) h
 
 module _ {V T : Type 0} (made_by : T → Option ℕ) where
   -- A join and a look: the seat has seen what the other one had
-  pub learned : (v w : View T) (held : List (ℕ × Option V)) (joined new : Me (Option V) (View T)) → joined ≡ (learning v w, held) → looked made_by (step 0 0 0 0 none) joined 0 new
+  pub learned : (v w : View T) (held : List (ℕ × Option V)) (joined new : Seated V T) → joined ≡ (learning v w, held)
+      → looked made_by (step 0 0 0 0 none) joined 0 new
       → (log : List T) × (new ≡ (looking (learning v w) log, held)) × IsPrefix w.seen log × Learns made_by v log
   learned v w held joined new j (log, is, also, learns) = (
     log,
-    is ∙ ap (λ (m : Me (Option V) (View T)). (looking m.0 log, m.1)) j,
-    subst (λ (m : Me (Option V) (View T)). IsPrefix m.0.also log) j also,
-    subst (λ (m : Me (Option V) (View T)). Learns made_by m.0 log) j learns,
+    is ∙ ap (λ (m : Seated V T). (looking m.0 log, m.1)) j,
+    subst (λ (m : Seated V T). IsPrefix m.0.also log) j also,
+    subst (λ (m : Seated V T). Learns made_by m.0 log) j learns,
   )
 
-pub learns_twice : {T : Type 0} (made_by : T → Option ℕ) (u v : View T) (log : List T) → v.number ≡ u.number → Learns made_by u v.seen → Learns made_by v log → Learns made_by u log
-learns_twice made_by u v log same (front, own_same) (further, then) = (prefix_trans u.seen v.seen log front further, subst (λ (n : ℕ). turns_by made_by n log ≡ turns_by made_by n v.seen) same then ∙ own_same)
+pub learns_twice : {T : Type 0} (made_by : T → Option ℕ) (u v : View T) (log : List T) → v.number ≡ u.number → Learns made_by u v.seen
+    → Learns made_by v log → Learns made_by u log
+learns_twice made_by u v log same (front, own_same) (further, then) = (
+  prefix_trans u.seen v.seen log front further,
+  subst (λ (n : ℕ). turns_by made_by n log ≡ turns_by made_by n v.seen) same then ∙ own_same,
+)
 
 module _ {V T : Type 0} (turns : V → List T) (made_by : T → Option ℕ) (sound : V → Type 0) where
   -- the slot has a value, which represents the history
@@ -503,8 +654,14 @@ module _ {V T : Type 0} (turns : V → List T) (made_by : T → Option ℕ) (sou
   IsLast v None = 1 < 1
   IsLast v (Some x) = sound x × Learns made_by v (turns x)
 
-  pub taken : (id : ℕ) (v : View T) (words : List ℕ) (slots : List (Option V)) (r : Option V) → Final (Seen (Holds turns made_by sound) id v) words slots → get_elem? slots 0 ≡ some r
+  pub taken : (id : ℕ) (v : View T) (words : List ℕ) (slots : List (Option V)) (r : Option V)
+      → Final (Seen (Holds turns made_by sound) id v) words slots → get_elem? slots 0 ≡ some r
       → 0 < v.made → v.passes ≡ v.made → v.stage ≡ 0 → IsLast v r
-  taken id v words slots r (s, (h, at), _, _, same) there maker whole idle = let (x, full, fine, learns) = closes turns made_by sound id v s h at maker whole idle in
-      let is : Some x ≡ r = one_there slots 0 (Some x) r (same 0 (Some x) (ap (λ (hs : List (maybe.Option (Option V))). get_elem? hs 0) full)) there in
+  taken id v words slots r (s, (h, at), _, _, same) there maker whole idle = let (
+    x,
+    full,
+    fine,
+    learns,
+  ) = closes turns made_by sound id v s h at maker whole idle in
+      let is : Some x ≡ r = one_there slots 0 (Some x) r (same 0 (Some x) (ap (λ (hs : Homes V). get_elem? hs 0) full)) there in
       subst (IsLast v) is (fine, learns)

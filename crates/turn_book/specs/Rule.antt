@@ -114,7 +114,13 @@ module _ {V T : Type 0} where
 
   -- the turn has come, and the seat has the slot with the value
   abbrev pub came : (V → List T) → (T → Option ℕ) → (V → Type 0) → Step (Option V) → Me (Option V) (View T) → ℕ → Me (Option V) (View T) → Type 0
-  came turns made_by sound st m n m' = MatchBool (n == m.0.ticket) ((x : V) × (m' ≡ (holding m.0 (turns x), (0, Some x) ∷ m.1)) × sound x × Learns made_by m.0 (turns x)) (m' ≡ m)
+  came turns made_by sound st m n m' = MatchBool (n == m.0.ticket) ((x : V) × (m' ≡ (
+    holding m.0 (turns x),
+    (
+      0,
+      Some x,
+    ) ∷ m.1,
+  )) × sound x × Learns made_by m.0 (turns x)) (m' ≡ m)
 
   abbrev pub gave : (V → List T) → Step (Option V) → Me (Option V) (View T) → ℕ → Me (Option V) (View T) → Type 0
   gave turns st m n m' = m' ≡ (giving m.0 (carried turns m.1), [])

@@ -23,7 +23,7 @@ const SERVING: usize = 1;
 const SLOT: usize = 0;
 /// From here on a pass waits forever, so that no ticket comes twice.
 const LAST_TICKET: u64 = 1 << 63;
-/// How often a pass looks before it sleeps.
+/// How often a pass looks for its turn before it sleeps.
 const LOOKS: u32 = 200;
 /// The number of words that passes sleep on.
 const BELLS: usize = 16;
@@ -57,7 +57,8 @@ impl<V: Story> Pass<V> {
 }
 
 impl<V: Story> Hall<V> {
-    /// The hall with its first pass, which makes the others. At most `seats` passes are made.
+    /// The hall with its first pass, which makes the others. At most `seats` passes are made, this one counted.
+    /// `Err` returns the value: out of memory.
     pub fn make(alloc: Global, value: V, seats: u32) -> Result<(Hall<V>, Pass<V>), (NoMemory, V)>
         requires sound { V.sound value }
         requires unmade { (n : ℕ) → turns_by V.made_by n (V.turns value) ≡ [] }
@@ -99,7 +100,7 @@ impl<V: Story> Hall<V> {
         }
     }
 
-    /// One more pass, which has seen what this one has. Only the pass of `make` makes passes.
+    /// One more pass, which has seen what this one has seen. Only the pass of `make` makes passes.
     pub fn another(&self, pass: &mut Pass<V>) -> Pass<V>
         requires here { pass.old.seat.table_id ≡ self.now.table.shared.table_id }
         requires maker { 0 < (view pass.old.seat).made }
@@ -155,7 +156,8 @@ impl<V: Story> Hall<V> {
         }
     }
 
-    /// Waits for a turn, and takes the value. The history has grown only by turns of other passes since this one saw it.
+    /// Waits for the pass's turn, and takes the value. Since the pass saw the history, only turns of other passes were added.
+    /// Not specified: that the turn comes.
     pub fn take<R: Wait>(&self, rt: &R, pass: &mut Pass<V>) -> V
         requires here { pass.old.seat.table_id ≡ self.now.table.shared.table_id }
         requires free { IsFree pass.old.seat }
@@ -203,7 +205,7 @@ impl<V: Story> Hall<V> {
         &self.bells[(ticket % BELLS as u64) as usize]
     }
 
-    /// Ends the turn. The value's list extends the one taken by turns that each name this pass or none.
+    /// Ends the turn. The value's list is the one taken, and then turns that each name this pass or no pass.
     pub fn give(&self, pass: &mut Pass<V>, value: V)
         requires here { pass.old.seat.table_id ≡ self.now.table.shared.table_id }
         requires turn { HasTurn pass.old.seat }
@@ -247,7 +249,7 @@ impl<V: Story> Hall<V> {
         self.learn(two, one);
     }
 
-    // The seat then represents the passes given as well, and has seen what they had.
+    // The seat then represents the other passes too, and has seen what they had.
     fn gather(&self, seat: &mut Seat<Option<V>, View<V::Turn>>, others: Vec<Pass<V>>)
         requires here { seat.old.table_id ≡ self.now.table.shared.table_id }
         requires others { All (λ p. (p.seat.table_id ≡ self.now.table.shared.table_id) × IsFree p.seat) others.items }
@@ -289,7 +291,7 @@ impl<V: Story> Hall<V> {
         value
     }
 
-    /// The value, once no pass is left. Its history begins with what each pass has seen.
+    /// The value, in return for all passes. Its history begins with what each pass has seen.
     pub fn close(self, pass: Pass<V>, others: Vec<Pass<V>>) -> V
         requires pass { (pass.seat.table_id ≡ self.table.shared.table_id) × IsFree pass.seat }
         requires others { All (λ p. (p.seat.table_id ≡ self.table.shared.table_id) × IsFree p.seat) others.items }

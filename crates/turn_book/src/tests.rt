@@ -174,8 +174,8 @@ fn sixteen_threads_return(rt: HostRuntime) -> Result<(), Fail> {
         return Err("out of memory".into());
     };
     let mut others = more(rt.alloc(), &hall, &mut pass, 16)?;
-    enter_all(&rt, &hall, others.as_mut_slice(), 16, 20_000);
+    enter_all(&rt, &hall, others.as_mut_slice(), 16, 100_000);
     let tally = hall.close(pass, others);
-    assert!(rt; tally.total == 320_000);
+    assert!(rt; tally.total == 1_600_000);
     Ok(())
 }

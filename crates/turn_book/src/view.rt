@@ -21,6 +21,7 @@ pub struct View<T> {
     pub also: LinkedList<T>,
 }
 
+/// The rule of a hall.
 pub struct Turns<V> {
     story: PhantomData<V>,
 }

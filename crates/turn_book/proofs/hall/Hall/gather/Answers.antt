@@ -10,8 +10,13 @@ pub join_seat-requires : goal.join_seat-requires
 join_seat-requires g c = let seat = c.loop-other.seat in let other = c.in-Some.other in let words = c.args.self.now.shape.0 in
     let (here, _, _, (one, _), _, rest, _) = c.loop-other.invariant in
     let (_, last) = All-pop (λ p. (p.seat.table_id ≡ c.args.self.now.table.shared.table_id) × IsFree p.seat) c.loop-other.others.items c.pop.new.self.items c.pop.result c.pop.ensures.items rest in
-    let (there, (idle, none)) = subst (λ r. IfSome r (λ p. (p.seat.table_id ≡ c.args.self.now.table.shared.table_id) × IsFree p.seat)) c.in-Some.is last in
-    (here ∙ c.requires.here, there, none, omega arith, joins g.V.Story.turns g.V.Story.made_by g.V.Story.sound seat.id other.seat.id seat.me.0 other.seat.me.0 one idle)
+    let (there, (idle, none)) = subst (λ r. IfSome r (λ p. (p.seat.table_id ≡ c.args.self.now.table.shared.table_id) × IsFree p.seat)) c.in-Some.is last in (
+      here ∙ c.requires.here,
+      there,
+      none,
+      omega arith,
+      joins g.V.Story.turns g.V.Story.made_by g.V.Story.sound seat.id other.seat.id seat.me.0 other.seat.me.0 one idle,
+    )
 
 pub load-requires : goal.load-requires
 load-requires g c = let seat = c.join_seat.new.seat in let words = c.args.self.now.shape.0 in
