@@ -434,7 +434,7 @@ module _ {V T : Type 0} (turns : V → List T) (made_by : T → Option ℕ) (sou
         act = keeps;
         valid = tt;
         kept = sees ticket serving homes views id v k at;
-        shows = (k.log, refl, f.also, (f.seen, sym (f.own one)));
+        shows = (k.log, refl, f.also, (f.seen, sym (f.own one)), λ n maker l. let is = f.maker maker in k.later n (omega arith));
       })
 
   note_fits : (made ticket serving : ℕ) (log xs : List T) → IsPrefix xs log → FitsAt made ticket serving log (note xs)
@@ -634,7 +634,7 @@ module _ {V T : Type 0} (made_by : T → Option ℕ) where
   pub learned : (v w : View T) (held : List (ℕ × Option V)) (joined new : Seated V T) → joined ≡ (learning v w, held)
       → looked made_by (step 0 0 0 0 none) joined 0 new
       → (log : List T) × (new ≡ (looking (learning v w) log, held)) × IsPrefix w.seen log × Learns made_by v log
-  learned v w held joined new j (log, is, also, learns) = (
+  learned v w held joined new j (log, is, also, learns, _) = (
     log,
     is ∙ ap (λ (m : Seated V T). (looking m.0 log, m.1)) j,
     subst (λ (m : Seated V T). IsPrefix m.0.also log) j also,

@@ -125,5 +125,8 @@ module _ {V T : Type 0} where
   abbrev pub gave : (V → List T) → Step (Option V) → Me (Option V) (View T) → ℕ → Me (Option V) (View T) → Type 0
   gave turns st m n m' = m' ≡ (giving m.0 (carried turns m.1), [])
 
+  -- the seat has seen the history as it is, which has no turn of a pass that is not made yet
   abbrev pub looked : (T → Option ℕ) → Step (Option V) → Me (Option V) (View T) → ℕ → Me (Option V) (View T) → Type 0
-  looked made_by st m n m' = (log : List T) × (m' ≡ (looking m.0 log, m.1)) × IsPrefix m.0.also log × Learns made_by m.0 log
+  looked made_by st m n m' =
+      (log : List T) × (m' ≡ (looking m.0 log, m.1)) × IsPrefix m.0.also log × Learns made_by m.0 log
+      × ((k : ℕ) → 0 < m.0.made → m.0.made ≤ k → turns_by made_by k log ≡ [])

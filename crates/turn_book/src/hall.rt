@@ -100,16 +100,21 @@ impl<V: Story> Hall<V> {
         }
     }
 
-    /// One more pass, which has seen what this one has seen. Only the pass of `make` makes passes.
+    /// One more pass, which has made no turn. Both have then seen the history as it is. Only the pass of `make` makes passes.
     pub fn another(&self, pass: &mut Pass<V>) -> Pass<V>
         requires here { pass.old.seat.table_id ≡ self.now.table.shared.table_id }
         requires maker { 0 < (view pass.old.seat).made }
         requires room { (view pass.old.seat).made < self.now.seats }
-        ensures pass { (pass.new.seat.table_id ≡ pass.old.seat.table_id) × HasSameTurn pass.old.seat pass.new.seat × (view pass.new.seat ≡ making (view pass.old.seat)) }
-        ensures new { (result.seat.table_id ≡ pass.old.seat.table_id) × IsFree result.seat × (view result.seat ≡ newcomer (view pass.old.seat).made (view pass.old.seat).seen) }
+        ensures pass { (pass.new.seat.table_id ≡ pass.old.seat.table_id) × HasSameTurn pass.old.seat pass.new.seat × ((view pass.new.seat).number ≡ (view pass.old.seat).number) }
+        ensures made { (view pass.new.seat).made ≡ (view pass.old.seat).made + 1 }
+        ensures learns { Learns V.made_by (view pass.old.seat) (view pass.new.seat).seen }
+        ensures new { (result.seat.table_id ≡ pass.old.seat.table_id) × IsFree result.seat × (view result.seat ≡ newcomer (view pass.old.seat).made (view pass.new.seat).seen) }
+        ensures no_turn { turns_by V.made_by (view pass.old.seat).made (view pass.new.seat).seen ≡ [] }
     {
+        let shared = &self.table.shared;
+        shared.load::<Look>(&mut pass.seat, TICKET);
         let number = pass.made;
-        let seat = self.table.shared.split_seat::<Another>(&mut pass.seat);
+        let seat = shared.split_seat::<Another>(&mut pass.seat);
         pass.made = number + 1;
         Pass {
             seat,
