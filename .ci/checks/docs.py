@@ -199,8 +199,14 @@ def definitions_of(file):
             kind, current = top[1] or "", top[2] or ""
             if re.match(r"(use|module|mutual)\b", line):
                 current = ""
+                kind = "module" if line.startswith("module") else kind
             elif current and re.match(rf"(abbrev|unfoldable|pub|opaque|record|data)\b|{NAME}(\s{NAME})*\s*:", line):
                 found[current] = current
+        elif kind == "module":
+            # Definitions of a module with parameters are indented.
+            if inner := re.match(rf"\s+(?:(?:abbrev|unfoldable|opaque|pub)\s+)+(?:(?:record|data)\s+)?({NAME})\s", line):
+                if "pub field" not in line and not re.match(r"\s+pub \w+ :", line):
+                    found[inner[1]] = current = inner[1]
         elif kind == "mutual":
             if inner := re.match(rf"  (?:pub\s+)?(?:(?:record|data)\s+)?({NAME})\s(?:.*\s)?:", line):
                 found[inner[1]] = current = inner[1]
