@@ -1,4 +1,2 @@
 pub mod Call
 pub mod CallAnswers
-pub mod Written
-pub mod Pieces

@@ -2,15 +2,15 @@
 #![tactic(auto)]
 
 mod call;
-mod counts;
-mod reply;
 
 pub use api_messages::{
     Message, Method, WireFault, WireIn, awaited_is_short, no_message_is_empty, one_reading,
 };
+pub use api_replies::{
+    CountsReply, bad_head_reply, head_too_large_reply, length_required_reply, no_memory_reply,
+    not_post_head, not_post_reply, too_large_reply, write_reply,
+};
 pub use call::{CallFault, read_call};
-pub use counts::CountsReply;
-pub use reply::{bad_head_reply, no_memory_reply, write_reply};
 
 #[cfg(test)]
 mod tests;

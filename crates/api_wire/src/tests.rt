@@ -1,10 +1,7 @@
-use crate::{
-    CallFault, CountsReply, Message, WireIn, bad_head_reply, no_memory_reply, read_call,
-    write_reply,
-};
+use crate::{CallFault, Message, WireIn, read_call};
 use event_shape::EventEntry;
-use json_text::{Bytes, Json, Text};
-use router_core::{Action, Reply, Request};
+use json_text::Text;
+use router_core::{Action, Request};
 use rule_table::Target;
 use std::alloc::Global;
 use std::test::Fail;
@@ -317,72 +314,5 @@ fn a_request_has_what_the_message_gives(rt: HostRuntime) -> Result<(), Fail> {
     let put_events = call(rt.alloc(), "AWSEvents.PutEvents", body)?;
     let request = read_call(rt.alloc(), &put_events, 0)?;
     assert!(rt; puts_two_entries(&request.action));
-    Ok(())
-}
-
-/// The reply to a CreateQueue of a queue q if the connection goes on.
-const QUEUE_MADE: &[u8] =
-    b"HTTP/1.1 200 OK\r\nContent-Type: application/x-amz-json-1.1\r\nContent-Length: 51\r\n\r\n{\"QueueArn\":\"arn:aws:sqs:us-east-1:111122223333:q\"}";
-
-#[test]
-fn a_reply_is_written_behind_what_is_there(rt: HostRuntime) -> Result<(), Fail> {
-    let alloc = rt.alloc();
-    let arn = Text::from_str(alloc, "arn:aws:sqs:us-east-1:111122223333:q")?;
-    let mut members = Vec::new(alloc);
-    members.push((Text::from_str(alloc, "QueueArn")?, Json::Str(arn)))?;
-    let reply = Reply {
-        status: 200,
-        body: Json::Obj(members),
-    };
-    let mut out = Bytes::new(alloc);
-    write_reply(&reply, false, &mut out)?;
-    assert_eq!(rt; out.as_slice(), QUEUE_MADE);
-    let refused = Reply {
-        status: 400,
-        body: Json::Null,
-    };
-    write_reply(&refused, true, &mut out)?;
-    let (first, second) = out.as_slice().split_at(QUEUE_MADE.len().min(out.len()));
-    assert_eq!(rt; first, QUEUE_MADE);
-    assert_eq!(rt;
-        second,
-        b"HTTP/1.1 400 Bad Request\r\nContent-Type: application/x-amz-json-1.1\r\nContent-Length: 4\r\nConnection: close\r\n\r\nnull".as_slice()
-    );
-    Ok(())
-}
-
-#[test]
-fn replies_without_memory_are_written_out(rt: HostRuntime) -> Result<(), Fail> {
-    let rows: [(&[u8], &[u8]); 3] = [
-        (
-            no_memory_reply(false),
-            b"HTTP/1.1 503 Service Unavailable\r\nContent-Type: application/x-amz-json-1.1\r\nContent-Length: 48\r\n\r\n{\"__type\":\"NoMemory\",\"message\":\"Out of memory.\"}",
-        ),
-        (
-            no_memory_reply(true),
-            b"HTTP/1.1 503 Service Unavailable\r\nContent-Type: application/x-amz-json-1.1\r\nContent-Length: 48\r\nConnection: close\r\n\r\n{\"__type\":\"NoMemory\",\"message\":\"Out of memory.\"}",
-        ),
-        (
-            bad_head_reply(),
-            b"HTTP/1.1 400 Bad Request\r\nContent-Type: application/x-amz-json-1.1\r\nContent-Length: 54\r\nConnection: close\r\n\r\n{\"__type\":\"BadHead\",\"message\":\"The head is not HTTP.\"}",
-        ),
-    ];
-    for (have, want) in rows {
-        assert_eq!(rt; have, want, "{} bytes", want.len());
-    }
-    Ok(())
-}
-
-#[test]
-fn counts_are_told_without_memory(rt: HostRuntime) -> Result<(), Fail> {
-    let mut counts = CountsReply::new(rt.alloc())?;
-    assert_eq!(rt;
-        counts.fill(1, 1, 0, false),
-        b"HTTP/1.1 200 OK\r\nContent-Type: application/x-amz-json-1.1\r\nContent-Length: 57\r\n\r\n{\"Attempts\":1,\"Delivered\":1,\"DeadLettered\":0,\"Dropped\":0}".as_slice()
-    );
-    assert_eq!(rt;
-        counts.fill(4_294_967_295, 4_294_967_295, 4_294_967_295, true),
-        b"HTTP/1.1 200 OK\r\nContent-Type: application/x-amz-json-1.1\r\nContent-Length: 84\r\nConnection: close\r\n\r\n{\"Attempts\":4294967295,\"Delivered\":4294967295,\"DeadLettered\":0,\"Dropped\":4294967295}".as_slice()
-    );
     Ok(())
 }

@@ -8,7 +8,7 @@ use Rattle.router_disk.specs.Sink.{WritesAll}
 use Rattle.router_disk.specs.declared.fault.Failed.{Failed}
 use Rattle.router_disk.proofs.ClockLemmas.{Gives-append}
 use Rattle.router_core.specs.Request.{Action, create_queue, put_rule, put_targets, put_events, peek_messages, deliver_due, Request}
-use Rattle.router_core.specs.Reply.{no_memory, not_built, unknown_operation}
+use Rattle.api_replies.specs.Reply.{no_memory, not_built, unknown_operation}
 use Rattle.router_calls.specs.Decided.{IsBounded}
 use Rattle.api_messages.specs.declared.message.Message.{Message}
 use Rattle.api_wire.specs.declared.call.fault.CallFault.{CallFault}
@@ -16,7 +16,7 @@ use Rattle.api_wire.specs.declared.call.fault.CallFault.TheVariants as faults
 use Rattle.api_wire.specs.declared.call.operation.Operation.{Operation}
 use Rattle.api_wire.specs.declared.call.operation.Operation.TheVariants.{CreateQueue, PutRule, PutTargets, PutEvents, PeekMessages, DeliverDue}
 use Rattle.api_wire.specs.Call.{operation_of, IsAsked, IsAction}
-use Rattle.api_wire.specs.Written.{reply_text}
+use Rattle.api_replies.specs.Written.{reply_text}
 use Rattle.bus_server.specs.History.{asked}
 use Rattle.bus_server.specs.Book.{BookState}
 use Rattle.bus_server.specs.Exchange.{unknown, unbuilt, answered, delivered, out_of_memory, moment_of, delivery_reply}

@@ -12,7 +12,7 @@ use Rattle.delivery_duties.specs.declared.fate.Fate.TheVariants.{Delivered, Drop
 use Rattle.delivery_duties.specs.Duties.{Duties, Queue, added, added_one, begun as begun_row, marked, marked_row, claimed, settled, taken_of, IsNext}
 use Rattle.rule_table.specs.Control.{Control, rule_put, targets_put, queue_created}
 use Rattle.router_core.specs.Request.{Request}
-use Rattle.router_core.specs.Reply.{Counts, Reply}
+use Rattle.api_replies.specs.Reply.{Counts, Reply}
 use Rattle.router_core.specs.Batch.{Entry, control, accepted, attempt, Batch}
 use Rattle.router_core.specs.Tables.{Tables, first_tables, duties_after, after_entry, after_entries, after_batch, tables_after, is_full}
 use Rattle.router_core.specs.Steps.{EndsSo, record_of, claiming, putting_back}

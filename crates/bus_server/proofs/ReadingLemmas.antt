@@ -2,7 +2,7 @@
 use Rattle.std.proofs.Common.{◌≡◌, ℕ, inl, inr, List, [], ◌∷◌, ◌++◌, map, None, sym, refl, subst}
 use Rattle.std.proofs.lemmas.List.{map-append}
 use Rattle.std.proofs.lemmas.Grind.{flat_map-append}
-use Rattle.router_core.specs.Reply.{Counts}
+use Rattle.api_replies.specs.Reply.{Counts}
 use Rattle.router_core.specs.Tables.{Tables}
 use Rattle.bus_server.specs.History.{Turn, claims, puts_back, readings_at, asked_readings, IsSublist}
 use Rattle.bus_server.specs.Exchange.{Exchange, moment_of, AreSteps, Stop, done, limited, IsStop, IsExchange, unknown, unbuilt, answered, delivered}

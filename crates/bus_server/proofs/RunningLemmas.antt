@@ -15,7 +15,7 @@ use Rattle.router_core.specs.Tables.{Tables}
 use Rattle.api_messages.specs.declared.message.Message.{Message}
 use Rattle.api_messages.specs.Messages.{HoldsMessage, IsAwaited, IsStream}
 use Rattle.api_messages.specs.Between.{HasHead}
-use Rattle.api_wire.specs.Written.{reply_text}
+use Rattle.api_replies.specs.Written.{reply_text}
 use Rattle.bus_server.specs.Book.{BookState}
 use Rattle.bus_server.specs.Exchange.{Exchange, IsExchange, AreExchanges, turns_of, readings_of, messages_of}
 use Rattle.bus_server.specs.Session.{request_limit, closes, texts_from, texts_of, NoneCloses, OpenBefore, Course, piece_size, IsWholeNow, IsStarvedAt}

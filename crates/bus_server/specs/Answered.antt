@@ -2,7 +2,7 @@
 use Rattle.std.specs.Prelude.{◌≡◌, ℕ, Bool, List, [], ◌∷◌, ◌++◌}
 use Rattle.router_core.specs.Request.{Request}
 use Rattle.router_calls.specs.Answer.{Answer, IsAnswer}
-use Rattle.api_wire.specs.Written.{reply_text}
+use Rattle.api_replies.specs.Written.{reply_text}
 use Rattle.bus_server.specs.History.{asked, after_written}
 use Rattle.bus_server.specs.Book.{BookState}
 

@@ -4,7 +4,7 @@ use Rattle.delivery_duties.specs.declared.fate.Outcome.{Outcome}
 use Rattle.delivery_duties.specs.declared.fate.Outcome.TheVariants.{Accepted, TooOld}
 use Rattle.delivery_duties.specs.Duties.{IsNext, NoneDue}
 use Rattle.router_core.specs.Request.{deliver_due, Request}
-use Rattle.router_core.specs.Reply.{Reply, Counts, counted, unknown_operation, not_built, limit_reply, no_memory}
+use Rattle.api_replies.specs.Reply.{Reply, Counts, counted, unknown_operation, not_built, limit_reply, no_memory}
 use Rattle.router_core.specs.Tables.{Tables, is_full, after_batch}
 use Rattle.router_calls.specs.Answer.{Answer, IsAnswer, moment_at}
 use Rattle.api_messages.specs.declared.message.Message.{Message}

@@ -3,7 +3,7 @@ use Rattle.std.specs.Prelude.{◌≡◌, ℕ, false, ◌==◌, ◌⊎◌, List, 
 use Rattle.delivery_duties.specs.declared.fate.Outcome.{Outcome}
 use Rattle.delivery_duties.specs.Duties.{IsNext}
 use Rattle.router_core.specs.Request.{Request}
-use Rattle.router_core.specs.Reply.{Reply}
+use Rattle.api_replies.specs.Reply.{Reply}
 use Rattle.router_core.specs.Batch.{Batch}
 use Rattle.router_core.specs.Tables.{Tables, after_batch, tables_after, is_full}
 use Rattle.router_core.specs.Steps.{EndsSo, record_of, claiming, putting_back}

@@ -2,10 +2,10 @@
 use Rattle.std.specs.Prelude.{◌≡◌, ℕ, ◌⊎◌, true, false, ◌<◌, List, [], ◌++◌, length, Option, Some, None, unwrap_or}
 use Rattle.std.specs.Io.KnownBytes.{Appends, Consumes, IsAtEnd}
 use Rattle.router_disk.specs.Sink.{AppendsPart}
-use Rattle.router_core.specs.Reply.{no_memory, bad_head}
+use Rattle.api_replies.specs.Reply.{no_memory, bad_head}
 use Rattle.api_messages.specs.Messages.{HoldsMessage, IsAwaited, IsRefused}
 use Rattle.api_messages.specs.Between.{AreEmptyLines, HasHead}
-use Rattle.api_wire.specs.Written.{reply_text}
+use Rattle.api_replies.specs.Written.{reply_text}
 use Rattle.bus_server.specs.Session.{IsLastRead, IsWholeNow, piece_size}
 use Rattle.bus_server.specs.declared.incoming.Incoming.{Incoming}
 use Rattle.bus_server.specs.declared.incoming.Incoming.TheVariants as incoming

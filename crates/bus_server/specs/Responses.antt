@@ -4,8 +4,8 @@ use Rattle.json_text.specs.declared.base.NoMemory.{NoMemory}
 use Rattle.router_disk.specs.Clock.{Gives}
 use Rattle.router_disk.specs.Sink.{WritesAll}
 use Rattle.router_disk.specs.declared.fault.Failed.{Failed}
-use Rattle.router_core.specs.Reply.{Counts, no_memory, not_built, unknown_operation}
-use Rattle.api_wire.specs.Written.{reply_text}
+use Rattle.api_replies.specs.Reply.{Counts, no_memory, not_built, unknown_operation}
+use Rattle.api_replies.specs.Written.{reply_text}
 use Rattle.api_wire.specs.declared.call.fault.CallFault.{CallFault}
 use Rattle.api_wire.specs.declared.call.fault.CallFault.TheVariants as faults
 use Rattle.bus_server.specs.History.{Turn}

@@ -5,7 +5,7 @@ use Rattle.router_disk.specs.Clock.{Gives}
 use Rattle.router_disk.specs.declared.fault.Failed.{Failed}
 use Rattle.api_messages.specs.declared.message.Message.{Message}
 use Rattle.api_messages.specs.Messages.{IsStream}
-use Rattle.api_wire.specs.Written.{reply_text}
+use Rattle.api_replies.specs.Written.{reply_text}
 use Rattle.bus_server.specs.Book.{BookState}
 use Rattle.bus_server.specs.Exchange.{Exchange, AreExchanges, turns_of, readings_of, messages_of}
 use Rattle.bus_server.specs.Session.{texts_of, closes, NoneCloses, WritesPart, piece_size}

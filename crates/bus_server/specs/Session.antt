@@ -2,11 +2,11 @@
 use Rattle.std.specs.Prelude.{◌≡◌, ℕ, ◌+◌, ◌<◌, ◌≤◌, ◌⊎◌, Bool, true, false, ◌==◌, ◌||◌, List, [], ◌∷◌, ◌++◌, length, map, Option, Some, None, unwrap_or}
 use Rattle.std.specs.Io.KnownBytes.{Appends, Consumes, IsAtEnd}
 use Rattle.router_disk.specs.Clock.{Gives}
-use Rattle.router_core.specs.Reply.{no_memory, bad_head}
+use Rattle.api_replies.specs.Reply.{no_memory, bad_head}
 use Rattle.api_messages.specs.declared.message.Message.{Message}
 use Rattle.api_messages.specs.Messages.{HoldsMessage, IsStream, IsAwaited, IsRefused}
 use Rattle.api_messages.specs.Between.{AreEmptyLines, HasHead}
-use Rattle.api_wire.specs.Written.{reply_text}
+use Rattle.api_replies.specs.Written.{reply_text}
 use Rattle.bus_server.specs.declared.session.SessionEnd.{SessionEnd}
 use Rattle.bus_server.specs.declared.session.SessionEnd.TheVariants.{Closed, Cut, Refused, Long, ReadFault, WriteFault, NoMemory}
 use Rattle.bus_server.specs.Book.{BookState}

@@ -2,7 +2,7 @@
 use Rattle.std.specs.Prelude.{◌≡◌, ℕ, true, List, [], ◌∷◌, ◌++◌, length, Option, None}
 use Rattle.delivery_duties.specs.Duties.{IsNext, NoneDue}
 use Rattle.router_disk.specs.Clock.{Gives}
-use Rattle.router_core.specs.Reply.{Counts}
+use Rattle.api_replies.specs.Reply.{Counts}
 use Rattle.router_core.specs.Tables.{is_full}
 use Rattle.router_core.specs.Steps.{claiming, putting_back}
 use Rattle.router_calls.specs.Answer.{moment_at}

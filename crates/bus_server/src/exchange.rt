@@ -1,11 +1,11 @@
 //! One message and its reply.
 ghost use Rattle.std.specs.Prelude.{◌≡◌, ◌↔◌, ◌⊎◌, IsTrue, IfOk};
-ghost use Rattle.router_core.specs.Reply as replies;
+ghost use Rattle.api_replies.specs.Reply as replies;
 ghost use Rattle.router_core.specs.Request.{deliver_due};
 ghost use Rattle.router_core.specs.View.{action_of};
 ghost use Rattle.router_disk.specs.Faults.{CountsFaults};
 ghost use Rattle.router_disk.specs.Sink.{WritesAll};
-ghost use Rattle.api_wire.specs.Written.{reply_text};
+ghost use Rattle.api_replies.specs.Written.{reply_text};
 ghost use Rattle.bus_server.specs.Book.{book_of};
 ghost use Rattle.bus_server.specs.Exchange.{delivery_reply};
 ghost use Rattle.bus_server.specs.Steps.{counts_of, stop_of};

@@ -1,7 +1,7 @@
 //! The bytes of replies.
 ghost use Rattle.std.specs.Prelude.{◌≡◌, IfOk};
-ghost use Rattle.router_core.specs.View.{reply_of};
-ghost use Rattle.api_wire.specs.Written.{IsServedStatus, reply_text};
+ghost use Rattle.api_replies.specs.View.{reply_of};
+ghost use Rattle.api_replies.specs.Written.{IsServedStatus, reply_text};
 
 use api_wire::write_reply;
 use json_text::{Bytes, NoMemory};

@@ -20,18 +20,18 @@ use Rattle.delivery_duties.specs.declared.duty.NewDuty.{NewDuty}
 use Rattle.delivery_duties.specs.Duties.{Queue, HasEndpoint}
 use Rattle.delivery_duties.proofs.AnyLemmas.{any_middle}
 use Rattle.router_core.specs.Batch as batch
-use Rattle.router_core.specs.Reply.{Reply, served, limit_reply}
+use Rattle.api_replies.specs.Reply.{Reply, served, limit_reply}
 use Rattle.router_core.specs.Request.{Action}
 use Rattle.router_core.specs.Ready.{accepted_of, AreDeliverable, IsConsistent}
 use Rattle.router_core.specs.Matching.{AreMatched, AreDuties, IsSeen, duty_of}
-use Rattle.router_core.specs.View.{reply_of}
+use Rattle.api_replies.specs.View.{reply_of}
 use Rattle.router_core.specs.declared.seen.SeenTarget.{SeenTarget}
 use Rattle.router_core.specs.declared.seen.SeenEntry.{SeenEntry}
 use Rattle.router_core.specs.declared.seen.Seen.{Seen}
 use Rattle.router_core.specs.declared.ready.AcceptedEvent.{AcceptedEvent}
 use Rattle.router_core.specs.Tables.{Tables, is_full}
 use Rattle.router_core.specs.declared.ready.Ready.{Ready}
-use Rattle.router_core.specs.declared.reply.Reply.{Reply as CodeReply}
+use Rattle.api_replies.specs.declared.reply.Reply.{Reply as CodeReply}
 use Rattle.router_core.proofs.MatchingLemmas.{matched_fits}
 use Rattle.router_calls.specs.Accepted.{IsAccepted, IsAcceptedAs, AreAccepted, HasFaulty}
 use Rattle.router_calls.specs.Answer.{Answer, IsAnswerAt, IsControlled, event_report, events_reply, reply_alone, writes}

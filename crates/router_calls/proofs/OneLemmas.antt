@@ -16,7 +16,7 @@ use Rattle.delivery_duties.proofs.AnyLemmas.{any_cases}
 use Rattle.router_core.specs.Batch as batch
 use Rattle.router_core.specs.Matching.{AreMatched, AreDuties, seen_target, duty_of}
 use Rattle.router_core.specs.declared.seen.SeenTarget.{SeenTarget}
-use Rattle.router_core.specs.Reply.{Reply}
+use Rattle.api_replies.specs.Reply.{Reply}
 use Rattle.router_core.specs.Request.{Action, create_queue, put_rule, put_targets, put_events, peek_messages, deliver_due, Request}
 use Rattle.router_core.specs.Tables.{Tables}
 use Rattle.router_calls.specs.Accepted.{IsAcceptedAs, IsAccepted, AreAccepted, HasFaulty, total_size}

@@ -9,8 +9,8 @@ use Rattle.rule_table.specs.RuleSet.{IsAllowed, has_queue}
 use Rattle.delivery_duties.specs.declared.message.QueueMessage.{QueueMessage}
 use Rattle.delivery_duties.specs.Duties.{messages_of}
 use Rattle.router_core.specs.Request.{Action, create_queue, put_rule, put_targets, put_events, peek_messages, deliver_due, Request}
-use Rattle.router_core.specs.Reply.{Reply, served, not_built}
-use Rattle.router_core.specs.Reply as replies
+use Rattle.api_replies.specs.Reply.{Reply, served, not_built}
+use Rattle.api_replies.specs.Reply as replies
 use Rattle.router_core.specs.Batch as batch
 use Rattle.router_core.specs.Tables.{Tables, is_full}
 use Rattle.router_calls.specs.Accepted.{AreAccepted, HasFaulty, total_size}

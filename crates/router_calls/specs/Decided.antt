@@ -2,10 +2,10 @@
 use Rattle.std.specs.Prelude.{◌≤◌, Option, length}
 use Rattle.std.specs.Option.{option_map}
 use Rattle.router_core.specs.Request.{Action, create_queue, put_rule, put_targets, put_events, peek_messages, deliver_due}
-use Rattle.router_core.specs.View.{reply_of}
+use Rattle.api_replies.specs.View.{reply_of}
 use Rattle.router_core.specs.Ready.{batch_of}
 use Rattle.router_core.specs.declared.ready.Ready.{Ready}
-use Rattle.router_core.specs.declared.reply.Reply.{Reply}
+use Rattle.api_replies.specs.declared.reply.Reply.{Reply}
 use Rattle.router_calls.specs.Answer.{Answer}
 
 -- the batch of the change, if there is one, and the reply

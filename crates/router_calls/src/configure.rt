@@ -2,7 +2,7 @@
 ghost use Rattle.std.specs.Prelude.{◌≤◌, IfOk, IfSome};
 ghost use Rattle.json_text.specs.Moment.{IsMoment};
 ghost use Rattle.rule_table.specs.View.{control_of};
-ghost use Rattle.router_core.specs.View.{reply_of};
+ghost use Rattle.api_replies.specs.View.{reply_of};
 ghost use Rattle.router_core.specs.Ready.{HasPlace, IsReadyAt};
 ghost use Rattle.router_calls.specs.Answer.{IsControlled};
 ghost use Rattle.router_calls.specs.Decided.{answer_of};

@@ -2,7 +2,7 @@
 ghost use Rattle.std.specs.Prelude.{◌≡◌, IfOk, None, map, codes};
 ghost use Rattle.json_text.specs.Tree.{object, members_of};
 ghost use Rattle.json_text.specs.View.{tree_of, trees_of};
-ghost use Rattle.router_core.specs.View.{reply_of};
+ghost use Rattle.api_replies.specs.View.{reply_of};
 ghost use Rattle.router_calls.specs.Answer.{peeked, message_report, messages_reply};
 ghost use Rattle.router_calls.specs.Decided.{answer_of};
 

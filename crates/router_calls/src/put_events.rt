@@ -9,7 +9,7 @@ ghost use Rattle.rule_table.specs.RuleSet.{rules_of};
 ghost use Rattle.delivery_duties.specs.Duties.{HasEndpoint};
 ghost use Rattle.router_core.specs.Matching.{AreDuties};
 ghost use Rattle.router_core.specs.Ready.{accepted_of, AreDeliverable, IsReadyAt};
-ghost use Rattle.router_core.specs.View.{reply_of};
+ghost use Rattle.api_replies.specs.View.{reply_of};
 ghost use Rattle.router_calls.specs.Accepted.{total_size, IsAcceptedAs, AreAccepted, HasFaulty};
 ghost use Rattle.router_calls.specs.Answer.{IsPublished, event_report, events_reply};
 ghost use Rattle.router_calls.specs.Decided.{answer_of};

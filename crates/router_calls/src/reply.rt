@@ -2,8 +2,8 @@
 ghost use Rattle.std.specs.Prelude.{◌≡◌, ◌++◌, ◌∷◌, [], map, IfOk, OnOk, codes, decimal};
 ghost use Rattle.json_text.specs.Tree.{Tree, text, number, list, items_of, members_of, object};
 ghost use Rattle.json_text.specs.View.{tree_of, pairs_of, trees_of};
-ghost use Rattle.router_core.specs.Reply as replies;
-ghost use Rattle.router_core.specs.View.{reply_of};
+ghost use Rattle.api_replies.specs.Reply as replies;
+ghost use Rattle.api_replies.specs.View.{reply_of};
 ghost use Rattle.router_calls.specs.Answer.{none_failed, events_reply, messages_reply};
 
 use json_text::{Items, Json, Members, NoMemory, Text, push_member};

@@ -1,5 +1,4 @@
 pub mod Request
-pub mod Reply
 pub mod View
 pub mod Batch
 pub mod Tables

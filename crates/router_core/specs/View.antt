@@ -1,13 +1,10 @@
--- The views of requests and replies in contracts.
+-- The views of requests in contracts.
 use Rattle.std.specs.Prelude.{map}
-use Rattle.json_text.specs.View.{tree_of}
 use Rattle.event_shape.specs.Entry.{entry_of}
 use Rattle.router_core.specs.declared.request.Action.{Action}
 use Rattle.router_core.specs.declared.request.Action.TheVariants.{CreateQueue, PutRule, PutTargets, PutEvents, PeekMessages, DeliverDue}
 use Rattle.router_core.specs.declared.request.Request.{Request}
-use Rattle.router_core.specs.declared.reply.Reply.{Reply}
 use Rattle.router_core.specs.Request as request
-use Rattle.router_core.specs.Reply as replies
 
 -- the action, with its vectors as lists
 abbrev pub action_of : Action → request.Action
@@ -21,7 +18,3 @@ action_of DeliverDue = request.deliver_due
 -- the request, with the view of its action
 abbrev pub request_of : Request → request.Request
 request_of r = record { action = action_of r.action; reading = r.reading }
-
--- the reply, with its body as a tree
-abbrev pub reply_of : Reply → replies.Reply
-reply_of r = record { status = r.status; body = tree_of r.body }

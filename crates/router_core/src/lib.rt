@@ -3,16 +3,15 @@
 
 mod matching;
 mod ready;
-mod reply;
 mod request;
 mod seen;
 mod tables;
 #[cfg(test)]
 mod tests;
 
+pub use api_replies::{Reply, limit_reply, not_built, unknown_operation};
 pub use matching::{duties_of, see_plain_event};
 pub use ready::{AcceptedEvent, Change, Ready};
-pub use reply::{Reply, limit_reply, not_built, unknown_operation};
 pub use request::{Action, Request};
 pub use seen::{Seen, SeenEntries, SeenEntry, SeenTarget, SeenTargets};
 pub use tables::Tables;

@@ -2,12 +2,11 @@ ghost use Rattle.std.specs.Prelude.{◌≡◌, IfOk, codes};
 ghost use Rattle.event_shape.specs.Names as arns;
 
 use crate::{
-    AcceptedEvent, Change, Ready, Reply, SeenTarget, SeenTargets, Tables, duties_of, limit_reply,
-    not_built, see_plain_event, unknown_operation,
+    AcceptedEvent, Change, Ready, SeenTarget, SeenTargets, Tables, duties_of, see_plain_event,
 };
 use delivery_duties::{NewDuties, NewDuty, NewQueue, Outcome};
 use event_shape::{DEFAULT_BUS, Event, EventEntry, OWNER, check, queue_arn};
-use json_text::{Bytes, NoMemory, Text, write};
+use json_text::{NoMemory, Text};
 use rule_table::{Control, RuleSet, Target};
 use std::alloc::Global;
 use std::collections::VecDeque;
@@ -148,37 +147,6 @@ fn a_duty_past_its_age_is_dropped(rt: HostRuntime) -> Result<(), Fail> {
     assert_eq!(rt; ended, Some((1, Outcome::TooOld)));
     assert_eq!(rt; shown(alloc, &tables)?.as_str(), "");
     assert_eq!(rt; sums(&tables), (1, 87_401, 0, 0, 1));
-    Ok(())
-}
-
-fn written(alloc: Global, reply: Reply) -> Result<Bytes, Fail> {
-    let mut out = Bytes::new(alloc);
-    write(&reply.body, &mut out)?;
-    Ok(out)
-}
-
-#[test]
-fn each_refusal_has_its_status_and_its_text(rt: HostRuntime) -> Result<(), Fail> {
-    let alloc = rt.alloc();
-    let rows = [
-        (
-            not_built(alloc)?,
-            "{\"__type\":\"NotBuilt\",\"message\":\"Not built yet.\"}",
-        ),
-        (
-            unknown_operation(alloc)?,
-            "{\"__type\":\"UnknownOperationException\",\"message\":\"Unknown operation.\"}",
-        ),
-        (
-            limit_reply(alloc)?,
-            "{\"__type\":\"LimitExceededException\",\"message\":\"Number limit 281474976710656 reached.\"}",
-        ),
-    ];
-    for (reply, body) in rows {
-        assert_eq!(rt; reply.status, 400);
-        let out = written(alloc, reply)?;
-        assert_eq!(rt; out.as_slice(), body.as_bytes());
-    }
     Ok(())
 }
 

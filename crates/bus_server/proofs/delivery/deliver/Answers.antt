@@ -1,6 +1,6 @@
 use Rattle.std.proofs.Common.{◌≡◌, ℕ, ◌+◌, subst, arith}
 use Rattle.delivery_duties.specs.declared.fate.Outcome.{Outcome}
-use Rattle.router_core.specs.Reply.{Counts}
+use Rattle.api_replies.specs.Reply.{Counts}
 use Rattle.bus_server.specs.Book.{book_of}
 use Rattle.bus_server.specs.Exchange.{and_one}
 use Rattle.bus_server.specs.Steps.{Delivering}

@@ -1,6 +1,6 @@
 use Rattle.std.proofs.Common.{ap, sym, subst, ◌∙◌}
 use Rattle.router_disk.specs.Sink.{WritesAll}
-use Rattle.api_wire.specs.Written.{reply_text}
+use Rattle.api_replies.specs.Written.{reply_text}
 use Rattle.bus_server.specs.declared.delivery.Ending.{Ending}
 use Rattle.bus_server.specs.Exchange.{delivery_reply}
 use Rattle.bus_server.specs.Steps.{counts_of, stop_of}

@@ -5,7 +5,7 @@ use Rattle.event_shape.specs.Entry.{entry_of}
 use Rattle.event_shape.specs.declared.entry.EventEntry.{EventEntry}
 use Rattle.router_calls.specs.Accepted.{total_size, AreAccepted}
 use Rattle.router_core.specs.Ready.{accepted_of, AreDeliverable}
-use Rattle.router_core.specs.View.{reply_of}
+use Rattle.api_replies.specs.View.{reply_of}
 use Rattle.router_core.specs.Tables.{is_full}
 use Rattle.router_calls.proofs.CallLemmas.{accepted_count, written}
 use Rattle.router_calls.proofs.put_events.put_events.Goals as goal

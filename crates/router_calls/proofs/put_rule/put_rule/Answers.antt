@@ -2,8 +2,8 @@ use Rattle.std.proofs.Common.{◌≡◌, List, ℕ, [], ◌∷◌, true, codes, 
 use Rattle.json_text.specs.Tree.{text}
 use Rattle.event_shape.specs.Names.{default_bus, rule_arn}
 use Rattle.rule_table.specs.Control.{rule_put}
-use Rattle.router_core.specs.Reply.{served}
-use Rattle.router_core.specs.View.{reply_of}
+use Rattle.api_replies.specs.Reply.{served}
+use Rattle.api_replies.specs.View.{reply_of}
 use Rattle.router_calls.proofs.CallLemmas.{controlled_so}
 use Rattle.router_calls.proofs.put_rule.put_rule.Goals as goal
 

@@ -1,0 +1,66 @@
+-- The pieces of a reply, joined. Other files cite `head_joined` and `reply_joined`.
+use Rattle.std.proofs.Common.{◌≡◌, ℕ, ◌+◌, Bool, inl, inr, List, [], ◌∷◌, ◌++◌, length, sym, refl, ap, ◌∙◌, append_assoc, length-append, arith}
+use Rattle.std.specs.Prelude.{codes, decimal}
+use Rattle.json_text.specs.Compact.{compact_text}
+use Rattle.api_replies.specs.Reply.{Counts, counted}
+use Rattle.api_replies.specs.Written.{allow_field, message_with, message_text, reply_text, IsServedStatus}
+use Rattle.api_replies.specs.Pieces.{status_line, fields_text, head_end, head_text}
+
+-- the fields as the code writes them
+abbrev pub fields_written : List ℕ
+fields_written = codes "Content-Type: application/x-amz-json-1.1" ++ 13 ∷ 10 ∷ codes "Content-Length: "
+
+pub head_joined : (before s d e : List ℕ) (status len : ℕ) (close : Bool) → s ≡ status_line status → d ≡ decimal len → e ≡ head_end close
+    → (((before ++ s) ++ fields_written) ++ d) ++ e ≡ before ++ head_text status len close
+unfolding head_text fields_text
+head_joined before s d e status len close p q r = rw (p, q, r) (simp append_assoc)
+
+-- a status that is written from a value has no field `Allow`
+no_allow : (status : ℕ) → IsServedStatus status → [] ≡ allow_field status
+no_allow status (inl is) = rw is refl
+no_allow status (inr (inl is)) = rw is refl
+no_allow status (inr (inr is)) = rw is refl
+
+head_and_body : (before body : List ℕ) (status : ℕ) (close : Bool)
+    → (before ++ head_text status (length body) close) ++ body ≡ before ++ message_with status (length body) [] close body
+unfolding head_text fields_text status_line head_end
+head_and_body before body status close = simp append_assoc
+
+pub reply_joined : (before body : List ℕ) (status : ℕ) (close : Bool) → IsServedStatus status
+    → (before ++ head_text status (length body) close) ++ body ≡ before ++ message_text status body close
+reply_joined before body status close served =
+    head_and_body before body status close
+    ∙ ap (λ (more : List ℕ). before ++ message_with status (length body) more close body) (no_allow status served)
+
+-- the counts between the other bytes of their body
+abbrev pub attempts_key : List ℕ
+attempts_key = 123 ∷ 34 ∷ (codes "Attempts" ++ 34 ∷ 58 ∷ [])
+
+abbrev pub delivered_key : List ℕ
+delivered_key = 44 ∷ 34 ∷ (codes "Delivered" ++ 34 ∷ 58 ∷ [])
+
+abbrev pub dropped_key : List ℕ
+dropped_key = 44 ∷ 34 ∷ (codes "DeadLettered" ++ 34 ∷ 58 ∷ 48 ∷ 44 ∷ 34 ∷ (codes "Dropped" ++ 34 ∷ 58 ∷ []))
+
+counts_body : (n : Counts) → compact_text (counted n).body
+    ≡ attempts_key ++ (decimal n.attempts ++ (delivered_key ++ (decimal n.delivered ++ (dropped_key ++ (decimal n.dropped ++ 125 ∷ [])))))
+counts_body n = simp append_assoc
+
+counts_len : (n : Counts)
+    → length (compact_text (counted n).body) ≡ 54 + length (decimal n.attempts) + length (decimal n.delivered) + length (decimal n.dropped)
+counts_len n = ap length (counts_body n) ∙ simp length-append (omega arith)
+
+joined : (h a b c d e f g : List ℕ)
+    → ((((((h ++ a) ++ b) ++ c) ++ d) ++ e) ++ f) ++ g ≡ h ++ (a ++ (b ++ (c ++ (d ++ (e ++ (f ++ g))))))
+joined h a b c d e f g = simp append_assoc
+
+pub counts_joined : (n : Counts) (len : ℕ) (close : Bool) → len ≡ 54 + length (decimal n.attempts) + length (decimal n.delivered) + length (decimal n.dropped)
+    → ((((((head_text 200 len close ++ attempts_key) ++ decimal n.attempts) ++ delivered_key) ++ decimal n.delivered) ++ dropped_key)
+    ++ decimal n.dropped) ++ 125 ∷ []
+    ≡ reply_text (counted n) close
+counts_joined n len close is =
+    let body = compact_text (counted n).body in
+    joined (head_text 200 len close) attempts_key (decimal n.attempts) delivered_key (decimal n.delivered) dropped_key (decimal n.dropped) (125 ∷ [])
+    ∙ ap (λ l. head_text 200 len close ++ l) (sym (counts_body n))
+    ∙ ap (λ m. head_text 200 m close ++ body) (is ∙ sym (counts_len n))
+    ∙ reply_joined [] body 200 close (inl refl)

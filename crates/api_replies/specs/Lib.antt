@@ -1,0 +1,4 @@
+pub mod Reply
+pub mod View
+pub mod Written
+pub mod Pieces

@@ -1,0 +1,134 @@
+use crate::{
+    CountsReply, Reply, bad_head_reply, head_too_large_reply, length_required_reply, limit_reply,
+    no_memory_reply, not_built, not_post_head, not_post_reply, too_large_reply, unknown_operation,
+    write_reply,
+};
+use json_text::{Bytes, Json, Text, write};
+use std::alloc::Global;
+use std::test::Fail;
+
+fn written(alloc: Global, reply: Reply) -> Result<Bytes, Fail> {
+    let mut out = Bytes::new(alloc);
+    write(&reply.body, &mut out)?;
+    Ok(out)
+}
+
+#[test]
+fn each_refusal_has_its_status_and_its_text(rt: HostRuntime) -> Result<(), Fail> {
+    let alloc = rt.alloc();
+    let rows = [
+        (
+            not_built(alloc)?,
+            "{\"__type\":\"NotBuilt\",\"message\":\"Not built yet.\"}",
+        ),
+        (
+            unknown_operation(alloc)?,
+            "{\"__type\":\"UnknownOperationException\",\"message\":\"Unknown operation.\"}",
+        ),
+        (
+            limit_reply(alloc)?,
+            "{\"__type\":\"LimitExceededException\",\"message\":\"Number limit 281474976710656 reached.\"}",
+        ),
+    ];
+    for (reply, body) in rows {
+        assert_eq!(rt; reply.status, 400);
+        let out = written(alloc, reply)?;
+        assert_eq!(rt; out.as_slice(), body.as_bytes());
+    }
+    Ok(())
+}
+
+/// The reply to a CreateQueue of a queue q if the connection goes on.
+const QUEUE_MADE: &[u8] =
+    b"HTTP/1.1 200 OK\r\nContent-Type: application/x-amz-json-1.1\r\nContent-Length: 51\r\n\r\n{\"QueueArn\":\"arn:aws:sqs:us-east-1:111122223333:q\"}";
+
+#[test]
+fn a_reply_is_written_behind_what_is_there(rt: HostRuntime) -> Result<(), Fail> {
+    let alloc = rt.alloc();
+    let arn = Text::from_str(alloc, "arn:aws:sqs:us-east-1:111122223333:q")?;
+    let mut members = Vec::new(alloc);
+    members.push((Text::from_str(alloc, "QueueArn")?, Json::Str(arn)))?;
+    let reply = Reply {
+        status: 200,
+        body: Json::Obj(members),
+    };
+    let mut out = Bytes::new(alloc);
+    write_reply(&reply, false, &mut out)?;
+    assert_eq!(rt; out.as_slice(), QUEUE_MADE);
+    let refused = Reply {
+        status: 400,
+        body: Json::Null,
+    };
+    write_reply(&refused, true, &mut out)?;
+    let (first, second) = out.as_slice().split_at(QUEUE_MADE.len().min(out.len()));
+    assert_eq!(rt; first, QUEUE_MADE);
+    assert_eq!(rt;
+        second,
+        b"HTTP/1.1 400 Bad Request\r\nContent-Type: application/x-amz-json-1.1\r\nContent-Length: 4\r\nConnection: close\r\n\r\nnull".as_slice()
+    );
+    Ok(())
+}
+
+#[test]
+fn replies_without_memory_are_written_out(rt: HostRuntime) -> Result<(), Fail> {
+    let rows: [(&[u8], &[u8]); 10] = [
+        (
+            no_memory_reply(false),
+            b"HTTP/1.1 503 Service Unavailable\r\nContent-Type: application/x-amz-json-1.1\r\nContent-Length: 48\r\n\r\n{\"__type\":\"NoMemory\",\"message\":\"Out of memory.\"}",
+        ),
+        (
+            no_memory_reply(true),
+            b"HTTP/1.1 503 Service Unavailable\r\nContent-Type: application/x-amz-json-1.1\r\nContent-Length: 48\r\nConnection: close\r\n\r\n{\"__type\":\"NoMemory\",\"message\":\"Out of memory.\"}",
+        ),
+        (
+            bad_head_reply(),
+            b"HTTP/1.1 400 Bad Request\r\nContent-Type: application/x-amz-json-1.1\r\nContent-Length: 54\r\nConnection: close\r\n\r\n{\"__type\":\"BadHead\",\"message\":\"The head is not HTTP.\"}",
+        ),
+        (
+            not_post_reply(false),
+            b"HTTP/1.1 405 Method Not Allowed\r\nContent-Type: application/x-amz-json-1.1\r\nContent-Length: 53\r\nAllow: POST\r\n\r\n{\"__type\":\"NotPost\",\"message\":\"Only POST is served.\"}",
+        ),
+        (
+            not_post_reply(true),
+            b"HTTP/1.1 405 Method Not Allowed\r\nContent-Type: application/x-amz-json-1.1\r\nContent-Length: 53\r\nAllow: POST\r\nConnection: close\r\n\r\n{\"__type\":\"NotPost\",\"message\":\"Only POST is served.\"}",
+        ),
+        (
+            not_post_head(false),
+            b"HTTP/1.1 405 Method Not Allowed\r\nContent-Type: application/x-amz-json-1.1\r\nContent-Length: 53\r\nAllow: POST\r\n\r\n",
+        ),
+        (
+            not_post_head(true),
+            b"HTTP/1.1 405 Method Not Allowed\r\nContent-Type: application/x-amz-json-1.1\r\nContent-Length: 53\r\nAllow: POST\r\nConnection: close\r\n\r\n",
+        ),
+        (
+            length_required_reply(),
+            b"HTTP/1.1 411 Length Required\r\nContent-Type: application/x-amz-json-1.1\r\nContent-Length: 67\r\nConnection: close\r\n\r\n{\"__type\":\"LengthRequired\",\"message\":\"Content-Length is required.\"}",
+        ),
+        (
+            too_large_reply(),
+            b"HTTP/1.1 413 Payload Too Large\r\nContent-Type: application/x-amz-json-1.1\r\nContent-Length: 65\r\nConnection: close\r\n\r\n{\"__type\":\"TooLarge\",\"message\":\"The body is over 1048576 bytes.\"}",
+        ),
+        (
+            head_too_large_reply(),
+            b"HTTP/1.1 431 Request Header Fields Too Large\r\nContent-Type: application/x-amz-json-1.1\r\nContent-Length: 80\r\nConnection: close\r\n\r\n{\"__type\":\"HeadTooLarge\",\"message\":\"The head is over 16384 bytes or 64 fields.\"}",
+        ),
+    ];
+    for (have, want) in rows {
+        assert_eq!(rt; have, want, "{} bytes", want.len());
+    }
+    Ok(())
+}
+
+#[test]
+fn counts_are_told_without_memory(rt: HostRuntime) -> Result<(), Fail> {
+    let mut counts = CountsReply::new(rt.alloc())?;
+    assert_eq!(rt;
+        counts.fill(1, 1, 0, false),
+        b"HTTP/1.1 200 OK\r\nContent-Type: application/x-amz-json-1.1\r\nContent-Length: 57\r\n\r\n{\"Attempts\":1,\"Delivered\":1,\"DeadLettered\":0,\"Dropped\":0}".as_slice()
+    );
+    assert_eq!(rt;
+        counts.fill(4_294_967_295, 4_294_967_295, 4_294_967_295, true),
+        b"HTTP/1.1 200 OK\r\nContent-Type: application/x-amz-json-1.1\r\nContent-Length: 84\r\nConnection: close\r\n\r\n{\"Attempts\":4294967295,\"Delivered\":4294967295,\"DeadLettered\":0,\"Dropped\":4294967295}".as_slice()
+    );
+    Ok(())
+}
