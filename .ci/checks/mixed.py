@@ -50,10 +50,10 @@ def compact(value):
 
 
 class Request:
-    """A request's action, its body, and the status and body of its reply."""
+    """A request's action, its body, the status and body of its reply, and its method. A reply to a HEAD has no body."""
 
-    def __init__(self, action, body, reply):
-        self.action, self.body, self.reply = action, body.encode(), reply
+    def __init__(self, action, body, reply, method="POST"):
+        self.action, self.body, self.reply, self.method = action, body.encode(), reply, method
 
 
 def served(action, body, value):
@@ -66,6 +66,11 @@ def not_built(action, body):
 
 def unknown(action, body):
     return Request(action, body, (400, b'{"__type":"UnknownOperationException","message":"Unknown operation."}'))
+
+
+def not_post(method, body):
+    reply = b"" if method == "HEAD" else b'{"__type":"NotPost","message":"Only POST is served."}'
+    return Request(None, body, (405, reply), method)
 
 
 class Queue:
@@ -328,6 +333,10 @@ def no_action(_router, chance, length):
     return unknown(action, chance.choice("{ x") * length)
 
 
+def another_method(_router, chance, length):
+    return not_post(chance.choice(["GET", "HEAD", "PUT", "DELETE", "post"]), chance.choice("{ x") * length)
+
+
 ACTIONS = [
     (create_queue, 5),
     (put_rule, 4),
@@ -338,6 +347,7 @@ ACTIONS = [
     (refused_members, 18),
     (no_object, 6),
     (no_action, 6),
+    (another_method, 2),
     (too_many_bytes, 1),
 ]
 
@@ -369,7 +379,7 @@ def requests_of(reading):
 
 def message(request, number):
     target = "" if request.action is None else f"X-Amz-Target: {request.action}\r\n"
-    head = f"POST / HTTP/1.1\r\n{HEADS[number % len(HEADS)]}{target}Content-Length: {len(request.body)}\r\n\r\n"
+    head = f"{request.method} / HTTP/1.1\r\n{HEADS[number % len(HEADS)]}{target}Content-Length: {len(request.body)}\r\n\r\n"
     return head.encode() + request.body
 
 
@@ -377,8 +387,8 @@ class Failure(Exception):
     pass
 
 
-def read_reply(output):
-    """The status and the body of the next reply, or None at the end of the output."""
+def read_reply(output, method):
+    """The status and the body of the next reply, to a message of that method, or None at the end of the output."""
     line = output.readline()
     if not line:
         return None
@@ -392,6 +402,7 @@ def read_reply(output):
             length = int(value)
     if length is None:
         raise Failure(f"the head after {line[:60]!r} has no Content-Length")
+    length = 0 if method == "HEAD" else length
     body = output.read(length)
     if len(body) != length:
         raise Failure(f"the output ends within a body of {length} bytes")
@@ -410,18 +421,18 @@ def difference(got, wanted):
 def compare(output, asked, counts):
     """Compares each reply with the request's, in order."""
     number = 0
-    while (reply := read_reply(output)) is not None:
+    while (request := asked.get(timeout=SECONDS)) is not None:
+        reply = read_reply(output, request.method)
+        if reply is None:
+            raise Failure(f"there are {number} replies, and request {number + 1} has none")
         number += 1
-        request = asked.get(timeout=SECONDS)
-        if request is None:
-            raise Failure(f"reply {number} comes after the last request's")
         if reply[0] != request.reply[0]:
             raise Failure(f"{place(number, request)}: the status is {reply[0]}, and {request.reply[0]} is wanted: {reply[1][:80]!r}")
         if reply[1] != request.reply[1]:
             raise Failure(f"{place(number, request)}: {difference(reply[1], request.reply[1])}")
         counts[request.action, reply[0]] = counts.get((request.action, reply[0]), 0) + 1
-    if asked.get(timeout=SECONDS) is not None:
-        raise Failure(f"there are {number} replies, and request {number + 1} has none")
+    if read_reply(output, None) is not None:
+        raise Failure(f"reply {number + 1} comes after the last request's")
     return number
 
 

@@ -2,7 +2,7 @@
 -- added), the four `length_of_..` lemmas (exits of the loop over digits), `text_of-utf8`, `text_of-other` and
 -- `length_at-small`.
 use Rattle.std.proofs.Common.{◌≡◌, ℕ, zero, suc, ◌+◌, ◌<◌, ◌≤◌, Bool, true, false, cond, ◌&&◌, ◌||◌, ◌⊎◌, inl, inr, List, [], ◌∷◌, ◌++◌, map, length}
-use Rattle.std.proofs.Common.{take, get_or, Some, None, sym, refl, ap, ◌∙◌, arith}
+use Rattle.std.proofs.Common.{take, get_or, Result, Ok, Err, sym, refl, ap, ◌∙◌, arith}
 use Rattle.std.specs.Prelude.{IsTrue, ◌↔◌, bytes_eq, nat_le, ◌==◌}
 use Rattle.std.specs.List.{list_all, list_any}
 use Rattle.std.specs.Char.{is_ascii_digit}
@@ -15,7 +15,12 @@ use Rattle.std.proofs.lemmas.Bool.Decides.{nat_tests}
 use Rattle.std.proofs.lemmas.Slice.Eq.{bytes_eq-Decides}
 use Rattle.std.specs.Str.{IsUtf8, is_utf8}
 use Rattle.std.proofs.lemmas.Str.{IsUtf8-from_is_utf8, is_utf8-from_IsUtf8}
-use Rattle.api_messages.specs.Fields.{Pair, Occurrence, absent, once, repeated, is_named, values_of, occurs, occurrence_of, length_of, length_at, text_of}
+use Rattle.api_messages.specs.declared.method.Method.{Method}
+use Rattle.api_messages.specs.declared.method.Method.TheVariants.{Post, Head, Other}
+use Rattle.api_messages.specs.declared.message.Refusal.{Refusal}
+use Rattle.api_messages.specs.declared.message.Refusal.TheVariants.{BadHead, TooLarge}
+use Rattle.api_messages.specs.Fields.{Pair, Occurrence, absent, once, repeated, is_named, values_of, occurs, occurrence_of, is_length, length_of, length_at}
+use Rattle.api_messages.specs.Fields.{text_of}
 use Rattle.api_messages.specs.Reading.{and_also}
 
 same_test : (b c : Bool) → (b ≡ true → c ≡ true) → (c ≡ true → b ≡ true) → b ≡ c
@@ -79,29 +84,52 @@ one_more name pairs p old new t before test after =
     ∙ ap (λ o. cond (is_named name p.0) (and_also o p.1) o) before
     ∙ sym (occurrence_of-push name pairs p)
 
--- a value with no digit, or with more than ten
-length_of_size : (v : List ℕ) → (nat_le 1 (length v) && nat_le (length v) 10) ≡ false → None ≡ length_of v
+abbrev refuses : Refusal → Result ℕ Refusal
+refuses why = Err why
+
+abbrev gives : ℕ → Result ℕ Refusal
+gives n = Ok n
+
+no_length : (v : List ℕ) → is_length v ≡ false → refuses BadHead ≡ length_of v
 unfolding length_of
-length_of_size v e = sym (cond-false _ _ _ (and_left _ _ e))
+no_length v e = sym (cond-false _ _ _ e)
+
+-- a value with no digit, or with more than ten
+length_of_size : (v : List ℕ) → (nat_le 1 (length v) && nat_le (length v) 10) ≡ false → refuses BadHead ≡ length_of v
+unfolding is_length
+length_of_size v e = no_length v (and_left _ _ e)
 
 -- a byte that is no digit
-pub length_of_other : (v : List ℕ) → list_all is_ascii_digit v ≡ false → None ≡ length_of v
-unfolding length_of
-length_of_other v e = sym (cond-false _ _ _ (and_right _ _ (and_left _ _ e)))
+pub length_of_other : (v : List ℕ) → list_all is_ascii_digit v ≡ false → refuses BadHead ≡ length_of v
+unfolding is_length
+length_of_other v e = no_length v (and_right _ _ e)
 
-pub length_of_large : (v : List ℕ) → 1048576 < digits_value 10 v → None ≡ length_of v
+some_length : (v : List ℕ) → 1 ≤ length v → length v ≤ 10 → list_all is_ascii_digit v ≡ true → is_length v ≡ true
+unfolding is_length
+some_length v some few digits =
+    let size : (nat_le 1 (length v) && nat_le (length v) 10) ≡ true = grind (arith, nat_tests) in
+    and_from _ _ size digits
+
+length_of_sound : (v : List ℕ) → is_length v ≡ true
+    → length_of v ≡ cond (nat_le (digits_value 10 v) 1048576) (Ok (digits_value 10 v)) (Err TooLarge)
 unfolding length_of
-length_of_large v large =
-    let e : nat_le (digits_value 10 v) 1048576 ≡ false = grind (arith, nat_tests) in
-    sym (cond-false _ _ _ (and_right _ _ (and_right _ _ e)))
+length_of_sound v e = cond-true _ _ _ e
+
+pub length_of_large : (v : List ℕ) (why : Refusal) → 1 ≤ length v → length v ≤ 10 → 1048576 < digits_value 10 v
+    → why ≡ cond (list_all is_ascii_digit v) TooLarge BadHead → refuses why ≡ length_of v
+length_of_large v why some few large is = by_test (list_all is_ascii_digit v) refl
+  where
+    by_test : (t : Bool) → list_all is_ascii_digit v ≡ t → refuses why ≡ length_of v
+    by_test true digits =
+        let over : nat_le (digits_value 10 v) 1048576 ≡ false = grind (arith, nat_tests) in
+        ap refuses (is ∙ cond-true _ _ _ digits) ∙ sym (length_of_sound v (some_length v some few digits) ∙ cond-false _ _ _ over)
+    by_test false other = ap refuses (is ∙ cond-false _ _ _ other) ∙ length_of_other v other
 
 pub length_of_digits : (v : List ℕ) (n : ℕ) → 1 ≤ length v → length v ≤ 10 → list_all is_ascii_digit v ≡ true → n ≡ digits_value 10 v → n ≤ 1048576
-    → Some n ≡ length_of v
-unfolding length_of
+    → gives n ≡ length_of v
 length_of_digits v n some few digits value small =
-    let size : (nat_le 1 (length v) && nat_le (length v) 10) ≡ true = grind (arith, nat_tests) in
     let le : nat_le (digits_value 10 v) 1048576 ≡ true = grind (arith, nat_tests) in
-    ap Some value ∙ sym (cond-true _ _ _ (and_from _ _ size (and_from _ _ digits le)))
+    ap gives value ∙ sym (length_of_sound v (some_length v some few digits) ∙ cond-true _ _ _ le)
 
 pub text_of-utf8 : (v : List ℕ) → IsUtf8 v → v ≡ text_of v
 unfolding text_of
@@ -124,7 +152,8 @@ list_all_fails test [] i d inside fails = absurd (omega arith)
 list_all_fails test (x ∷ xs) zero d inside fails = and_left _ _ fails
 list_all_fails test (x ∷ xs) (suc i) d inside fails = and_right _ _ (list_all_fails test xs i d (omega arith) fails)
 
-pub length_of_size_cases : (v : List ℕ) (t : Bool) → t ≡ (length v == 0) → (t ≡ true) ⊎ ((t ≡ false) × (10 < length v)) → None ≡ length_of v
+pub length_of_size_cases : (v : List ℕ) (t : Bool) → t ≡ (length v == 0) → (t ≡ true) ⊎ ((t ≡ false) × (10 < length v))
+    → refuses BadHead ≡ length_of v
 length_of_size_cases v t test (inl empty) =
     let none : length v ≡ 0 = grind (arith, nat_tests) in
     length_of_size v (grind (arith, nat_tests))
@@ -132,20 +161,20 @@ length_of_size_cases v t test (inr large) =
     let many : 10 < length v = large.1 in
     length_of_size v (grind (arith, nat_tests))
 
-length_of-small : (v : List ℕ) (n : ℕ) → length_of v ≡ Some n → n ≤ 1048576
+length_of-small : (v : List ℕ) (n : ℕ) → length_of v ≡ Ok n → n ≤ 1048576
 unfolding length_of
-length_of-small v n e =
-    by_test (nat_le (digits_value 10 v) 1048576) (nat_le 1 (length v) && nat_le (length v) 10) (list_all is_ascii_digit v) (λ small. grind (arith, nat_tests)) e
+length_of-small v n e = by_test (is_length v) (nat_le (digits_value 10 v) 1048576) (λ small. grind (arith, nat_tests)) e
   where
-    by_test : (t a b : Bool) → (t ≡ true → digits_value 10 v ≤ 1048576) → cond (a && (b && t)) (Some (digits_value 10 v)) None ≡ Some n → n ≤ 1048576
-    by_test true true true small e = let same : digits_value 10 v ≡ n = cc in let few = small refl in omega arith
-    by_test true true false small e = cc
-    by_test true false b small e = cc
-    by_test false true true small e = cc
-    by_test false true false small e = cc
-    by_test false false b small e = cc
+    by_test : (a t : Bool) → (t ≡ true → digits_value 10 v ≤ 1048576)
+        → cond a (cond t (gives (digits_value 10 v)) (refuses TooLarge)) (Err BadHead) ≡ Ok n → n ≤ 1048576
+    by_test true true small e = let same : digits_value 10 v ≡ n = cc in let few = small refl in omega arith
+    by_test true false small e = cc
+    by_test false true small e = cc
+    by_test false false small e = cc
 
-pub length_at-small : (o : Occurrence) (n : ℕ) → length_at o ≡ Some n → n ≤ 1048576
-length_at-small absent n e = cc
-length_at-small (once v) n e = length_of-small v n e
-length_at-small repeated n e = cc
+pub length_at-small : (method : Method) (o : Occurrence) (n : ℕ) → length_at method o ≡ Ok n → n ≤ 1048576
+length_at-small Post absent n e = cc
+length_at-small Head absent n e = let same : 0 ≡ n = cc in omega arith
+length_at-small Other absent n e = let same : 0 ≡ n = cc in omega arith
+length_at-small method (once v) n e = length_of-small v n e
+length_at-small method repeated n e = cc

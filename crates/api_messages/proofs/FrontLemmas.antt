@@ -1,11 +1,13 @@
 -- What is at the front of the bytes, from what the parser returns for their first 16,384. Other files cite `reads_whole`,
--- `refused_whole`, `refused_by`, `long_by` (for heads), `message_found` and `holds_at` (for messages).
-use Rattle.std.proofs.Common.{◌≡◌, ◌≢◌, ℕ, ◌+◌, ◌-◌, ◌≤◌, ◌||◌, List, ◌++◌, length, take, drop, Some, sym, refl, ap, ◌∙◌, subst, arith}
+-- `start_is`, `few_fields`, `never_by` (for heads), `take_after`, `body_length_at`, `served_at`, `message_found` and `holds_at` (for
+-- messages).
+use Rattle.std.proofs.Common.{◌≡◌, ◌≢◌, ℕ, ◌+◌, ◌-◌, ◌≤◌, ◌||◌, inl, inr, List, ◌++◌, length, take, drop, min, Ok, sym, refl, ap, ◌∙◌, subst, arith}
 use Rattle.std.specs.Prelude.{◌==◌}
 use Rattle.std.proofs.lemmas.List.{take_all, length-take-le, length-take, length-drop, length-map, drop-append-le, take-append-drop}
+use Rattle.std.proofs.lemmas.Bool.{cases_lt}
 use Rattle.std.proofs.Math.Seq.{take-append-add}
-use Rattle.httparse.specs.Grammar.{Field, RequestHead, print_request, ReadsRequest, HasNoRequest, NeverHasRequest}
-use Rattle.httparse.specs.Spans.{AreFieldsAt, header_bytes, name_and_value, RequestExceeds, RequestOverflows}
+use Rattle.httparse.specs.Grammar.{Field, RequestHead, print_request, ReadsRequest, NeverHasRequest}
+use Rattle.httparse.specs.Spans.{AreFieldsAt, header_bytes, name_and_value, RequestExceeds}
 use Rattle.httparse.specs.declared.Error.{Error}
 use Rattle.httparse.specs.declared.Error.TheVariants.{HeaderName, HeaderValue, NewLine, Status, Token, TooManyHeaders, Version}
 use Rattle.httparse.specs.declared.spans.HeaderSpan.{HeaderSpan}
@@ -14,9 +16,10 @@ use Rattle.api_messages.specs.declared.front.Head.{Head}
 use Rattle.api_messages.specs.declared.front.InPlace.{InPlace}
 use Rattle.api_messages.specs.declared.method.Method.{Method}
 use Rattle.api_messages.specs.Fields.{Known, method_of, text_at, body_length_by, body_length}
-use Rattle.api_messages.specs.Messages.{IsServed, IsRefused, never, many, long, HoldsMessage}
+use Rattle.api_messages.specs.Lines.{Begins65th}
+use Rattle.api_messages.specs.Messages.{IsServed, HoldsMessage, first_bytes}
 use Rattle.api_messages.specs.Reading.{occurrence_in, known, IsHeadAt, IsMessageAt, message_at}
-use Rattle.api_messages.proofs.MessageLemmas.{refused_stays}
+use Rattle.api_messages.proofs.LineLemmas.{exceeds_begins}
 
 -- the bytes after the first `a`, in the two spellings
 pub take_after : (xs : List ℕ) (a : ℕ) → take (length xs - a) (drop a xs) ≡ drop a xs
@@ -32,26 +35,29 @@ pub reads_whole : (bytes : List ℕ) (n : ℕ) (h : RequestHead) (len : ℕ) →
 reads_whole bytes n h len reads within =
     subst (λ s. ReadsRequest s h (drop len s)) (take-append-drop n bytes) (reads_longer (take n bytes) (drop n bytes) h len reads within)
 
-pub refused_whole : (bytes : List ℕ) (n : ℕ) → IsRefused (take n bytes) → IsRefused bytes
-refused_whole bytes n refused = subst IsRefused (take-append-drop n bytes) (refused_stays (take n bytes) (drop n bytes) refused)
+-- the bytes that the parser is asked about
+pub start_is : (bytes : List ℕ) (n : ℕ) → n ≡ min (length bytes) 16384 → take n bytes ≡ first_bytes bytes
+start_is bytes n is =
+    elim (cases_lt 16384 (length bytes)) [
+      | inl past ↦ (let all : n ≡ 16384 = omega (arith, is, past) in ap (λ (m : ℕ). take m bytes) all)
+      | inr short ↦ take_all n bytes (omega (arith, is, short)) ∙ sym (take_all 16384 bytes (omega (arith, short)))
+    ]
 
 pub few_fields : (buf : List ℕ) (headers : List HeaderSpan) (count : ℕ) (fields : List Field) → AreFieldsAt buf headers count fields
     → length fields ≤ count
 few_fields buf headers count fields same =
     omega (arith, ap length same, length-map (take count headers) (header_bytes buf), length-map fields name_and_value, length-take count headers)
 
-pub refused_by : (bytes : List ℕ) (e : Error) → (e ≢ TooManyHeaders → NeverHasRequest bytes)
-    → (◌≡◌ {A = Error} e TooManyHeaders → RequestExceeds 64 bytes) → RequestOverflows 64 bytes → IsRefused bytes
-refused_by bytes HeaderName invalid exceeds over = never (invalid (λ e. cc))
-refused_by bytes HeaderValue invalid exceeds over = never (invalid (λ e. cc))
-refused_by bytes NewLine invalid exceeds over = never (invalid (λ e. cc))
-refused_by bytes Status invalid exceeds over = never (invalid (λ e. cc))
-refused_by bytes Token invalid exceeds over = never (invalid (λ e. cc))
-refused_by bytes TooManyHeaders invalid exceeds over = many (exceeds refl) over
-refused_by bytes Version invalid exceeds over = never (invalid (λ e. cc))
-
-pub long_by : (bytes : List ℕ) → 16384 ≤ length bytes → HasNoRequest bytes → IsRefused bytes
-long_by bytes there none = long there (λ h rest reads. absurd (none h rest reads))
+-- an error of the parser, if no 65th field begins
+pub never_by : (bytes : List ℕ) (e : Error) → (e ≢ TooManyHeaders → NeverHasRequest bytes)
+    → (◌≡◌ {A = Error} e TooManyHeaders → RequestExceeds 64 bytes) → ¬ (Begins65th bytes) → NeverHasRequest bytes
+never_by bytes HeaderName invalid exceeds none = invalid (λ e. cc)
+never_by bytes HeaderValue invalid exceeds none = invalid (λ e. cc)
+never_by bytes NewLine invalid exceeds none = invalid (λ e. cc)
+never_by bytes Status invalid exceeds none = invalid (λ e. cc)
+never_by bytes Token invalid exceeds none = invalid (λ e. cc)
+never_by bytes TooManyHeaders invalid exceeds none = absurd (none (exceeds_begins bytes (exceeds refl)))
+never_by bytes Version invalid exceeds none = invalid (λ e. cc)
 
 -- the body length by the parts of a head is that of the head
 pub body_length_at : (bytes : List ℕ) (head : Head) (h : RequestHead) → IsHeadAt bytes head h
@@ -62,10 +68,9 @@ body_length_at bytes head h at =
     ∙ ap (λ (k : Known). body_length_by (method_of h.method) h.minor k) at.fields
 
 pub served_at : (bytes : List ℕ) (head : Head) (h : RequestHead) (n : ℕ) → IsHeadAt bytes head h
-    → body_length_by head.method head.minor (known head.fields) ≡ Some n → IsServed h n
+    → body_length_by head.method head.minor (known head.fields) ≡ Ok n → IsServed h n
 served_at bytes head h n at announces = record {
-  short = omega (arith, at.len, at.short);
-  few = at.few;
+  small = at.small;
   announces = sym (body_length_at bytes head h at) ∙ announces;
 }
 
@@ -79,7 +84,7 @@ take_message bytes h len n reads is = (
 )
 
 pub message_found : (bytes : List ℕ) (head : Head) (h : RequestHead) (n : ℕ) (p : InPlace) → IsHeadAt bytes head h
-    → body_length_by head.method head.minor (known head.fields) ≡ Some n → n ≤ length (drop head.len bytes)
+    → body_length_by head.method head.minor (known head.fields) ≡ Ok n → n ≤ length (drop head.len bytes)
     → p.len ≡ head.len + n → p.method ≡ head.method → p.target ≡ head.fields.target → p.caller ≡ head.fields.caller
     → p.body.now ≡ take n (drop head.len bytes) → p.close ≡ ((head.minor == 0) || head.fields.close)
     → IsMessageAt bytes p

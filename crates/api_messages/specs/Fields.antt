@@ -1,5 +1,6 @@
 -- The fields of a request head, each with its rule, and the length of the body that a head announces.
-use Rattle.std.specs.Prelude.{ℕ, Bool, true, false, not, ◌&&◌, ◌||◌, List, [], ◌∷◌, length, map, filter, Option, Some, None, if◌then◌else◌, ◌==◌}
+use Rattle.std.specs.Prelude.{ℕ, Bool, true, false, not, ◌&&◌, ◌||◌, List, [], ◌∷◌, length, map, filter, Option, Some, None, Result, Ok, Err}
+use Rattle.std.specs.Prelude.{if◌then◌else◌, ◌==◌}
 use Rattle.std.specs.Prelude.{nat_le, codes, bytes_eq}
 use Rattle.std.specs.List.{list_all, list_any}
 use Rattle.std.specs.Char.{is_ascii_digit, to_ascii_lowercase}
@@ -9,6 +10,8 @@ use Rattle.httparse.specs.Grammar.{RequestHead}
 use Rattle.httparse.specs.Spans.{name_and_value}
 use Rattle.api_messages.specs.declared.method.Method.{Method}
 use Rattle.api_messages.specs.declared.method.Method.TheVariants.{Post, Head, Other}
+use Rattle.api_messages.specs.declared.message.Refusal.{Refusal}
+use Rattle.api_messages.specs.declared.message.Refusal.TheVariants.{BadHead, LengthRequired, TooLarge}
 
 -- the method that the bytes name; its case counts (RFC 9110, section 9.1)
 unfoldable pub method_of : List ℕ → Method
@@ -95,18 +98,20 @@ is_repeated absent = false
 is_repeated (once value) = false
 is_repeated repeated = true
 
--- the number that a Content-Length writes in decimal digits (RFC 9110, section 8.6), 1 to 10 of them, leading zeros too; it
--- is at most 1,048,576 (both bounds are this project's own)
-unfoldable pub length_of : List ℕ → Option ℕ
-length_of value =
-    if (nat_le 1 (length value) && nat_le (length value) 10) && (list_all is_ascii_digit value && nat_le (digits_value 10 value) 1048576)
-    then Some (digits_value 10 value) else None
+-- decimal digits, 1 to 10 of them, leading zeros too (RFC 9110, section 8.6; the number of digits is this project's own bound)
+unfoldable pub is_length : List ℕ → Bool
+is_length value = (nat_le 1 (length value) && nat_le (length value) 10) && list_all is_ascii_digit value
 
--- the number of the only Content-Length
-abbrev pub length_at : Occurrence → Option ℕ
-length_at absent = None
-length_at (once value) = length_of value
-length_at repeated = None
+-- the length that a Content-Length writes; a body of more than 1,048,576 bytes is too large (this project's own limit)
+unfoldable pub length_of : List ℕ → Result ℕ Refusal
+length_of value =
+    if is_length value then (if nat_le (digits_value 10 value) 1048576 then Ok (digits_value 10 value) else Err TooLarge) else Err BadHead
+
+-- the length that the Content-Length fields announce; without one, a POST is refused, and another method has no body
+abbrev pub length_at : Method → Occurrence → Result ℕ Refusal
+length_at method absent = if is_post method then Err LengthRequired else Ok 0
+length_at method (once value) = length_of value
+length_at method repeated = Err BadHead
 
 -- the value of a field as a text; a value that is not UTF-8 gives the empty text
 unfoldable pub text_of : List ℕ → List ℕ
@@ -118,18 +123,17 @@ text_at absent = None
 text_at (once value) = Some (text_of value)
 text_at repeated = None
 
--- POST, a sound Host, no Transfer-Encoding (this project reads no coding; RFC 9112, section 6.1), and neither of the two
--- fields of the API twice
-abbrev pub is_sound : Method → ℕ → Known → Bool
-is_sound method minor k =
-    is_post method && (is_host_sound minor k.host && (is_absent k.coding && (not (is_repeated k.target) && not (is_repeated k.caller))))
+-- a sound Host, no Transfer-Encoding (this project reads no coding; RFC 9112, section 6.1), and neither of the two fields of
+-- the API twice
+abbrev pub is_sound : ℕ → Known → Bool
+is_sound minor k = is_host_sound minor k.host && (is_absent k.coding && (not (is_repeated k.target) && not (is_repeated k.caller)))
 
--- the length of the body after a head with that method, version and fields; `None` if the head is refused
-abbrev pub body_length_by : Method → ℕ → Known → Option ℕ
-body_length_by method minor k = if is_sound method minor k then length_at k.length else None
+-- the length of the body after a head with that method, version and fields, or why the head is refused
+abbrev pub body_length_by : Method → ℕ → Known → Result ℕ Refusal
+body_length_by method minor k = if is_sound minor k then length_at method k.length else Err BadHead
 
 -- the same, of a head (RFC 9112, section 6.3)
-abbrev pub body_length : RequestHead → Option ℕ
+abbrev pub body_length : RequestHead → Result ℕ Refusal
 body_length h = body_length_by (method_of h.method) h.minor (known_of (pairs_of h))
 
 -- version 1.0, or a Connection field that asks to close (RFC 9112, section 9.3)

@@ -1,9 +1,10 @@
 -- What the calls that read a message return.
-use Rattle.std.specs.Prelude.{◌≡◌, ℕ, ◌≤◌, Bool, true, false, List, length, take, drop, Option, Some, None, Result, Ok, Err}
+use Rattle.std.specs.Prelude.{◌≡◌, ℕ, ◌≤◌, Bool, List, length, take, drop, Option, Some, None, Result, Ok, Err}
 use Rattle.httparse.specs.Grammar.{RequestHead, print_request, ReadsRequest, HasNoRequest}
 use Rattle.api_messages.specs.declared.message.Message.{Message}
 use Rattle.api_messages.specs.declared.message.WireFault.{WireFault}
-use Rattle.api_messages.specs.declared.message.WireFault.TheVariants.{BadHead, NoMemory}
+use Rattle.api_messages.specs.declared.message.WireFault.TheVariants as faults
+use Rattle.api_messages.specs.declared.message.Refusal.{Refusal}
 use Rattle.api_messages.specs.declared.fields.Found.{Found}
 use Rattle.api_messages.specs.declared.fields.Found.TheVariants.{Absent, Once, Repeated}
 use Rattle.api_messages.specs.declared.fields.Fields.{Fields}
@@ -12,7 +13,7 @@ use Rattle.api_messages.specs.declared.front.Front.TheVariants.{Whole, Awaited, 
 use Rattle.api_messages.specs.declared.front.Head.{Head}
 use Rattle.api_messages.specs.declared.front.InPlace.{InPlace}
 use Rattle.api_messages.specs.Fields.{Occurrence, absent, once, repeated, Known, method_of, pairs_of, known_of, text_at}
-use Rattle.api_messages.specs.Messages.{IsMessage, IsRefused, IsAwaited, HoldsMessage}
+use Rattle.api_messages.specs.Messages.{IsMessage, IsSmall, IsRefused, IsAwaited, HoldsMessage}
 
 -- the occurrence that a value of the code represents
 abbrev pub occurrence_in : Found → Occurrence
@@ -42,8 +43,7 @@ pub record IsHeadAt (bytes : List ℕ) (head : Head) (h : RequestHead) : Type 0 
   pub reads : ReadsRequest bytes h (drop head.len bytes)
   pub len : head.len ≡ length (print_request h)
   pub within : head.len ≤ length bytes
-  pub short : head.len ≤ 16384
-  pub few : length h.fields ≤ 64
+  pub small : IsSmall h
   pub method : head.method ≡ method_of h.method
   pub minor : head.minor ≡ h.minor
   pub fields : known head.fields ≡ known_of (pairs_of h)
@@ -67,27 +67,28 @@ pub record IsMessageAt (bytes : List ℕ) (p : InPlace) : Type 0 where
   pub within : p.len ≤ length bytes
   pub message : IsMessage (take p.len bytes) (message_at p)
 
--- what is at the front of the bytes: a whole thing with the property, less than that, or refused bytes
+-- what is at the front of the bytes: a whole thing with the property, less than that, or bytes that are refused
 abbrev pub FrontIs : {A : Type 0} → List ℕ → (A → Type 0) → Front A → Type 0
 FrontIs bytes P (Whole a) = P a
 FrontIs bytes P Awaited = IsAwaited bytes
-FrontIs bytes P Refused = IsRefused bytes
+FrontIs bytes P (Refused why) = IsRefused bytes why
 
 -- if less than a head is at the front, no whole head is
 abbrev pub HeadIsAwaited : {A : Type 0} → List ℕ → Front A → Type 0
 HeadIsAwaited bytes (Whole a) = Unit {0}
 HeadIsAwaited bytes Awaited = HasNoRequest bytes
-HeadIsAwaited bytes Refused = Unit {0}
+HeadIsAwaited bytes (Refused why) = Unit {0}
 
--- the bytes fed that no message has taken, whether they were refused, and the number of further bytes that need no memory
+-- the bytes fed that no message has taken, why they were refused if they were, and the number of further bytes that need no
+-- memory
 pub record Incoming : Type 0 where
   pub rest : List ℕ
-  pub refused : Bool
+  pub refused : Option Refusal
   pub room : ℕ
 
 -- what `next` returns, and what it leaves
 abbrev pub Answers : Incoming → Incoming → Result (Option Message) WireFault → Type 0
-Answers old new (Ok (Some m)) = HoldsMessage old.rest m new.rest × (new.refused ≡ false)
+Answers old new (Ok (Some m)) = HoldsMessage old.rest m new.rest × (new.refused ≡ None)
 Answers old new (Ok None) = IsAwaited old.rest × (new ≡ old)
-Answers old new (Err BadHead) = IsRefused old.rest × (new ≡ record old { refused = true })
-Answers old new (Err NoMemory) = ((m : Message) × (rest : List ℕ) × HoldsMessage old.rest m rest) × (new ≡ old)
+Answers old new (Err (faults.Refused why)) = IsRefused old.rest why × (new ≡ record old { refused = Some why })
+Answers old new (Err faults.NoMemory) = ((m : Message) × (rest : List ℕ) × HoldsMessage old.rest m rest) × (new ≡ old)

@@ -1,9 +1,12 @@
 //! The fields of a head that are read, each with its rule.
 ghost use Rattle.std.specs.Prelude.{◌≡◌, List, [], ◌∷◌, ◌++◌, ◌&&◌, codes, length, map, All, if◌then◌else◌};
+ghost use Rattle.std.specs.List.{list_all};
+ghost use Rattle.std.specs.Char.{is_ascii_digit};
 ghost use Rattle.httparse.specs.Spans.{IsHeaderWithin, header_bytes};
-ghost use Rattle.api_messages.specs.Fields.{Pair, known_of, is_named, is_close, is_host_sound, is_absent, is_repeated, is_sound, length_of, length_at, body_length_by};
+ghost use Rattle.api_messages.specs.Fields.{Pair, known_of, is_named, is_close, is_host_sound, is_absent, is_repeated, is_sound, is_length, length_of, length_at, body_length_by};
 ghost use Rattle.api_messages.specs.Reading.{occurrence_in, and_also, known};
 
+use crate::message::Refusal;
 use crate::method::Method;
 use httparse::spans::HeaderSpan;
 
@@ -61,34 +64,53 @@ impl<'b> Found<'b> {
         }
     }
 
-    fn length(self) -> Option<usize>
-        ensures { result ≡ length_at (occurrence_in self.entry) }
+    fn length(self, method: Method) -> Result<usize, Refusal>
+        ensures { result ≡ length_at method (occurrence_in self.entry) }
     {
         match self {
             Found::Once(value) => length_of(value),
-            Found::Absent | Found::Repeated => None,
+            Found::Absent if method.is_post() => Err(Refusal::LengthRequired),
+            Found::Absent => Ok(0),
+            Found::Repeated => Err(Refusal::BadHead),
         }
     }
 }
 
+fn are_digits(value: &[u8]) -> bool
+    ensures { result ≡ list_all is_ascii_digit value.now }
+{
+    value.iter().all(|byte| byte.is_ascii_digit())
+}
+
 /// The number of a Content-Length value, within the bounds.
-fn length_of(value: &[u8]) -> Option<usize>
+fn length_of(value: &[u8]) -> Result<usize, Refusal>
     ensures { result ≡ length_of value.now }
 {
     if value.is_empty() || value.len() > DIGITS_LIMIT {
-        return None;
+        return Err(Refusal::BadHead);
     }
     let mut number: usize = 0;
     for digit in value {
         if !digit.is_ascii_digit() {
-            return None;
+            return Err(Refusal::BadHead);
         }
         number = number * 10 + (*digit - b'0') as usize;
         if number > BODY_LIMIT {
-            return None;
+            return Err(too_large_if_sound(value));
         }
     }
-    Some(number)
+    Ok(number)
+}
+
+/// Why a value whose number is too large is refused.
+fn too_large_if_sound(value: &[u8]) -> Refusal
+    ensures { result ≡ (if list_all is_ascii_digit value.now then Refusal.TooLarge else Refusal.BadHead) }
+{
+    if are_digits(value) {
+        Refusal::TooLarge
+    } else {
+        Refusal::BadHead
+    }
 }
 
 fn is_named(name: &[u8], field: &[u8]) -> bool
@@ -157,24 +179,23 @@ impl<'b> Fields<'b> {
         fields
     }
 
-    fn is_sound(&self, method: Method, minor: u8) -> bool
-        ensures { result ≡ is_sound method minor (known self.now) }
+    fn is_sound(&self, minor: u8) -> bool
+        ensures { result ≡ is_sound minor (known self.now) }
     {
-        method.is_post()
-            && self.host.is_host_sound(minor)
+        self.host.is_host_sound(minor)
             && self.coding.is_absent()
             && !self.target.is_repeated()
             && !self.caller.is_repeated()
     }
 
-    /// The length of the body after the head. `None` if a rule refuses the head.
-    pub(crate) fn body_length(&self, method: Method, minor: u8) -> Option<usize>
+    /// The length of the body after the head, or why a rule refuses the head.
+    pub(crate) fn body_length(&self, method: Method, minor: u8) -> Result<usize, Refusal>
         ensures { result ≡ body_length_by method minor (known self.now) }
     {
-        if self.is_sound(method, minor) {
-            self.length.length()
+        if self.is_sound(minor) {
+            self.length.length(method)
         } else {
-            None
+            Err(Refusal::BadHead)
         }
     }
 }

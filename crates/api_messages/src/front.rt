@@ -7,7 +7,8 @@ ghost use Rattle.api_messages.specs.Messages.{IsAwaited};
 ghost use Rattle.api_messages.specs.Between.{AreEmptyLines, HasHead};
 
 use crate::fields::{Fields, Found};
-use crate::message::Message;
+use crate::lines::begins_65th;
+use crate::message::{Message, Refusal};
 use crate::method::Method;
 use httparse::Status;
 use httparse::spans::{EMPTY_HEADER_SPAN, parse_request};
@@ -15,16 +16,16 @@ use json_text::{Bytes, NoMemory, Text};
 use std::alloc::Global;
 
 /// How many bytes a head may have, empty lines before it included.
-const HEAD_LIMIT: usize = 16_384;
+pub(crate) const HEAD_LIMIT: usize = 16_384;
 
 /// How many fields a head may have.
-const FIELD_LIMIT: usize = 64;
+pub(crate) const FIELD_LIMIT: usize = 64;
 
 pub(crate) enum Front<T> {
     Whole(T),
     /// The bytes are the beginning of it.
     Awaited,
-    Refused,
+    Refused(Refusal),
 }
 
 /// A whole head, and how many bytes it takes.
@@ -60,9 +61,11 @@ fn read_head(bytes: &[u8]) -> Front<Head<'_>>
             fields: Fields::of(start, &headers[..spans.headers]),
             len: spans.len,
         }),
+        Ok(Status::Partial) if begins_65th(start) => Front::Refused(Refusal::HeadTooLarge),
         Ok(Status::Partial) if bytes.len() < HEAD_LIMIT => Front::Awaited,
-        Ok(Status::Partial) => Front::Refused,
-        Err(_) => Front::Refused,
+        Ok(Status::Partial) => Front::Refused(Refusal::HeadTooLarge),
+        Err(_) if begins_65th(start) => Front::Refused(Refusal::HeadTooLarge),
+        Err(_) => Front::Refused(Refusal::BadHead),
     }
 }
 
@@ -70,8 +73,9 @@ fn read_message<'b>(bytes: &'b [u8], head: Head<'b>) -> Front<InPlace<'b>>
     requires { IsSomeHeadAt bytes.now head }
     ensures { FrontIs bytes.now (IsMessageAt bytes.now) result }
 {
-    let Some(body_len) = head.fields.body_length(head.method, head.minor) else {
-        return Front::Refused;
+    let body_len = match head.fields.body_length(head.method, head.minor) {
+        Ok(body_len) => body_len,
+        Err(why) => return Front::Refused(why),
     };
     let after = &bytes[head.len..];
     if after.len() < body_len {
@@ -93,7 +97,7 @@ pub(crate) fn read_front(bytes: &[u8]) -> Front<InPlace<'_>>
     match read_head(bytes) {
         Front::Whole(head) => read_message(bytes, head),
         Front::Awaited => Front::Awaited,
-        Front::Refused => Front::Refused,
+        Front::Refused(why) => Front::Refused(why),
     }
 }
 
@@ -105,7 +109,7 @@ pub(crate) fn has_head(bytes: &[u8]) -> bool
     match read_head(bytes) {
         Front::Whole(_) => true,
         Front::Awaited => false,
-        Front::Refused => false,
+        Front::Refused(_) => false,
     }
 }
 

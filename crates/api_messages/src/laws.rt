@@ -1,23 +1,30 @@
 //! The laws of the definitions, for every list of bytes.
 ghost use Rattle.std.specs.Prelude.{◌≡◌, ℕ, ◌+◌, ◌<◌, ◌++◌, ◌⊎◌, List, length};
 ghost use Rattle.httparse.specs.Grammar.{EndsInTarget};
-ghost use Rattle.httparse.specs.Spans.{RequestExceeds};
-ghost use Rattle.api_messages.specs.Messages.{IsMessage, IsRefused, IsAwaited, IsStream, IsLeft, HoldsMessage};
+ghost use Rattle.api_messages.specs.Messages.{IsMessage, IsRefused, IsAwaited, IsStream, IsLeft, HoldsMessage, first_bytes};
 ghost use Rattle.api_messages.specs.declared.message.Message.{Message};
+ghost use Rattle.api_messages.specs.declared.message.Refusal.{Refusal};
+ghost use Rattle.api_messages.specs.declared.message.Refusal.TheVariants.{BadHead};
 
 /// Bytes are read in one way, however they were cut. No message begins another one. Refused or awaited bytes begin with no
-/// message. Refused bytes stay refused, whatever follows. Bytes are both awaited and refused in two cases only: they end
-/// inside a request target that cannot become UTF-8, or they have 65 whole field lines of a head that has not ended. No
-/// message comes of either.
+/// message. Refused bytes stay refused for the same reason, whatever follows. Bytes are both awaited and refused in one case
+/// only: they end inside a request target that cannot become UTF-8. No message comes of them.
 pub fn one_reading()
     ensures one_message { (a b x y : List ℕ) (m n : Message) → IsMessage a m → IsMessage b n
         → a ++ x ≡ b ++ y → (a ≡ b) × (m ≡ n) }
-    ensures not_refused { (a x : List ℕ) (m : Message) → IsMessage a m → ¬ (IsRefused (a ++ x)) }
+    ensures not_refused { (a x : List ℕ) (m : Message) (why : Refusal) → IsMessage a m → ¬ (IsRefused (a ++ x) why) }
     ensures not_awaited { (a x : List ℕ) (m : Message) → IsMessage a m → ¬ (IsAwaited (a ++ x)) }
-    ensures stays { (a x : List ℕ) → IsRefused a → IsRefused (a ++ x) }
+    ensures stays { (a x : List ℕ) (why : Refusal) → IsRefused a why → IsRefused (a ++ x) why }
     ensures one_stream { (bytes r q : List ℕ) (ms ns : List Message) → IsStream bytes ms r
         → IsStream bytes ns q → IsLeft r → IsLeft q → (ms ≡ ns) × (r ≡ q) }
-    ensures undecided { (a : List ℕ) → IsAwaited a → IsRefused a → EndsInTarget a ⊎ RequestExceeds 64 a }
+    ensures undecided { (a : List ℕ) (why : Refusal) → IsAwaited a → IsRefused a why → (why ≡ BadHead) × EndsInTarget a }
+{}
+
+/// Bytes are refused for one reason. One case is left open: their first 16,384 bytes end inside a request target that cannot
+/// become UTF-8.
+pub fn one_refusal()
+    ensures { (a : List ℕ) (why other : Refusal) → IsRefused a why → IsRefused a other
+        → (why ≡ other) ⊎ EndsInTarget (first_bytes a) }
 {}
 
 /// Awaited bytes are fewer than the longest head and the longest body.

@@ -16,12 +16,24 @@ pub struct Message {
     pub close: bool,
 }
 
+/// Why bytes are refused: no message begins with them, whatever follows.
+#[derive(Clone, Copy, Debug, PartialEq, Eq)]
+pub enum Refusal {
+    /// Nothing continues the bytes to a head, or a whole head breaks a rule on its fields.
+    BadHead,
+    /// A POST has no `Content-Length`.
+    LengthRequired,
+    /// The body would be longer than 1,048,576 bytes.
+    TooLarge,
+    /// The head does not end within 16,384 bytes, or it has more than 64 fields.
+    HeadTooLarge,
+}
+
 /// Why there is no message.
 #[derive(Debug, Drop, Error)]
 pub enum WireFault {
-    /// No message begins with these bytes, whatever follows.
-    #[error("the head is not a request head that is served")]
-    BadHead,
+    #[error("the bytes begin no message that is served")]
+    Refused(Refusal),
     #[error("out of memory")]
     NoMemory,
 }

@@ -1,4 +1,4 @@
-use crate::{Message, Method, WireFault, WireIn};
+use crate::{Message, Method, Refusal, WireFault, WireIn};
 use std::alloc::Global;
 use std::test::Fail;
 
@@ -9,7 +9,10 @@ const CALL: &[u8] =
 enum Answer {
     Whole,
     Awaited,
-    Refused,
+    BadHead,
+    LengthRequired,
+    TooLarge,
+    HeadTooLarge,
     NoMemory,
 }
 
@@ -17,7 +20,10 @@ fn answer_of(next: &Result<Option<Message>, WireFault>) -> Answer {
     match next {
         Ok(Some(_)) => Answer::Whole,
         Ok(None) => Answer::Awaited,
-        Err(WireFault::BadHead) => Answer::Refused,
+        Err(WireFault::Refused(Refusal::BadHead)) => Answer::BadHead,
+        Err(WireFault::Refused(Refusal::LengthRequired)) => Answer::LengthRequired,
+        Err(WireFault::Refused(Refusal::TooLarge)) => Answer::TooLarge,
+        Err(WireFault::Refused(Refusal::HeadTooLarge)) => Answer::HeadTooLarge,
         Err(WireFault::NoMemory) => Answer::NoMemory,
     }
 }
@@ -84,74 +90,123 @@ fn messages_follow_one_another_in_any_pieces(rt: HostRuntime) -> Result<(), Fail
 fn heads_that_break_a_rule_are_refused_from_their_last_byte_on(
     rt: HostRuntime,
 ) -> Result<(), Fail> {
-    let heads: [(&str, &[u8]); 19] = [
-        (
-            "another method",
-            b"GET / HTTP/1.1\r\nHost: x\r\nContent-Length: 0\r\n\r\n",
-        ),
-        (
-            "HEAD",
-            b"HEAD / HTTP/1.1\r\nHost: x\r\nContent-Length: 0\r\n\r\n",
-        ),
+    let heads: [(&str, &[u8], Answer); 23] = [
         (
             "no Host in 1.1",
             b"POST / HTTP/1.1\r\nContent-Length: 0\r\n\r\n",
+            Answer::BadHead,
+        ),
+        (
+            "no Host in a GET",
+            b"GET / HTTP/1.1\r\n\r\n",
+            Answer::BadHead,
         ),
         (
             "Host twice",
             b"POST / HTTP/1.1\r\nHost: x\r\nhost: x\r\nContent-Length: 0\r\n\r\n",
+            Answer::BadHead,
         ),
         (
             "Host twice in 1.0",
             b"POST / HTTP/1.0\r\nHost: x\r\nHost: x\r\nContent-Length: 0\r\n\r\n",
+            Answer::BadHead,
         ),
-        ("no length", b"POST / HTTP/1.1\r\nHost: x\r\n\r\n"),
+        (
+            "no length",
+            b"POST / HTTP/1.1\r\nHost: x\r\n\r\n",
+            Answer::LengthRequired,
+        ),
+        (
+            "no length, and a caller twice",
+            b"POST / HTTP/1.1\r\nHost: x\r\nx-caller-account: 1\r\nX-Caller-Account: 1\r\n\r\n",
+            Answer::BadHead,
+        ),
         (
             "length twice",
             b"POST / HTTP/1.1\r\nHost: x\r\nContent-Length: 0\r\ncontent-length: 0\r\n\r\n",
+            Answer::BadHead,
         ),
         (
             "an empty length",
             b"POST / HTTP/1.1\r\nHost: x\r\nContent-Length:\r\n\r\n",
+            Answer::BadHead,
         ),
         (
             "a signed length",
             b"POST / HTTP/1.1\r\nHost: x\r\nContent-Length: +1\r\n\r\n",
+            Answer::BadHead,
+        ),
+        (
+            "a large length that ends in a letter",
+            b"POST / HTTP/1.1\r\nHost: x\r\nContent-Length: 99999999x\r\n\r\n",
+            Answer::BadHead,
         ),
         (
             "eleven digits",
             b"POST / HTTP/1.1\r\nHost: x\r\nContent-Length: 00000000001\r\n\r\n",
+            Answer::BadHead,
         ),
         (
             "a body too long",
             b"POST / HTTP/1.1\r\nHost: x\r\nContent-Length: 1048577\r\n\r\n",
+            Answer::TooLarge,
+        ),
+        (
+            "the longest length",
+            b"POST / HTTP/1.1\r\nHost: x\r\nContent-Length: 9999999999\r\n\r\n",
+            Answer::TooLarge,
+        ),
+        (
+            "a body too long of a GET",
+            b"GET / HTTP/1.1\r\nHost: x\r\nContent-Length: 1048577\r\n\r\n",
+            Answer::TooLarge,
+        ),
+        (
+            "a body too long, and Host twice",
+            b"POST / HTTP/1.1\r\nHost: x\r\nHost: x\r\nContent-Length: 1048577\r\n\r\n",
+            Answer::BadHead,
         ),
         (
             "a coding",
             b"POST / HTTP/1.1\r\nHost: x\r\nContent-Length: 0\r\nTransfer-Encoding: identity\r\n\r\n",
+            Answer::BadHead,
         ),
         (
             "target twice",
             b"POST / HTTP/1.1\r\nHost: x\r\nContent-Length: 0\r\nX-Amz-Target: a\r\nx-amz-target: a\r\n\r\n",
+            Answer::BadHead,
         ),
         (
             "caller twice",
             b"POST / HTTP/1.1\r\nHost: x\r\nContent-Length: 0\r\nx-caller-account: 1\r\nX-Caller-Account: 1\r\n\r\n",
+            Answer::BadHead,
         ),
-        ("a target that is not UTF-8", b"POST /\xff "),
-        ("a space before the colon", b"POST / HTTP/1.1\r\nHost "),
-        ("version 2", b"POST / HTTP/2"),
-        ("no method", b" "),
-        ("a folded line", b"POST / HTTP/1.1\r\nHost: x\r\n "),
+        (
+            "a target that is not UTF-8",
+            b"POST /\xff ",
+            Answer::BadHead,
+        ),
+        (
+            "a space before the colon",
+            b"POST / HTTP/1.1\r\nHost ",
+            Answer::BadHead,
+        ),
+        ("version 2", b"POST / HTTP/2", Answer::BadHead),
+        ("no method", b" ", Answer::BadHead),
+        (
+            "a folded line",
+            b"POST / HTTP/1.1\r\nHost: x\r\n ",
+            Answer::BadHead,
+        ),
     ];
-    for (name, head) in heads {
+    for (name, head, answer) in heads {
         let last = head.len().saturating_sub(1);
         let mut wire = fed(rt.alloc(), &head[..last])?;
         assert_eq!(rt; answer_of(&wire.next()), Answer::Awaited, "{name}, before");
         wire.feed(&head[last..])?;
-        assert_eq!(rt; answer_of(&wire.next()), Answer::Refused, "{name}");
+        assert_eq!(rt; answer_of(&wire.next()), answer, "{name}");
         wire.feed(CALL)?;
-        assert_eq!(rt; answer_of(&wire.next()), Answer::Refused, "{name}, again");
+        assert_eq!(rt; answer_of(&wire.next()), answer, "{name}, again");
         assert!(rt; wire.rest().starts_with(head), "{name}");
     }
     Ok(())
@@ -208,7 +263,7 @@ fn a_head_ends_within_16384_bytes(rt: HostRuntime) -> Result<(), Fail> {
     let start = b"POST / HTTP/1.1\r\nHost: x\r\nContent-Length: 0\r\nx: ";
     for (value, before, answer) in [
         (16_384 - 48 - 4, Answer::Awaited, Answer::Whole),
-        (16_384 - 48 - 3, Answer::Refused, Answer::Refused),
+        (16_384 - 48 - 3, Answer::HeadTooLarge, Answer::HeadTooLarge),
     ] {
         let mut wire = fed(rt.alloc(), start)?;
         wire.feed(vec![in rt.alloc(); b'y'; value]?.as_slice())?;
@@ -226,26 +281,54 @@ fn a_head_ends_within_16384_bytes(rt: HostRuntime) -> Result<(), Fail> {
 }
 
 #[test]
-fn a_65th_field_is_refused_with_the_end_of_its_line(rt: HostRuntime) -> Result<(), Fail> {
-    let ends: [(&[u8], Answer); 2] = [(b"\r\n", Answer::Whole), (b"a: b\r\n", Answer::Refused)];
+fn a_65th_field_is_refused_at_its_first_byte(rt: HostRuntime) -> Result<(), Fail> {
+    let ends: [(&[u8], Answer); 9] = [
+        (b"", Answer::Awaited),
+        (b"\r", Answer::Awaited),
+        (b"\r\n", Answer::Whole),
+        (b"\n", Answer::Whole),
+        (b"a", Answer::HeadTooLarge),
+        (b"a b: c\r\n\r\n", Answer::HeadTooLarge),
+        (b"a: b\r\n\r\n", Answer::HeadTooLarge),
+        (b" a: b\r\n", Answer::BadHead),
+        (b"\ra", Answer::BadHead),
+    ];
     for (end, answer) in ends {
         let mut wire = fed(
             rt.alloc(),
-            b"POST / HTTP/1.1\r\nHost: x\r\nContent-Length: 0\r\n",
+            b"\r\n\nPOST / HTTP/1.1\r\nHost: x\r\nContent-Length: 0\n",
         )?;
         for _ in 0..62 {
             wire.feed(b"a: b\r\n")?;
         }
-        let last = end.len().saturating_sub(1);
-        wire.feed(&end[..last])?;
-        assert_eq!(rt;
-            answer_of(&wire.next()),
-            Answer::Awaited,
-            "{} bytes",
-            end.len()
-        );
-        wire.feed(&end[last..])?;
+        wire.feed(end)?;
         assert_eq!(rt; answer_of(&wire.next()), answer, "{} bytes", end.len());
+    }
+    Ok(())
+}
+
+#[test]
+fn other_methods_may_have_a_body_or_none(rt: HostRuntime) -> Result<(), Fail> {
+    let rows: [(&[u8], Method, usize); 4] = [
+        (b"GET / HTTP/1.1\r\nHost: x\r\n\r\n", Method::Other, 0),
+        (b"HEAD / HTTP/1.1\r\nHost: x\r\n\r\n", Method::Head, 0),
+        (
+            b"PUT / HTTP/1.1\r\nHost: x\r\nContent-Length: 2\r\n\r\n{}",
+            Method::Other,
+            2,
+        ),
+        (b"post / HTTP/1.0\r\n\r\n", Method::Other, 0),
+    ];
+    for (bytes, method, len) in rows {
+        let mut wire = fed(rt.alloc(), bytes)?;
+        match wire.next()? {
+            Some(message) => {
+                assert!(rt; message.method == method, "{} bytes", bytes.len());
+                assert_eq!(rt; message.body.len(), len, "{} bytes", bytes.len());
+            }
+            None => assert!(rt; false, "no message in {} bytes", bytes.len()),
+        }
+        assert!(rt; wire.rest().is_empty(), "{} bytes", bytes.len());
     }
     Ok(())
 }

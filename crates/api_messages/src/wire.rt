@@ -1,12 +1,12 @@
 //! Bytes in, messages out.
-ghost use Rattle.std.specs.Prelude.{◌≡◌, ◌↔◌, ◌≤◌, [], ◌++◌, true, false, length, drop, OnOk, OnErr, IsOk, IsErrOf, IsTrue, IsFalse};
+ghost use Rattle.std.specs.Prelude.{◌≡◌, ◌↔◌, ◌≤◌, [], ◌++◌, None, Some, length, drop, OnOk, OnErr, IsOk, IsErrOf, IsTrue, IsFalse};
 ghost use Rattle.httparse.specs.Grammar.{HasNoRequest};
 ghost use Rattle.api_messages.specs.Messages.{IsAwaited};
 ghost use Rattle.api_messages.specs.Reading.{Answers};
 ghost use Rattle.api_messages.specs.Between.{AreEmptyLines, HasHead};
 
 use crate::front::{Front, are_empty_lines, has_head, read_front};
-use crate::message::{Message, WireFault};
+use crate::message::{Message, Refusal, WireFault};
 use json_text::NoMemory;
 use std::alloc::Global;
 use std::marker::Model;
@@ -18,11 +18,12 @@ pub struct WireIn {
     buffer: Vec<u8>,
     /// The place of the first byte that no message has taken.
     start: usize,
-    refused: bool,
+    refused: Option<Refusal>,
 }
 
 impl Model for WireIn {
-    ghost use Rattle.std.specs.Prelude.{◌≡◌, ◌≤◌, ◌-◌, true, length, drop, vec_len, vec_capacity};
+    ghost use Rattle.std.specs.Prelude.{◌≡◌, ◌≤◌, ◌-◌, Some, length, drop, vec_len, vec_capacity};
+    ghost use Rattle.api_messages.specs.declared.message.Refusal.{Refusal as Why};
     ghost use Rattle.api_messages.specs.Messages.{IsRefused};
     ghost use Rattle.api_messages.specs.Reading.{Incoming};
 
@@ -35,19 +36,19 @@ impl Model for WireIn {
     } };
 
     ghost invariant = { λ w. (w.start ≤ length w.buffer.items)
-        × (w.refused ≡ true → IsRefused (drop w.start w.buffer.items)) };
+        × ((why : Why) → w.refused ≡ Some why → IsRefused (drop w.start w.buffer.items) why) };
 }
 
 impl WireIn {
     pub fn new(alloc: Global) -> WireIn
         ensures rest { result.rest ≡ [] }
-        ensures refused { result.refused ≡ false }
+        ensures refused { result.refused ≡ None }
     {
         WireIn {
             alloc,
             buffer: Vec::new(alloc),
             start: 0,
-            refused: false,
+            refused: None,
         }
     }
 
@@ -74,21 +75,21 @@ impl WireIn {
     }
 
     /// The next message. `None` if no whole one is there; the next call then reads its beginning once more.
-    /// `BadHead` is returned by every later call too. Out of memory takes no byte.
+    /// A refusal is returned by every later call too. Out of memory takes no byte.
     /// Over all calls, at most as many bytes are moved within the buffer as messages took.
     pub fn next(&mut self) -> Result<Option<Message>, WireFault>
         ensures answers { Answers self.old self.new result }
-        ensures stays_refused { self.old.refused ≡ true → IsErrOf result WireFault.BadHead }
+        ensures stays_refused { (why : Refusal) → self.old.refused ≡ Some why → IsErrOf result (WireFault.Refused why) }
     {
-        if self.refused {
-            return Err(WireFault::BadHead);
+        if let Some(why) = self.refused {
+            return Err(WireFault::Refused(why));
         }
         let (message, len) = match read_front(self.rest()) {
             Front::Whole(found) => (found.message(self.alloc)?, found.len),
             Front::Awaited => return Ok(None),
-            Front::Refused => {
-                self.refused = true;
-                return Err(WireFault::BadHead);
+            Front::Refused(why) => {
+                self.refused = Some(why);
+                return Err(WireFault::Refused(why));
             }
         };
         self.take(len);
@@ -119,7 +120,7 @@ impl WireIn {
 
     fn take(&mut self, len: usize)
         requires in_range { len ≤ length self.old.rest }
-        requires served { self.old.refused ≡ false }
+        requires served { self.old.refused ≡ None }
         ensures rest { self.new.rest ≡ drop len self.old.rest }
         ensures refused { self.new.refused ≡ self.old.refused }
     {

@@ -4,7 +4,8 @@
 mod call;
 
 pub use api_messages::{
-    Message, Method, WireFault, WireIn, awaited_is_short, no_message_is_empty, one_reading,
+    Message, Method, Refusal, WireFault, WireIn, awaited_is_short, no_message_is_empty,
+    one_reading, one_refusal,
 };
 pub use api_replies::{
     CountsReply, bad_head_reply, head_too_large_reply, length_required_reply, no_memory_reply,

@@ -1,10 +1,12 @@
--- What reading one more piece does. Other files cite `at_end`, `starved`, `whole_lacks`, `left_over` and `read_after`.
-use Rattle.std.proofs.Common.{◌≡◌, ℕ, ◌-◌, ◌<◌, ◌≤◌, ◌⊎◌, inl, inr, Bool, true, false, List, [], ◌++◌, length, take, drop, Option, sym, refl, ap, ◌∙◌}
+-- What reading one more piece does. Other files cite `at_end`, `read_failed`, `read_more`, `starved`, `whole_lacks`, `left_over` and
+-- `read_after`.
+use Rattle.std.proofs.Common.{◌≡◌, ℕ, ◌-◌, ◌<◌, ◌≤◌, ◌⊎◌, inl, inr, Bool, true, false, List, [], ◌++◌, length, take, drop, Option, Some, None, sym}
+use Rattle.std.proofs.Common.{refl, ap, ◌∙◌}
 use Rattle.std.proofs.Common.{subst, arith, append_assoc, append-nil, length-append}
 use Rattle.std.proofs.lemmas.List.{take-append-drop, take-append-le}
 use Rattle.std.proofs.Math.Seq.{take-append_seam}
 use Rattle.std.proofs.lemmas.Bool.{cases_lt}
-use Rattle.std.specs.Io.KnownBytes.{Consumes, IsAtEnd}
+use Rattle.std.specs.Io.KnownBytes.{Keeps, Consumes, IsAtEnd}
 use Rattle.router_disk.proofs.StreamLemmas.{Consumes-append}
 use Rattle.httparse.specs.Grammar.{HasNoRequest, print_request}
 use Rattle.api_messages.specs.declared.message.Message.{Message}
@@ -27,6 +29,26 @@ at_end l0 l1 l2 first rest taken buf n lack none takes is more end lacks = (
   subst (λ bytes. LackOf bytes l2 lack)
       (is ∙ ap (λ t. first ++ t) (sym (append-nil taken)) ∙ ap (λ m. first ++ (taken ++ take m buf)) (sym none))
       lacks,
+)
+
+consumes_keeps : (old mid new : Option (List ℕ)) (taken : List ℕ) → Consumes old mid taken → Keeps mid new → Consumes old new taken
+consumes_keeps None mid new taken takes keeps = tt
+consumes_keeps (Some xs) None new taken takes keeps = absurd takes
+consumes_keeps (Some xs) (Some ys) None taken takes keeps = absurd keeps
+consumes_keeps (Some xs) (Some ys) (Some zs) taken takes keeps = takes ∙ ap (λ (left : List ℕ). taken ++ left) (sym keeps)
+
+-- the input failed
+pub read_failed : (l0 l1 l2 : Option (List ℕ)) (first rest taken : List ℕ) → Consumes l0 l1 taken → rest ≡ first ++ taken → Keeps l1 l2
+    → IsAwaited rest → (x : List ℕ) × Consumes l0 l2 x × IsAwaited (first ++ x)
+read_failed l0 l1 l2 first rest taken takes is keeps awaited = (taken, consumes_keeps l0 l1 l2 taken takes keeps, subst IsAwaited is awaited)
+
+-- more bytes came
+pub read_more : (l0 l1 l2 : Option (List ℕ)) (first rest taken piece : List ℕ) → Consumes l0 l1 taken → rest ≡ first ++ taken → Consumes l1 l2 piece
+    → (x : List ℕ) × Consumes l0 l2 x × (rest ++ piece ≡ first ++ x)
+read_more l0 l1 l2 first rest taken piece takes is more = (
+  taken ++ piece,
+  Consumes-append l0 l1 l2 taken piece takes more,
+  ap (λ (bytes : List ℕ). bytes ++ piece) is ∙ append_assoc first taken piece,
 )
 
 -- whether a whole head is buffered

@@ -19,8 +19,8 @@ use Rattle.router_core.specs.Steps.{EndsSo, record_of, claiming, putting_back}
 use Rattle.router_calls.specs.Answer.{Answer, IsAnswer, moment_at}
 use Rattle.bus_server.specs.History.{Turn, State, asked, claims, records, puts_back, closed_claims, after_turn, after_written, IsLegal, state_after}
 use Rattle.bus_server.specs.History.{with_written, batches_of, begun, NoneClaimed, Leads}
-use Rattle.bus_server.specs.Exchange.{Exchange, moment_of, AreSteps, Stop, done, limited, IsStop, IsExchange, unknown, unbuilt, answered, delivered}
-use Rattle.bus_server.specs.Exchange.{out_of_memory, IsWithoutTurn, AreExchanges, turns_of}
+use Rattle.bus_server.specs.Exchange.{Exchange, moment_of, AreSteps, Stop, done, limited, IsStop, IsPosted, IsExchange, unknown, unbuilt, answered}
+use Rattle.bus_server.specs.Exchange.{unrendered, delivered, out_of_memory, unposted, posted, IsWithoutTurn, AreExchanges, turns_of}
 
 -- two lists of turns, the second after the first
 
@@ -237,15 +237,22 @@ leads_stop budget made t last turns limited new (fewer, (reading, duty, read, ne
 leads_without : (t : Tables) (e : Exchange) (reply : Reply) (new : Tables) → IsWithoutTurn t e reply new → Leads t e.turns new
 leads_without t e reply new is = leads_to t new t e.turns [] is.no_turns is.same (leads_none t)
 
-leads_exchange : (t : Tables) (e : Exchange) (new : Tables) → IsExchange t e new → Leads t e.turns new
-leads_exchange t e new (unknown none is) = leads_without t e _ new is
-leads_exchange t e new (unbuilt some none is) = leads_without t e _ new is
-leads_exchange t e new (answered r a is_asked is unread turns reply now) = leads_to t new _ e.turns _ turns now (leads_answer t r a is)
-leads_exchange t e new (delivered r counts stop is_asked due d reply) =
+leads_posted : (t : Tables) (e : Exchange) (new : Tables) → IsPosted t e new → Leads t e.turns new
+leads_posted t e new (unknown none is) = leads_without t e _ new is
+leads_posted t e new (unbuilt some none is) = leads_without t e _ new is
+leads_posted t e new (answered r a is_asked is unread turns reply now) = leads_to t new _ e.turns _ turns now (leads_answer t r a is)
+leads_posted t e new (unrendered r a is_asked is unwritten unread turns reply same) =
+    leads_to t new _ e.turns _ (turns ∙ ap (λ (b : Option Batch). record { ask = asked r; batch = b } ∷ []) (sym unwritten))
+    (same ∙ ap (λ (b : Option Batch). after_written b t) (sym unwritten)) (leads_answer t r a is)
+leads_posted t e new (delivered r counts stop is_asked due d reply) =
     leads_to t new new e.turns (d.stepping ++ d.stopping) d.turns_are refl
     (leads_append t d.mid new d.stepping d.stopping (leads_steps t d.made d.stepping counts d.mid d.steps)
     (leads_stop _ _ d.mid d.last d.stopping stop new d.stops))
-leads_exchange t e new (out_of_memory is) = leads_without t e _ new is
+leads_posted t e new (out_of_memory is) = leads_without t e _ new is
+
+leads_exchange : (t : Tables) (e : Exchange) (new : Tables) → IsExchange t e new → Leads t e.turns new
+leads_exchange t e new (unposted method is) = leads_without t e _ new is
+leads_exchange t e new (posted method is) = leads_posted t e new is
 
 -- exchanges make a legal history
 pub exchanges_lead : (t : Tables) (es : List Exchange) (new : Tables) → AreExchanges t es new → Leads t (turns_of es) new

@@ -5,8 +5,8 @@ use Rattle.std.proofs.lemmas.Grind.{flat_map-append}
 use Rattle.api_replies.specs.Reply.{Counts}
 use Rattle.router_core.specs.Tables.{Tables}
 use Rattle.bus_server.specs.History.{Turn, claims, puts_back, readings_at, asked_readings, IsSublist}
-use Rattle.bus_server.specs.Exchange.{Exchange, moment_of, AreSteps, Stop, done, limited, IsStop, IsExchange, unknown, unbuilt, answered, delivered}
-use Rattle.bus_server.specs.Exchange.{out_of_memory, AreExchanges, turns_of, readings_of}
+use Rattle.bus_server.specs.Exchange.{Exchange, moment_of, AreSteps, Stop, done, limited, IsStop, IsPosted, IsExchange, unknown, unbuilt, answered, unrendered}
+use Rattle.bus_server.specs.Exchange.{delivered, out_of_memory, unposted, posted, AreExchanges, turns_of, readings_of}
 
 sub_skip : (xs ys : List ℕ) (y : ℕ) → IsSublist xs ys → IsSublist xs (y ∷ ys)
 sub_skip [] ys y is = tt
@@ -56,18 +56,24 @@ stop_read budget made t last turns limited new (fewer, (reading, duty, read, nex
     (record { ask = claims duty (moment_of reading); batch = None } ∷ record { ask = puts_back duty; batch = None } ∷ []) ls) (sym read)
     (back_read duty reading))
 
-exchange_read : (t : Tables) (e : Exchange) (new : Tables) → IsExchange t e new → ReadAt e.turns (e.reading ∷ e.steps)
-exchange_read t e new (unknown none is) = read_nothing e.turns (e.reading ∷ e.steps) is.no_turns
-exchange_read t e new (unbuilt some none is) = read_nothing e.turns (e.reading ∷ e.steps) is.no_turns
-exchange_read t e new (answered r a is_asked is unread turns reply now) =
+posted_read : (t : Tables) (e : Exchange) (new : Tables) → IsPosted t e new → ReadAt e.turns (e.reading ∷ e.steps)
+posted_read t e new (unknown none is) = read_nothing e.turns (e.reading ∷ e.steps) is.no_turns
+posted_read t e new (unbuilt some none is) = read_nothing e.turns (e.reading ∷ e.steps) is.no_turns
+posted_read t e new (answered r a is_asked is unread turns reply now) =
     subst (λ (ts : List Turn). ReadAt ts (e.reading ∷ e.steps)) (sym turns) (inl (is_asked.read_at, tt))
-exchange_read t e new (delivered r counts stop is_asked due d reply) =
+posted_read t e new (unrendered r a is_asked is unwritten unread turns reply same) =
+    subst (λ (ts : List Turn). ReadAt ts (e.reading ∷ e.steps)) (sym turns) (inl (is_asked.read_at, tt))
+posted_read t e new (delivered r counts stop is_asked due d reply) =
     sub_skip (asked_readings e.turns) (map moment_of e.steps) (moment_of e.reading)
     (subst (λ (ts : List Turn). ReadAt ts e.steps) (sym d.turns_are)
     (subst (λ (gs : List ℕ). ReadAt (d.stepping ++ d.stopping) gs) (sym d.readings_are)
     (read_append d.stepping d.stopping d.made d.last (steps_read t d.made d.stepping counts d.mid d.steps)
     (stop_read _ _ d.mid d.last d.stopping stop new d.stops))))
-exchange_read t e new (out_of_memory is) = read_nothing e.turns (e.reading ∷ e.steps) is.no_turns
+posted_read t e new (out_of_memory is) = read_nothing e.turns (e.reading ∷ e.steps) is.no_turns
+
+exchange_read : (t : Tables) (e : Exchange) (new : Tables) → IsExchange t e new → ReadAt e.turns (e.reading ∷ e.steps)
+exchange_read t e new (unposted method is) = read_nothing e.turns (e.reading ∷ e.steps) is.no_turns
+exchange_read t e new (posted method is) = posted_read t e new is
 
 -- the readings of exchanges are enough for their turns
 pub exchanges_read : (t : Tables) (es : List Exchange) (new : Tables) → AreExchanges t es new

@@ -15,9 +15,8 @@ use Rattle.router_core.specs.Tables.{Tables}
 use Rattle.api_messages.specs.declared.message.Message.{Message}
 use Rattle.api_messages.specs.Messages.{HoldsMessage, IsAwaited, IsStream}
 use Rattle.api_messages.specs.Between.{HasHead}
-use Rattle.api_replies.specs.Written.{reply_text}
 use Rattle.bus_server.specs.Book.{BookState}
-use Rattle.bus_server.specs.Exchange.{Exchange, IsExchange, AreExchanges, turns_of, readings_of, messages_of}
+use Rattle.bus_server.specs.Exchange.{Exchange, exchange_text, IsExchange, AreExchanges, turns_of, readings_of, messages_of}
 use Rattle.bus_server.specs.Session.{request_limit, closes, texts_from, texts_of, NoneCloses, OpenBefore, Course, piece_size, IsWholeNow, IsStarvedAt}
 use Rattle.bus_server.specs.Session.{EndsWith, WritesWhole, WritesNotLast, IsWritten, IsSession}
 use Rattle.bus_server.specs.Running.{IsRunning, ExchangeOf}
@@ -46,12 +45,12 @@ exchanges_append : (t mid new : Tables) (es : List Exchange) (e : Exchange) → 
 exchanges_append t mid new [] e is last = (new, subst (λ s. IsExchange s e new) is last, refl)
 exchanges_append t mid new (d ∷ es) e (next, first, later) last = (next, first, exchanges_append next mid new es e later last)
 
-texts_append : (n : ℕ) (es : List Exchange) (e : Exchange) → texts_from n (es ++ e ∷ []) ≡ texts_from n es ++ reply_text e.reply (closes (n + length es) e)
-texts_append n [] e = append-nil _ ∙ ap (λ k. reply_text e.reply (closes k e)) (omega arith)
+texts_append : (n : ℕ) (es : List Exchange) (e : Exchange) → texts_from n (es ++ e ∷ []) ≡ texts_from n es ++ exchange_text e (closes (n + length es) e)
+texts_append n [] e = append-nil _ ∙ ap (λ k. exchange_text e (closes k e)) (omega arith)
 texts_append n (d ∷ es) e =
-    ap (λ t. reply_text d.reply (closes n d) ++ t)
-    (texts_append (n + 1) es e ∙ ap (λ k. texts_from (n + 1) es ++ reply_text e.reply (closes k e)) (omega arith))
-    ∙ sym (append_assoc (reply_text d.reply (closes n d)) (texts_from (n + 1) es) (reply_text e.reply (closes (n + length (d ∷ es)) e)))
+    ap (λ t. exchange_text d (closes n d) ++ t)
+    (texts_append (n + 1) es e ∙ ap (λ k. texts_from (n + 1) es ++ exchange_text e (closes k e)) (omega arith))
+    ∙ sym (append_assoc (exchange_text d (closes n d)) (texts_from (n + 1) es) (exchange_text e (closes (n + length (d ∷ es)) e)))
 
 none_append : (es : List Exchange) (e : Exchange) → NoneCloses es → e.message.close ≡ false → NoneCloses (es ++ e ∷ [])
 none_append [] e none stays = (stays, tt)
@@ -71,10 +70,10 @@ writes_after old mid new xs ys (Err e) first (part, after, whole, appended) = (p
 
 -- the replies of all exchanges, the last one included
 texts_whole : (before : List Exchange) (last : Exchange)
-    → texts_of before ++ reply_text last.reply (closes (length before) last) ≡ texts_of (before ++ last ∷ [])
+    → texts_of before ++ exchange_text last (closes (length before) last) ≡ texts_of (before ++ last ∷ [])
 texts_whole before last =
     let at : length before ≡ 0 + length before = omega arith in
-    ap (λ (k : ℕ). texts_of before ++ reply_text last.reply (closes k last)) at ∙ sym (texts_append 0 before last)
+    ap (λ (k : ℕ). texts_of before ++ exchange_text last (closes k last)) at ∙ sym (texts_append 0 before last)
 
 -- nothing was exchanged yet
 pub running_at_start : (old : BookState) (left written : Option (List ℕ)) (ahead : Option (ℕ → ℕ)) (rest : List ℕ) → rest ≡ []
@@ -127,8 +126,8 @@ served_next old now new left left_now left_new written written_now written_new a
       exchanges = exchanges_append old.tables now.tables new.tables es e run.exchanges x.is_exchange;
       turns = x.turns ∙ ap (λ t. t ++ e.turns) run.turns ∙ append_assoc old.turns (turns_of es) e.turns ∙ ap (λ t. old.turns ++ t) (turns_append es e);
       readings = subst (λ (g : List ℕ). Gives ahead ahead_new g) (readings_append es e) (Gives-append run.readings x.readings);
-      written_are = subst (λ (c : Bool). WritesAfter (texts_of es) (reply_text e.reply c) written written_new result) (sym closing)
-          (writes_after written written_now written_new (texts_of es) (reply_text e.reply close) result run.written_are x.writes);
+      written_are = subst (λ (c : Bool). WritesAfter (texts_of es) (exchange_text e c) written written_new result) (sym closing)
+          (writes_after written written_now written_new (texts_of es) (exchange_text e close) result run.written_are x.writes);
     }
 
 -- the message asks for no end
@@ -226,7 +225,7 @@ write_end m old now left left_now written written_now ahead ahead_now rest serve
 all_written : (lack : Lack) (c : Course) (old new : Option (List ℕ)) → WritesWhole c.exchanges c.closing old new → IsWritten (end_of lack) c old new
 all_written lacks.Closed c old new is = is
 all_written lacks.Cut c old new is = is
-all_written lacks.Refused c old new is = is
+all_written (lacks.Refused why) c old new is = is
 all_written lacks.ReadFault c old new is = is
 all_written (lacks.NoMemory head) c old new is = is
 
@@ -242,7 +241,7 @@ lack_ends : (lack : Lack) (es : List Exchange) (rest : List ℕ) (left : Option 
     → EndsWith (end_of lack) (record { exchanges = es; rest = rest; closing = closing_of lack }) (IsAtEnd left)
 lack_ends lacks.Closed es rest left none below lacking = (below, refl, inl (none, lacking.0, lacking.1, lacking.2))
 lack_ends lacks.Cut es rest left none below lacking = (below, none, lacking.0, lacking.1, lacking.2, refl)
-lack_ends lacks.Refused es rest left none below lacking = (none, below, lacking.0, lacking.1, refl)
+lack_ends (lacks.Refused why) es rest left none below lacking = (none, below, lacking.1, (why, lacking.0, refl))
 lack_ends lacks.ReadFault es rest left none below lacking = (below, none, lacking, refl)
 lack_ends (lacks.NoMemory head) es rest left none below (at, cause) = starved_ends es rest head none below at cause
 
@@ -252,7 +251,7 @@ fault_ends : (lack : Lack) (es : List Exchange) (rest text : List ℕ) (left : O
     → EndsWith ends.WriteFault (record { exchanges = es; rest = rest; closing = closing_of lack }) (IsAtEnd left)
 fault_ends lacks.Closed es rest text left none below lacking which = cc
 fault_ends lacks.Cut es rest text left none below lacking which = cc
-fault_ends lacks.Refused es rest text left none below lacking which = inr (inl (none, below, lacking.0, lacking.1, refl))
+fault_ends (lacks.Refused why) es rest text left none below lacking which = inr (inl (none, below, lacking.1, (why, lacking.0, refl)))
 fault_ends lacks.ReadFault es rest text left none below lacking which = cc
 fault_ends (lacks.NoMemory true) es rest text left none below (at, cause) which = inr (inr (starved_ends es rest true none below at cause, refl))
 fault_ends (lacks.NoMemory false) es rest text left none below lacking which = cc

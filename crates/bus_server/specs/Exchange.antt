@@ -1,13 +1,17 @@
 -- One exchange of a session: a message, the turns that it made, and its reply.
-use Rattle.std.specs.Prelude.{◌≡◌, ℕ, ◌+◌, ◌<◌, ◌⊎◌, min, true, false, List, [], ◌∷◌, ◌++◌, length, map, Some, None, IsSome, flat_map}
+use Rattle.std.specs.Prelude.{◌≡◌, ℕ, ◌+◌, ◌<◌, ◌⊎◌, min, Bool, true, false, List, [], ◌∷◌, ◌++◌, length, map, Some, None, IsSome, flat_map}
 use Rattle.delivery_duties.specs.declared.fate.Outcome.{Outcome}
 use Rattle.delivery_duties.specs.declared.fate.Outcome.TheVariants.{Accepted, TooOld}
 use Rattle.delivery_duties.specs.Duties.{IsNext, NoneDue}
 use Rattle.router_core.specs.Request.{deliver_due, Request}
-use Rattle.api_replies.specs.Reply.{Reply, Counts, counted, unknown_operation, not_built, limit_reply, no_memory}
+use Rattle.api_replies.specs.Reply.{Reply, Counts, counted, unknown_operation, not_built, not_post, limit_reply, no_memory}
+use Rattle.api_replies.specs.Written.{reply_text, reply_head}
 use Rattle.router_core.specs.Tables.{Tables, is_full, after_batch}
 use Rattle.router_calls.specs.Answer.{Answer, IsAnswer, moment_at}
 use Rattle.api_messages.specs.declared.message.Message.{Message}
+use Rattle.api_messages.specs.declared.method.Method.{Method}
+use Rattle.api_messages.specs.declared.method.Method.TheVariants.{Post, Head, Other}
+use Rattle.api_messages.specs.Fields.{is_post}
 use Rattle.api_wire.specs.Call.{operation_of, IsAsked}
 use Rattle.router_core.specs.Steps.{EndsSo, record_of, claiming, putting_back}
 use Rattle.bus_server.specs.History.{asked, claims, records, puts_back, Turn, after_written}
@@ -95,22 +99,41 @@ pub record IsWithoutTurn (t : Tables) (e : Exchange) (reply : Reply) (new : Tabl
   pub replies : e.reply ≡ reply
   pub same : new ≡ t
 
--- A message and its reply, from the tables before it to those after it.
-pub data IsExchange (t : Tables) (e : Exchange) (new : Tables) : Type 0 where
+-- A POST and its reply, from the tables before it to those after it.
+pub data IsPosted (t : Tables) (e : Exchange) (new : Tables) : Type 0 where
   -- no operation has this name
-  unknown : operation_of e.message.target ≡ None → IsWithoutTurn t e unknown_operation new → IsExchange t e new
+  unknown : operation_of e.message.target ≡ None → IsWithoutTurn t e unknown_operation new → IsPosted t e new
   -- the operation is served, but the message is no request that is built
   unbuilt : IsSome (operation_of e.message.target) → ((r : Request) → ¬ IsAsked e.message (moment_of e.reading) r)
-      → IsWithoutTurn t e not_built new → IsExchange t e new
+      → IsWithoutTurn t e not_built new → IsPosted t e new
   -- a request of one turn
   answered : (r : Request) (a : Answer) → IsAsked e.message (moment_of e.reading) r → IsAnswer t r a
       → e.steps ≡ [] → e.turns ≡ record { ask = asked r; batch = a.batch } ∷ [] → e.reply ≡ a.reply
-      → new ≡ after_written a.batch t → IsExchange t e new
+      → new ≡ after_written a.batch t → IsPosted t e new
+  -- the same without a batch, if memory ran out for the reply after the turn
+  unrendered : (r : Request) (a : Answer) → IsAsked e.message (moment_of e.reading) r → IsAnswer t r a → a.batch ≡ None
+      → e.steps ≡ [] → e.turns ≡ record { ask = asked r; batch = None } ∷ [] → e.reply ≡ no_memory → new ≡ t → IsPosted t e new
   -- DeliverDue
   delivered : (r : Request) (counts : Counts) (stop : Stop) → IsAsked e.message (moment_of e.reading) r → r.action ≡ deliver_due
-      → IsDelivery default_budget t e.steps e.turns counts stop new → e.reply ≡ delivery_reply counts stop → IsExchange t e new
+      → IsDelivery default_budget t e.steps e.turns counts stop new → e.reply ≡ delivery_reply counts stop → IsPosted t e new
   -- out of memory, before anything changed
-  out_of_memory : IsWithoutTurn t e no_memory new → IsExchange t e new
+  out_of_memory : IsWithoutTurn t e no_memory new → IsPosted t e new
+
+-- A message and its reply, from the tables before it to those after it.
+pub data IsExchange (t : Tables) (e : Exchange) (new : Tables) : Type 0 where
+  -- the method is not POST
+  unposted : is_post e.message.method ≡ false → IsWithoutTurn t e not_post new → IsExchange t e new
+  posted : is_post e.message.method ≡ true → IsPosted t e new → IsExchange t e new
+
+-- what is written for a reply to a message with that method: a HEAD gets the head of the reply alone
+abbrev pub sent_text : Method → Reply → Bool → List ℕ
+sent_text Post reply close = reply_text reply close
+sent_text Head reply close = reply_head reply close
+sent_text Other reply close = reply_text reply close
+
+-- what is written for an exchange; `close` is true if the connection ends after it
+abbrev pub exchange_text : Exchange → Bool → List ℕ
+exchange_text e close = sent_text e.message.method e.reply close
 
 -- exchanges in order
 abbrev pub AreExchanges : Tables → List Exchange → Tables → Type 0

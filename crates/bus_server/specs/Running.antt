@@ -6,9 +6,8 @@ use Rattle.router_disk.specs.Sink.{WritesAll}
 use Rattle.router_disk.specs.declared.fault.Failed.{Failed}
 use Rattle.api_messages.specs.declared.message.Message.{Message}
 use Rattle.api_messages.specs.Messages.{IsStream}
-use Rattle.api_replies.specs.Written.{reply_text}
 use Rattle.bus_server.specs.Book.{BookState}
-use Rattle.bus_server.specs.Exchange.{Exchange, IsExchange, AreExchanges, turns_of, readings_of, messages_of}
+use Rattle.bus_server.specs.Exchange.{Exchange, exchange_text, IsExchange, AreExchanges, turns_of, readings_of, messages_of}
 use Rattle.bus_server.specs.Session.{texts_of, NoneCloses, piece_size}
 
 -- the exchanges so far: `served` requests, none of which asked to close
@@ -35,4 +34,4 @@ pub record ExchangeOf (message : Message) (close : Bool) (old new : BookState) (
   pub is_exchange : IsExchange old.tables exchanged new.tables
   pub turns : new.turns ≡ old.turns ++ exchanged.turns
   pub readings : Gives ahead ahead_new (exchanged.reading ∷ exchanged.steps)
-  pub writes : WritesAll written written_new result (reply_text exchanged.reply close)
+  pub writes : WritesAll written written_new result (exchange_text exchanged close)

@@ -5,9 +5,8 @@ use Rattle.router_disk.specs.Clock.{Gives}
 use Rattle.router_disk.specs.declared.fault.Failed.{Failed}
 use Rattle.api_messages.specs.declared.message.Message.{Message}
 use Rattle.api_messages.specs.Messages.{IsStream}
-use Rattle.api_replies.specs.Written.{reply_text}
 use Rattle.bus_server.specs.Book.{BookState}
-use Rattle.bus_server.specs.Exchange.{Exchange, AreExchanges, turns_of, readings_of, messages_of}
+use Rattle.bus_server.specs.Exchange.{Exchange, exchange_text, AreExchanges, turns_of, readings_of, messages_of}
 use Rattle.bus_server.specs.Session.{texts_of, closes, NoneCloses, WritesPart, piece_size}
 
 -- these bytes were written, and the text after them; at `Err` a first part of the text
@@ -31,4 +30,4 @@ pub record IsServed (message : Message) (old now : BookState) (left left_now wri
   pub exchanges : AreExchanges old.tables (before ++ last ∷ []) now.tables
   pub turns : now.turns ≡ old.turns ++ turns_of (before ++ last ∷ [])
   pub readings : Gives ahead ahead_now (readings_of (before ++ last ∷ []))
-  pub written_are : WritesAfter (texts_of before) (reply_text last.reply (closes (length before) last)) written written_now result
+  pub written_are : WritesAfter (texts_of before) (exchange_text last (closes (length before) last)) written written_now result

@@ -2,8 +2,10 @@
 use Rattle.std.specs.Prelude.{◌≡◌, ℕ, ◌+◌, ◌<◌, ◌≤◌, ◌⊎◌, Bool, true, false, ◌==◌, ◌||◌, List, [], ◌∷◌, ◌++◌, length, map, Option, Some, None, unwrap_or}
 use Rattle.std.specs.Io.KnownBytes.{Appends, Consumes, IsAtEnd}
 use Rattle.router_disk.specs.Clock.{Gives}
-use Rattle.api_replies.specs.Reply.{no_memory, bad_head}
+use Rattle.api_replies.specs.Reply.{Reply, no_memory, bad_head, length_required, too_large, head_too_large}
 use Rattle.api_messages.specs.declared.message.Message.{Message}
+use Rattle.api_messages.specs.declared.message.Refusal.{Refusal}
+use Rattle.api_messages.specs.declared.message.Refusal.TheVariants as refusals
 use Rattle.api_messages.specs.Messages.{HoldsMessage, IsStream, IsAwaited, IsRefused}
 use Rattle.api_messages.specs.Between.{AreEmptyLines, HasHead}
 use Rattle.api_replies.specs.Written.{reply_text}
@@ -11,7 +13,7 @@ use Rattle.bus_server.specs.declared.session.SessionEnd.{SessionEnd}
 use Rattle.bus_server.specs.declared.session.SessionEnd.TheVariants.{Closed, Cut, Refused, Long, ReadFault, WriteFault, NoMemory}
 use Rattle.bus_server.specs.Book.{BookState}
 use Rattle.bus_server.specs.History.{asked_readings, IsSublist, Leads}
-use Rattle.bus_server.specs.Exchange.{Exchange, moment_of, AreExchanges, turns_of, readings_of, messages_of}
+use Rattle.bus_server.specs.Exchange.{Exchange, exchange_text, moment_of, AreExchanges, turns_of, readings_of, messages_of}
 
 -- the number of requests that one session serves (this project's own limit)
 abbrev pub request_limit : ℕ
@@ -25,7 +27,7 @@ closes before e = e.message.close || (before + 1 == request_limit)
 -- the replies of the exchanges as they are written, with `before` exchanges before them
 abbrev pub texts_from : ℕ → List Exchange → List ℕ
 texts_from before [] = []
-texts_from before (e ∷ es) = reply_text e.reply (closes before e) ++ texts_from (before + 1) es
+texts_from before (e ∷ es) = exchange_text e (closes before e) ++ texts_from (before + 1) es
 
 abbrev pub texts_of : List Exchange → List ℕ
 texts_of es = texts_from 0 es
@@ -62,9 +64,17 @@ pub record Course : Type 0 where
 abbrev pub IsBelowLimit : Course → Type 0
 IsBelowLimit c = length c.exchanges < request_limit
 
--- no message begins with the bytes, and a reply says so
+-- the reply to bytes that are refused
+abbrev pub refusal_reply : Refusal → Reply
+refusal_reply refusals.BadHead = bad_head
+refusal_reply refusals.LengthRequired = length_required
+refusal_reply refusals.TooLarge = too_large
+refusal_reply refusals.HeadTooLarge = head_too_large
+
+-- no message begins with the bytes, and the reply says why; it has its body, whatever the method
 abbrev pub IsRefusedAt : Course → Type 0
-IsRefusedAt c = NoneCloses c.exchanges × IsBelowLimit c × IsRefused c.rest × IsLastRead c.rest × (c.closing ≡ Some (reply_text bad_head true))
+IsRefusedAt c = NoneCloses c.exchanges × IsBelowLimit c × IsLastRead c.rest
+    × ((why : Refusal) × IsRefused c.rest why × (c.closing ≡ Some (reply_text (refusal_reply why) true)))
 
 -- a message is whole at the front, and was not without the last read
 abbrev pub IsWholeNow : List ℕ → Type 0
@@ -100,7 +110,7 @@ WritesPart bytes text old new = (part after : List ℕ) × (text ≡ part ++ aft
 -- all texts before the last were written, and a first part of the last
 abbrev pub WritesNotLast : List Exchange → Option (List ℕ) → Option (List ℕ) → Option (List ℕ) → Type 0
 WritesNotLast es None old new = (before : List Exchange) × (last : Exchange) × (es ≡ before ++ last ∷ [])
-    × WritesPart (texts_of before) (reply_text last.reply (closes (length before) last)) old new
+    × WritesPart (texts_of before) (exchange_text last (closes (length before) last)) old new
 WritesNotLast es (Some text) old new = WritesPart (texts_of es) text old new
 
 -- each text is written whole; if a write failed, only a first part of the text that it was to write

@@ -10,7 +10,7 @@ ghost use Rattle.router_calls.specs.Answer.{moment_at};
 ghost use Rattle.router_calls.specs.Decided.{IsBounded};
 ghost use Rattle.bus_server.specs.Book.{ask_of, book_of};
 ghost use Rattle.bus_server.specs.History.{after_written};
-ghost use Rattle.bus_server.specs.Answered.{IsAnswered};
+ghost use Rattle.bus_server.specs.Answered.{IsAnswered, IsRenderable};
 ghost use Rattle.bus_server.specs.Steps.{StepOf};
 
 use crate::history::{Ask, History, Turn, Written};
@@ -18,7 +18,7 @@ use crate::text::reply_bytes;
 use delivery_duties::Outcome;
 use json_text::{Bytes, LAST_MOMENT, NoMemory};
 use router_calls::decide;
-use router_core::{Ready, Request, Tables};
+use router_core::{Ready, Reply, Request, Tables};
 use std::alloc::Global;
 use std::snapshot::Snapshot;
 
@@ -40,6 +40,15 @@ pub enum Step {
     Made(Outcome),
 }
 
+/// The reply of a turn.
+#[derive(Drop)]
+pub enum TurnReply {
+    /// Its bytes. The turn changed the tables, and the bytes were made before it.
+    Rendered(Bytes),
+    /// The reply. The turn changed nothing, and the bytes are made after it.
+    Unrendered(Reply),
+}
+
 impl Book {
     /// The book before any turn.
     pub fn first(alloc: Global) -> Result<Book, NoMemory>
@@ -51,26 +60,35 @@ impl Book {
         })
     }
 
-    /// Answers the request, and returns the bytes of its reply. Their memory is allocated before the tables change, so an `Err`
-    /// changes nothing.
-    pub fn answer(
+    /// Makes the turn of the request, and returns its reply. If the tables change, the memory of the reply's bytes is allocated
+    /// before, so an `Err` changes nothing.
+    pub fn turn(
         &mut self,
         alloc: Global,
         request: Request,
         close: bool,
-    ) -> Result<Bytes, NoMemory>
+    ) -> Result<TurnReply, NoMemory>
         requires reading { IsMoment request.reading }
         requires few { IsBounded (action_of request.action) }
         requires one_turn { action_of request.action ≢ deliver_due }
-        ensures answered { IfOk result (λ bytes. IsAnswered (book_of self.old) (book_of self.new) (request_of request) close bytes) }
+        ensures answered { IfOk result (λ reply. IsAnswered (book_of self.old) (book_of self.new) (request_of request) close reply) }
+        ensures renderable { IfOk result (λ reply. IsRenderable reply) }
         ensures unchanged { OnErr result (book_of self.new ≡ book_of self.old) }
     {
         let ask = Ask::Asked(Snapshot::of(&request));
         let moment = turn_moment(&self.tables, request.reading);
         let (ready, reply) = decide(alloc, &self.tables, request, moment)?;
-        let bytes = reply_bytes(alloc, &reply, close)?;
-        self.enter(ask, ready);
-        Ok(bytes)
+        match ready {
+            Some(ready) => {
+                let bytes = reply_bytes(alloc, &reply, close)?;
+                self.enter(ask, Some(ready));
+                Ok(TurnReply::Rendered(bytes))
+            }
+            None => {
+                self.enter(ask, None);
+                Ok(TurnReply::Unrendered(reply))
+            }
+        }
     }
 
     /// Applies the change that is ready, if there is one, and adds the turn to the history.

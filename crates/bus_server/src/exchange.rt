@@ -14,14 +14,17 @@ ghost use Rattle.bus_server.specs.Running.{ExchangeOf};
 
 use crate::book::Book;
 use crate::delivery::{Delivery, Ending, deliver};
-use crate::text::reply_bytes;
-use api_wire::{CallFault, CountsReply, Message, no_memory_reply, read_call};
+use crate::text::{reply_bytes, turn_bytes};
+use api_wire::{
+    CallFault, CountsReply, Message, Method, no_memory_reply, not_post_head, not_post_reply,
+    read_call,
+};
 use json_text::{Bytes, LAST_MOMENT, NoMemory};
 use router_core::{Action, limit_reply, not_built, unknown_operation};
 use router_disk::{Clock, Failed, Sink};
 use std::alloc::Global;
 
-/// Answers the message, and writes the reply. `close` is true if the session ends after it.
+/// Answers the message, and writes the reply. `close` is true if the session ends after it. A HEAD gets the reply's head alone.
 pub(crate) fn answer_message<K: Sink, C: Clock>(
     alloc: Global,
     book: &mut Book,
@@ -34,13 +37,20 @@ pub(crate) fn answer_message<K: Sink, C: Clock>(
     ensures count { CountsFaults (K.faults output.old) (K.faults output.new) result }
 {
     let reading = clock.now();
+    match message.method {
+        Method::Post => {}
+        Method::Head => return output.write_all(not_post_head(close)),
+        Method::Other => return output.write_all(not_post_reply(close)),
+    }
     match read_call(alloc, message, reading.min(LAST_MOMENT)) {
         Ok(request) => {
             if is_deliver_due(&request.action) {
                 return answer_delivery(alloc, book, close, output, clock);
             }
-            let bytes = book.answer(alloc, request, close);
-            respond(bytes, close, output)
+            match book.turn(alloc, request, close) {
+                Ok(reply) => respond(turn_bytes(alloc, reply, close), close, output),
+                Err(NoMemory) => respond(Err(NoMemory), close, output),
+            }
         }
         Err(fault) => respond(fault_bytes(alloc, fault, close), close, output),
     }

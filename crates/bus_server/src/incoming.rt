@@ -1,13 +1,13 @@
 //! The next message of an input.
-ghost use Rattle.std.specs.Prelude.{◌≡◌, ◌≢◌, ◌<◌, ◌≤◌, false, length};
+ghost use Rattle.std.specs.Prelude.{◌≡◌, ◌≢◌, ◌<◌, ◌≤◌, None, length};
 ghost use Rattle.router_disk.specs.Faults.{Rose};
 ghost use Rattle.std.specs.Prelude.{ℕ, List, Option};
 ghost use Rattle.std.specs.Io.KnownBytes.{IsAtEnd};
 ghost use Rattle.api_messages.specs.Messages.{IsAwaited};
 ghost use Rattle.bus_server.specs.Session.{piece_size};
-ghost use Rattle.bus_server.specs.Incoming.{LackOf, NextOf};
+ghost use Rattle.bus_server.specs.Incoming.{LackOf, NextOf, StaysOpen};
 
-use api_wire::{Message, WireFault, WireIn, awaited_is_short};
+use api_wire::{Message, Refusal, WireFault, WireIn, awaited_is_short};
 use json_text::NoMemory;
 use router_disk::{Failed, Source};
 
@@ -19,7 +19,7 @@ pub(crate) enum Lack {
     /// The input ended inside a message.
     Cut,
     /// No message begins with the bytes.
-    Refused,
+    Refused(Refusal),
     /// The input failed.
     ReadFault,
     /// Out of memory. `head` is true if a whole head is buffered.
@@ -40,9 +40,9 @@ pub(crate) fn next_message<S: Source>(
     requires room { 0 < length piece.old }
     requires one_piece { length piece.old ≤ piece_size }
     requires few { length wire.old.rest ≤ piece_size }
-    requires open { wire.old.refused ≡ false }
+    requires open { wire.old.refused ≡ None }
     ensures next { NextOf (S.left input.old) (S.left input.new) wire.old.rest wire.new.rest result }
-    ensures open { result ≢ Incoming.Lack Lack.Refused → wire.new.refused ≡ false }
+    ensures open { StaysOpen result wire.new.refused }
     ensures read_fault { result ≡ Incoming.Lack Lack.ReadFault → Rose (S.faults input.old) (S.faults input.new) }
     ensures faultless { result ≢ Incoming.Lack Lack.ReadFault → S.faults input.new ≡ S.faults input.old }
 {
@@ -51,7 +51,7 @@ pub(crate) fn next_message<S: Source>(
         match wire.next() {
             Ok(Some(message)) => return Incoming::Message(message),
             Ok(None) => {}
-            Err(WireFault::BadHead) => return Incoming::Lack(Lack::Refused),
+            Err(WireFault::Refused(why)) => return Incoming::Lack(Lack::Refused(why)),
             Err(WireFault::NoMemory) => return Incoming::Lack(Lack::NoMemory { head: true }),
         }
         // Memory is allocated before the bytes are read, so that every byte taken is in the buffer.

@@ -11,6 +11,6 @@ mod session;
 mod text;
 mod words;
 
-pub use book::{Book, Step};
+pub use book::{Book, Step, TurnReply};
 pub use program::{Status, run};
 pub use session::{SessionEnd, run_session};

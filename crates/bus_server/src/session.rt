@@ -8,7 +8,8 @@ ghost use Rattle.bus_server.specs.Incoming.{IsFinish};
 use crate::book::Book;
 use crate::exchange::answer_message;
 use crate::incoming::{Incoming, Lack, next_message};
-use api_wire::{Message, WireIn, bad_head_reply, no_memory_reply};
+use crate::text::refusal_bytes;
+use api_wire::{Message, WireIn, no_memory_reply};
 use router_disk::{Clock, Failed, Sink, Source};
 use std::alloc::Global;
 
@@ -98,7 +99,7 @@ fn finish<K: Sink>(lack: Lack, output: &mut K) -> SessionEnd
             Ok(()) => SessionEnd::NoMemory,
             Err(Failed) => SessionEnd::WriteFault,
         },
-        Lack::Refused => match output.write_all(bad_head_reply()) {
+        Lack::Refused(why) => match output.write_all(refusal_bytes(why)) {
             Ok(()) => SessionEnd::Refused,
             Err(Failed) => SessionEnd::WriteFault,
         },

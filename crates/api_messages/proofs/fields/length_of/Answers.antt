@@ -22,7 +22,9 @@ returns-then-number-gt-BODY_LIMIT c =
     let v = c.args.value.now in
     let i = c.loop-digit.digit-index in
     let digit : digit_value (get_or v i 0) ≡ get_or v i 0 - 48 = grind (arith, nat_tests) in
-    length_of_large v (omega (arith, digits_value_more 10 v i c.loop-digit-test.true, digits_value-take-le 10 v (i + 1) (omega arith)))
+    length_of_large v c.too_large_if_sound.result (grind (arith, nat_tests)) (omega arith)
+    (omega (arith, digits_value_more 10 v i c.loop-digit-test.true, digits_value-take-le 10 v (i + 1) (omega arith)))
+    c.too_large_if_sound.ensures
 
 pub loop-digit-preserved : goal.loop-digit-preserved
 loop-digit-preserved c =

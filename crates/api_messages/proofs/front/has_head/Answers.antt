@@ -5,4 +5,4 @@ pub returns-in-Awaited-clause-none : goal.returns-in-Awaited-clause-none
 returns-in-Awaited-clause-none c = λ _ _. c.in-Awaited.ensures.awaited
 
 pub returns-in-Refused-clause-none : goal.returns-in-Refused-clause-none
-returns-in-Refused-clause-none c = λ _. awaited_refused c.args.bytes.now c.in-Refused.ensures.front
+returns-in-Refused-clause-none c = λ _. awaited_refused c.args.bytes.now _ c.in-Refused.ensures.front

@@ -1,9 +1,9 @@
-use Rattle.std.proofs.Common.{◌≡◌, ℕ, ◌<◌, ◌≤◌, ◌-◌, List, ◌++◌, false, ap, sym, subst, ◌∙◌, arith, rules, length, take, length-append}
+use Rattle.std.proofs.Common.{◌≡◌, ℕ, ◌<◌, ◌≤◌, ◌-◌, List, ◌++◌, None, ap, sym, subst, ◌∙◌, arith, rules, length, take, length-append}
 use Rattle.std.proofs.lemmas.List.{length-take}
 use Rattle.api_messages.specs.declared.message.Message.{Message}
 use Rattle.api_messages.specs.Messages.{HoldsMessage, IsAwaited}
 use Rattle.api_messages.specs.Reading.{Incoming}
-use Rattle.bus_server.proofs.IncomingLemmas.{at_end, starved, whole_lacks, left_over, read_after}
+use Rattle.bus_server.proofs.IncomingLemmas.{at_end, read_failed, read_more, starved, whole_lacks, left_over, read_after}
 use Rattle.bus_server.proofs.incoming.next_message.Goals as goal
 
 pub loop-message-init : goal.loop-message-init
@@ -19,7 +19,7 @@ loop-message-init g c = record {
 pub returns-in-Ok-Some-clause-next : goal.returns-in-Ok-Some-clause-next
 returns-in-Ok-Some-clause-next g c =
     let so_far = c.loop-message.invariant.taken in
-    let held : HoldsMessage c.loop-message.wire.rest c.in-Ok-Some.message c.next.new.self.rest × (c.next.new.self.refused ≡ false) = search rules in (
+    let held : HoldsMessage c.loop-message.wire.rest c.in-Ok-Some.message c.next.new.self.rest × (c.next.new.self.refused ≡ None) = search rules in (
       so_far.0,
       so_far.1,
       subst (λ (bytes : List ℕ). HoldsMessage bytes c.in-Ok-Some.message c.next.new.self.rest) so_far.2 held.0,
@@ -51,6 +51,35 @@ returns-in-Ok-eq0-clause-next g c =
     let same : c.reserve.new.self.rest ≡ c.loop-message.wire.rest = c.reserve.ensures.rest ∙ ap (λ (w : Incoming). w.rest) awaited.1 in
     at_end _ _ _ c.args.wire.now.rest c.reserve.new.self.rest so_far.0 c.read.new.buf c.in-Ok-eq0.field-0 c.lack_at_end.result c.in-Ok-eq0.field-0-test
     so_far.1 (same ∙ so_far.2) more.0 end (c.lack_at_end.ensures.lack _ end)
+
+pub returns-in-Err-read-clause-next : goal.returns-in-Err-read-clause-next
+returns-in-Err-read-clause-next g c =
+    let so_far = c.loop-message.invariant.taken in
+    let awaited : IsAwaited c.loop-message.wire.rest × (c.next.new.self ≡ c.loop-message.wire) = search rules in
+    read_failed _ _ _ c.args.wire.now.rest c.loop-message.wire.rest so_far.0 so_far.1 so_far.2 c.in-Err-read.ensures.bytes awaited.0
+
+pub loop-message-preserved : goal.loop-message-preserved
+loop-message-preserved g c =
+    let so_far = c.loop-message.invariant.taken in
+    let awaited : IsAwaited c.loop-message.wire.rest × (c.next.new.self ≡ c.loop-message.wire) = search rules in
+    let same : c.reserve.new.self.rest ≡ c.loop-message.wire.rest = c.reserve.ensures.rest ∙ ap (λ (w : Incoming). w.rest) awaited.1 in
+    let piece = take c.in-Ok.count c.read.new.buf in
+    let longer : c.feed.new.self.rest ≡ c.reserve.new.self.rest ++ piece = c.in-Ok-feed.ensures.ok in
+    let more = read_more _ _ _ c.args.wire.now.rest c.reserve.new.self.rest so_far.0 piece so_far.1 (same ∙ so_far.2) c.in-Ok.ensures.bytes.0 in
+    record {
+      taken = (more.0, more.1, longer ∙ more.2);
+      unrefused = c.feed.ensures.refused ∙ c.reserve.ensures.refused ∙ ap (λ (w : Incoming). w.refused) awaited.1 ∙ c.loop-message.invariant.unrefused;
+      faultless = search rules;
+      room = search rules;
+      one_piece = search rules;
+      read = (
+        c.reserve.new.self.rest,
+        piece,
+        longer,
+        subst IsAwaited (sym same) awaited.0,
+        omega (arith, length-take c.in-Ok.count c.read.new.buf, c.read.auto.buf, c.loop-message.invariant.one_piece),
+      );
+    }
 
 pub loop-message-smaller : goal.loop-message-smaller
 loop-message-smaller g c =

@@ -1,4 +1,4 @@
-use Rattle.std.proofs.Common.{◌≡◌, ℕ, ◌-◌, ◌<◌, ◌≤◌, false, List, ◌++◌, length}
+use Rattle.std.proofs.Common.{◌≡◌, ℕ, ◌-◌, ◌<◌, ◌≤◌, None, List, ◌++◌, length}
 use Rattle.std.specs.Io.KnownBytes.{Consumes}
 use Rattle.bus_server.specs.Session.{piece_size, IsLastRead}
 use Rattle.bus_server.proofs.incoming.next_message.Given as goal
@@ -7,7 +7,7 @@ use Rattle.bus_server.proofs.incoming.next_message.Given as goal
 abbrev pub invariant-loop-message : goal.invariant-loop-message
 invariant-loop-message g l = record {
   taken : (taken : List ℕ) × Consumes (g.S.Source.left l.initial.input) (g.S.Source.left l.input) taken × (l.wire.rest ≡ l.initial.wire.rest ++ taken);
-  unrefused : l.wire.refused ≡ false;
+  unrefused : l.wire.refused ≡ None;
   faultless : g.S.Source.faults l.input ≡ g.S.Source.faults l.initial.input;
   room : 0 < length l.piece;
   one_piece : length l.piece ≤ piece_size;

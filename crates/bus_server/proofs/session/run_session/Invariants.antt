@@ -1,4 +1,4 @@
-use Rattle.std.proofs.Common.{◌≡◌, ◌-◌, ◌<◌, false}
+use Rattle.std.proofs.Common.{◌≡◌, ◌-◌, ◌<◌, None}
 use Rattle.bus_server.specs.Book.{book_of}
 use Rattle.bus_server.specs.Session.{request_limit}
 use Rattle.bus_server.specs.Running.{IsRunning}
@@ -11,7 +11,7 @@ invariant-loop-message g l = record {
       (g.K.Sink.written l.initial.output) (g.K.Sink.written l.output)
       (g.C.Clock.ahead l.initial.clock) (g.C.Clock.ahead l.clock)
       l.wire.rest l.served;
-  unrefused : l.wire.refused ≡ false;
+  unrefused : l.wire.refused ≡ None;
   below : l.served < request_limit;
   input_faultless : g.S.Source.faults l.input ≡ g.S.Source.faults l.initial.input;
   output_faultless : g.K.Sink.faults l.output ≡ g.K.Sink.faults l.initial.output;

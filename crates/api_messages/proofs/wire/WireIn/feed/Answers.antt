@@ -12,5 +12,6 @@ invariant_of-self-2 c =
     let start = c.self.inside.start in
     rw c.in_ok-extend_from_slice.ensures.items (
       omega (arith, c.self.invariant.0, length-append items c.args.piece.now),
-      λ refused. rw (drop-append-le start items c.args.piece.now c.self.invariant.0) (refused_stays _ _ (c.self.invariant.1 refused)),
+      λ why refused.
+          rw (drop-append-le start items c.args.piece.now c.self.invariant.0) (refused_stays _ _ why (c.self.invariant.1 why refused)),
     )

@@ -5,10 +5,10 @@ use Rattle.api_messages.specs.Reading.{Incoming, IsMessageAt, message_at}
 use Rattle.api_messages.proofs.FrontLemmas.{holds_at}
 use Rattle.api_messages.proofs.wire.WireIn.next.Goals as goal
 
-pub returns-then-self-clause-answers : goal.returns-then-self-clause-answers
-returns-then-self-clause-answers c =
-    let same = ap (λ (v : Incoming). v.refused) (sym c.self.view_is) ∙ c.if-self.true in (
-      subst (λ (v : Incoming). IsRefused v.rest) c.self.view_is (c.self.invariant.1 c.if-self.true),
+pub returns-in-Some-clause-answers : goal.returns-in-Some-clause-answers
+returns-in-Some-clause-answers c =
+    let same = ap (λ (v : Incoming). v.refused) (sym c.self.view_is) ∙ c.in-Some.is in (
+      subst (λ (v : Incoming). IsRefused v.rest c.in-Some.why) c.self.view_is (c.self.invariant.1 c.in-Some.why c.in-Some.is),
       λ i. record { rest = c.args.self.now.rest; refused = same i; room = c.args.self.now.room },
     )
 
