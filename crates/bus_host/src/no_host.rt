@@ -98,7 +98,11 @@ impl Disk for NoDisk {
 }
 
 impl Link for NoLink {
+    ghost use Rattle.std.specs.Prelude.{Some, []};
     ghost use Rattle.router_disk.specs.Faults.{link_outcome};
+    ghost use Rattle.router_disk.specs.Link.{Answered, exchanges_of};
+
+    ghost answered = { λ l. Some [] };
 
     ghost faults = { λ l. l.faults };
 
@@ -107,6 +111,7 @@ impl Link for NoLink {
     }
 
     fn send(&mut self, _to: &str, _body: &str) -> Result<u16, LinkFault>
+        ensures answers { Answered (Some []) (Some []) (exchanges_of result _to.now _body.now) }
         ensures count { CountsFaults self.old.faults self.new.faults (link_outcome result) }
         ensures fails { result ≡ Err LinkFault.Failed }
     {

@@ -2,3 +2,4 @@ pub mod Faults
 pub mod Sink
 pub mod Clock
 pub mod Memory
+pub mod Link

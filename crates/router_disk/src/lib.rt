@@ -15,7 +15,7 @@ pub use clock::Clock;
 pub use disk::Disk;
 pub use fault::Failed;
 pub use link::{Link, LinkFault};
-pub use memory::{Failing, MemClock, MemSink, MemSource};
+pub use memory::{Answer, Failing, MemClock, MemLink, MemSink, MemSource};
 pub use sink::Sink;
 pub use source::Source;
 

@@ -1,5 +1,6 @@
 // An outbound link as a trait.
-ghost use Rattle.std.specs.Prelude.{◌≡◌, ℕ};
+ghost use Rattle.std.specs.Prelude.{◌≡◌, ℕ, List, Option};
+ghost use Rattle.router_disk.specs.Link.{Answered, Exchange, exchanges_of};
 
 use thiserror::Error;
 
@@ -14,9 +15,13 @@ pub enum LinkFault {
     NoMemory,
 }
 
-/// What sends texts to endpoints. What an endpoint received and replied is not specified yet.
+/// What sends texts to endpoints.
 pub trait Link: Send {
     ghost use Rattle.router_disk.specs.Faults.{CountsFaults, link_outcome};
+
+    /// The exchanges so far that had an answer: endpoint, text and status code. `None` if they are not known. An
+    /// exchange that failed may have reached its endpoint; it has no answer.
+    ghost answered: { Self → Option (List Exchange) };
 
     /// The number of sends that have failed.
     ghost faults: { Self → ℕ };
@@ -27,5 +32,6 @@ pub trait Link: Send {
 
     /// Sends `body` to the endpoint `to`, and returns the status code of the reply.
     fn send(&mut self, to: &str, body: &str) -> Result<u16, LinkFault>
+        ensures answers { Answered (answered self.old) (answered self.new) (exchanges_of result to.now body.now) }
         ensures count { CountsFaults (faults self.old) (faults self.new) (link_outcome result) };
 }

@@ -1,6 +1,6 @@
 use crate::{
-    Clock, Failed, Failing, MemClock, MemSink, MemSource, ReaderSource, Sink, Source, SystemClock,
-    WriterSink,
+    Clock, Failed, Failing, Link, LinkFault, MemClock, MemLink, MemSink, MemSource, ReaderSource,
+    Sink, Source, SystemClock, WriterSink,
 };
 use std::alloc::{AllocError, Global};
 use std::io;
@@ -65,6 +65,48 @@ fn a_clock_in_memory_repeats_its_last_reading(rt: HostRuntime) -> Result<(), Fai
     for _ in 0..3 {
         assert_eq!(rt; still.now(), 1_700_000_000);
     }
+    Ok(())
+}
+
+// Whether the exchange at this place has this text and this code.
+fn has_answered(link: &MemLink, place: usize, text: &str, code: u16) -> bool {
+    match link.answers.get(place) {
+        Some(answer) => {
+            answer.endpoint.as_str() == "http://localhost/"
+                && answer.text.as_str() == text
+                && answer.code == code
+        }
+        None => false,
+    }
+}
+
+#[test]
+fn a_link_in_memory_keeps_to_its_plan(rt: HostRuntime) -> Result<(), Fail> {
+    let later = [Err(LinkFault::Failed), Err(LinkFault::NoMemory), Ok(200)].to_vec(rt.alloc())?;
+    let mut link = MemLink::new(rt.alloc(), Ok(503), later);
+    let sends = [
+        ("a", Ok(503)),
+        ("b", Err(LinkFault::Failed)),
+        ("c", Err(LinkFault::NoMemory)),
+        ("d", Ok(200)),
+        ("e", Ok(200)),
+    ];
+    for (text, want) in sends {
+        assert_eq!(rt; link.send("http://localhost/", text), want, "at {text}");
+    }
+    assert_eq!(rt; link.faults(), 1);
+    assert_eq!(rt; link.answers.len(), 3);
+    for (place, text, code) in [(0, "a", 503), (1, "d", 200), (2, "e", 200)] {
+        assert!(rt; has_answered(&link, place, text, code), "at {text}");
+    }
+    let mut silent = MemLink::always(rt.alloc(), Err(LinkFault::Failed));
+    for _ in 0..3 {
+        assert_eq!(rt;
+            silent.send("http://localhost/", "{}"),
+            Err(LinkFault::Failed)
+        );
+    }
+    assert_eq!(rt; silent.faults(), 3);
     Ok(())
 }
 
