@@ -1,14 +1,17 @@
-//! The host as traits: a door for connections, a host that opens disks, doors and links, and a gate.
+//! The host as traits: a door for connections, a host that opens disks, doors and links, and a gate. A link over TCP.
 #![tactic(auto)]
 
 mod door;
 mod gate;
+mod heads;
 mod host;
+mod http_link;
 mod no_host;
 
 pub use door::{Door, Knock};
 pub use gate::{Gate, NoGate, Point};
 pub use host::{Host, HostFault};
+pub use http_link::HttpLink;
 pub use no_host::{NoDisk, NoDoor, NoHost, NoLink};
 
 #[cfg(test)]

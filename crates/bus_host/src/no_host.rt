@@ -207,7 +207,7 @@ impl Host for NoHost {
 }
 
 // Counts a fault.
-fn raise(faults: &mut u64)
+pub(crate) fn raise(faults: &mut u64)
     ensures later { faults.old ≤ faults.new }
     ensures rose { Rose faults.old faults.new }
 {
