@@ -1,0 +1,4 @@
+pub mod NameOrder
+pub mod RowLemmas
+pub mod SearchLemmas
+pub mod BlockLemmas

@@ -1,0 +1,120 @@
+use crate::Rows;
+use json_text::Text;
+use std::alloc::Global;
+use std::test::Fail;
+
+/// A name of four digits, so that names are in the order of their numbers.
+fn name(alloc: Global, number: u32) -> Result<Text, Fail> {
+    let text = format!(in alloc; "{number}")?;
+    Ok(Text::from_str(alloc, text.as_str())?)
+}
+
+/// The names 1000 to 1999, put in a bad order.
+fn thousand(alloc: Global) -> Result<Rows<Text>, Fail> {
+    let mut rows = Rows::new(alloc)?;
+    for at in 0..1000u32 {
+        rows = rows.with(alloc, name(alloc, 1000 + at * 367 % 1000)?)?;
+    }
+    Ok(rows)
+}
+
+/// The rows without the names of this remainder modulo 40.
+fn thinned(alloc: Global, rows: &Rows<Text>, remainder: u32) -> Result<Rows<Text>, Fail> {
+    let mut left = rows.share()?;
+    for number in 1000..2000u32 {
+        if number % 40 == remainder {
+            left = left.without(alloc, name(alloc, number)?.as_str())?;
+        }
+    }
+    Ok(left)
+}
+
+/// The names, one after the other.
+fn shown(alloc: Global, rows: &Rows<Text>) -> Result<String, Fail> {
+    let mut out = String::new(alloc);
+    for row in rows.iter() {
+        out.push_str(row.as_str())?;
+        out.push_str(" ")?;
+    }
+    Ok(out)
+}
+
+/// The names from 1000 to 1999 whose remainder modulo 40 is at least this one.
+fn expected(alloc: Global, remainder: u32) -> Result<String, Fail> {
+    let mut out = String::new(alloc);
+    for number in 1000..2000u32 {
+        if number % 40 >= remainder {
+            out.push_str(name(alloc, number)?.as_str())?;
+            out.push_str(" ")?;
+        }
+    }
+    Ok(out)
+}
+
+fn has(rows: &Rows<Text>, name: &str) -> bool {
+    match rows.find(name) {
+        Some(row) => row.as_str() == name,
+        None => false,
+    }
+}
+
+fn count_from(rows: &Rows<Text>, name: &str) -> usize {
+    let mut count: usize = 0;
+    for _row in rows.from(name) {
+        count = count.saturating_add(1);
+    }
+    count
+}
+
+#[test]
+fn a_thousand_rows_in_a_bad_order(rt: HostRuntime) -> Result<(), Fail> {
+    let alloc = rt.alloc();
+    let rows = thousand(alloc)?;
+    assert!(rt; shown(alloc, &rows)?.as_str() == expected(alloc, 0)?.as_str());
+    assert!(rt; rows.reach(1000) && !rows.reach(1001));
+    assert!(rt; has(&rows, "1000") && has(&rows, "1999") && has(&rows, "1517"));
+    assert!(rt; !has(&rows, "0999") && !has(&rows, "2000") && !has(&rows, "1517a"));
+    Ok(())
+}
+
+#[test]
+fn removed_rows_are_gone_and_the_others_stay(rt: HostRuntime) -> Result<(), Fail> {
+    let alloc = rt.alloc();
+    let rows = thousand(alloc)?;
+    let mut left = rows.share()?;
+    for remainder in 0..39u32 {
+        left = thinned(alloc, &left, remainder)?;
+    }
+    assert!(rt; shown(alloc, &left)?.as_str() == expected(alloc, 39)?.as_str());
+    assert!(rt; left.reach(25) && !left.reach(26));
+    assert!(rt; shown(alloc, &rows)?.as_str() == expected(alloc, 0)?.as_str());
+    let none = thinned(alloc, &left, 39)?;
+    assert!(rt; !none.reach(1) && none.iter().next().is_none());
+    Ok(())
+}
+
+#[test]
+fn rows_from_a_name_on(rt: HostRuntime) -> Result<(), Fail> {
+    let alloc = rt.alloc();
+    let rows = thousand(alloc)?;
+    assert_eq!(rt; count_from(&rows, "1000"), 1000);
+    assert_eq!(rt; count_from(&rows, ""), 1000);
+    assert_eq!(rt; count_from(&rows, "1998"), 2);
+    assert_eq!(rt; count_from(&rows, "19975"), 2);
+    assert_eq!(rt; count_from(&rows, "1999"), 1);
+    assert_eq!(rt; count_from(&rows, "2"), 0);
+    Ok(())
+}
+
+#[test]
+fn a_row_of_the_same_name_is_replaced(rt: HostRuntime) -> Result<(), Fail> {
+    let alloc = rt.alloc();
+    let rows = Rows::new(alloc)?
+        .with(alloc, name(alloc, 1002)?)?
+        .with(alloc, name(alloc, 1001)?)?
+        .with(alloc, name(alloc, 1002)?)?;
+    assert!(rt; shown(alloc, &rows)?.as_str() == "1001 1002 ");
+    let less = rows.without(alloc, "1003")?.without(alloc, "1001")?;
+    assert!(rt; shown(alloc, &less)?.as_str() == "1002 ");
+    Ok(())
+}
