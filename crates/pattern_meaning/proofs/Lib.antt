@@ -1,4 +1,12 @@
 pub mod LeafLemmas
-pub mod PathLemmas
+pub mod AnyLemmas
 pub mod ViewLemmas
-pub mod MeetsLemmas
+pub mod AbsentLemmas
+pub mod PathLemmas
+pub mod WalkLemmas
+pub mod SizeLemmas
+pub mod PatternLemmas
+pub mod FrameLemmas
+pub mod MeaningLemmas
+pub mod UnseenLemmas
+pub mod AlternativesLemmas

@@ -1,75 +1,121 @@
--- Whether a field holds at a path depends only on the leaves below it: `field_moved`. Without leaves it does not hold: `field_nothing`.
-use Rattle.std.proofs.Common.{◌≡◌, ◌≢◌, ℕ, false, List, [], ◌∷◌, ◌++◌, None, inl, inr, sym, ap, ◌∙◌, subst}
+-- A pattern on a view of the whole, at a path, and on the value that the view has there: `holds_at`. And what a pattern says of a view
+-- depends only on the leaves below it: `pattern_moved`.
+use Rattle.std.proofs.Common.{◌≡◌, ◌↔◌, ℕ, Bool, true, List, [], ◌∷◌, ◌++◌, Option, Some, None, inl, inr, refl, sym, ap, ◌∙◌, subst, unwrap_or}
+use Rattle.std.specs.List.{Any}
 use Rattle.std.specs.Str.{bytes_eq}
-use Rattle.std.proofs.lemmas.Bool.{cases_Bool}
+use Rattle.std.proofs.lemmas.Bool.{cases_Bool, cond-true, cond-false}
 use Rattle.std.proofs.lemmas.List.{append_assoc, append-nil}
-use Rattle.std.proofs.lemmas.Slice.Eq.{bytes_eq-Decides}
-use Rattle.json_text.specs.Tree.{Tree, object, Members}
-use Rattle.pattern_meaning.specs.Pattern.{Pattern, pattern, Fields, no_fields, field, Field, tests, below, LacksField, IsPattern, IsField}
+use Rattle.json_text.specs.Tree.{Tree, null, truth, number, text, list, object, Members, no_members, member}
+use Rattle.json_text.specs.Access.{member_in}
+use Rattle.pattern_meaning.specs.Pattern.{Test, Pattern, pattern, Fields, no_fields, field, Field, tests, below, Branches, no_branches, branch}
 use Rattle.pattern_meaning.specs.View.{leaf_at, leaf_in}
-use Rattle.pattern_meaning.specs.Holds.{HoldsOnView, FieldsHold, FieldHolds}
-use Rattle.pattern_meaning.proofs.LeafLemmas.{SomeHolds, no_leaf}
+use Rattle.pattern_meaning.specs.Holds.{IsAbsent, TestHolds, HoldsOnView, FieldsHold, FieldHolds, BranchesHold, SomeHolds}
+use Rattle.pattern_meaning.specs.Meets.{nothing, value_at, SomeMetOf, TestMet, PatternMet, FieldsMet, FieldMet, BranchesMet, SomeMet}
+use Rattle.pattern_meaning.proofs.AnyLemmas.{any_of, of_any}
 
-pub differ : (a b : List ℕ) → a ≢ b → bytes_eq a b ≡ false
-differ a b apart = elim (cases_Bool (bytes_eq a b)) [
-  | inl e ↦ absurd (apart ((bytes_eq-Decides a b).0 e))
-  | inr e ↦ e
+-- the value of a view at a path
+abbrev pub at_path : List (List ℕ) → Tree → Tree
+at_path [] v = v
+at_path (key ∷ path) v = at_path path (value_at key v)
+
+at_last : (path : List (List ℕ)) (key : List ℕ) (v : Tree) → at_path (path ++ key ∷ []) v ≡ value_at key (at_path path v)
+at_last [] key v = refl
+at_last (k ∷ path) key v = at_last path key (value_at k v)
+
+no_leaf : (path : List (List ℕ)) → leaf_at path nothing ≡ None
+no_leaf [] = refl
+no_leaf (k ∷ path) = refl
+
+leaf_in_first : (key : List ℕ) (path : List (List ℕ)) (ms : Members) → leaf_in key path ms ≡ leaf_at path (unwrap_or (member_in key ms) nothing)
+leaf_in_first key path no_members = sym (no_leaf path)
+leaf_in_first key path (member k t ms) = elim (cases_Bool (bytes_eq k key)) [
+  | inl same ↦ cond-true (bytes_eq k key) (leaf_at path t) (leaf_in key path ms) same
+      ∙ sym (ap (λ o. leaf_at path (unwrap_or o nothing)) (cond-true (bytes_eq k key) (Some t) (member_in key ms) same))
+  | inr other ↦ cond-false (bytes_eq k key) (leaf_at path t) (leaf_in key path ms) other ∙ leaf_in_first key path ms
+      ∙ sym (ap (λ o. leaf_at path (unwrap_or o nothing)) (cond-false (bytes_eq k key) (Some t) (member_in key ms) other))
 ]
 
--- the leaves below one path are those below the other
-abbrev SameLeaves : List (List ℕ) → Tree → List (List ℕ) → Tree → Type 0
-SameLeaves path v other w = (behind : List (List ℕ)) → leaf_at (path ++ behind) v ≡ leaf_at (other ++ behind) w
+leaf_below : (key : List ℕ) (path : List (List ℕ)) (v : Tree) → leaf_at (key ∷ path) v ≡ leaf_at path (value_at key v)
+leaf_below key path null = sym (no_leaf path)
+leaf_below key path (truth b) = sym (no_leaf path)
+leaf_below key path (number n) = sym (no_leaf path)
+leaf_below key path (text t) = sym (no_leaf path)
+leaf_below key path (list items) = sym (no_leaf path)
+leaf_below key path (object ms) = leaf_in_first key path ms
 
-below_key : (path : List (List ℕ)) (v : Tree) (other : List (List ℕ)) (w : Tree) (key : List ℕ) → SameLeaves path v other w
-    → SameLeaves (path ++ key ∷ []) v (other ++ key ∷ []) w
-below_key path v other w key h behind =
-    ap (λ p. leaf_at p v) (append_assoc path (key ∷ []) behind) ∙ h (key ∷ behind) ∙ sym (ap (λ p. leaf_at p w) (append_assoc other (key ∷ []) behind))
+leaf_there : (path : List (List ℕ)) (v : Tree) → leaf_at path v ≡ leaf_at [] (at_path path v)
+leaf_there [] v = refl
+leaf_there (key ∷ path) v = leaf_below key path v ∙ leaf_there path (value_at key v)
 
-same_leaf : (path : List (List ℕ)) (v : Tree) (other : List (List ℕ)) (w : Tree) → SameLeaves path v other w → leaf_at path v ≡ leaf_at other w
-same_leaf path v other w h = sym (ap (λ p. leaf_at p v) (append-nil path)) ∙ h [] ∙ ap (λ p. leaf_at p w) (append-nil other)
+-- `absent` decides what `exists: false` asks
+abbrev Decided : (List (List ℕ) → Bool) → Tree → Type 0
+Decided absent event = (path : List (List ℕ)) → (absent path ≡ true) ↔ IsAbsent event path
 
-mutual
-  pattern_moved : (p : Pattern) (path : List (List ℕ)) (v : Tree) (other : List (List ℕ)) (w : Tree)
-      → SameLeaves path v other w → HoldsOnView p path v → HoldsOnView p other w
-  pattern_moved (pattern fs) path v other w same h = fields_moved fs path v other w same h
-
-  fields_moved : (fs : Fields) (path : List (List ℕ)) (v : Tree) (other : List (List ℕ)) (w : Tree)
-      → SameLeaves path v other w → FieldsHold fs path v → FieldsHold fs other w
-  fields_moved no_fields path v other w same h = tt
-  fields_moved (field key f fs) path v other w same h = (
-    field_moved f (path ++ key ∷ []) v (other ++ key ∷ []) w (below_key path v other w key same) h.0,
-    fields_moved fs path v other w same h.1,
-  )
-
-  pub field_moved : (f : Field) (path : List (List ℕ)) (v : Tree) (other : List (List ℕ)) (w : Tree)
-      → SameLeaves path v other w → FieldHolds f path v → FieldHolds f other w
-  field_moved (tests ts) path v other w same h = subst (SomeHolds ts) (same_leaf path v other w same) h
-  field_moved (below p) path v other w same h = pattern_moved p path v other w same h
-
--- there is no leaf at or below the path
-abbrev NoLeaves : List (List ℕ) → Tree → Type 0
-NoLeaves path v = (behind : List (List ℕ)) → leaf_at (path ++ behind) v ≡ None
-
-mutual
-  pub nothing : (p : Pattern) (path : List (List ℕ)) (v : Tree) → IsPattern p
-      → ((key : List ℕ) (behind : List (List ℕ)) → leaf_at (path ++ key ∷ behind) v ≡ None)
-      → HoldsOnView p path v → ⊥
-  nothing (pattern no_fields) path v w none h = absurd w.0
-  nothing (pattern (field key f fs)) path v w none h =
-      field_nothing f (path ++ key ∷ []) v w.1.1 (λ behind. ap (λ p. leaf_at p v) (append_assoc path (key ∷ []) behind) ∙ none key behind) h.0
-
-  pub field_nothing : (f : Field) (path : List (List ℕ)) (v : Tree) → IsField f → NoLeaves path v → FieldHolds f path v → ⊥
-  field_nothing (tests ts) path v w none h = no_leaf ts (subst (SomeHolds ts) (sym (ap (λ p. leaf_at p v) (append-nil path)) ∙ none []) h)
-  field_nothing (below p) path v w none h = nothing p path v w (λ key behind. none (key ∷ behind)) h
-
--- the leaves below all keys but one
-abbrev pub KeepsOthers : List ℕ → Members → Members → Type 0
-KeepsOthers key seen after = (k : List ℕ) → k ≢ key → (behind : List (List ℕ)) → leaf_in k behind seen ≡ leaf_in k behind after
-
-pub others_hold : (fs : Fields) (key : List ℕ) (seen after : Members) → LacksField key fs → KeepsOthers key seen after
-    → FieldsHold fs [] (object seen) → FieldsHold fs [] (object after)
-others_hold no_fields key seen after lacks kept h = tt
-others_hold (field k f fs) key seen after lacks kept h = (
-  field_moved f (k ∷ []) (object seen) (k ∷ []) (object after) (kept k (λ e. lacks.0 (sym e))) h.0,
-  others_hold fs key seen after lacks.1 kept h.1,
+test_at : (a : List (List ℕ) → Bool) (event : Tree) (path : List (List ℕ)) (v : Tree) (t : Test) → Decided a event
+    → TestMet a path (at_path path v) t ↔ TestHolds event path v t
+test_at a event path v t d = (
+  λ h. elim h [
+    | inl r ↦ inl (r.0, leaf_there path v ∙ r.1, r.2)
+    | inr r ↦ inr (r.0, (d path).0 r.1)
+  ],
+  λ h. elim h [
+    | inl r ↦ inl (r.0, sym (leaf_there path v) ∙ r.1, r.2)
+    | inr r ↦ inr (r.0, (d path).1 r.1)
+  ],
 )
+
+tests_at : (a : List (List ℕ) → Bool) (event : Tree) (path : List (List ℕ)) (v : Tree) (ts : List Test) → Decided a event
+    → SomeMetOf (TestMet a path (at_path path v)) ts ↔ SomeMetOf (TestHolds event path v) ts
+tests_at a event path v [] d = (λ h. h, λ h. h)
+tests_at a event path v (t ∷ ts) d =
+    let rest = tests_at a event path v ts d in
+    let one = test_at a event path v t d in (
+      λ h. elim h [ inl here ↦ inl (one.0 here) | inr more ↦ inr (rest.0 more) ],
+      λ h. elim h [ inl here ↦ inl (one.1 here) | inr more ↦ inr (rest.1 more) ],
+    )
+
+mutual
+  pub pattern_at : (a : List (List ℕ) → Bool) (event : Tree) (path : List (List ℕ)) (v : Tree) (p : Pattern) → Decided a event
+      → PatternMet a path p (at_path path v) ↔ HoldsOnView p event path v
+  pattern_at a event path v (pattern fs bs) d =
+      let f = fields_at a event path v fs d in
+      let b = branches_at a event path v bs d in
+      (λ h. (f.0 h.0, b.0 h.1), λ h. (f.1 h.0, b.1 h.1))
+
+  fields_at : (a : List (List ℕ) → Bool) (event : Tree) (path : List (List ℕ)) (v : Tree) (fs : Fields) → Decided a event
+      → FieldsMet a path fs (at_path path v) ↔ FieldsHold fs event path v
+  fields_at a event path v no_fields d = (λ h. tt, λ h. tt)
+  fields_at a event path v (field key f fs) d =
+      let one = field_at a event (path ++ key ∷ []) v f d in
+      let rest = fields_at a event path v fs d in
+      let e = at_last path key v in (
+        λ h. (one.0 (subst (FieldMet a (path ++ key ∷ []) f) (sym e) h.0), rest.0 h.1),
+        λ h. (subst (FieldMet a (path ++ key ∷ []) f) e (one.1 h.0), rest.1 h.1),
+      )
+
+  field_at : (a : List (List ℕ) → Bool) (event : Tree) (path : List (List ℕ)) (v : Tree) (f : Field) → Decided a event
+      → FieldMet a path f (at_path path v) ↔ FieldHolds f event path v
+  field_at a event path v (tests ts) d =
+      let s = tests_at a event path v ts d in
+      (λ h. of_any (TestHolds event path v) ts (s.0 h), λ h. s.1 (any_of (TestHolds event path v) ts h))
+  field_at a event path v (below p) d = pattern_at a event path v p d
+
+  branches_at : (a : List (List ℕ) → Bool) (event : Tree) (path : List (List ℕ)) (v : Tree) (bs : Branches) → Decided a event
+      → BranchesMet a path bs (at_path path v) ↔ BranchesHold bs event path v
+  branches_at a event path v no_branches d = (λ h. tt, λ h. tt)
+  branches_at a event path v (branch p bs) d =
+      let one = pattern_at a event path v p d in
+      let rest = some_at a event path v bs d in (
+        λ h. elim h [ inl here ↦ inl (one.0 here) | inr more ↦ inr (rest.0 more) ],
+        λ h. elim h [ inl here ↦ inl (one.1 here) | inr more ↦ inr (rest.1 more) ],
+      )
+
+  some_at : (a : List (List ℕ) → Bool) (event : Tree) (path : List (List ℕ)) (v : Tree) (bs : Branches) → Decided a event
+      → SomeMet a path bs (at_path path v) ↔ SomeHolds bs event path v
+  some_at a event path v no_branches d = (λ h. h, λ h. h)
+  some_at a event path v (branch p bs) d =
+      let one = pattern_at a event path v p d in
+      let rest = some_at a event path v bs d in (
+        λ h. elim h [ inl here ↦ inl (one.0 here) | inr more ↦ inr (rest.0 more) ],
+        λ h. elim h [ inl here ↦ inl (one.1 here) | inr more ↦ inr (rest.1 more) ],
+      )

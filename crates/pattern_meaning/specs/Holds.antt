@@ -1,26 +1,88 @@
 -- A pattern holds of a JSON value.
-use Rattle.std.specs.Prelude.{◌≡◌, ℕ, List, [], ◌∷◌, ◌++◌, Option, Some, Any}
-use Rattle.json_text.specs.Tree.{Tree}
-use Rattle.pattern_meaning.specs.Pattern.{Test, same, Pattern, pattern, Fields, no_fields, field, Field, tests, below}
+use Rattle.std.specs.Prelude.{◌≡◌, ℕ, ℤ, ◌<ℤ◌, ◌≤ℤ◌, List, [], ◌∷◌, ◌++◌, ◌⊎◌, Option, Some, None, Any, All}
+use Rattle.json_text.specs.Tree.{Tree, null, truth, number, text, list, object}
+use Rattle.leaf_match.specs.AsciiCase.{StartsCi, EndsCi, EqualCi}
+use Rattle.leaf_match.specs.Piece.{Fits}
+use Rattle.leaf_match.specs.Cidr as address
+use Rattle.numeric_keys.specs.Number.{IsMillionths}
+use Rattle.pattern_meaning.specs.declared.comparison.Comparison.{Comparison}
+use Rattle.pattern_meaning.specs.declared.comparison.Operator.{Operator}
+use Rattle.pattern_meaning.specs.declared.comparison.Operator.TheVariants.{Equal, Less, AtMost, Greater, AtLeast}
+use Rattle.pattern_meaning.specs.Pattern.{Test, same, prefix, prefix_ignoring_case, suffix, suffix_ignoring_case, equals_ignoring_case}
+use Rattle.pattern_meaning.specs.Pattern.{wildcard, anything_but, numeric, cidr, exists, missing, Tests, no_tests, test}
+use Rattle.pattern_meaning.specs.Pattern.{Pattern, pattern, Fields, no_fields, field, Field, tests, below, Branches, no_branches, branch}
 use Rattle.pattern_meaning.specs.View.{IsView, leaf_at}
 
--- a test holds of the leaf at its path, if there is one
-abbrev pub TestHolds : Test → Option Tree → Type 0
-TestHolds (same scalar) leaf = leaf ≡ Some scalar
+-- two scalars are the same; numbers are compared by their spelling (this project's own rule)
+abbrev pub IsSame : Tree → Tree → Type 0
+IsSame a b = a ≡ b
 
--- On one view, below the path: each field has a test that holds of the leaf at the field's path, or a pattern that holds there.
+-- the leaf is a string for which the fact holds
+abbrev pub OnText : (List ℕ → Type 0) → Tree → Type 0
+OnText holds leaf = (t : List ℕ) × (leaf ≡ text t) × holds t
+
+-- a comparison holds of a number, both in millionths
+abbrev pub Compares : Operator → ℤ → ℤ → Type 0
+Compares Equal n m = n ≡ m
+Compares Less n m = n <ℤ m
+Compares AtMost n m = n ≤ℤ m
+Compares Greater n m = m <ℤ n
+Compares AtLeast n m = m ≤ℤ n
+
+-- A leaf meets a test: a line for each kind. `exists: false` is met by no leaf.
 abbrev mutual
-  pub HoldsOnView : Pattern → List (List ℕ) → Tree → Type 0
-  HoldsOnView (pattern fs) path view = FieldsHold fs path view
+  pub IsMet : Test → Tree → Type 0
+  IsMet (same scalar) leaf = IsSame scalar leaf
+  IsMet (prefix front) leaf = OnText (λ t. (rest : List ℕ) × (t ≡ front ++ rest)) leaf
+  IsMet (prefix_ignoring_case front) leaf = OnText (λ t. StartsCi t front) leaf
+  IsMet (suffix end) leaf = OnText (λ t. (rest : List ℕ) × (t ≡ rest ++ end)) leaf
+  IsMet (suffix_ignoring_case end) leaf = OnText (λ t. EndsCi t end) leaf
+  IsMet (equals_ignoring_case other) leaf = OnText (λ t. EqualCi t other) leaf
+  IsMet (wildcard pieces) leaf = OnText (Fits pieces) leaf
+  IsMet (anything_but ts) leaf = ¬ (IsMetBySome ts leaf)
+  IsMet (numeric cs) leaf =
+      (t : List ℕ) × (m : ℤ) × (leaf ≡ number t) × IsMillionths t m × All (λ c. Compares c.operator m c.bound) cs
+  IsMet (cidr network) leaf = OnText (address.Holds network) leaf
+  IsMet exists leaf = Unit {0}
+  IsMet missing leaf = ⊥
 
-  pub FieldsHold : Fields → List (List ℕ) → Tree → Type 0
-  FieldsHold no_fields path view = Unit {0}
-  FieldsHold (field key f fs) path view = FieldHolds f (path ++ key ∷ []) view × FieldsHold fs path view
+  -- the leaf meets one of the tests
+  pub IsMetBySome : Tests → Tree → Type 0
+  IsMetBySome no_tests leaf = ⊥
+  IsMetBySome (test t ts) leaf = IsMet t leaf ⊎ IsMetBySome ts leaf
 
-  pub FieldHolds : Field → List (List ℕ) → Tree → Type 0
-  FieldHolds (tests ts) path view = Any (λ test. TestHolds test (leaf_at path view)) ts
-  FieldHolds (below p) path view = HoldsOnView p path view
+-- no view of the event has a leaf at the path
+abbrev pub IsAbsent : Tree → List (List ℕ) → Type 0
+IsAbsent event path = (view : Tree) → IsView event view → leaf_at path view ≡ None
 
--- a pattern holds of a value: some view satisfies it
+-- A test holds at a path of a view of the event if the leaf there meets it. `exists: false` needs no leaf: it holds if no view of the
+-- event has one.
+abbrev pub TestHolds : Tree → List (List ℕ) → Tree → Test → Type 0
+TestHolds event path view t = ((leaf : Tree) × (leaf_at path view ≡ Some leaf) × IsMet t leaf) ⊎ ((t ≡ missing) × IsAbsent event path)
+
+-- On one view of the event, below the path: each field has a test that holds at the field's path, or a pattern that holds below it; of
+-- the branches of `$or` one holds, on the same view.
+abbrev mutual
+  pub HoldsOnView : Pattern → Tree → List (List ℕ) → Tree → Type 0
+  HoldsOnView (pattern fs bs) event path view = FieldsHold fs event path view × BranchesHold bs event path view
+
+  pub FieldsHold : Fields → Tree → List (List ℕ) → Tree → Type 0
+  FieldsHold no_fields event path view = Unit {0}
+  FieldsHold (field key f fs) event path view = FieldHolds f event (path ++ key ∷ []) view × FieldsHold fs event path view
+
+  pub FieldHolds : Field → Tree → List (List ℕ) → Tree → Type 0
+  FieldHolds (tests ts) event path view = Any (TestHolds event path view) ts
+  FieldHolds (below p) event path view = HoldsOnView p event path view
+
+  pub BranchesHold : Branches → Tree → List (List ℕ) → Tree → Type 0
+  BranchesHold no_branches event path view = Unit {0}
+  BranchesHold (branch p bs) event path view = HoldsOnView p event path view ⊎ SomeHolds bs event path view
+
+  -- one of the branches holds
+  pub SomeHolds : Branches → Tree → List (List ℕ) → Tree → Type 0
+  SomeHolds no_branches event path view = ⊥
+  SomeHolds (branch p bs) event path view = HoldsOnView p event path view ⊎ SomeHolds bs event path view
+
+-- a pattern holds of an event: some view of the event satisfies it
 abbrev pub PatternHolds : Pattern → Tree → Type 0
-PatternHolds p event = (view : Tree) × IsView event view × HoldsOnView p [] view
+PatternHolds p event = (view : Tree) × IsView event view × HoldsOnView p event [] view

@@ -1,57 +1,163 @@
--- For private clauses alone: whether a pattern holds of a value, by recursion over both.
-use Rattle.std.specs.Prelude.{ℕ, Bool, true, false, ◌&&◌, ◌||◌, List, if◌then◌else◌}
+-- For private clauses alone: whether a value has a view that satisfies what is wanted of it.
+use Rattle.std.specs.Prelude.{◌≡◌, ℕ, suc, ◌+◌, ◌*◌, Bool, true, false, ◌||◌, not, List, [], ◌∷◌, ◌++◌, ◌⊎◌, Option, Some, None, unwrap_or, if◌then◌else◌}
 use Rattle.std.specs.List.{list_any}
-use Rattle.std.specs.Bool.{beq}
 use Rattle.std.specs.Str.{bytes_eq}
 use Rattle.json_text.specs.Tree.{Tree, null, truth, number, text, list, object, Items, no_items, item, Members, no_members, member}
-use Rattle.pattern_meaning.specs.Pattern.{Test, same, Pattern, pattern, Fields, no_fields, field, Field, tests, below}
+use Rattle.json_text.specs.Access.{member_of}
+use Rattle.pattern_meaning.specs.Pattern.{Test, missing, Pattern, pattern, Fields, no_fields, field, Field, tests, below, Branches, no_branches, branch}
+use Rattle.json_text.specs.Compact.{IsValue}
+use Rattle.pattern_meaning.specs.View.{has_view, IsView, leaf_at}
+use Rattle.pattern_meaning.specs.Holds.{IsMet}
 
--- the second is a scalar, and the first is the same
-abbrev pub is_leaf : Tree → Tree → Bool
-is_leaf null null = true
-is_leaf (truth a) (truth b) = beq a b
-is_leaf (number a) (number b) = bytes_eq a b
-is_leaf (text a) (text b) = bytes_eq a b
-is_leaf _ _ = false
+-- a value without leaves, which also represents a missing member
+abbrev pub nothing : Tree
+nothing = object no_members
 
--- the test holds of the leaf
-abbrev pub passes : Tree → Test → Bool
-passes t (same scalar) = is_leaf scalar t
+-- the value of the first member with the key
+abbrev pub value_at : List ℕ → Tree → Tree
+value_at key t = unwrap_or (member_of key t) nothing
 
--- one of the tests holds of a scalar, or of some member of a list
+-- whether some view of a value has a leaf at a path
 abbrev mutual
-  pub leaf_passes : List Test → Tree → Bool
-  leaf_passes ts null = list_any (passes null) ts
-  leaf_passes ts (truth b) = list_any (passes (truth b)) ts
-  leaf_passes ts (number spelling) = list_any (passes (number spelling)) ts
-  leaf_passes ts (text t) = list_any (passes (text t)) ts
-  leaf_passes ts (list items) = some_leaf_passes ts items
-  leaf_passes ts (object members) = list_any (passes (object members)) ts
+  pub has_leaf : List (List ℕ) → Tree → Bool
+  has_leaf [] null = true
+  has_leaf [] (truth b) = true
+  has_leaf [] (number spelling) = true
+  has_leaf [] (text t) = true
+  has_leaf (key ∷ path) null = false
+  has_leaf (key ∷ path) (truth b) = false
+  has_leaf (key ∷ path) (number spelling) = false
+  has_leaf (key ∷ path) (text t) = false
+  has_leaf path (list items) = some_has_leaf path items
+  has_leaf [] (object inside) = false
+  has_leaf (key ∷ path) (object inside) = first_has_leaf key path inside
 
-  pub some_leaf_passes : List Test → Items → Bool
-  some_leaf_passes ts no_items = false
-  some_leaf_passes ts (item t items) = leaf_passes ts t || some_leaf_passes ts items
+  pub some_has_leaf : List (List ℕ) → Items → Bool
+  some_has_leaf path no_items = false
+  some_has_leaf path (item t items) = has_leaf path t || some_has_leaf path items
 
--- each field passes the test
-abbrev pub all_fields : (List ℕ → Field → Bool) → Fields → Bool
-all_fields test no_fields = true
-all_fields test (field key f fs) = test key f && all_fields test fs
+  pub first_has_leaf : List ℕ → List (List ℕ) → Members → Bool
+  first_has_leaf key path no_members = false
+  first_has_leaf key path (member k t members) = if bytes_eq k key then has_leaf path t else first_has_leaf key path members
 
--- at a list some member, at an object all fields, each at the first member with its key, at a scalar nothing
+-- no view of the event has a leaf at the path
+abbrev pub absent_in : Tree → List (List ℕ) → Bool
+absent_in event path = not (has_leaf path event)
+
+-- a value that is no list, with distinct keys
+abbrev pub IsNoList : Tree → Type 0
+IsNoList null = Unit {0}
+IsNoList (truth b) = Unit {0}
+IsNoList (number spelling) = Unit {0}
+IsNoList (text t) = Unit {0}
+IsNoList (list items) = ⊥
+IsNoList (object inside) = Unit {0}
+
+abbrev pub IsNode : Tree → Type 0
+IsNode t = IsValue t × IsNoList t
+
+-- a value that has a view
+abbrev pub with_view : Option Tree → Option Tree
+with_view None = None
+with_view (Some t) = if has_view t then Some t else None
+
+-- the value of the first member with the key, if it has a view
+abbrev pub seen_member : List ℕ → Tree → Option Tree
+seen_member key t = with_view (member_of key t)
+
+-- A test holds of a view of the value at a path; `absent` says of which paths `exists: false` holds.
+abbrev pub TestMet : (List (List ℕ) → Bool) → List (List ℕ) → Tree → Test → Type 0
+TestMet absent at v t = ((leaf : Tree) × (leaf_at [] v ≡ Some leaf) × IsMet t leaf) ⊎ ((t ≡ missing) × (absent at ≡ true))
+
+-- the fact holds of one in the list
+abbrev pub SomeMetOf : {X : Type 0} → (X → Type 0) → List X → Type 0
+SomeMetOf holds [] = ⊥
+SomeMetOf holds (x ∷ xs) = holds x ⊎ SomeMetOf holds xs
+
+-- a pattern holds of a view of the value at a path
 abbrev mutual
-  pub meets : Tree → Pattern → Bool
-  meets null p = false
-  meets (truth b) p = false
-  meets (number spelling) p = false
-  meets (text t) p = false
-  meets (list items) p = some_meets items p
-  meets (object members) (pattern fs) = all_fields (member_meets members) fs
+  pub PatternMet : (List (List ℕ) → Bool) → List (List ℕ) → Pattern → Tree → Type 0
+  PatternMet absent at (pattern fs bs) v = FieldsMet absent at fs v × BranchesMet absent at bs v
 
-  pub some_meets : Items → Pattern → Bool
-  some_meets no_items p = false
-  some_meets (item t items) p = meets t p || some_meets items p
+  pub FieldsMet : (List (List ℕ) → Bool) → List (List ℕ) → Fields → Tree → Type 0
+  FieldsMet absent at no_fields v = Unit {0}
+  FieldsMet absent at (field key f fs) v = FieldMet absent (at ++ key ∷ []) f (value_at key v) × FieldsMet absent at fs v
 
-  pub member_meets : Members → List ℕ → Field → Bool
-  member_meets no_members key f = false
-  member_meets (member k t members) key (tests ts) = if bytes_eq k key then leaf_passes ts t else member_meets members key (tests ts)
-  member_meets (member k t members) key (below p) = if bytes_eq k key then meets t p else member_meets members key (below p)
+  pub FieldMet : (List (List ℕ) → Bool) → List (List ℕ) → Field → Tree → Type 0
+  FieldMet absent at (tests ts) v = SomeMetOf (TestMet absent at v) ts
+  FieldMet absent at (below p) v = PatternMet absent at p v
+
+  pub BranchesMet : (List (List ℕ) → Bool) → List (List ℕ) → Branches → Tree → Type 0
+  BranchesMet absent at no_branches v = Unit {0}
+  BranchesMet absent at (branch p bs) v = PatternMet absent at p v ⊎ SomeMet absent at bs v
+
+  pub SomeMet : (List (List ℕ) → Bool) → List (List ℕ) → Branches → Tree → Type 0
+  SomeMet absent at no_branches v = ⊥
+  SomeMet absent at (branch p bs) v = PatternMet absent at p v ⊎ SomeMet absent at bs v
+
+-- what is wanted: fields, each with its key
+abbrev pub Wants : Type 0
+Wants = List (List ℕ × Field)
+
+-- something is wanted with the key
+abbrev pub has_key : List ℕ → Wants → Bool
+has_key key ws = list_any (λ w. bytes_eq w.0 key) ws
+
+-- the fields with the key are met by a view of the value at the path
+abbrev pub WithKeyMet : (List (List ℕ) → Bool) → List (List ℕ) → List ℕ → Wants → Tree → Type 0
+WithKeyMet absent at key [] v = Unit {0}
+WithKeyMet absent at key (w ∷ ws) v = (w.0 ≡ key → FieldMet absent at w.1 v) × WithKeyMet absent at key ws v
+
+-- all fields are met, each by the member with its key
+abbrev pub AllMet : (List (List ℕ) → Bool) → List (List ℕ) → Wants → Tree → Type 0
+AllMet absent at [] v = Unit {0}
+AllMet absent at (w ∷ ws) v = FieldMet absent (at ++ w.0 ∷ []) w.1 (value_at w.0 v) × AllMet absent at ws v
+
+-- some view of the value satisfies
+abbrev pub OnSome : Tree → (Tree → Type 0) → Type 0
+OnSome t holds = (v : Tree) × IsView t v × holds v
+
+-- for each key of the second list, the fields of the first with this key are met on some view
+abbrev pub EachKeyMet : (List (List ℕ) → Bool) → List (List ℕ) → Tree → Wants → Wants → Type 0
+EachKeyMet absent at t all [] = Unit {0}
+EachKeyMet absent at t all (w ∷ ws) =
+    OnSome t (λ v. WithKeyMet absent (at ++ w.0 ∷ []) w.0 all (value_at w.0 v)) × EachKeyMet absent at t all ws
+
+-- how much there is to do for what is wanted
+abbrev mutual
+  pub pattern_weight : Pattern → ℕ
+  pattern_weight (pattern fs bs) = suc (fields_weight fs + branches_weight bs)
+
+  pub fields_weight : Fields → ℕ
+  fields_weight no_fields = 0
+  fields_weight (field key f fs) = suc (field_weight f) + fields_weight fs
+
+  pub field_weight : Field → ℕ
+  field_weight (tests ts) = 0
+  field_weight (below p) = 5 * pattern_weight p
+
+  pub branches_weight : Branches → ℕ
+  branches_weight no_branches = 0
+  branches_weight (branch p bs) = pattern_weight p + branches_weight bs
+
+abbrev pub wants_weight : Wants → ℕ
+wants_weight [] = 0
+wants_weight (w ∷ ws) = suc (field_weight w.1) + wants_weight ws
+
+-- how many values there are in a value
+abbrev mutual
+  pub size_of : Tree → ℕ
+  size_of null = 1
+  size_of (truth b) = 1
+  size_of (number spelling) = 1
+  size_of (text t) = 1
+  size_of (list items) = suc (items_size items)
+  size_of (object inside) = suc (members_size inside)
+
+  pub items_size : Items → ℕ
+  items_size no_items = 0
+  items_size (item t items) = size_of t + items_size items
+
+  pub members_size : Members → ℕ
+  members_size no_members = 0
+  members_size (member k t members) = size_of t + members_size members

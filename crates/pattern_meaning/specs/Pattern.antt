@@ -1,15 +1,37 @@
 -- A pattern as contracts see it.
-use Rattle.std.specs.Prelude.{◌≢◌, ℕ, List, [], ◌∷◌}
+use Rattle.std.specs.Prelude.{◌≢◌, ℕ, List, [], ◌∷◌, ◌++◌, map}
 use Rattle.json_text.specs.Tree.{Tree}
+use Rattle.leaf_match.specs.Cidr.{Prefix}
+use Rattle.leaf_match.specs.declared.piece.Piece.{Piece}
+use Rattle.pattern_meaning.specs.declared.comparison.Comparison.{Comparison}
 
--- a test on a leaf: it is this scalar, numbers by their spelling
-pub data Test : Type 0 where
-  same : Tree → Test
+-- A test of a leaf: a constructor for each kind of test of the public guide. `prefix`, `suffix` and `equals-ignore-case` have a text;
+-- the first two may ignore the case of ASCII letters. `anything-but` has the tests that the leaf must not meet. The comparisons of
+-- `numeric` are all required. `missing` is `exists: false`.
+mutual
+  pub data Test : Type 0 where
+    same : Tree → Test
+    prefix : List ℕ → Test
+    prefix_ignoring_case : List ℕ → Test
+    suffix : List ℕ → Test
+    suffix_ignoring_case : List ℕ → Test
+    equals_ignoring_case : List ℕ → Test
+    wildcard : List Piece → Test
+    anything_but : Tests → Test
+    numeric : List Comparison → Test
+    cidr : Prefix → Test
+    exists : Test
+    missing : Test
 
--- A pattern is its fields, in order. A field has a key, and tests, one of which is enough, or a pattern.
+  pub data Tests : Type 0 where
+    no_tests : Tests
+    test : Test → Tests → Tests
+
+-- A pattern is its fields, in order, and the branches of its `$or`; without `$or` it has no branches. A field has a key, and tests,
+-- one of which is enough, or a pattern.
 mutual
   pub data Pattern : Type 0 where
-    pattern : Fields → Pattern
+    pattern : Fields → Branches → Pattern
 
   pub data Fields : Type 0 where
     no_fields : Fields
@@ -19,25 +41,32 @@ mutual
     tests : List Test → Field
     below : Pattern → Field
 
--- a list as fields
+  pub data Branches : Type 0 where
+    no_branches : Branches
+    branch : Pattern → Branches → Branches
+
+-- lists as they are declared above
+abbrev pub tests_of : List Test → Tests
+tests_of [] = no_tests
+tests_of (t ∷ ts) = test t (tests_of ts)
+
 abbrev pub fields_of : List (List ℕ × Field) → Fields
 fields_of [] = no_fields
 fields_of (f ∷ fs) = field f.0 f.1 (fields_of fs)
+
+abbrev pub branches_of : List Pattern → Branches
+branches_of [] = no_branches
+branches_of (p ∷ ps) = branch p (branches_of ps)
 
 -- no field has the key
 abbrev pub LacksField : List ℕ → Fields → Type 0
 LacksField key no_fields = Unit {0}
 LacksField key (field k f fs) = (key ≢ k) × LacksField key fs
 
--- there is a field
-abbrev pub HasField : Fields → Type 0
-HasField no_fields = ⊥
-HasField (field key f fs) = Unit {0}
-
--- what a reader of patterns accepts: each pattern has a field, and its keys are distinct
+-- what a reader of patterns accepts: in each pattern and branch the keys of the fields are distinct
 abbrev mutual
   pub IsPattern : Pattern → Type 0
-  IsPattern (pattern fs) = HasField fs × AreFields fs
+  IsPattern (pattern fs bs) = AreFields fs × AreBranches bs
 
   pub AreFields : Fields → Type 0
   AreFields no_fields = Unit {0}
@@ -47,6 +76,15 @@ abbrev mutual
   IsField (tests ts) = Unit {0}
   IsField (below p) = IsPattern p
 
--- no field of the root has the key
-abbrev pub LacksRoot : List ℕ → Pattern → Type 0
-LacksRoot key (pattern fs) = LacksField key fs
+  pub AreBranches : Branches → Type 0
+  AreBranches no_branches = Unit {0}
+  AreBranches (branch p bs) = IsPattern p × AreBranches bs
+
+-- no field of the root, or of a branch of the root's `$or`, has the key; `$or` in such a branch counts as the root's
+abbrev mutual
+  pub LacksRoot : List ℕ → Pattern → Type 0
+  LacksRoot key (pattern fs bs) = LacksField key fs × LackRoot key bs
+
+  pub LackRoot : List ℕ → Branches → Type 0
+  LackRoot key no_branches = Unit {0}
+  LackRoot key (branch p bs) = LacksRoot key p × LackRoot key bs

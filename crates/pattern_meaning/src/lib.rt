@@ -1,10 +1,16 @@
 //! A pattern holds of a JSON value, so of an event's tree.
 #![tactic(auto)]
 
+mod absent;
+mod comparison;
+mod frames;
 mod holds;
+mod leaf;
 mod pattern;
 #[cfg(test)]
 mod tests;
+mod walk;
 
-pub use holds::{plain_holds, unseen_member};
+pub use comparison::{Comparison, Operator};
+pub use holds::{alternatives_decide, plain_holds, unseen_member};
 pub use pattern::{Field, Fields, LeafTest, LeafTests, Pattern};

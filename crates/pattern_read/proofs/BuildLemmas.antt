@@ -7,7 +7,7 @@ use Rattle.std.proofs.lemmas.List.{map-append}
 use Rattle.json_text.specs.Tree.{Tree, object, Members, member, members_of}
 use Rattle.json_text.specs.View.{tree_of, pairs_of}
 use Rattle.json_text.specs.declared.value.Json.{Json}
-use Rattle.pattern_meaning.specs.Pattern.{Test, pattern, Fields, no_fields, field, fields_of, Field}
+use Rattle.pattern_meaning.specs.Pattern.{Test, pattern, Fields, no_fields, field, fields_of, Field, no_branches}
 use Rattle.pattern_meaning.specs.PatternView.{field_of, fields_view}
 use Rattle.pattern_meaning.specs.declared.pattern.Field.{Field as CodeField}
 use Rattle.pattern_read.specs.Text as spec
@@ -63,7 +63,7 @@ field_built done pushed left rest key f json all plain is cut more h =
     ∙ sym (ap (fields_with done) cut) ∙ h
 
 pub fields_built : (ms left : List (List ℕ × Json)) (fs : List (List ℕ × CodeField)) → (ms ≡ [] → ⊥) → left ≡ []
-    → fields_with fs left ≡ spec.fields_at (members_of (pairs_of ms)) → spec.pattern_at (object (members_of (pairs_of ms))) ≡ Some (pattern (fields_view fs))
+    → fields_with fs left ≡ spec.fields_at (members_of (pairs_of ms)) → spec.pattern_at (object (members_of (pairs_of ms))) ≡ Some (pattern (fields_view fs) no_branches)
 fields_built [] left fs some none h = absurd (some refl)
 fields_built (m ∷ ms) left fs some none h =
-    ap (option_map pattern) (sym h ∙ ap (fields_with fs) none) ∙ ap (λ x. Some (pattern x)) (put_all (seen fs))
+    ap (option_map (λ x. pattern x no_branches)) (sym h ∙ ap (fields_with fs) none) ∙ ap (λ x. Some (pattern x no_branches)) (put_all (seen fs))

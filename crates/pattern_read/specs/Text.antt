@@ -6,7 +6,7 @@ use Rattle.std.specs.Str.{bytes_eq}
 use Rattle.json_text.specs.Tree.{Tree, null, truth, number, text, list, object, Items, no_items, item, Members, no_members, member}
 use Rattle.json_text.specs.Node.{Node, value_of, first_repeat}
 use Rattle.json_text.specs.Grammar.{IsText}
-use Rattle.pattern_meaning.specs.Pattern.{Test, same, Pattern, pattern, Fields, no_fields, field, Field, tests, below, LacksRoot}
+use Rattle.pattern_meaning.specs.Pattern.{Test, same, Pattern, pattern, Fields, no_fields, field, Field, tests, below, no_branches, LacksRoot}
 
 -- the tests of an array; only strings are tests
 abbrev pub tests_of : Items → Option (List Test)
@@ -28,7 +28,7 @@ abbrev mutual
   field_of (list no_items) = None
   field_of (list (item t items)) = option_map tests (tests_of (item t items))
   field_of (object no_members) = None
-  field_of (object (member key t members)) = option_map (λ fs. below (pattern fs)) (fields_at (member key t members))
+  field_of (object (member key t members)) = option_map (λ fs. below (pattern fs no_branches)) (fields_at (member key t members))
 
   pub fields_at : Members → Option Fields
   fields_at no_members = Some no_fields
@@ -44,7 +44,7 @@ pattern_at (number spelling) = None
 pattern_at (text t) = None
 pattern_at (list items) = None
 pattern_at (object no_members) = None
-pattern_at (object (member key t members)) = option_map pattern (fields_at (member key t members))
+pattern_at (object (member key t members)) = option_map (λ fs. pattern fs no_branches) (fields_at (member key t members))
 
 -- the text is a pattern: at most 4,096 bytes of JSON within 100 levels, no object with a key twice, and no field `id` at the
 -- root, since an event gets its id only after it was matched (both limits and the last rule are this project's own)

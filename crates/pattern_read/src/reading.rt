@@ -8,8 +8,8 @@ ghost use Rattle.pattern_read.specs.Text.{IsPatternText};
 
 use crate::building::build_pattern;
 use crate::fault::PatternFault;
-use json_text::read_once;
-use pattern_meaning::Pattern;
+use json_text::{Text, read_once};
+use pattern_meaning::{Field, Pattern};
 use std::alloc::Global;
 
 /// How many bytes a pattern's text may have.
@@ -30,15 +30,15 @@ pub fn read_pattern(alloc: Global, bytes: &[u8]) -> Result<Pattern, PatternFault
     }
     let json = read_once(alloc, bytes, MAX_LEVELS)?;
     let pattern = build_pattern(alloc, json)?;
-    if has_field(&pattern, "id") {
+    if has_field(&pattern.fields, "id") {
         return Err(PatternFault::NotBuilt);
     }
     Ok(pattern)
 }
 
-/// Whether a field of the root has the key.
-fn has_field(pattern: &Pattern, key: &str) -> bool
-    ensures { result ≡ list_any (λ f. bytes_eq f.0 key.now) pattern.now.fields.items }
+/// Whether one of the fields has the key.
+fn has_field(fields: &[(Text, Field)], key: &str) -> bool
+    ensures { result ≡ list_any (λ f. bytes_eq f.0 key.now) fields.now }
 {
-    pattern.fields.iter().any(|(name, _)| name.as_str() == key)
+    fields.iter().any(|(name, _)| name.as_str() == key)
 }

@@ -1,9 +1,12 @@
-use Rattle.std.proofs.Common.{rules, ◌≡◌, [], codes, false, sym, ◌∙◌}
+use Rattle.std.proofs.Common.{rules, ◌≡◌, [], codes, false, map, Some, ap, sym, ◌∙◌}
 use Rattle.std.specs.Str.{bytes_eq}
 use Rattle.std.specs.Vec.Iter.{into_iter_items}
 use Rattle.std.proofs.lemmas.List.{nil_from_length}
 use Rattle.json_text.specs.Tree.{members_of}
 use Rattle.json_text.specs.View.{pairs_of}
+use Rattle.pattern_meaning.specs.Pattern.{pattern, branches_of}
+use Rattle.pattern_meaning.specs.PatternView.{pattern_of, fields_view}
+use Rattle.pattern_meaning.proofs.PatternLemmas.{made_is}
 use Rattle.pattern_read.specs.Text.{fields_at}
 use Rattle.pattern_read.proofs.BuildLemmas.{field_built, fields_built}
 use Rattle.pattern_read.proofs.building.+build.Goals as goal
@@ -23,3 +26,4 @@ build_members-returns t c =
     let some : c.args.members.items ≡ [] → ⊥ = search rules in
     let none = nil_from_length (into_iter_items c.loop-key.key-iterator) (sym c.loop-key.key-iterator.rest.ok.0 ∙ c.in-None.ensures.steps.0) in
     fields_built c.args.members.items (into_iter_items c.loop-key.key-iterator) c.loop-key.fields.items some none c.loop-key.invariant.2
+    ∙ ap Some (ap (λ l. pattern (fields_view c.loop-key.fields.items) (branches_of (map pattern_of l))) (sym c.new.ensures.items) ∙ sym (made_is _))
