@@ -73,7 +73,7 @@ sorted_back f [] back o = o
 sorted_back f (row ∷ front) back o = sorted_back f front back o.1
 
 -- no row after one with the name has the name
-others_after : {A : Type 0} (f : A → List ℕ) (name : List ℕ) (old : A) (back : List A) → f old ≡ name
+pub others_after : {A : Type 0} (f : A → List ℕ) (name : List ℕ) (old : A) (back : List A) → f old ≡ name
     → All (λ other. slice_cmp nat_cmp (f old) (f other) ≡ Less) back → All (Other f name) back
 others_after f name old back e all =
     All-weaker (λ other. slice_cmp nat_cmp (f old) (f other) ≡ Less) (Other f name)

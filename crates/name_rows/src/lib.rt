@@ -9,6 +9,7 @@ mod row;
 mod rows;
 
 pub use iter::RowsFrom;
+pub use place::Place;
 pub use row::Row;
 pub use rows::Rows;
 

@@ -13,7 +13,7 @@ use std::sync::Arc;
 
 /// The place of a name in a list of rows.
 #[derive(Clone, Copy)]
-pub(crate) enum Place {
+pub enum Place {
     /// The index of the row with this name.
     Here(usize),
     /// No row has this name; a new one belongs at this index.

@@ -1,4 +1,4 @@
--- The targets of the rules that match an event. Other files cite `one_pattern`, `matched_more`, `matched_same`, `rules_grown`,
+-- The targets of the rules that match an event. Other files cite `one_pattern`, `matched_more`, `matched_same`,
 -- `matched_of_bus`, and `matched_fits`: they are few, and their queues exist.
 use Rattle.std.proofs.Common.{◌≡◌, ℕ, ◌+◌, ◌*◌, ◌<◌, ◌≤◌, ◌⊎◌, inl, inr, true, false, cond, List, [], ◌∷◌, ◌++◌, length, map}
 use Rattle.std.proofs.Common.{take, get_or, Option, Some, None, sym, refl, ap, ◌∙◌, subst, arith, append_assoc, length-append}
@@ -14,7 +14,8 @@ use Rattle.pattern_meaning.specs.Pattern.{Pattern}
 use Rattle.pattern_read.specs.Text.{IsPatternText, pattern_at}
 use Rattle.pattern_read.proofs.ReadLemmas.{stands}
 use Rattle.rule_table.specs.declared.control.Target.{Target}
-use Rattle.rule_table.specs.RuleSet.{Rule, Bus, RuleSet, IsSound, IsQueueThere, named, rules_of, rules_in}
+use Rattle.name_rows.specs.Rows.{named}
+use Rattle.rule_table.specs.RuleSet.{Rule, Bus, RuleSet, IsSound, IsQueueThere, rules_of, rules_in}
 use Rattle.router_core.specs.declared.seen.SeenTarget.{SeenTarget}
 use Rattle.router_core.specs.Matching.{Matches, seen_target, AreMatched}
 
@@ -54,14 +55,6 @@ pub matched_same : (bus : List ℕ) (rules : List Rule) (rule : Rule) (event : T
     → ¬ Matches rule event → new ≡ targets → AreMatched bus (rules ++ rule ∷ []) event new
 matched_same bus rules rule event targets new are n e =
     subst (AreMatched bus (rules ++ rule ∷ []) event) (append-nil targets ∙ sym e) (one_more bus rules rule event targets [] are (inr (n, refl)))
-
--- one more rule of the code's list
-pub rules_grown : {Z : Type 0} (rules : List (Arc Rule Z)) (i : ℕ) (d : Arc Rule Z) (rule : Rule) → i < length rules → d ≡ get_or rules i d → rule ≡ arc_value d
-    → map arc_value (take (i + 1) rules) ≡ map arc_value (take i rules) ++ rule ∷ []
-rules_grown rules i d rule within is value =
-    ap (map (arc_value {X = Rule})) (take_more rules i d within)
-    ∙ map-append (arc_value {X = Rule}) (take i rules) (get_or rules i d ∷ [])
-    ∙ ap (λ (r : Rule). map (arc_value {X = Rule}) (take i rules) ++ r ∷ []) (sym (value ∙ ap (arc_value {X = Rule}) is))
 
 -- the targets of all rules of the bus
 pub matched_of_bus : (bus : List ℕ) (set : RuleSet) (found : Bus) (rules : List Rule) (event : Tree) (targets : List SeenTarget)

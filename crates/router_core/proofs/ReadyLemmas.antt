@@ -11,7 +11,8 @@ use Rattle.std.proofs.lemmas.Slice.Eq.{bytes_eq-Decides}
 use Rattle.delivery_duties.proofs.AnyLemmas.{any_here, any_there, any_cases}
 use Rattle.event_shape.specs.Names.{queue_arn}
 use Rattle.rule_table.specs.Control.{Control, rule_put, targets_put, queue_created}
-use Rattle.rule_table.specs.RuleSet.{RuleSet, by_order, put_queue, named, has_queue, applied}
+use Rattle.name_rows.specs.Rows.{by_order, named}
+use Rattle.rule_table.specs.RuleSet.{RuleSet, put_queue, has_queue, applied}
 use Rattle.delivery_duties.specs.Duties.{Queue, Duties, HasEndpoint}
 use Rattle.router_core.specs.Batch as batch
 use Rattle.router_core.specs.Tables.{Tables, after_entry, after_entries, after_batch, is_full, number_limit}

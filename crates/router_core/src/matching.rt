@@ -54,8 +54,8 @@ fn matched(alloc: Global, set: &RuleSet, bus: &str, event: &Json) -> Result<Seen
     let Some(found) = set.bus(bus) else {
         return Ok(targets);
     };
-    for rule in found.rules() {
-        let rule: &Rule = rule;
+    let mut rules = found.rules();
+    while let Some(rule) = rules.next() {
         if matches(rule, event) {
             push_targets(alloc, bus, rule, &mut targets)?;
         }

@@ -1,4 +1,4 @@
-pub mod NameOrder
 pub mod RowLemmas
 pub mod SortedLemmas
 pub mod ChangeLemmas
+pub mod LawLemmas

@@ -1,7 +1,6 @@
--- Rows by their names: the values of `named`, `changed` and `placed` when the place of the name is known. Other files cite
--- `named_here`, `named_before`, `changed_here`, `placed_here`, `placed_before`, `named_none`, `changed_none`, `others_after`,
--- `none_greater` and `place_map`.
-use Rattle.std.proofs.Common.{◌≡◌, ℕ, true, false, List, [], ◌∷◌, ◌++◌, length, map, Some, None, refl, sym, ap, ◌∙◌, subst, take}
+-- Rows of which one is put or changed: `changed` and a `placed` that joins are a `placed` that replaces (`changed_placed`,
+-- `joined_placed`, `joined_new`); a row put into a `Vec` (`put_here`, `put_before`); the place of a name (`here_at`, `before_at`).
+use Rattle.std.proofs.Common.{◌≡◌, ℕ, true, false, List, [], ◌∷◌, ◌++◌, length, Option, Some, None, refl, sym, ap, ◌∙◌, subst, take}
 use Rattle.std.proofs.Common.{drop, suc, ◌<◌, arith, get_or}
 use Rattle.std.specs.Prelude.{All}
 use Rattle.std.specs.List.{insert}
@@ -10,36 +9,16 @@ use Rattle.std.specs.Ordering.{nat_cmp}
 use Rattle.std.specs.Str.{bytes_eq}
 use Rattle.std.specs.declared.cmp.Ordering.TheVariants.{Less, Equal, Greater}
 use Rattle.std.proofs.Math.ListN.{set}
-use Rattle.std.proofs.Math.Seq.{set-append_seam, get_or-append_seam, drop-cons}
-use Rattle.std.proofs.lemmas.List.{map-append, length-map, take_at, drop_at, take-map, drop-map, take-append-drop, length-take}
-use Rattle.std.proofs.lemmas.List.Elements.{All-head, All-tail, All-cons, All-nil, All-map, All-weaker}
-use Rattle.rule_table.specs.RuleSet.{named, changed, placed}
-use Rattle.rule_table.specs.Place.{IsHere, IsBefore, IsPlace, StartsGreater}
-use Rattle.rule_table.specs.declared.rows.Place.{Place}
-use Rattle.rule_table.specs.declared.rows.Place.TheVariants.{Here, Before}
-use Rattle.rule_table.specs.Sorted.{AreSorted}
-use Rattle.rule_table.proofs.NameOrder.{Less_trans, Less_from_Greater, same_name, Greater_from_Less, bytes_eq_itself, bytes_eq_Less, bytes_eq_Greater}
-
-abbrev Smaller : {A : Type 0} → (A → List ℕ) → List ℕ → A → Type 0
-Smaller f name row = slice_cmp nat_cmp name (f row) ≡ Greater
-
-abbrev pub Other : {A : Type 0} → (A → List ℕ) → List ℕ → A → Type 0
-Other f name row = bytes_eq (f row) name ≡ false
-
-smaller_other : {A : Type 0} (f : A → List ℕ) (name : List ℕ) (row : A) → Smaller f name row → Other f name row
-smaller_other f name row e = bytes_eq_Less (f row) name (Less_from_Greater name (f row) e)
-
-named_after : {A : Type 0} (f : A → List ℕ) (name : List ℕ) (front back : List A) → All (Other f name) front → named f name (front ++ back) ≡ named f name back
-named_after f name [] back all = refl
-named_after f name (row ∷ front) back all =
-    let e = All-head (Other f name) row front all in
-    rw e (named_after f name front back (All-tail (Other f name) row front all))
-
-pub named_none : {A : Type 0} (f : A → List ℕ) (name : List ℕ) (rows : List A) → All (Other f name) rows → named f name rows ≡ None
-named_none f name [] all = refl
-named_none f name (row ∷ rows) all =
-    let e = All-head (Other f name) row rows all in
-    rw e (named_none f name rows (All-tail (Other f name) row rows all))
+use Rattle.std.proofs.Math.Seq.{set-append_seam, drop-cons}
+use Rattle.std.proofs.lemmas.Cmp.{nat_list_cmp_total, tied_itself}
+use Rattle.std.proofs.lemmas.List.{take_at, drop_at, take-append-drop, length-take}
+use Rattle.std.proofs.lemmas.List.Elements.{All-head, All-tail}
+use Rattle.std.proofs.lemmas.Slice.Eq.{bytes_eq-Decides}
+use Rattle.name_rows.specs.Rows.{named, placed, replacing, AreSorted}
+use Rattle.name_rows.specs.Place.{IsHere, IsBefore, IsSmaller}
+use Rattle.name_rows.proofs.NameOrder.{same_name, Greater_from_Less, Less_from_Greater, bytes_eq_itself, bytes_eq_Less}
+use Rattle.name_rows.proofs.RowLemmas.{Other, by_cmp, by_test, named_none, none_greater, others_after, placed_here, placed_before}
+use Rattle.rule_table.specs.RuleSet.{changed}
 
 pub changed_none : {A : Type 0} (f : A → List ℕ) (name : List ℕ) (change : A → A) (rows : List A) → All (Other f name) rows → changed f name change rows ≡ rows
 changed_none f name change [] all = refl
@@ -47,127 +26,83 @@ changed_none f name change (row ∷ rows) all =
     let e = All-head (Other f name) row rows all in
     rw e (ap (λ rs. row ∷ rs) (changed_none f name change rows (All-tail (Other f name) row rows all)))
 
-changed_after : {A : Type 0} (f : A → List ℕ) (name : List ℕ) (change : A → A) (front back : List A) → All (Other f name) front
-    → changed f name change (front ++ back) ≡ front ++ changed f name change back
-changed_after f name change [] back all = refl
-changed_after f name change (row ∷ front) back all =
-    let e = All-head (Other f name) row front all in
-    rw e (ap (λ rs. row ∷ rs) (changed_after f name change front back (All-tail (Other f name) row front all)))
+pub named_same : {A : Type 0} (f : A → List ℕ) (name : List ℕ) (row : A) (rows : List A) → bytes_eq (f row) name ≡ true → named f name (row ∷ rows) ≡ Some row
+named_same f name row rows e = rw e refl
 
-placed_after : {A : Type 0} (f : A → List ℕ) (joined : A → A → A) (new : A) (front back : List A) → All (Smaller f (f new)) front
-    → placed f joined new (front ++ back) ≡ front ++ placed f joined new back
-placed_after f joined new [] back all = refl
-placed_after f joined new (row ∷ front) back all =
-    let e = All-head (Smaller f (f new)) row front all in
-    rw e (ap (λ rs. row ∷ rs) (placed_after f joined new front back (All-tail (Smaller f (f new)) row front all)))
+pub named_other : {A : Type 0} (f : A → List ℕ) (name : List ℕ) (row : A) (rows : List A) → bytes_eq (f row) name ≡ false
+    → named f name (row ∷ rows) ≡ named f name rows
+named_other f name row rows e = rw e refl
 
-sorted_back : {A : Type 0} (f : A → List ℕ) (front back : List A) → AreSorted f (front ++ back) → AreSorted f back
-sorted_back f [] back o = o
-sorted_back f (row ∷ front) back o = sorted_back f front back o.1
+pub All_named : {A : Type 0} (P : A → Type 0) (f : A → List ℕ) (name : List ℕ) (rows : List A) (row : A) → named f name rows ≡ Some row → All P rows → P row
+All_named P f name [] row is all = cc
+All_named P f name (first ∷ rows) row is all =
+    by_test (bytes_eq (f first) name)
+    (λ e. let both : Some first ≡ Some row = sym (named_same f name first rows e)
+    ∙ is in let same : first ≡ row = cc in subst P same (All-head P first rows all))
+    (λ e. All_named P f name rows row (sym (named_other f name first rows e) ∙ is) (All-tail P first rows all))
 
--- no row after one with the name has the name
-pub others_after : {A : Type 0} (f : A → List ℕ) (name : List ℕ) (old : A) (back : List A) → f old ≡ name
-    → All (λ other. slice_cmp nat_cmp (f old) (f other) ≡ Less) back → All (Other f name) back
-others_after f name old back e all =
-    All-weaker (λ other. slice_cmp nat_cmp (f old) (f other) ≡ Less) (Other f name)
-    (λ other less. rw (← e) (bytes_eq_Greater (f other) (f old) (Greater_from_Less (f old) (f other) less))) back all
+equal_itself : (x : List ℕ) → slice_cmp nat_cmp x x ≡ Equal
+equal_itself x = tied_itself nat_list_cmp_total x
 
-pub named_here : {A : Type 0} (f : A → List ℕ) (name : List ℕ) (rows : List A) (at : ℕ) → (h : IsHere f name rows at) → named f name rows ≡ Some h.old
-named_here f name rows at h =
-    let others = All-weaker (Smaller f name) (Other f name) (smaller_other f name) h.front h.smaller in
-    let is_it : bytes_eq (f h.old) name ≡ true = rw (← same_name name (f h.old) h.same) (bytes_eq_itself name) in
-    ap (named f name) h.parts ∙ named_after f name h.front (h.old ∷ h.back) others ∙ rw is_it refl
+-- a row that is changed under its name is put in place of itself
+pub changed_placed : {A : Type 0} (f : A → List ℕ) (name : List ℕ) (change : A → A) (rows : List A) (old : A) → ((row : A) → f (change row) ≡ f row)
+    → AreSorted f rows → named f name rows ≡ Some old → changed f name change rows ≡ placed f replacing (change old) rows
+changed_placed f name change [] old c o is = cc
+changed_placed f name change (row ∷ rows) old c o is =
+    by_test (bytes_eq (f row) name)
+    (λ e. let both : Some row ≡ Some old = sym (named_same f name row rows e) ∙ is in
+    let same : row ≡ old = cc in
+    let rest = changed_none f name change rows (others_after f name row rows ((bytes_eq-Decides (f row) name).0 e) o.0) in
+    let tied : slice_cmp nat_cmp (f (change old)) (f row) ≡ Equal =
+    ap (λ n. slice_cmp nat_cmp n (f row)) (c old ∙ ap f (sym same)) ∙ equal_itself (f row) in
+    rw (e, tied, rest) (ap (λ r. change r ∷ rows) same))
+    (λ e. let later = sym (named_other f name row rows e) ∙ is in
+    let less = All_named (λ other. slice_cmp nat_cmp (f row) (f other) ≡ Less) f name rows old later o.0 in
+    let after : slice_cmp nat_cmp (f (change old)) (f row) ≡ Greater =
+    ap (λ n. slice_cmp nat_cmp n (f row)) (c old) ∙ Greater_from_Less (f row) (f old) less in
+    rw (e, after) (ap (λ rs. row ∷ rs) (changed_placed f name change rows old c o.1 later)))
 
-pub none_greater : {A : Type 0} (f : A → List ℕ) (name : List ℕ) (back : List A) → AreSorted f back → StartsGreater f name back → All (Other f name) back
-none_greater f name [] o greater = All-nil (Other f name)
-none_greater f name (row ∷ rows) o greater =
-    All-cons (Other f name) row rows (bytes_eq_Greater (f row) name (Greater_from_Less name (f row) greater))
-    (All-weaker (λ other. slice_cmp nat_cmp (f row) (f other) ≡ Less) (Other f name)
-    (λ other less. bytes_eq_Greater (f other) name (Greater_from_Less name (f other) (Less_trans name (f row) (f other) greater less))) rows o.0)
+-- a row that joins the old one is put in its place
+pub joined_placed : {A : Type 0} (f : A → List ℕ) (joined : A → A → A) (new : A) (rows : List A) (old : A) → f (joined old new) ≡ f new
+    → AreSorted f rows → named f (f new) rows ≡ Some old → placed f joined new rows ≡ placed f replacing (joined old new) rows
+joined_placed f joined new [] old j o is = cc
+joined_placed f joined new (row ∷ rows) old j o is =
+    by_cmp (slice_cmp nat_cmp (f new) (f row))
+    (λ e. let none = named_none f (f new) (row ∷ rows) (none_greater f (f new) (row ∷ rows) o e) in
+    let never : None ≡ Some old = sym none ∙ is in cc)
+    (λ e. let test : bytes_eq (f row) (f new) ≡ true = rw (← same_name (f new) (f row) e) (bytes_eq_itself (f new)) in
+    let both : Some row ≡ Some old = sym (named_same f (f new) row rows test) ∙ is in
+    let same : row ≡ old = cc in
+    let tied : slice_cmp nat_cmp (f (joined old new)) (f row) ≡ Equal = ap (λ n. slice_cmp nat_cmp n (f row)) j ∙ e in
+    rw (e, tied) (ap (λ r. joined r new ∷ rows) same))
+    (λ e. let other = bytes_eq_Less (f row) (f new) (Less_from_Greater (f new) (f row) e) in
+    let after : slice_cmp nat_cmp (f (joined old new)) (f row) ≡ Greater = ap (λ n. slice_cmp nat_cmp n (f row)) j ∙ e in
+    rw (e, after) (ap (λ rs. row ∷ rs) (joined_placed f joined new rows old j o.1 (sym (named_other f (f new) row rows other) ∙ is))))
 
-pub named_before : {A : Type 0} (f : A → List ℕ) (name : List ℕ) (rows : List A) (at : ℕ) → AreSorted f rows → IsBefore f name rows at
-    → named f name rows ≡ None
-named_before f name rows at o h =
-    let others = All-weaker (Smaller f name) (Other f name) (smaller_other f name) h.front h.smaller in
-    let later = sorted_back f h.front h.back (subst (AreSorted f) h.parts o) in
-    ap (named f name) h.parts ∙ named_after f name h.front h.back others ∙ named_none f name h.back (none_greater f name h.back later h.greater)
+-- without an old row nothing is joined
+pub joined_new : {A : Type 0} (f : A → List ℕ) (joined : A → A → A) (new : A) (rows : List A) → named f (f new) rows ≡ None
+    → placed f joined new rows ≡ placed f replacing new rows
+joined_new f joined new [] is = refl
+joined_new f joined new (row ∷ rows) is =
+    by_cmp (slice_cmp nat_cmp (f new) (f row))
+    (λ e. rw e refl)
+    (λ e. let test : bytes_eq (f row) (f new) ≡ true = rw (← same_name (f new) (f row) e) (bytes_eq_itself (f new)) in
+    let never : Some row ≡ None = sym (named_same f (f new) row rows test) ∙ is in cc)
+    (λ e. let other = bytes_eq_Less (f row) (f new) (Less_from_Greater (f new) (f row) e) in
+    rw e (ap (λ rs. row ∷ rs) (joined_new f joined new rows (sym (named_other f (f new) row rows other) ∙ is))))
 
 set_here : {A : Type 0} (f : A → List ℕ) (name : List ℕ) (rows : List A) (at : ℕ) (new : A) → (h : IsHere f name rows at)
     → set rows at new ≡ h.front ++ new ∷ h.back
 set_here f name rows at new h =
     ap (λ rs. set rs at new) h.parts ∙ ap (λ n. set (h.front ++ h.old ∷ h.back) n new) (sym h.at) ∙ set-append_seam h.front h.old h.back new
 
-pub changed_here : {A : Type 0} (f : A → List ℕ) (name : List ℕ) (change : A → A) (rows : List A) (at : ℕ) → AreSorted f rows
-    → (h : IsHere f name rows at) → changed f name change rows ≡ set rows at (change h.old)
-changed_here f name change rows at o h =
-    let others = All-weaker (Smaller f name) (Other f name) (smaller_other f name) h.front h.smaller in
-    let is_it : bytes_eq (f h.old) name ≡ true = rw (← same_name name (f h.old) h.same) (bytes_eq_itself name) in
-    let later = sorted_back f h.front (h.old ∷ h.back) (subst (AreSorted f) h.parts o) in
-    let rest = changed_none f name change h.back (others_after f name h.old h.back (sym (same_name name (f h.old) h.same)) later.0) in
-    ap (changed f name change) h.parts ∙ changed_after f name change h.front (h.old ∷ h.back) others
-    ∙ rw (is_it, rest) (sym (set_here f name rows at (change h.old) h))
+pub put_here : {A : Type 0} (f : A → List ℕ) (new : A) (rows : List A) (at : ℕ) → IsHere f (f new) rows at → placed f replacing new rows ≡ set rows at new
+put_here f new rows at h = placed_here f replacing new rows at h ∙ sym (set_here f (f new) rows at new h)
 
-pub placed_here : {A : Type 0} (f : A → List ℕ) (joined : A → A → A) (new : A) (rows : List A) (at : ℕ)
-    → (h : IsHere f (f new) rows at) → placed f joined new rows ≡ set rows at (joined h.old new)
-placed_here f joined new rows at h =
-    let e = h.same in
-    ap (placed f joined new) h.parts ∙ placed_after f joined new h.front (h.old ∷ h.back) h.smaller
-    ∙ rw e (sym (set_here f (f new) rows at (joined h.old new) h))
-
-placed_first : {A : Type 0} (f : A → List ℕ) (joined : A → A → A) (new : A) (back : List A) → StartsGreater f (f new) back
-    → placed f joined new back ≡ new ∷ back
-placed_first f joined new [] greater = refl
-placed_first f joined new (row ∷ rows) greater = rw greater refl
-
-pub placed_before : {A : Type 0} (f : A → List ℕ) (joined : A → A → A) (new : A) (rows : List A) (at : ℕ)
-    → IsBefore f (f new) rows at → placed f joined new rows ≡ insert rows at new
-placed_before f joined new rows at h =
-    ap (placed f joined new) h.parts ∙ placed_after f joined new h.front h.back h.smaller
-    ∙ ap (λ rs. h.front ++ rs) (placed_first f joined new h.back h.greater)
+pub put_before : {A : Type 0} (f : A → List ℕ) (new : A) (rows : List A) (at : ℕ) → IsBefore f (f new) rows at → placed f replacing new rows ≡ insert rows at new
+put_before f new rows at h =
+    placed_before f replacing new rows at h
     ∙ sym (ap (λ rs. insert rs at new) h.parts ∙ rw (take_at h.front h.back at h.at, drop_at h.front h.back at h.at) refl)
-
-here_map : {A B : Type 0} (g : A → B) (f : B → List ℕ) (name : List ℕ) (rows : List A) (at : ℕ) → IsHere (λ row. f (g row)) name rows at
-    → IsHere f name (map g rows) at
-here_map g f name rows at h = record {
-  front = map g h.front;
-  old = g h.old;
-  back = map g h.back;
-  parts = ap (map g) h.parts ∙ map-append g h.front (h.old ∷ h.back);
-  at = length-map h.front g ∙ h.at;
-  smaller = All-map (Smaller f name) g h.front h.smaller;
-  same = h.same;
-}
-
-starts_map : {A B : Type 0} (g : A → B) (f : B → List ℕ) (name : List ℕ) (rows : List A) → StartsGreater (λ row. f (g row)) name rows
-    → StartsGreater f name (map g rows)
-starts_map g f name [] h = tt
-starts_map g f name (row ∷ rows) h = h
-
-before_map : {A B : Type 0} (g : A → B) (f : B → List ℕ) (name : List ℕ) (rows : List A) (at : ℕ)
-    → IsBefore (λ row. f (g row)) name rows at → IsBefore f name (map g rows) at
-before_map g f name rows at h = record {
-  front = map g h.front;
-  back = map g h.back;
-  parts = ap (map g) h.parts ∙ map-append g h.front h.back;
-  at = length-map h.front g ∙ h.at;
-  smaller = All-map (Smaller f name) g h.front h.smaller;
-  greater = starts_map g f name h.back h.greater;
-}
-
-pub here_old : {A : Type 0} (f : A → List ℕ) (name : List ℕ) (rows : List A) (at : ℕ) (d : A) → (h : IsHere f name rows at) → get_or rows at d ≡ h.old
-here_old f name rows at d h =
-    ap (λ rs. get_or rs at d) h.parts ∙ ap (λ n. get_or (h.front ++ h.old ∷ h.back) n d) (sym h.at)
-    ∙ get_or-append_seam h.front h.old h.back d
-
-pub map_insert : {A B : Type 0} (g : A → B) (rows : List A) (at : ℕ) (new : A) → map g (insert rows at new) ≡ insert (map g rows) at (g new)
-map_insert g rows at new =
-    map-append g (take at rows) (new ∷ drop at rows) ∙ ap (λ front. front ++ g new ∷ map g (drop at rows)) (sym (take-map g at rows))
-    ∙ ap (λ back. take at (map g rows) ++ g new ∷ back) (sym (drop-map g at rows))
-
-pub place_map : {A B : Type 0} (g : A → B) (f : B → List ℕ) (name : List ℕ) (rows : List A) (seen : List B) (place : Place)
-    → IsPlace (λ row. f (g row)) name rows place → map g rows ≡ seen → IsPlace f name seen place
-place_map g f name rows seen (Here at) h is = subst (λ rs. IsHere f name rs at) is (here_map g f name rows at h)
-place_map g f name rows seen (Before at) h is = subst (λ rs. IsBefore f name rs at) is (before_map g f name rows at h)
 
 length-take_within : {A : Type 0} (at : ℕ) (rows : List A) → at < length rows → length (take at rows) ≡ at
 length-take_within at rows within = omega (arith, length-take at rows)

@@ -1,4 +1,4 @@
--- An allowed change leads from a sound and sorted rule set to a sound and sorted one: `sorted_applied`. ChangeLemmas cites `All_named`.
+-- An allowed change leads from a sound rule set to a sound one: `sound_applied`.
 use Rattle.std.proofs.Common.{◌≡◌, ℕ, ◌+◌, ◌<◌, ◌≤◌, ◌⊎◌, true, false, Bool, List, [], ◌∷◌, length, Some, refl, sym, ap, ◌∙◌}
 use Rattle.std.proofs.Common.{subst, arith, inl, inr, is_some, suc}
 use Rattle.std.specs.Prelude.{All}
@@ -11,54 +11,15 @@ use Rattle.std.proofs.lemmas.Bool.{false≢true}
 use Rattle.std.proofs.lemmas.List.{length-map}
 use Rattle.std.proofs.lemmas.List.Elements.{All-head, All-tail, All-cons, All-nil, All-weaker}
 use Rattle.std.proofs.lemmas.Slice.Eq.{bytes_eq-Decides}
-use Rattle.rule_table.specs.RuleSet.{Rule, Bus, RuleSet, named, changed, placed, keeping_targets, put_rule, put_target}
-use Rattle.rule_table.specs.RuleSet.{put_targets, rules_in, rules_of, rule_at, applied, IsQueueThere, ForRule, IsAllowed}
+use Rattle.name_rows.specs.Rows.{named, placed, replacing, AreSorted}
+use Rattle.name_rows.proofs.NameOrder.{Less_from_Greater, same_name, bytes_eq_Less}
+use Rattle.name_rows.proofs.RowLemmas.{by_cmp, by_test, named_none, none_greater, others_after, All_placed, sorted_placed}
+use Rattle.rule_table.specs.RuleSet.{Rule, Bus, RuleSet, changed, keeping_targets, put_rule, put_target}
+use Rattle.rule_table.specs.RuleSet.{put_targets, rules_in, rules_of, rule_at, applied, IsQueueThere, ForRule, IsAllowed, IsSound}
 use Rattle.event_shape.specs.Names.{IsShortName}
 use Rattle.rule_table.specs.Control.{Control, rule_put, targets_put, queue_created}
-use Rattle.rule_table.specs.Sorted.{AreSorted, IsSortedSet}
 use Rattle.rule_table.specs.declared.control.Target.{Target}
-use Rattle.rule_table.proofs.NameOrder.{Less_trans, Less_from_Greater, same_name, bytes_eq_Less}
-use Rattle.rule_table.proofs.RowLemmas.{changed_none, named_none, none_greater, others_after}
-
--- cases of a comparison
-by_cmp : {G : Type 0} (o : Ordering) → (o ≡ Less → G) → (o ≡ Equal → G) → (o ≡ Greater → G) → G
-by_cmp Less l e g = l refl
-by_cmp Equal l e g = e refl
-by_cmp Greater l e g = g refl
-
-by_test : {G : Type 0} (b : Bool) → (b ≡ true → G) → (b ≡ false → G) → G
-by_test true t f = t refl
-by_test false t f = f refl
-
--- a fact that holds of each row and of the new one holds of each row of `placed`
-All_placed : {A : Type 0} (P : A → Type 0) (f : A → List ℕ) (joined : A → A → A) (new : A) (rows : List A)
-    → P new → ((old : A) → P old → P (joined old new)) → All P rows → All P (placed f joined new rows)
-All_placed P f joined new [] p j all = All-cons P new [] p all
-All_placed P f joined new (old ∷ rest) p j all =
-    let first = All-head P old rest all in
-    let others = All-tail P old rest all in
-    by_cmp (slice_cmp nat_cmp (f new) (f old))
-    (λ e. rw e (All-cons P new (old ∷ rest) p all))
-    (λ e. rw e (All-cons P (joined old new) rest (j old first) others))
-    (λ e. rw e (All-cons P old (placed f joined new rest) first (All_placed P f joined new rest p j others)))
-
-sorted_placed : {A : Type 0} (f : A → List ℕ) (joined : A → A → A) (new : A) (rows : List A)
-    → ((old : A) → f (joined old new) ≡ f new) → AreSorted f rows → AreSorted f (placed f joined new rows)
-sorted_placed f joined new [] j o = (All-nil (λ other. slice_cmp nat_cmp (f new) (f other) ≡ Less), tt)
-sorted_placed {A} f joined new (old ∷ rest) j o =
-    let above : List ℕ → A → Type 0 = λ name other. slice_cmp nat_cmp name (f other) ≡ Less in
-    by_cmp (slice_cmp nat_cmp (f new) (f old))
-    (λ e. rw e (
-      All-cons (above (f new)) old rest e
-          (All-weaker (above (f old)) (above (f new)) (λ other less. Less_trans (f new) (f old) (f other) e less) rest o.0),
-      o,
-    ))
-    (λ e. rw e (All-weaker (above (f old)) (above (f (joined old new))) (λ other less. rw (j old, same_name (f new) (f old) e) less) rest o.0, o.1))
-    (λ e. rw e (
-      All_placed (above (f old)) f joined new rest (Less_from_Greater (f new) (f old) e)
-          (λ other less. rw (j other) (Less_from_Greater (f new) (f old) e)) o.0,
-      sorted_placed f joined new rest j o.1,
-    ))
+use Rattle.rule_table.proofs.RowLemmas.{changed_none, named_same, named_other, All_named}
 
 changed_same : {A : Type 0} (f : A → List ℕ) (name : List ℕ) (change : A → A) (row : A) (rows : List A) → bytes_eq (f row) name ≡ true
     → changed f name change (row ∷ rows) ≡ change row ∷ changed f name change rows
@@ -77,13 +38,6 @@ All_changed P Q f name change (row ∷ rows) same c all =
     by_test (bytes_eq (f row) name)
     (λ e. subst (All Q) (sym (changed_same f name change row rows e)) (All-cons Q (change row) (changed f name change rows) (c row first) others))
     (λ e. subst (All Q) (sym (changed_other f name change row rows e)) (All-cons Q row (changed f name change rows) (same row first) others))
-
-named_same : {A : Type 0} (f : A → List ℕ) (name : List ℕ) (row : A) (rows : List A) → bytes_eq (f row) name ≡ true → named f name (row ∷ rows) ≡ Some row
-named_same f name row rows e = rw e refl
-
-named_other : {A : Type 0} (f : A → List ℕ) (name : List ℕ) (row : A) (rows : List A) → bytes_eq (f row) name ≡ false
-    → named f name (row ∷ rows) ≡ named f name rows
-named_other f name row rows e = rw e refl
 
 bytes_same : (a b : List ℕ) → bytes_eq a b ≡ true → a ≡ b
 bytes_same a b = (bytes_eq-Decides a b).0
@@ -112,14 +66,6 @@ sorted_changed {A} f name change (row ∷ rows) c o =
     by_test (bytes_eq (f row) name)
     (λ e. rw e (rw (c row) others, sorted_changed f name change rows c o.1))
     (λ e. rw e (others, sorted_changed f name change rows c o.1))
-
-pub All_named : {A : Type 0} (P : A → Type 0) (f : A → List ℕ) (name : List ℕ) (rows : List A) (row : A) → named f name rows ≡ Some row → All P rows → P row
-All_named P f name [] row is all = cc
-All_named P f name (first ∷ rows) row is all =
-    by_test (bytes_eq (f first) name)
-    (λ e. let both : Some first ≡ Some row = sym (named_same f name first rows e)
-    ∙ is in let same : first ≡ row = cc in subst P same (All-head P first rows all))
-    (λ e. All_named P f name rows row (sym (named_other f name first rows e) ∙ is) (All-tail P first rows all))
 
 length_placed : {A : Type 0} (f : A → List ℕ) (joined : A → A → A) (new : A) (rows : List A) → length (placed f joined new rows) ≤ length rows + 1
 length_placed f joined new [] = omega arith
@@ -166,7 +112,18 @@ All_put_targets P [] targets n all = all
 All_put_targets P (new ∷ news) targets n all =
     let first = All-head P new news n in
     All_put_targets P news (put_target new targets) (All-tail P new news n)
-    (All_placed P (λ target. target.id) (λ old other. other) new targets first (λ old p. first) all)
+    (All_placed P (λ target. target.id) replacing new targets first (λ old p. first) all)
+
+abbrev RuleInOrder : Rule → Type 0
+RuleInOrder rule = AreSorted (λ target. target.id) rule.targets
+
+abbrev InOrder : Bus → Type 0
+InOrder bus = All RuleInOrder bus.rules
+
+sorted_put_targets : (news targets : List Target) → AreSorted (λ target. target.id) targets → AreSorted (λ target. target.id) (put_targets news targets)
+sorted_put_targets [] targets o = o
+sorted_put_targets (new ∷ news) targets o =
+    sorted_put_targets news (put_target new targets) (sorted_placed (λ target. target.id) replacing new targets (λ old. refl) o)
 
 abbrev AreTargets : RuleSet → Rule → Type 0
 AreTargets set rule = (length rule.targets ≤ 5) × All (λ target. IsQueueThere set target.arn) rule.targets
@@ -176,9 +133,9 @@ short_put : (new : Rule) (rules : List Rule) → AreSorted (λ rule. rule.name) 
 short_put new rules o small (inl some) = let e = length_placed_same (λ rule. rule.name) keeping_targets new rules o some in omega (arith, e)
 short_put new rules o small (inr room) = let e = length_placed (λ rule. rule.name) keeping_targets new rules in omega (arith, e, room)
 
-sorted_rule : (bus name pattern : List ℕ) (enabled : Bool) (set : RuleSet) → IsAllowed (rule_put bus name pattern enabled) set
-    → IsSortedSet set → IsSortedSet (applied (rule_put bus name pattern enabled) set)
-sorted_rule bus name pattern enabled set a k =
+sound_rule : (bus name pattern : List ℕ) (enabled : Bool) (set : RuleSet) → IsAllowed (rule_put bus name pattern enabled) set
+    → IsSound set → IsSound (applied (rule_put bus name pattern enabled) set)
+sound_rule bus name pattern enabled set a k =
     let new : Rule = record { name = name; pattern = pattern; enabled = enabled; targets = [] } in
     let change : Bus → Bus = λ b. record b { rules = put_rule new b.rules } in
     let bus_name : Bus → List ℕ = λ b. b.name in
@@ -189,25 +146,25 @@ sorted_rule bus name pattern enabled set a k =
     let short : (b : Bus) → named bus_name bus set.buses ≡ Some b → IsShort b → length (put_rule new b.rules) ≤ 300 =
     λ b is small.
     let there : rules_of bus set ≡ b.rules = ap rules_in is in
-    let sorted = All_named IsInOrder bus_name bus set.buses b is k.rules in
+    let sorted = All_named IsInOrder bus_name bus set.buses b is k.rule_order in
     short_put new b.rules sorted small (subst (λ rs. (is_some (named rule_name name rs) ≡ true) ⊎ (length rs < 300)) there a.2) in
     record {
-      sound = record {
-        rules = All_changed_named IsShort bus_name bus change set.buses k.buses short k.sound.rules;
-        targets = All_changed HaveTargets HaveTargets bus_name bus change set.buses (λ b h. h)
-            (λ b h. All_placed (AreTargets set) rule_name keeping_targets new b.rules
-            (omega arith, All-nil (λ target. IsQueueThere set target.arn)) (λ old p. p) h) k.sound.targets;
-        queues = k.sound.queues;
-      };
-      buses = sorted_changed bus_name bus change set.buses (λ b. refl) k.buses;
-      rules = All_changed IsInOrder IsInOrder bus_name bus change set.buses (λ b h. h)
-          (λ b h. sorted_placed rule_name keeping_targets new b.rules (λ old. refl) h) k.rules;
+      rules = All_changed_named IsShort bus_name bus change set.buses k.bus_order short k.rules;
+      targets = All_changed HaveTargets HaveTargets bus_name bus change set.buses (λ b h. h)
+          (λ b h. All_placed (AreTargets set) rule_name keeping_targets new b.rules
+          (omega arith, All-nil (λ target. IsQueueThere set target.arn)) (λ old p. p) h) k.targets;
       queues = k.queues;
+      bus_order = sorted_changed bus_name bus change set.buses (λ b. refl) k.bus_order;
+      rule_order = All_changed IsInOrder IsInOrder bus_name bus change set.buses (λ b h. h)
+          (λ b h. sorted_placed rule_name keeping_targets new b.rules (λ old. refl) h) k.rule_order;
+      target_order = All_changed InOrder InOrder bus_name bus change set.buses (λ b h. h)
+          (λ b h. All_placed RuleInOrder rule_name keeping_targets new b.rules tt (λ old p. p) h) k.target_order;
+      queue_order = k.queue_order;
     }
 
-sorted_targets : (bus rule : List ℕ) (targets : List Target) (set : RuleSet) → IsAllowed (targets_put bus rule targets) set → IsSortedSet set
-    → IsSortedSet (applied (targets_put bus rule targets) set)
-sorted_targets bus rule targets set a k =
+sound_targets : (bus rule : List ℕ) (targets : List Target) (set : RuleSet) → IsAllowed (targets_put bus rule targets) set → IsSound set
+    → IsSound (applied (targets_put bus rule targets) set)
+sound_targets bus rule targets set a k =
     let put : Rule → Rule = λ r. record r { targets = put_targets targets r.targets } in
     let bus_name : Bus → List ℕ = λ b. b.name in
     let rule_name : Rule → List ℕ = λ r. r.name in
@@ -219,7 +176,7 @@ sorted_targets bus rule targets set a k =
     λ r. All (λ target. IsShortName target.id × IsQueueThere set target.arn) targets × (length (put_targets targets r.targets) ≤ 5) in
     let have : (b : Bus) → named bus_name bus set.buses ≡ Some b → HaveTargets b → All (AreTargets set) (changed rule_name rule put b.rules) =
     λ b is h.
-    let sorted = All_named IsInOrder bus_name bus set.buses b is k.rules in
+    let sorted = All_named IsInOrder bus_name bus set.buses b is k.rule_order in
     All_changed_named (AreTargets set) rule_name rule put b.rules sorted
     (λ r at p.
     let there : rule_at bus rule set ≡ Some r = ap (λ o. named rule_name rule (rules_in o)) is ∙ at in
@@ -229,38 +186,38 @@ sorted_targets bus rule targets set a k =
     (λ target both. both.1) targets fact.0 in
     (fact.1, All_put_targets (λ target. IsQueueThere set target.arn) targets r.targets queues p.1)) h in
     record {
-      sound = record {
-        rules = All_changed IsShort IsShort bus_name bus change set.buses (λ b h. h) (λ b h. rw length-map h) k.sound.rules;
-        targets = All_changed_named HaveTargets bus_name bus change set.buses k.buses have k.sound.targets;
-        queues = k.sound.queues;
-      };
-      buses = sorted_changed bus_name bus change set.buses (λ b. refl) k.buses;
-      rules = All_changed IsInOrder IsInOrder bus_name bus change set.buses (λ b h. h)
-          (λ b h. sorted_changed rule_name rule put b.rules (λ r. refl) h) k.rules;
+      rules = All_changed IsShort IsShort bus_name bus change set.buses (λ b h. h) (λ b h. rw length-map h) k.rules;
+      targets = All_changed_named HaveTargets bus_name bus change set.buses k.bus_order have k.targets;
       queues = k.queues;
+      bus_order = sorted_changed bus_name bus change set.buses (λ b. refl) k.bus_order;
+      rule_order = All_changed IsInOrder IsInOrder bus_name bus change set.buses (λ b h. h)
+          (λ b h. sorted_changed rule_name rule put b.rules (λ r. refl) h) k.rule_order;
+      target_order = All_changed InOrder InOrder bus_name bus change set.buses (λ b h. h)
+          (λ b h. All_changed RuleInOrder RuleInOrder rule_name rule put b.rules (λ r o. o) (λ r o. sorted_put_targets targets r.targets o) h)
+          k.target_order;
+      queue_order = k.queue_order;
     }
 
-sorted_queue : (name : List ℕ) (set : RuleSet) → IsAllowed (queue_created name) set → IsSortedSet set → IsSortedSet (applied (queue_created name) set)
-sorted_queue name set a k =
+sound_queue : (name : List ℕ) (set : RuleSet) → IsAllowed (queue_created name) set → IsSound set → IsSound (applied (queue_created name) set)
+sound_queue name set a k =
     let next = applied (queue_created name) set in
     let itself : List ℕ → List ℕ = λ queue. queue in
     let stays : (target : Target) → IsQueueThere set target.arn → IsQueueThere next target.arn =
-    λ target h. (h.0, h.1, named_placed itself (λ old new. new) name h.0 set.queues (λ old. refl) h.2) in
+    λ target h. (h.0, h.1, named_placed itself replacing name h.0 set.queues (λ old. refl) h.2) in
     let targets : (rule : Rule) → AreTargets set rule → AreTargets next rule =
     λ rule h. (h.0, All-weaker (λ target. IsQueueThere set target.arn) (λ target. IsQueueThere next target.arn) stays rule.targets h.1) in
     record {
-      sound = record {
-        rules = k.sound.rules;
-        targets = All-weaker (λ b. All (AreTargets set) b.rules) (λ b. All (AreTargets next) b.rules)
-            (λ b h. All-weaker (AreTargets set) (AreTargets next) targets b.rules h) set.buses k.sound.targets;
-        queues = omega (arith, length_placed itself (λ old new. new) name set.queues, a.1);
-      };
-      buses = k.buses;
       rules = k.rules;
-      queues = sorted_placed itself (λ old new. new) name set.queues (λ old. refl) k.queues;
+      targets = All-weaker (λ b. All (AreTargets set) b.rules) (λ b. All (AreTargets next) b.rules)
+          (λ b h. All-weaker (AreTargets set) (AreTargets next) targets b.rules h) set.buses k.targets;
+      queues = omega (arith, length_placed itself replacing name set.queues, a.1);
+      bus_order = k.bus_order;
+      rule_order = k.rule_order;
+      target_order = k.target_order;
+      queue_order = sorted_placed itself replacing name set.queues (λ old. refl) k.queue_order;
     }
 
-pub sorted_applied : (control : Control) (set : RuleSet) → IsAllowed control set → IsSortedSet set → IsSortedSet (applied control set)
-sorted_applied (rule_put bus name pattern enabled) set a k = sorted_rule bus name pattern enabled set a k
-sorted_applied (targets_put bus rule targets) set a k = sorted_targets bus rule targets set a k
-sorted_applied (queue_created name) set a k = sorted_queue name set a k
+pub sound_applied : (control : Control) (set : RuleSet) → IsAllowed control set → IsSound set → IsSound (applied control set)
+sound_applied (rule_put bus name pattern enabled) set a k = sound_rule bus name pattern enabled set a k
+sound_applied (targets_put bus rule targets) set a k = sound_targets bus rule targets set a k
+sound_applied (queue_created name) set a k = sound_queue name set a k

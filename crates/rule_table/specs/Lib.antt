@@ -1,5 +1,5 @@
 pub mod Control
 pub mod RuleSet
 pub mod View
-pub mod Place
-pub mod Sorted
+pub mod Kept
+pub mod Room

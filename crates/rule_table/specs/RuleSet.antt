@@ -1,12 +1,9 @@
 -- The rule set: buses with their rules, queues, and the number of changes that made it; what a change does, and which
 -- changes are allowed. The data model is the public API's; the limits are this project's own, but for that on targets.
 use Rattle.std.specs.Prelude.{◌≡◌, ℕ, ◌+◌, ◌<◌, ◌≤◌, ◌⊎◌, Bool, true, false, if◌then◌else◌, List, [], ◌∷◌, length, map, Option, Some, None, All, is_some}
-use Rattle.std.specs.declared.cmp.Ordering.{Ordering}
-use Rattle.std.specs.declared.cmp.Ordering.TheVariants.{Less, Equal, Greater}
-use Rattle.std.specs.Cmp.Lexicographic.{slice_cmp}
-use Rattle.std.specs.Ordering.{nat_cmp}
 use Rattle.std.specs.Str.{bytes_eq}
 use Rattle.event_shape.specs.Names.{default_bus, IsShortName, queue_arn}
+use Rattle.name_rows.specs.Rows.{AreSorted, named, placed, replacing}
 use Rattle.pattern_meaning.specs.Pattern.{Pattern}
 use Rattle.pattern_read.specs.Text.{IsPatternText}
 use Rattle.rule_table.specs.declared.control.Target.{Target}
@@ -34,26 +31,6 @@ pub record RuleSet : Type 0 where
 abbrev pub first_set : RuleSet
 first_set = record { buses = record { name = default_bus; rules = [] } ∷ []; queues = []; count = 0 }
 
--- one of three, by the order of two names
-abbrev pub by_order : {A : Type 0} → Ordering → A → A → A → A
-by_order Less less equal greater = less
-by_order Equal less equal greater = equal
-by_order Greater less equal greater = greater
-
--- The rows, which are in the byte order of their names, with the new row in its place. If a row has the same name, `joined` of
--- the old row and the new one replaces it.
-abbrev pub placed : {A : Type 0} → (A → List ℕ) → (A → A → A) → A → List A → List A
-placed name_of joined new [] = new ∷ []
-placed name_of joined new (old ∷ rest) = by_order (slice_cmp nat_cmp (name_of new) (name_of old))
-    (new ∷ old ∷ rest)
-    (joined old new ∷ rest)
-    (old ∷ placed name_of joined new rest)
-
--- the first row with the name
-abbrev pub named : {A : Type 0} → (A → List ℕ) → List ℕ → List A → Option A
-named name_of name [] = None
-named name_of name (row ∷ rows) = if bytes_eq (name_of row) name then Some row else named name_of name rows
-
 -- the rows, with each row of the name changed
 abbrev pub changed : {A : Type 0} → (A → List ℕ) → List ℕ → (A → A) → List A → List A
 changed name_of name change rows = map (λ row. if bytes_eq (name_of row) name then change row else row) rows
@@ -67,7 +44,7 @@ put_rule = placed (λ rule. rule.name) keeping_targets
 
 -- the targets with one more, or with the target of the same id replaced
 abbrev pub put_target : Target → List Target → List Target
-put_target = placed (λ target. target.id) (λ old new. new)
+put_target = placed (λ target. target.id) replacing
 
 -- the targets with the new ones put in this order
 abbrev pub put_targets : List Target → List Target → List Target
@@ -75,7 +52,7 @@ put_targets [] targets = targets
 put_targets (new ∷ news) targets = put_targets news (put_target new targets)
 
 abbrev pub put_queue : List ℕ → List (List ℕ) → List (List ℕ)
-put_queue = placed (λ name. name) (λ old new. new)
+put_queue = placed (λ name. name) replacing
 
 -- the rules of the bus; none if there is no bus
 abbrev pub rules_in : Option Bus → List Rule
@@ -130,8 +107,13 @@ IsAllowed (targets_put bus rule targets) set =
     × (length (put_targets targets r.targets) ≤ 5))
 IsAllowed (queue_created name) set = (has_queue name set ≡ false) × (length set.queues < 1000)
 
--- the limits that hold of every rule set that allowed changes made from the first one
+-- What holds of every rule set that allowed changes made from the first one: the limits, and the order of buses, rules, targets and
+-- queues by the bytes of their names, which are distinct.
 pub record IsSound (set : RuleSet) : Type 0 where
   pub rules : All (λ bus. length bus.rules ≤ 300) set.buses
   pub targets : All (λ bus. All (λ rule. (length rule.targets ≤ 5) × All (λ target. IsQueueThere set target.arn) rule.targets) bus.rules) set.buses
   pub queues : length set.queues ≤ 1000
+  pub bus_order : AreSorted (λ bus. bus.name) set.buses
+  pub rule_order : All (λ bus. AreSorted (λ rule. rule.name) bus.rules) set.buses
+  pub target_order : All (λ bus. All (λ rule. AreSorted (λ target. target.id) rule.targets) bus.rules) set.buses
+  pub queue_order : AreSorted (λ queue. queue) set.queues

@@ -1,19 +1,16 @@
 //! Buses, with their rules.
-ghost use Rattle.std.specs.Prelude.{◌≡◌, ◌<◌, ◌≤◌, [], length, map, slice_index_or, slice_set, IfOk, IsErrOf};
-ghost use Rattle.std.specs.List.{insert};
-ghost use Rattle.std.specs.Arc.{arc_value};
+ghost use Rattle.std.specs.Prelude.{◌≡◌, [], IfOk, IsErrOf};
+ghost use Rattle.name_rows.specs.Rows.{placed, replacing};
 ghost use Rattle.rule_table.specs.RuleSet as spec;
-ghost use Rattle.rule_table.specs.Place.{IsPlace};
-ghost use Rattle.rule_table.specs.Sorted.{AreSorted, HasRoom, HasFew};
+ghost use Rattle.rule_table.specs.Room.{HasRoom, HasFew};
 
 use crate::control::{ControlFault, Target};
-use crate::rows::{Place, inserted, place_of, replaced, row_at};
 use crate::rule::{Rule, RulePattern};
 use crate::targets::{copies, with_targets};
 use json_text::{NoMemory, Text};
+use name_rows::{Row, Rows, RowsFrom};
 use std::alloc::Global;
 use std::marker::Model;
-use std::sync::Arc;
 
 /// The greatest number of rules of a bus.
 const MOST_RULES: usize = 300;
@@ -25,17 +22,23 @@ const MOST_TARGETS: usize = 5;
 #[derive(Debug, Drop)]
 pub struct Bus {
     pub(crate) name: Text,
-    pub(crate) rules: Vec<Arc<Rule>>,
+    pub(crate) rules: Rows<Rule>,
 }
 
 impl Model for Bus {
-    ghost use Rattle.std.specs.Prelude.{map};
-    ghost use Rattle.std.specs.Arc.{arc_value};
     ghost use Rattle.rule_table.specs.RuleSet.{Bus as View};
 
     ghost Value = { View };
 
-    ghost view = { λ b. record { name = b.name; rules = map arc_value b.rules.items } };
+    ghost view = { λ b. record { name = b.name; rules = b.rules } };
+}
+
+impl Row for Bus {
+    ghost name_of = { λ bus. bus.name };
+
+    fn row_name(&self) -> &str {
+        self.name()
+    }
 }
 
 impl Bus {
@@ -46,10 +49,10 @@ impl Bus {
     }
 
     /// The rules in the byte order of their names.
-    pub fn rules(&self) -> &[Arc<Rule>]
-        ensures { map arc_value result.now ≡ self.now.rules }
+    pub fn rules(&self) -> RowsFrom<'_, Rule>
+        ensures { result ≡ self.now.rules }
     {
-        self.rules.as_slice()
+        self.rules.iter()
     }
 
     /// The bus with the rule created or replaced. `NotBuilt` if the rule is new and the bus has 300 rules.
@@ -60,25 +63,24 @@ impl Bus {
         pattern: RulePattern,
         enabled: bool,
     ) -> Result<Bus, ControlFault>
-        requires { AreSorted (λ rule. rule.name) self.now.rules }
         ensures put { IfOk result (λ bus. bus ≡ record self.now {
           rules = spec.put_rule (record { name = name.now; pattern = pattern; enabled = enabled; targets = [] }) self.now.rules;
         }) }
         ensures room { IfOk result (λ _. HasRoom name.now self.now.rules) }
         ensures refused { IsErrOf result ControlFault.NotBuilt → ¬ HasRoom name.now self.now.rules }
     {
-        match self.place(name.as_str()) {
-            Place::Here(at) => {
-                let targets = copies(alloc, self.rule(at).targets())?;
+        match self.rules.find(name.as_str()) {
+            Some(old) => {
+                let targets = copies(alloc, old.targets())?;
                 let rule = Rule::new(alloc, name, pattern, enabled, targets)?;
-                Ok(self.with_replaced(alloc, at, rule)?)
+                Ok(self.with(alloc, rule)?)
             }
-            Place::Before(at) => {
-                if self.rules.len() >= MOST_RULES {
+            None => {
+                if self.rules.reach(MOST_RULES) {
                     return Err(ControlFault::NotBuilt);
                 }
                 let rule = Rule::new(alloc, name, pattern, enabled, Vec::new(alloc))?;
-                Ok(self.with_inserted(alloc, at, rule)?)
+                Ok(self.with(alloc, rule)?)
             }
         }
     }
@@ -91,55 +93,30 @@ impl Bus {
         rule: &str,
         targets: &[Target],
     ) -> Result<Bus, ControlFault>
-        requires { AreSorted (λ rule. rule.name) self.now.rules }
         ensures put { IfOk result (λ bus. bus ≡ record self.now {
           rules = spec.changed (λ r. r.name) rule.now (λ r. record r { targets = spec.put_targets targets.now r.targets }) self.now.rules;
         }) }
         ensures few { IfOk result (λ _. HasFew rule.now targets.now self.now.rules) }
         ensures refused { IsErrOf result ControlFault.NotBuilt → ¬ HasFew rule.now targets.now self.now.rules }
     {
-        let Place::Here(at) = self.place(rule) else {
+        let Some(old) = self.rules.find(rule) else {
             return Err(ControlFault::NotBuilt);
         };
-        let old = self.rule(at);
         let targets = with_targets(alloc, old.targets(), targets)?;
         if targets.len() > MOST_TARGETS {
             return Err(ControlFault::NotBuilt);
         }
         let rule = old.with_targets(alloc, targets)?;
-        Ok(self.with_replaced(alloc, at, rule)?)
+        Ok(self.with(alloc, rule)?)
     }
 
-    fn place(&self, rule: &str) -> Place
-        ensures { IsPlace (λ r. r.name) rule.now self.now.rules result }
-    {
-        place_of(&self.rules, rule)
-    }
-
-    fn rule(&self, at: usize) -> &Rule
-        requires { at < length self.now.rules }
-        ensures { result.now ≡ slice_index_or self.now.rules at result.now }
-    {
-        row_at(&self.rules, at)
-    }
-
-    fn with_replaced(&self, alloc: Global, at: usize, rule: Rule) -> Result<Bus, NoMemory>
-        requires { at < length self.now.rules }
-        ensures { IfOk result (λ bus. bus ≡ record self.now { rules = slice_set self.now.rules at rule }) }
+    /// The bus with this rule in place of the one of its name, if any.
+    fn with(&self, alloc: Global, rule: Rule) -> Result<Bus, NoMemory>
+        ensures { IfOk result (λ bus. bus ≡ record self.now { rules = placed (λ r. r.name) replacing rule self.now.rules }) }
     {
         Ok(Bus {
             name: self.name.copy(alloc)?,
-            rules: replaced(alloc, &self.rules, at, rule)?,
-        })
-    }
-
-    fn with_inserted(&self, alloc: Global, at: usize, rule: Rule) -> Result<Bus, NoMemory>
-        requires { at ≤ length self.now.rules }
-        ensures { IfOk result (λ bus. bus ≡ record self.now { rules = insert self.now.rules at rule }) }
-    {
-        Ok(Bus {
-            name: self.name.copy(alloc)?,
-            rules: inserted(alloc, &self.rules, at, rule)?,
+            rules: self.rules.with(alloc, rule)?,
         })
     }
 }

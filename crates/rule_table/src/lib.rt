@@ -3,7 +3,7 @@
 
 mod bus;
 mod control;
-mod rows;
+mod laws;
 mod rule;
 mod rule_set;
 mod targets;
@@ -12,5 +12,6 @@ mod tests;
 
 pub use bus::Bus;
 pub use control::{Control, ControlFault, Target};
+pub use laws::{matching_stays, other_buses_stay};
 pub use rule::Rule;
 pub use rule_set::RuleSet;

@@ -6,6 +6,7 @@ ghost use Rattle.pattern_read.specs.Text.{IsPatternText};
 
 use crate::control::{ControlFault, Target};
 use json_text::{NoMemory, Text};
+use name_rows::Row;
 use pattern_meaning::Pattern;
 use pattern_read::{PatternFault, read_pattern};
 use std::alloc::Global;
@@ -76,6 +77,14 @@ impl Model for Rule {
       enabled = r.enabled;
       targets = r.targets.items;
     } };
+}
+
+impl Row for Rule {
+    ghost name_of = { λ rule. rule.name };
+
+    fn row_name(&self) -> &str {
+        self.name()
+    }
 }
 
 impl Rule {

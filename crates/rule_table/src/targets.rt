@@ -1,11 +1,13 @@
 //! Targets of one rule, in the byte order of their ids.
 ghost use Rattle.std.specs.Prelude.{◌≡◌, IfOk, OnOk};
+ghost use Rattle.name_rows.specs.Place.{IsPlace};
 ghost use Rattle.rule_table.specs.RuleSet as spec;
 
 use crate::control::Target;
-use crate::rows::{Place, place_of};
 use json_text::NoMemory;
+use name_rows::Place;
 use std::alloc::Global;
+use std::cmp::Ordering;
 
 /// A copy of the targets.
 pub(crate) fn copies(alloc: Global, targets: &[Target]) -> Result<Vec<Target>, NoMemory>
@@ -16,6 +18,20 @@ pub(crate) fn copies(alloc: Global, targets: &[Target]) -> Result<Vec<Target>, N
         others.push(target.copy(alloc)?)?;
     }
     Ok(others)
+}
+
+/// The place of the id in the targets.
+fn place_of(targets: &[Target], id: &str) -> Place
+    ensures { IsPlace (λ target. target.id) id.now targets.now result }
+{
+    for (at, target) in targets.iter().enumerate() {
+        match id.cmp(target.id.as_str()) {
+            Ordering::Less => return Place::Before(at),
+            Ordering::Equal => return Place::Here(at),
+            Ordering::Greater => (),
+        }
+    }
+    Place::Before(targets.len())
 }
 
 fn put_target(targets: &mut Vec<Target>, new: Target) -> Result<(), NoMemory>

@@ -1,4 +1,4 @@
-use crate::{Control, ControlFault, RuleSet, Target};
+use crate::{Bus, Control, ControlFault, RuleSet, Target};
 use event_shape::{queue_arn, queue_of};
 use json_text::Text;
 use std::alloc::Global;
@@ -123,6 +123,14 @@ fn shown(alloc: Global, set: &RuleSet) -> Result<String, Fail> {
     Ok(out)
 }
 
+fn rule_count(bus: &Bus) -> usize {
+    let mut count: usize = 0;
+    for _rule in bus.rules() {
+        count = count.saturating_add(1);
+    }
+    count
+}
+
 #[test]
 fn each_change_is_made_or_refused(rt: HostRuntime) -> Result<(), Fail> {
     let alloc = rt.alloc();
@@ -143,7 +151,7 @@ fn each_change_is_made_or_refused(rt: HostRuntime) -> Result<(), Fail> {
 fn a_set_shows_its_buses_and_queues(rt: HostRuntime) -> Result<(), Fail> {
     let alloc = rt.alloc();
     let first = RuleSet::first(alloc)?;
-    assert_eq!(rt; first.bus("default").map(|bus| bus.rules().len()), Some(0));
+    assert_eq!(rt; first.bus("default").map(|bus| rule_count(bus)), Some(0));
     assert!(rt; first.bus("nope").is_none());
     assert!(rt; !first.queue("a"));
     assert_eq!(rt; first.control_count(), 0);
@@ -163,7 +171,7 @@ fn a_set_shows_its_buses_and_queues(rt: HostRuntime) -> Result<(), Fail> {
         return Err(Fail::from("there is no bus"));
     };
     assert!(rt; bus.name() == "default");
-    assert_eq!(rt; bus.rules().len(), 1);
+    assert_eq!(rt; rule_count(bus), 1);
     for rule in bus.rules() {
         assert_eq!(rt; rule.pattern().fields.len(), 1);
         assert!(rt;

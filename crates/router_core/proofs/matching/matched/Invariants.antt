@@ -1,9 +1,12 @@
-use Rattle.std.proofs.Common.{map, take}
-use Rattle.std.specs.Arc.{arc_value}
+use Rattle.std.proofs.Common.{◌≡◌, ◌++◌, List, length}
 use Rattle.json_text.specs.View.{tree_of}
+use Rattle.rule_table.specs.RuleSet.{Rule}
 use Rattle.router_core.specs.Matching.{AreMatched}
 use Rattle.router_core.proofs.matching.matched.Given as goal
 
--- the targets of the rules so far
+-- the targets of the rules so far, which are those that are not left
 abbrev pub invariant-loop-rule : goal.invariant-loop-rule
-invariant-loop-rule l = AreMatched l.bus (map arc_value (take l.rule-index l.rule-items)) (tree_of l.event) l.targets.items
+invariant-loop-rule l = (done : List Rule) × (done ++ l.rules ≡ l.initial.rules) × AreMatched l.bus done (tree_of l.event) l.targets.items
+
+abbrev pub decreases-loop-rule : goal.decreases-loop-rule
+decreases-loop-rule l = length l.rules

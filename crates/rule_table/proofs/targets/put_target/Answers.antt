@@ -1,7 +1,7 @@
 use Rattle.std.proofs.Common.{ℕ, List, sym, subst, ◌∙◌}
 use Rattle.rule_table.specs.declared.control.Target.{Target}
-use Rattle.rule_table.specs.Place.{IsHere, IsBefore}
-use Rattle.rule_table.proofs.RowLemmas.{placed_here, placed_before}
+use Rattle.name_rows.specs.Place.{IsHere, IsBefore}
+use Rattle.rule_table.proofs.RowLemmas.{put_here, put_before}
 use Rattle.rule_table.proofs.targets.put_target.Goals as goal
 
 pub returns-in-Here : goal.returns-in-Here
@@ -9,11 +9,11 @@ returns-in-Here c =
     let id : Target → List ℕ = λ target. target.id in
     let named = subst (λ name. IsHere id name c.as_slice.result.now c.in-Here.at) c.as_str.ensures c.in-Here.ensures in
     let here = subst (λ rows. IsHere id c.args.new.id rows c.in-Here.at) c.as_slice.ensures.value named in
-    sym (placed_here id (λ old new. new) c.args.new c.args.targets.now.items c.in-Here.at here)
+    sym (put_here id c.args.new c.args.targets.now.items c.in-Here.at here)
 
 pub returns-in_ok-insert-in-Before : goal.returns-in_ok-insert-in-Before
 returns-in_ok-insert-in-Before c =
     let id : Target → List ℕ = λ target. target.id in
     let named = subst (λ name. IsBefore id name c.as_slice.result.now c.in-Before.at) c.as_str.ensures c.in-Before.ensures in
     let before = subst (λ rows. IsBefore id c.args.new.id rows c.in-Before.at) c.as_slice.ensures.value named in
-    c.in_ok-insert-in-Before.ensures.items ∙ sym (placed_before id (λ old new. new) c.args.new c.args.targets.now.items c.in-Before.at before)
+    c.in_ok-insert-in-Before.ensures.items ∙ sym (put_before id c.args.new c.args.targets.now.items c.in-Before.at before)
