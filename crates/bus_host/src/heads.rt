@@ -78,7 +78,8 @@ impl Heads {
         stream.set_nonblocking(false).is_err()
     }
 
-    /// Reads what has arrived. Returns whether no further bytes are of use: the reply is decided, or none follow.
+    /// Reads what has arrived. Returns whether no further bytes are of use: the reply is decided,
+    /// or none follow.
     pub(crate) fn is_settled_by<R: Read + OpenStream>(&mut self, stream: &mut R) -> bool {
         self.take_arrived(stream) || !self.is_awaited()
     }

@@ -15,10 +15,10 @@ const LIMIT: u64 = 5;
 /// How many milliseconds a write waits for room before the link looks for a reply.
 const PAUSE: u64 = 50;
 
-/// A link to the endpoints of this machine, with a connection for each send. It connects to 127.0.0.1, whatever the text
-/// of the endpoint says, and for `localhost` to ::1 if that refuses. A send takes at most 5 seconds by the monotonic
-/// clock. What is no endpoint fails before the link connects. All memory is taken before that. The body of a reply is not
-/// read.
+/// A link to the endpoints of this machine, with a connection for each send. It connects to
+/// 127.0.0.1, whatever the text of the endpoint says, and for `localhost` to ::1 if that refuses. A
+/// send takes at most 5 seconds by the monotonic clock. What is no endpoint fails before the link
+/// connects. All memory is taken before that. The body of a reply is not read.
 #[derive(Drop)]
 pub struct HttpLink<N> {
     alloc: Global,
@@ -67,7 +67,8 @@ impl<N: Net + Clock> HttpLink<N> {
         }
     }
 
-    /// Writes the request, until a write fails, the time is over, or the reply is there before all is written.
+    /// Writes the request, until a write fails, the time is over, or the reply is there before all
+    /// is written.
     fn write(&self, stream: &mut N::Stream, request: &[u8], heads: &mut Heads, start: Instant) {
         let mut rest = request;
         for _ in 0..u64::MAX {
@@ -89,7 +90,8 @@ impl<N: Net + Clock> HttpLink<N> {
         }
     }
 
-    /// Reads until the reply is decided, the connection ends, or the time is over and nothing more has arrived.
+    /// Reads until the reply is decided, the connection ends, or the time is over and nothing more
+    /// has arrived.
     fn read(&self, stream: &mut N::Stream, heads: &mut Heads, start: Instant) {
         for _ in 0..u64::MAX {
             if !heads.is_awaited() {

@@ -1,4 +1,4 @@
-//! The host as traits: a door for connections, a host that opens disks, doors and links, and a gate. A link over TCP.
+//! The host as traits: doors, disks, links and a gate; a host that opens nothing; a link over TCP.
 #![tactic(auto)]
 
 mod door;

@@ -154,7 +154,8 @@ host_value url here valid =
 
 four : (a b c d : Field) → IsField a → IsField b → IsField c → IsField d → All IsField (a ∷ b ∷ c ∷ d ∷ [])
 four a b c d is_a is_b is_c is_d =
-    All-cons IsField a (b ∷ c ∷ d ∷ []) is_a (All-cons IsField b (c ∷ d ∷ []) is_b (All-cons IsField c (d ∷ []) is_c (All-cons IsField d [] is_d (All-nil IsField))))
+    All-cons IsField a (b ∷ c ∷ d ∷ []) is_a
+    (All-cons IsField b (c ∷ d ∷ []) is_b (All-cons IsField c (d ∷ []) is_c (All-cons IsField d [] is_d (All-nil IsField))))
 
 lines_are : (url : Parts) (size : ℕ) → Local url → IsValid url → size < 2 ^ 64 → All IsField (map field_line (request_fields url size))
 unfolding is_token_byte

@@ -23,8 +23,8 @@ pub enum Reply {
     Never,
 }
 
-/// What the bytes so far show. Interim heads, those with the codes 100 and 102 to 199, are skipped. The time is linear in
-/// the number of bytes, of which at most 16,384 are read.
+/// What the bytes so far show. Interim heads, those with the codes 100 and 102 to 199, are skipped.
+/// The time is linear in the number of bytes, of which at most 16,384 are read.
 pub fn read_reply(bytes: &[u8]) -> Reply
     ensures { Reads bytes.now result }
 {

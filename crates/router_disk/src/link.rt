@@ -19,8 +19,8 @@ pub enum LinkFault {
 pub trait Link: Send {
     ghost use Rattle.router_disk.specs.Faults.{CountsFaults, link_outcome};
 
-    /// The exchanges so far that had an answer: endpoint, text and status code. `None` if they are not known. An
-    /// exchange that failed may have reached its endpoint; it has no answer.
+    /// The exchanges so far that had an answer: endpoint, text and status code. `None` if they are
+    /// not known. An exchange that failed may have reached its endpoint; it has no answer.
     ghost answered: { Self → Option (List Exchange) };
 
     /// The number of sends that have failed.
@@ -32,6 +32,7 @@ pub trait Link: Send {
 
     /// Sends `body` to the endpoint `to`, and returns the status code of the reply.
     fn send(&mut self, to: &str, body: &str) -> Result<u16, LinkFault>
-        ensures answers { Answered (answered self.old) (answered self.new) (exchanges_of result to.now body.now) }
+        ensures answers { Answered (answered self.old) (answered self.new)
+            (exchanges_of result to.now body.now) }
         ensures count { CountsFaults (faults self.old) (faults self.new) (link_outcome result) };
 }

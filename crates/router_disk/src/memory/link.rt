@@ -15,8 +15,9 @@ pub struct Answer {
     pub code: u16,
 }
 
-/// A link that gives the results that it plans, in order, and then its last one forever. It remembers each exchange that
-/// had an answer, so a send may run out of memory before its planned result is given.
+/// A link that gives the results that it plans, in order, and then its last one forever. It
+/// remembers each exchange that had an answer, so a send may run out of memory before its planned
+/// result is given.
 #[derive(Drop)]
 pub struct MemLink {
     /// The result of the next send.
@@ -50,7 +51,8 @@ impl<T: Drop> From<AllocFailed<T>> for LinkFault {
 }
 
 impl MemLink {
-    /// A link with no exchange and no fault yet, that plans `first` and then the results of `later`.
+    /// A link with no exchange and no fault yet, that plans `first` and then the results of
+    /// `later`.
     pub fn new(
         alloc: Global,
         first: Result<u16, LinkFault>,
@@ -92,7 +94,8 @@ impl MemLink {
 // Adds an exchange.
 fn remember(answers: &mut Vec<Answer>, to: &str, body: &str, code: u16) -> Result<(), LinkFault>
     ensures ok { OnOk result (map exchange_of answers.new.items
-        ≡ map exchange_of answers.old.items ++ record { endpoint = to.now; text = body.now; code = code } ∷ []) }
+        ≡ map exchange_of answers.old.items
+        ++ record { endpoint = to.now; text = body.now; code = code } ∷ []) }
     ensures err { OnErr result (answers.new.items ≡ answers.old.items) }
     ensures cause { OnErr result (result ≡ Err LinkFault.NoMemory) }
 {
