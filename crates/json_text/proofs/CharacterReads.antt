@@ -7,7 +7,7 @@ use Rattle.std.proofs.lemmas.Bool.{cond_both, cond-true, cond-false, eqb-false, 
 use Rattle.std.proofs.lemmas.Str.{IsUtf8-append, IsUtf8-encode, IsUtf8-nil}
 use Rattle.std.proofs.lemmas.Bool.Decides.{nat_tests}
 use Rattle.json_text.specs.Characters.{SpellsCharacter, unescaped, escaped, unit, pair, SpellsCharacters, none, more, escape_of, hex_digit_of, IsHex, IsHighSurrogate, IsLowSurrogate, pair_of}
-use Rattle.json_text.specs.Reading.{StringPart, between, backslash, hex, high, high_backslash, tail, StringStep, goes_on, stops, string_step, unescaped_step, is_within, tail_after, escape_step, digit_fits, unit_step, hex_step}
+use Rattle.json_text.specs.Reading.{StringPart, between, backslash, hex, high, high_backslash, tail, StringStep, goes_on, stops, string_step, unescaped_step, is_within, tail_after, escape_step, digit_fits, unit_step, unit_after, hex_step}
 use Rattle.json_text.specs.Scan.{IsUnitSoFar}
 use Rattle.json_text.proofs.Following.{Characters, StringOn}
 use Rattle.json_text.proofs.Encoded.{IsLong, long_2, long_3, long_4, encode_1, encode_2, encode_3, encode_4, low_is_scalar, high_is_scalar}
@@ -19,7 +19,7 @@ Closes (suc n) bytes = (b : ℕ) → 128 ≤ b → b ≤ 191 → Closes n (bytes
 
 -- a byte of the range does, and n bytes after it
 abbrev IsFront : ℕ → ℕ → ℕ → List ℕ → Type 0
-IsFront low up n front = (b : ℕ) → low ≤ b → b ≤ up → Closes n (front ++ b ∷ [])
+IsFront low width n front = (b : ℕ) → low ≤ b → b ≤ low + width → Closes n (front ++ b ∷ [])
 
 within_from : (low up b : ℕ) → is_within low up b ≡ true → low ≤ b
 within_from low up b t = grind (arith, nat_tests)
@@ -30,69 +30,69 @@ within_to low up b t = grind (arith, nat_tests)
 apart : (a b : ℕ) → (a ≡ b → ⊥) → (a < b) ⊎ (b < a)
 apart a b h = grind arith
 
-front_224 : (b : ℕ) → b ≡ 224 → IsFront 160 191 1 (b ∷ [])
+front_224 : (b : ℕ) → b ≡ 224 → IsFront 160 31 1 (b ∷ [])
 front_224 b e = λ x i j y k l. long_3 b x y (omega arith) (omega arith) (omega arith) j k l (inl i) (inr (inl (omega arith)))
 
-front_237 : (b : ℕ) → b ≡ 237 → IsFront 128 159 1 (b ∷ [])
+front_237 : (b : ℕ) → b ≡ 237 → IsFront 128 31 1 (b ∷ [])
 front_237 b e = λ x i j y k l. long_3 b x y (omega arith) (omega arith) i (omega arith) k l (inr (omega arith)) (inl (omega arith))
 
-front_three : (b : ℕ) → 225 ≤ b → b ≤ 239 → (b ≡ 237 → ⊥) → IsFront 128 191 1 (b ∷ [])
+front_three : (b : ℕ) → 225 ≤ b → b ≤ 239 → (b ≡ 237 → ⊥) → IsFront 128 63 1 (b ∷ [])
 front_three b g h n = λ x i j y k l. long_3 b x y (omega arith) h i j k l (inr g) (inr (apart b 237 n))
 
-front_240 : (b : ℕ) → b ≡ 240 → IsFront 144 191 2 (b ∷ [])
+front_240 : (b : ℕ) → b ≡ 240 → IsFront 144 47 2 (b ∷ [])
 front_240 b e = λ x i j y k l z m n. long_4 b x y z (omega arith) (omega arith) (omega arith) j k l m n (inl i) (inr (omega arith))
 
-front_four : (b : ℕ) → 241 ≤ b → b ≤ 243 → IsFront 128 191 2 (b ∷ [])
+front_four : (b : ℕ) → 241 ≤ b → b ≤ 243 → IsFront 128 63 2 (b ∷ [])
 front_four b g h = λ x i j y k l z m n. long_4 b x y z (omega arith) (omega arith) i j k l m n (inr g) (inr (omega arith))
 
-front_244 : (b : ℕ) → b ≡ 244 → IsFront 128 143 2 (b ∷ [])
+front_244 : (b : ℕ) → b ≡ 244 → IsFront 128 15 2 (b ∷ [])
 front_244 b e = λ x i j y k l z m n. long_4 b x y z (omega arith) (omega arith) i (omega arith) k l m n (inr (omega arith)) (inl (omega arith))
 
 -- what an unescaped byte does
 pub unescaped_by : (P : StringStep → Type 0) (text : List ℕ) (b : ℕ) → (32 ≤ b → b ≤ 127 → P (goes_on between (text ++ b ∷ [])))
-    → ((low up n : ℕ) → low ≤ up → IsFront low up n (b ∷ []) → P (goes_on (tail low up n) (text ++ b ∷ []))) → P stops → P (unescaped_step text b)
+    → ((low width n : ℕ) → IsFront low width n (b ∷ []) → P (goes_on (tail low width n) (text ++ b ∷ []))) → P stops → P (unescaped_step text b)
 unescaped_by P text b f g h =
     cond_both (is_within 32 127 b) _ _ P (λ t. f (within_from 32 127 b t) (within_to 32 127 b t)) (λ _.
-    cond_both (is_within 194 223 b) _ _ P (λ t. g 128 191 0 (omega arith) (λ x i j. long_2 b x (within_from 194 223 b t) (within_to 194 223 b t) i j)) (λ _.
-    cond_both (b == 224) _ _ P (λ t. g 160 191 1 (omega arith) (front_224 b (eqb-true b 224 t))) (λ _.
-    cond_both (b == 237) _ _ P (λ t. g 128 159 1 (omega arith) (front_237 b (eqb-true b 237 t))) (λ n.
-    cond_both (is_within 225 239 b) _ _ P (λ t. g 128 191 1 (omega arith) (front_three b (within_from 225 239 b t) (within_to 225 239 b t) (eqb-false b 237 n)))
+    cond_both (is_within 194 223 b) _ _ P (λ t. g 128 63 0 (λ x i j. long_2 b x (within_from 194 223 b t) (within_to 194 223 b t) i j)) (λ _.
+    cond_both (b == 224) _ _ P (λ t. g 160 31 1 (front_224 b (eqb-true b 224 t))) (λ _.
+    cond_both (b == 237) _ _ P (λ t. g 128 31 1 (front_237 b (eqb-true b 237 t))) (λ n.
+    cond_both (is_within 225 239 b) _ _ P (λ t. g 128 63 1 (front_three b (within_from 225 239 b t) (within_to 225 239 b t) (eqb-false b 237 n)))
     (λ _.
-    cond_both (b == 240) _ _ P (λ t. g 144 191 2 (omega arith) (front_240 b (eqb-true b 240 t))) (λ _.
-    cond_both (is_within 241 243 b) _ _ P (λ t. g 128 191 2 (omega arith) (front_four b (within_from 241 243 b t) (within_to 241 243 b t))) (λ _.
-    cond_both (b == 244) _ _ P (λ t. g 128 143 2 (omega arith) (front_244 b (eqb-true b 244 t))) (λ _. h))))))))
+    cond_both (b == 240) _ _ P (λ t. g 144 47 2 (front_240 b (eqb-true b 240 t))) (λ _.
+    cond_both (is_within 241 243 b) _ _ P (λ t. g 128 63 2 (front_four b (within_from 241 243 b t) (within_to 241 243 b t))) (λ _.
+    cond_both (b == 244) _ _ P (λ t. g 128 15 2 (front_244 b (eqb-true b 244 t))) (λ _. h))))))))
 
 -- a digit is less than 16
 pub hex_below : (b d : ℕ) → hex_digit_of b ≡ Some d → d < 16
 hex_below b d e = grind (arith, nat_tests)
 
 -- what the tests on the first two digits say
-alone_fits : (left n d : ℕ) → digit_fits None left n d ≡ true → left ≡ 3 → n ≡ 13 → d < 12
+alone_fits : (left n d : ℕ) → digit_fits None left n d ≡ true → left ≡ 2 → n ≡ 13 → d < 12
 alone_fits left n d t e f = grind (arith, nat_tests)
 
-low_fits_first : (lead left n d : ℕ) → digit_fits (Some lead) left n d ≡ true → left ≡ 4 → d ≡ 13
+low_fits_first : (lead left n d : ℕ) → digit_fits (Some lead) left n d ≡ true → left ≡ 3 → d ≡ 13
 low_fits_first lead left n d t e = grind (arith, nat_tests)
 
-low_fits_second : (lead left n d : ℕ) → digit_fits (Some lead) left n d ≡ true → left ≡ 3 → 12 ≤ d
+low_fits_second : (lead left n d : ℕ) → digit_fits (Some lead) left n d ≡ true → left ≡ 2 → 12 ≤ d
 low_fits_second lead left n d t e = grind (arith, nat_tests)
 
 alone_second : (n d : ℕ) → n < 16 → d < 16 → (n ≡ 13 → d < 12) → (16 * n + d < 0xDC) ⊎ (0xE0 ≤ 16 * n + d)
 alone_second n d h i f = grind arith
 
 -- one digit more
-pub so_far_more : (lead : Option ℕ) (left n d : ℕ) → left < 4 → IsUnitSoFar lead (suc left) n → d < 16 → digit_fits lead (suc left) n d ≡ true
+pub so_far_more : (lead : Option ℕ) (left n d : ℕ) → left < 4 → IsUnitSoFar lead (suc left) n → d < 16 → digit_fits lead left n d ≡ true
     → IsUnitSoFar lead left (16 * n + d)
-so_far_more None zero n d l (h, inl i) k f = (omega arith, inl (omega arith))
-so_far_more None zero n d l (h, inr i) k f = (omega arith, inr (omega arith))
-so_far_more None (suc zero) n d l (h, inl i) k f = (omega arith, inl (omega arith))
-so_far_more None (suc zero) n d l (h, inr i) k f = (omega arith, inr (omega arith))
-so_far_more None (suc (suc zero)) n d l h k f = let e : n ≡ 13 → d < 12 = alone_fits 3 n d f refl in (omega arith, alone_second n d h k e)
-so_far_more None (suc (suc (suc zero))) n d l h k f = omega arith
+so_far_more None zero n d l (b, (h, inl i)) k f = (omega arith, inl (omega arith))
+so_far_more None zero n d l (b, (h, inr i)) k f = (omega arith, inr (omega arith))
+so_far_more None (suc zero) n d l (b, (h, inl i)) k f = (omega arith, (omega arith, inl (omega arith)))
+so_far_more None (suc zero) n d l (b, (h, inr i)) k f = (omega arith, (omega arith, inr (omega arith)))
+so_far_more None (suc (suc zero)) n d l (b, h) k f = (omega arith, (omega arith, alone_second n d h k (alone_fits 2 n d f refl)))
+so_far_more None (suc (suc (suc zero))) n d l (b, h) k f = (omega arith, omega arith)
 so_far_more None (suc (suc (suc (suc left)))) n d l h k f = absurd (omega arith)
-so_far_more (Some lead) zero n d l h k f = (omega arith, omega arith)
-so_far_more (Some lead) (suc zero) n d l h k f = (omega arith, omega arith)
-so_far_more (Some lead) (suc (suc zero)) n d l h k f = let e : 12 ≤ d = low_fits_second lead 3 n d f refl in (omega arith, omega arith)
-so_far_more (Some lead) (suc (suc (suc zero))) n d l h k f = let e : d ≡ 13 = low_fits_first lead 4 n d f refl in omega arith
+so_far_more (Some lead) zero n d l (b, h) k f = (omega arith, (omega arith, omega arith))
+so_far_more (Some lead) (suc zero) n d l (b, h) k f = (omega arith, (omega arith, omega arith))
+so_far_more (Some lead) (suc (suc zero)) n d l (b, h) k f = let e = low_fits_second lead 2 n d f refl in (omega arith, (omega arith, omega (arith, e)))
+so_far_more (Some lead) (suc (suc (suc zero))) n d l (b, h) k f = let e = low_fits_first lead 3 n d f refl in (omega arith, omega (arith, e))
 so_far_more (Some lead) (suc (suc (suc (suc left)))) n d l h k f = absurd (omega arith)
 
 long_character : (bytes : List ℕ) → IsLong bytes → SpellsCharacter bytes bytes
@@ -117,25 +117,13 @@ inside low up b l u = grind (arith, nat_tests)
 short_step : (text : List ℕ) (b : ℕ) → 32 ≤ b → b < 128 → b ≢ 34 → b ≢ 92 → string_step between text b ≡ goes_on between (text ++ b ∷ [])
 short_step text b l u q s = grind (arith, nat_tests)
 
-two_step : (text : List ℕ) (b : ℕ) → 194 ≤ b → b ≤ 223 → string_step between text b ≡ goes_on (tail 128 191 0) (text ++ b ∷ [])
+two_step : (text : List ℕ) (b : ℕ) → 194 ≤ b → b ≤ 223 → string_step between text b ≡ goes_on (tail 128 63 0) (text ++ b ∷ [])
 two_step text b l u = grind (arith, nat_tests)
 
-step_224 : (text : List ℕ) (b : ℕ) → b ≡ 224 → string_step between text b ≡ goes_on (tail 160 191 1) (text ++ b ∷ [])
-step_224 text b e = rw e refl
-
-step_237 : (text : List ℕ) (b : ℕ) → b ≡ 237 → string_step between text b ≡ goes_on (tail 128 159 1) (text ++ b ∷ [])
-step_237 text b e = rw e refl
-
-three_step : (text : List ℕ) (b : ℕ) → 225 ≤ b → b ≤ 239 → b ≢ 237 → string_step between text b ≡ goes_on (tail 128 191 1) (text ++ b ∷ [])
+three_step : (text : List ℕ) (b : ℕ) → 225 ≤ b → b ≤ 239 → b ≢ 237 → string_step between text b ≡ goes_on (tail 128 63 1) (text ++ b ∷ [])
 three_step text b l u n = grind (arith, nat_tests)
 
-step_240 : (text : List ℕ) (b : ℕ) → b ≡ 240 → string_step between text b ≡ goes_on (tail 144 191 2) (text ++ b ∷ [])
-step_240 text b e = rw e refl
-
-step_244 : (text : List ℕ) (b : ℕ) → b ≡ 244 → string_step between text b ≡ goes_on (tail 128 143 2) (text ++ b ∷ [])
-step_244 text b e = rw e refl
-
-four_step : (text : List ℕ) (b : ℕ) → 241 ≤ b → b ≤ 243 → string_step between text b ≡ goes_on (tail 128 191 2) (text ++ b ∷ [])
+four_step : (text : List ℕ) (b : ℕ) → 241 ≤ b → b ≤ 243 → string_step between text b ≡ goes_on (tail 128 63 2) (text ++ b ∷ [])
 four_step text b l u = grind (arith, nat_tests)
 
 below : (c : ℕ) → (c < 55296) ⊎ ((57344 ≤ c) × (c < 1114112)) → c < 1114112
@@ -144,22 +132,22 @@ below c (inr h) = h.1
 
 -- the digits of a code unit fit
 all_fit : (lead : Option ℕ) (u w x y z : ℕ) → IsUnitSoFar lead zero u → u ≡ 16 * (16 * (16 * w + x) + y) + z → w < 16 → x < 16 → y < 16 → z < 16
-    → (digit_fits lead 4 0 w ≡ true) × (digit_fits lead 3 w x ≡ true) × (digit_fits lead 2 (16 * w + x) y ≡ true)
-    × (digit_fits lead 1 (16 * (16 * w + x) + y) z ≡ true)
+    → (digit_fits lead 3 0 w ≡ true) × (digit_fits lead 2 w x ≡ true) × (digit_fits lead 1 (16 * w + x) y ≡ true)
+    × (digit_fits lead 0 (16 * (16 * w + x) + y) z ≡ true)
 all_fit None u w x y z so e f g h i = (refl, second w x (λ o. first u w x y z so.1 e g h i o), refl, refl)
   where
     first : (u w x y z : ℕ) → (u < 0xDC00) ⊎ (0xE000 ≤ u) → u ≡ 16 * (16 * (16 * w + x) + y) + z → x < 16 → y < 16 → z < 16 → w ≡ 13 → x < 12
     first u w x y z (inl s) e g h i o = omega arith
     first u w x y z (inr s) e g h i o = omega arith
 
-    second : (w x : ℕ) → (w ≡ 13 → x < 12) → digit_fits None 3 w x ≡ true
+    second : (w x : ℕ) → (w ≡ 13 → x < 12) → digit_fits None 2 w x ≡ true
     second w x h = grind (arith, nat_tests)
-all_fit (Some lead) u w x y z so e f g h i = (first w (omega (arith, so.0, so.1)), second x (omega (arith, so.0, so.1)), refl, refl)
+all_fit (Some lead) u w x y z so e f g h i = (first w (omega (arith, so.1.0, so.1.1)), second x (omega (arith, so.1.0, so.1.1)), refl, refl)
   where
-    first : (w : ℕ) → w ≡ 13 → digit_fits (Some lead) 4 0 w ≡ true
+    first : (w : ℕ) → w ≡ 13 → digit_fits (Some lead) 3 0 w ≡ true
     first w h = grind (arith, nat_tests)
 
-    second : (x : ℕ) → 12 ≤ x → digit_fits (Some lead) 3 w x ≡ true
+    second : (x : ℕ) → 12 ≤ x → digit_fits (Some lead) 2 w x ≡ true
     second x h = grind (arith, nat_tests)
 
 hex_small : (digits : List ℕ) (u : ℕ) → IsHex digits u → u < 65536
@@ -187,7 +175,7 @@ module _ (K : List ℕ → List ℕ → Type 0) where
   -- a digit of a code unit, and four of them
   abbrev Digit : Option ℕ → ℕ → ℕ → List ℕ → List ℕ → Type 0
   Digit lead left n text bytes = (b d : ℕ) × (bs : List ℕ) × (bytes ≡ b ∷ bs) × (hex_digit_of b ≡ Some d) × (digit_fits lead left n d ≡ true)
-      × Then (cond (left == 1) (unit_step text lead (16 * n + d)) (goes_on (hex lead (left - 1) (16 * n + d)) text)) text bs
+      × Then (unit_after text lead left (16 * n + d)) text bs
 
   digit_by : (lead : Option ℕ) (left n : ℕ) (text : List ℕ) (b : ℕ) (bs : List ℕ) (o : Option ℕ) → hex_digit_of b ≡ o
       → Then (hex_step text lead left n o) text bs → Digit lead left n text (b ∷ bs)
@@ -202,12 +190,12 @@ module _ (K : List ℕ → List ℕ → Type 0) where
   Unit4 lead text bytes = (digits back : List ℕ) × (u : ℕ) × (bytes ≡ digits ++ back) × IsHex digits u × IsUnitSoFar lead zero u
       × Then (unit_step text lead u) text back
 
-  four : (lead : Option ℕ) (text bytes : List ℕ) → IsUnitSoFar lead 4 0 → Characters (hex lead 4 0) text K bytes → Unit4 lead text bytes
+  four : (lead : Option ℕ) (text bytes : List ℕ) → IsUnitSoFar lead 4 0 → Characters (hex lead 3 0) text K bytes → Unit4 lead text bytes
   four lead text bytes start h =
-      let (a, w, t_a, is_a, e_a, f_a, h_a) = digit lead 4 0 text bytes h in
-      let (b, x, bs, is_b, e_b, f_b, h_b) = digit lead 3 (16 * 0 + w) text t_a h_a in
-      let (c, y, cs, is_c, e_c, f_c, h_c) = digit lead 2 (16 * (16 * 0 + w) + x) text bs h_b in
-      let (d, z, ds, is_d, e_d, f_d, h_d) = digit lead 1 (16 * (16 * (16 * 0 + w) + x) + y) text cs h_c in
+      let (a, w, t_a, is_a, e_a, f_a, h_a) = digit lead 3 0 text bytes h in
+      let (b, x, bs, is_b, e_b, f_b, h_b) = digit lead 2 (16 * 0 + w) text t_a h_a in
+      let (c, y, cs, is_c, e_c, f_c, h_c) = digit lead 1 (16 * (16 * 0 + w) + x) text bs h_b in
+      let (d, z, ds, is_d, e_d, f_d, h_d) = digit lead 0 (16 * (16 * (16 * 0 + w) + x) + y) text cs h_c in
       let one = so_far_more lead 3 0 w (omega arith) start (hex_below a w e_a) f_a in
       let two = so_far_more lead 2 (16 * 0 + w) x (omega arith) one (hex_below b x e_b) f_b in
       let three = so_far_more lead 1 (16 * (16 * 0 + w) + x) y (omega arith) two (hex_below c y e_c) f_c in (
@@ -239,8 +227,8 @@ module _ (K : List ℕ → List ℕ → Type 0) where
   unit_by text bytes digits back u is hexed so false t h = (117 ∷ digits, encode_utf8 u, back, is, unit digits u hexed (unit_scalar u so t), h)
   unit_by text bytes digits back u is hexed so true t h =
       let (t_a, is_a, h_a) = expected (high u) (high_backslash u) text back 92 (λ b. refl) h in
-      let (bs, is_b, h_b) = expected (high_backslash u) (hex (Some u) 4 0) text t_a 117 (λ b. refl) h_a in
-      let (second, rest, low, is_l, hexed_l, so_l, k) = four (Some u) text bs refl h_b in (
+      let (bs, is_b, h_b) = expected (high_backslash u) (hex (Some u) 3 0) text t_a 117 (λ b. refl) h_a in
+      let (second, rest, low, is_l, hexed_l, so_l, k) = four (Some u) text bs (omega arith, refl) h_b in (
         117 ∷ (digits ++ (92 ∷ 117 ∷ second)),
         encode_utf8 (pair_of u low),
         rest,
@@ -257,19 +245,19 @@ module _ (K : List ℕ → List ℕ → Type 0) where
   escape : (text bytes : List ℕ) → Characters backslash text K bytes → One 92 text bytes
   escape text [] h = absurd h
   escape text (b ∷ bs) h = cond_both (b == 117) _ _ (λ s. Then s text bs → One 92 text (b ∷ bs))
-      (λ t k. let (digits, back, u, is, hexed, so, g) = four None text bs refl k in
+      (λ t k. let (digits, back, u, is, hexed, so, g) = four None text bs (omega arith, refl) k in
       unit_by text (b ∷ bs) digits back u (ap (λ x. x ∷ bs) (eqb-true b 117 t) ∙ ap (λ t. 117 ∷ t) is) hexed so (is_within 0xD800 0xDBFF u) refl g)
       (λ _ k. escape_by text b bs (escape_of b) refl k) h
 
   -- the other bytes of a character of several
-  tails : (n low up : ℕ) (front text bytes : List ℕ) → IsFront low up n front → Characters (tail low up n) text K bytes
+  tails : (n low width : ℕ) (front text bytes : List ℕ) → IsFront low width n front → Characters (tail low width n) text K bytes
       → (rest back : List ℕ) × (bytes ≡ rest ++ back) × IsLong (front ++ rest) × Characters between (text ++ rest) K back
-  tails n low up front text [] f h = absurd h
-  tails zero low up front text (b ∷ bs) f h = let (t, k) = cond_on (is_within low up b) _ _ _ h in
-      (b ∷ [], bs, refl, f b (within_from low up b t) (within_to low up b t), k)
-  tails (suc m) low up front text (b ∷ bs) f h =
-      let (t, k) = cond_on (is_within low up b) _ _ _ h in
-      let (rest, back, is, long, g) = tails m 128 191 (front ++ b ∷ []) (text ++ b ∷ []) bs (f b (within_from low up b t) (within_to low up b t)) k in (
+  tails n low width front text [] f h = absurd h
+  tails zero low width front text (b ∷ bs) f h = let (t, k) = cond_on (is_within low (low + width) b) _ _ _ h in
+      (b ∷ [], bs, refl, f b (within_from low (low + width) b t) (within_to low (low + width) b t), k)
+  tails (suc m) low width front text (b ∷ bs) f h =
+      let (t, k) = cond_on (is_within low (low + width) b) _ _ _ h in
+      let (rest, back, is, long, g) = tails m 128 63 (front ++ b ∷ []) (text ++ b ∷ []) bs (f b (within_from low (low + width) b t) (within_to low (low + width) b t)) k in (
         b ∷ rest,
         back,
         ap (λ t. b ∷ t) is,
@@ -284,7 +272,7 @@ module _ (K : List ℕ → List ℕ → Type 0) where
       cond_both (b == 92) _ _ P (λ t k. inr (subst (λ c. One c text bs) (sym (eqb-true b 92 t)) (escape text bs k))) (λ s.
       unescaped_by P text b
       (λ l u k. inr ([], b ∷ [], bs, refl, short_character b l u (eqb-false b 34 q) (eqb-false b 92 s), k))
-      (λ low up n le f k. let (rest, back, is, long, g) = tails n low up (b ∷ []) (text ++ b ∷ []) bs f k in
+      (λ low width n f k. let (rest, back, is, long, g) = tails n low width (b ∷ []) (text ++ b ∷ []) bs f k in
       inr (rest, b ∷ rest, back, is, long_character (b ∷ rest) long, subst (λ t. Characters between t K back) (append_assoc text (b ∷ []) rest) g))
       (λ k. absurd k))) h
 
@@ -316,48 +304,48 @@ module _ (K : List ℕ → List ℕ → Type 0) where
       → Characters part text K (b ∷ bs)
   back part p text t b bs e h = subst (λ s. Then s text bs) (sym e) h
 
-  tail_back : (low up n : ℕ) (text : List ℕ) (b : ℕ) (bs : List ℕ) → low ≤ b → b ≤ up → Characters (tail_after n) (text ++ b ∷ []) K bs
-      → Characters (tail low up n) text K (b ∷ bs)
-  tail_back low up n text b bs l u h = back (tail low up n) (tail_after n) text (text ++ b ∷ []) b bs (cond-true _ _ _ (inside low up b l u)) h
+  tail_back : (low width n : ℕ) (text : List ℕ) (b : ℕ) (bs : List ℕ) → low ≤ b → b ≤ low + width → Characters (tail_after n) (text ++ b ∷ []) K bs
+      → Characters (tail low width n) text K (b ∷ bs)
+  tail_back low width n text b bs l u h = back (tail low width n) (tail_after n) text (text ++ b ∷ []) b bs (cond-true _ _ _ (inside low (low + width) b l u)) h
 
   back_2 : (text : List ℕ) (a b : ℕ) (bs : List ℕ) → 194 ≤ a → a ≤ 223 → 128 ≤ b → b ≤ 191 → Characters between (text ++ a ∷ b ∷ []) K bs
       → Characters between text K (a ∷ b ∷ bs)
-  back_2 text a b bs h i j k g = back between (tail 128 191 0) text (text ++ a ∷ []) a (b ∷ bs) (two_step text a h i)
-      (tail_back 128 191 0 (text ++ a ∷ []) b bs j k (subst (λ t. Characters between t K bs) (sym (append_assoc text (a ∷ []) (b ∷ []))) g))
+  back_2 text a b bs h i j k g = back between (tail 128 63 0) text (text ++ a ∷ []) a (b ∷ bs) (two_step text a h i)
+      (tail_back 128 63 0 (text ++ a ∷ []) b bs j k (subst (λ t. Characters between t K bs) (sym (append_assoc text (a ∷ []) (b ∷ []))) g))
 
-  back_3 : (text : List ℕ) (a b c low up : ℕ) (bs : List ℕ) → string_step between text a ≡ goes_on (tail low up 1) (text ++ a ∷ []) → low ≤ b → b ≤ up → 128 ≤ c
+  back_3 : (text : List ℕ) (a b c low width : ℕ) (bs : List ℕ) → string_step between text a ≡ goes_on (tail low width 1) (text ++ a ∷ []) → low ≤ b → b ≤ low + width → 128 ≤ c
       → c ≤ 191
       → Characters between (text ++ a ∷ b ∷ c ∷ []) K bs → Characters between text K (a ∷ b ∷ c ∷ bs)
-  back_3 text a b c low up bs e h i j k g = back between (tail low up 1) text (text ++ a ∷ []) a (b ∷ c ∷ bs) e
-      (tail_back low up 1 (text ++ a ∷ []) b (c ∷ bs) h i (tail_back 128 191 0 ((text ++ a ∷ []) ++ b ∷ []) c bs j k
+  back_3 text a b c low width bs e h i j k g = back between (tail low width 1) text (text ++ a ∷ []) a (b ∷ c ∷ bs) e
+      (tail_back low width 1 (text ++ a ∷ []) b (c ∷ bs) h i (tail_back 128 63 0 ((text ++ a ∷ []) ++ b ∷ []) c bs j k
       (subst (λ t. Characters between t K bs) (sym (simp append_assoc)) g)))
 
-  back_4 : (text : List ℕ) (a b c d low up : ℕ) (bs : List ℕ) → string_step between text a ≡ goes_on (tail low up 2) (text ++ a ∷ []) → low ≤ b → b ≤ up
+  back_4 : (text : List ℕ) (a b c d low width : ℕ) (bs : List ℕ) → string_step between text a ≡ goes_on (tail low width 2) (text ++ a ∷ []) → low ≤ b → b ≤ low + width
       → 128 ≤ c → c ≤ 191 → 128 ≤ d → d ≤ 191
       → Characters between (text ++ a ∷ b ∷ c ∷ d ∷ []) K bs → Characters between text K (a ∷ b ∷ c ∷ d ∷ bs)
-  back_4 text a b c d low up bs e h i j k l m g = back between (tail low up 2) text (text ++ a ∷ []) a (b ∷ c ∷ d ∷ bs) e
-      (tail_back low up 2 (text ++ a ∷ []) b (c ∷ d ∷ bs) h i (tail_back 128 191 1 ((text ++ a ∷ []) ++ b ∷ []) c (d ∷ bs) j k
-      (tail_back 128 191 0 (((text ++ a ∷ []) ++ b ∷ []) ++ c ∷ []) d bs l m (subst (λ t. Characters between t K bs) (sym (simp append_assoc)) g))))
+  back_4 text a b c d low width bs e h i j k l m g = back between (tail low width 2) text (text ++ a ∷ []) a (b ∷ c ∷ d ∷ bs) e
+      (tail_back low width 2 (text ++ a ∷ []) b (c ∷ d ∷ bs) h i (tail_back 128 63 1 ((text ++ a ∷ []) ++ b ∷ []) c (d ∷ bs) j k
+      (tail_back 128 63 0 (((text ++ a ∷ []) ++ b ∷ []) ++ c ∷ []) d bs l m (subst (λ t. Characters between t K bs) (sym (simp append_assoc)) g))))
 
   -- an unescaped character by its number of bytes
   long_3_back : (text : List ℕ) (c : ℕ) (bs : List ℕ) → 2048 ≤ c → c < 65536 → (c < 55296) ⊎ (57344 ≤ c) → (a x y : ℕ) → a ≡ 224 + c / 4096
       → x ≡ 128 + (c / 64) % 64 → y ≡ 128 + c % 64
       → Characters between (text ++ a ∷ x ∷ y ∷ []) K bs → Characters between text K (a ∷ x ∷ y ∷ bs)
   long_3_back text c bs l u s a x y e f g h =
-      ⊎_elim (λ n. back_3 text a x y 160 191 bs (step_224 text a n) (omega arith) (omega arith) (omega arith) (omega arith) h) (λ m.
-      ⊎_elim (λ n. back_3 text a x y 128 159 bs (step_237 text a n) (omega arith) (omega arith) (omega arith) (omega arith) h) (λ n.
-      back_3 text a x y 128 191 bs (three_step text a (omega arith) (omega arith) n) (omega arith) (omega arith) (omega arith) (omega arith) h)
+      ⊎_elim (λ n. back_3 text a x y 160 31 bs (rw n refl) (omega arith) (omega arith) (omega arith) (omega arith) h) (λ m.
+      ⊎_elim (λ n. back_3 text a x y 128 31 bs (rw n refl) (omega arith) (omega arith) (omega arith) (omega arith) h) (λ n.
+      back_3 text a x y 128 63 bs (three_step text a (omega arith) (omega arith) n) (omega arith) (omega arith) (omega arith) (omega arith) h)
       (cases_eq a 237)) (cases_eq a 224)
 
   long_4_back : (text : List ℕ) (c : ℕ) (bs : List ℕ) → 65536 ≤ c → c < 1114112 → (a x y z : ℕ) → a ≡ 240 + c / 262144 → x ≡ 128 + (c / 4096) % 64
       → y ≡ 128 + (c / 64) % 64 → z ≡ 128 + c % 64
       → Characters between (text ++ a ∷ x ∷ y ∷ z ∷ []) K bs → Characters between text K (a ∷ x ∷ y ∷ z ∷ bs)
   long_4_back text c bs l u a x y z e f g i h =
-      ⊎_elim (λ n. back_4 text a x y z 144 191 bs (step_240 text a n) (omega arith) (omega arith) (omega arith) (omega arith) (omega arith) (omega arith) h)
+      ⊎_elim (λ n. back_4 text a x y z 144 47 bs (rw n refl) (omega arith) (omega arith) (omega arith) (omega arith) (omega arith) (omega arith) h)
       (λ m.
-      ⊎_elim (λ n. back_4 text a x y z 128 143 bs (step_244 text a n) (omega arith) (omega arith) (omega arith) (omega arith) (omega arith) (omega arith) h)
+      ⊎_elim (λ n. back_4 text a x y z 128 15 bs (rw n refl) (omega arith) (omega arith) (omega arith) (omega arith) (omega arith) (omega arith) h)
       (λ n.
-      back_4 text a x y z 128 191 bs (four_step text a (omega arith) (omega arith)) (omega arith) (omega arith) (omega arith) (omega arith) (omega arith)
+      back_4 text a x y z 128 63 bs (four_step text a (omega arith) (omega arith)) (omega arith) (omega arith) (omega arith) (omega arith) (omega arith)
       (omega arith) h)
       (cases_eq a 244)) (cases_eq a 240)
 
@@ -372,19 +360,19 @@ module _ (K : List ℕ → List ℕ → Type 0) where
       (cases_lt c 65536)) (cases_lt c 2048)) (cases_lt c 128)
 
   digit_back : (lead : Option ℕ) (left n : ℕ) (text : List ℕ) (b d : ℕ) (bs : List ℕ) → hex_digit_of b ≡ Some d → digit_fits lead left n d ≡ true
-      → Then (cond (left == 1) (unit_step text lead (16 * n + d)) (goes_on (hex lead (left - 1) (16 * n + d)) text)) text bs
+      → Then (unit_after text lead left (16 * n + d)) text bs
       → Characters (hex lead left n) text K (b ∷ bs)
   digit_back lead left n text b d bs e f h = subst (λ s. Then s text bs) (sym (ap (hex_step text lead left n) e ∙ cond-true _ _ _ f)) h
 
   four_back : (lead : Option ℕ) (text digits bs : List ℕ) (u : ℕ) → IsHex digits u → IsUnitSoFar lead zero u → Then (unit_step text lead u) text bs
-      → Characters (hex lead 4 0) text K (digits ++ bs)
+      → Characters (hex lead 3 0) text K (digits ++ bs)
   four_back lead text digits bs u (a, b, c, d, w, x, y, z, is, e_a, e_b, e_c, e_d, sum) so h =
       let one : 16 * 0 + w ≡ w = omega arith in
       let (f, g, i, j) = all_fit lead u w x y z so sum (hex_below a w e_a) (hex_below b x e_b) (hex_below c y e_c) (hex_below d z e_d) in
-      subst (λ ds. Characters (hex lead 4 0) text K (ds ++ bs)) (sym is)
-      (digit_back lead 4 0 text a w (b ∷ c ∷ d ∷ bs) e_a f (subst (λ n. Characters (hex lead 3 n) text K (b ∷ c ∷ d ∷ bs)) (sym one)
-      (digit_back lead 3 w text b x (c ∷ d ∷ bs) e_b g (digit_back lead 2 (16 * w + x) text c y (d ∷ bs) e_c i
-      (digit_back lead 1 (16 * (16 * w + x) + y) text d z bs e_d j (subst (λ n. Then (unit_step text lead n) text bs) sum h))))))
+      subst (λ ds. Characters (hex lead 3 0) text K (ds ++ bs)) (sym is)
+      (digit_back lead 3 0 text a w (b ∷ c ∷ d ∷ bs) e_a f (subst (λ n. Characters (hex lead 2 n) text K (b ∷ c ∷ d ∷ bs)) (sym one)
+      (digit_back lead 2 w text b x (c ∷ d ∷ bs) e_b g (digit_back lead 1 (16 * w + x) text c y (d ∷ bs) e_c i
+      (digit_back lead 0 (16 * (16 * w + x) + y) text d z bs e_d j (subst (λ n. Then (unit_step text lead n) text bs) sum h))))))
 
   unit_back : (text digits bs : List ℕ) (u : ℕ) → IsHex digits u → IsUnitSoFar None zero u → Then (unit_step text None u) text bs
       → Characters between text K (92 ∷ 117 ∷ (digits ++ bs))
@@ -399,7 +387,7 @@ module _ (K : List ℕ → List ℕ → Type 0) where
       let (so, t) = high_unit lead k in
       subst (λ bs. Characters between text K bs) (sym (append_assoc (92 ∷ 117 ∷ first) (92 ∷ 117 ∷ second) bs))
       (unit_back text first (92 ∷ 117 ∷ (second ++ bs)) lead i so (subst (λ s. Then s text (92 ∷ 117 ∷ (second ++ bs))) (sym (cond-true _ _ _ t))
-      (four_back (Some lead) text second bs low j (l.0, omega (arith, l.1)) h)))
+      (four_back (Some lead) text second bs low j (omega (arith, l.1), (l.0, omega (arith, l.1))) h)))
 
   from_any : {inside t : List ℕ} (text back : List ℕ) → SpellsCharacters inside t → K (text ++ t) back → Characters between text K (inside ++ 34 ∷ back)
   from_any text back none k = subst (λ t. K t back) (append-nil text) k

@@ -1,40 +1,26 @@
 -- Each state that the machine comes to is on the way to some text: `completes`.
-use Rattle.std.proofs.Common.{◌≡◌, ℕ, zero, suc, ◌+◌, ◌*◌, ◌≤◌, Bool, true, false, not, ◌&&◌, ◌==◌, nat_le, List, [], ◌∷◌, ◌++◌, length, Option, Some, None, Ok, refl, sym, ◌∙◌, subst, ◌⊎◌, arith, ⊎_elim, le-leb, eq-eqb, encode_utf8}
-use Rattle.std.proofs.lemmas.Bool.{cond-true, cond_both, and_from}
+use Rattle.std.proofs.Common.{◌≡◌, ◌≢◌, ℕ, zero, suc, ◌+◌, ◌*◌, true, List, [], ◌∷◌, ◌++◌, length, Option, Some, None, Ok, refl, sym, ap, ◌∙◌, subst, inl, inr, arith, eq-eqb, encode_utf8}
+use Rattle.std.proofs.lemmas.Bool.{cond-true, cond_both, cases_eq}
+use Rattle.std.proofs.lemmas.Bool.Decides.{nat_tests}
 use Rattle.json_text.specs.Node.{Node, list_node, object_node, number_node, text_node, no_nodes, no_fields}
-use Rattle.json_text.specs.Characters.{pair_of}
-use Rattle.json_text.specs.Reading.{Member, Waiting, in_list, in_object, nodes_of, fields_of, State, value, first_item, after_item, first_key, next_key, colon, after_member, whole, word, digits, string, Hole, in_value, in_key, fill, StringPart, between, backslash, hex, high, high_backslash, tail, NumberPart, minus, zero_int, int, point, fraction, exponent, exponent_sign, exponent_digits, may_end, string_step, goes_on, ends, stops, StringStep, string_goes, put, step, digit_fits, is_within, read_from}
+use Rattle.json_text.specs.Characters.{hex_digit_of, pair_of}
+use Rattle.json_text.specs.Reading.{Member, Waiting, in_list, in_object, nodes_of, fields_of, State, value, first_item, after_item, first_key, next_key, colon, after_member, whole, word, digits, string, Hole, in_value, in_key, fill, StringPart, between, backslash, hex, high, high_backslash, tail, NumberPart, minus, zero_int, int, point, fraction, exponent, exponent_sign, exponent_digits, may_end, string_step, goes_on, ends, stops, StringStep, string_goes, put, step, digit_fits, unit_step, unit_after, hex_step, tail_after, is_within, read_from}
 use Rattle.json_text.proofs.ReadingSteps.{read_ok, read_nil}
 use Rattle.json_text.proofs.Following.{Ended}
 use Rattle.json_text.proofs.ByteSteps.{follows_put}
 use Rattle.json_text.proofs.WholeTexts.{follows_read, read_follows}
 use Rattle.json_text.proofs.NumberReads.{digits_end}
 
--- a code unit has one to four digits to come, and a range holds a byte
-abbrev pub SoundPart : StringPart → Type 0
-SoundPart between = Unit {0}
-SoundPart backslash = Unit {0}
-SoundPart (hex lead left n) = (left ≡ 4) ⊎ ((left ≡ 3) ⊎ ((left ≡ 2) ⊎ (left ≡ 1)))
-SoundPart (high lead) = Unit {0}
-SoundPart (high_backslash lead) = Unit {0}
-SoundPart (tail low up n) = low ≤ up
-
-abbrev pub SoundParts : State → Type 0
-SoundParts (value outer) = Unit {0}
-SoundParts (first_item outer) = Unit {0}
-SoundParts (after_item ns outer) = Unit {0}
-SoundParts (first_key outer) = Unit {0}
-SoundParts (next_key ms outer) = Unit {0}
-SoundParts (colon ms place key outer) = Unit {0}
-SoundParts (after_member ms outer) = Unit {0}
-SoundParts (whole n) = Unit {0}
-SoundParts (word c rest n outer) = Unit {0}
-SoundParts (digits part spelling outer) = Unit {0}
-SoundParts (string part text hole) = SoundPart part
-
-nothing_fits : (x : Bool) → not (x && false) ≡ true
-nothing_fits true = refl
-nothing_fits false = refl
+-- a digit that a code unit can go on with
+fits : (lead : Option ℕ) (more n : ℕ) → (b d : ℕ) × (hex_digit_of b ≡ Some d) × (digit_fits lead more n d ≡ true)
+fits None more n = (48, 0, refl, zero_fits more n)
+  where
+    zero_fits : (more n : ℕ) → digit_fits None more n 0 ≡ true
+    zero_fits more n = grind (arith, nat_tests)
+fits (Some lead) more n = elim (cases_eq more 3) [ inl e ↦ (68, 13, refl, rw e refl) | inr other ↦ (67, 12, refl, twelve_fits lead more n other) ]
+  where
+    twelve_fits : (lead more n : ℕ) → more ≢ 3 → digit_fits (Some lead) more n 12 ≡ true
+    twelve_fits lead more n other = grind (arith, nat_tests)
 
 module _ (levels : ℕ) where
   -- some bytes take a state to the end of a text
@@ -64,23 +50,19 @@ module _ (levels : ℕ) where
   )
 
   complete_digits : (part : NumberPart) (spelling : List ℕ) (outer : List Waiting) → Completes (digits part spelling outer)
-  complete_digits minus spelling outer = by (digits minus spelling outer) (digits zero_int (spelling ++ 48 ∷ []) outer) 48 (λ at. refl)
-      (complete_number zero_int (spelling ++ 48 ∷ []) outer refl)
+  complete_digits minus spelling outer = by _ (digits zero_int (spelling ++ 48 ∷ []) outer) 48 (λ at. refl) (complete_number zero_int _ outer refl)
   complete_digits zero_int spelling outer = complete_number zero_int spelling outer refl
   complete_digits int spelling outer = complete_number int spelling outer refl
-  complete_digits point spelling outer = by (digits point spelling outer) (digits fraction (spelling ++ 48 ∷ []) outer) 48 (λ at. refl)
-      (complete_number fraction (spelling ++ 48 ∷ []) outer refl)
+  complete_digits point spelling outer = by _ (digits fraction (spelling ++ 48 ∷ []) outer) 48 (λ at. refl) (complete_number fraction _ outer refl)
   complete_digits fraction spelling outer = complete_number fraction spelling outer refl
-  complete_digits exponent spelling outer = by (digits exponent spelling outer) (digits exponent_digits (spelling ++ 48 ∷ []) outer) 48 (λ at. refl)
-      (complete_number exponent_digits (spelling ++ 48 ∷ []) outer refl)
-  complete_digits exponent_sign spelling outer = by (digits exponent_sign spelling outer) (digits exponent_digits (spelling ++ 48 ∷ []) outer) 48 (λ at. refl)
-      (complete_number exponent_digits (spelling ++ 48 ∷ []) outer refl)
+  complete_digits exponent spelling outer = by _ (digits exponent_digits (spelling ++ 48 ∷ []) outer) 48 (λ at. refl) (complete_number exponent_digits _ outer refl)
+  complete_digits exponent_sign spelling outer =
+      by _ (digits exponent_digits (spelling ++ 48 ∷ []) outer) 48 (λ at. refl) (complete_number exponent_digits _ outer refl)
   complete_digits exponent_digits spelling outer = complete_number exponent_digits spelling outer refl
 
   complete_word : (rest : List ℕ) (c : ℕ) (n : Node) (outer : List Waiting) → Completes (word c rest n outer)
   complete_word [] c n outer = by (word c [] n outer) (put n outer) c (λ at. cond-true _ _ _ (eq-eqb c c refl)) (complete_put n outer)
-  complete_word (d ∷ rest) c n outer = by (word c (d ∷ rest) n outer) (word d rest n outer) c (λ at. cond-true _ _ _ (eq-eqb c c refl))
-      (complete_word rest d n outer)
+  complete_word (d ∷ rest) c n outer = by _ (word d rest n outer) c (λ at. cond-true _ _ _ (eq-eqb c c refl)) (complete_word rest d n outer)
 
   -- strings, within a value or a key
   module _ (hole : Hole) (done : (t : List ℕ) → Completes (fill hole t)) where
@@ -101,101 +83,68 @@ module _ (levels : ℕ) where
     at_between : (text : List ℕ) → Completes (string between text hole)
     at_between text = string_by between text 34 (done text)
 
-    at_backslash : (text : List ℕ) → Completes (string backslash text hole)
-    at_backslash text = string_by backslash text 34 (at_between (text ++ 34 ∷ []))
+    hex_by : (lead : Option ℕ) (more n : ℕ) (text : List ℕ) → ((d : ℕ) → Good text (unit_after text lead more (16 * n + d)))
+        → Completes (string (hex lead more n) text hole)
+    hex_by lead more n text g = let (b, d, e, f) = fits lead more n in
+        string_by (hex lead more n) text b (subst (Good text) (sym (ap (hex_step text lead more n) e ∙ cond-true _ _ _ f)) (g d))
 
-    -- after a high surrogate
-    low_1 : (lead n : ℕ) (text : List ℕ) → Completes (string (hex (Some lead) 1 n) text hole)
-    low_1 lead n text = string_by (hex (Some lead) 1 n) text 48 (at_between (text ++ encode_utf8 (pair_of lead (16 * n + 0))))
+    at_hex : (lead : Option ℕ) → ((u : ℕ) (text : List ℕ) → Good text (unit_step text lead u)) → (more n : ℕ) (text : List ℕ)
+        → Completes (string (hex lead more n) text hole)
+    at_hex lead unit zero n text = hex_by lead zero n text (λ d. unit (16 * n + d) text)
+    at_hex lead unit (suc more) n text = hex_by lead (suc more) n text (λ d. at_hex lead unit more (16 * n + d) text)
 
-    low_2 : (lead n : ℕ) (text : List ℕ) → Completes (string (hex (Some lead) 2 n) text hole)
-    low_2 lead n text = string_by (hex (Some lead) 2 n) text 48 (low_1 lead (16 * n + 0) text)
-
-    low_3 : (lead n : ℕ) (text : List ℕ) → Completes (string (hex (Some lead) 3 n) text hole)
-    low_3 lead n text = string_by (hex (Some lead) 3 n) text 67 (low_2 lead (16 * n + 12) text)
-
-    low_4 : (lead n : ℕ) (text : List ℕ) → Completes (string (hex (Some lead) 4 n) text hole)
-    low_4 lead n text = string_by (hex (Some lead) 4 n) text 68 (low_3 lead (16 * n + 13) text)
+    at_low : (lead more n : ℕ) (text : List ℕ) → Completes (string (hex (Some lead) more n) text hole)
+    at_low lead more n text = at_hex (Some lead) (λ u t. at_between (t ++ encode_utf8 (pair_of lead u))) more n text
 
     at_high_backslash : (lead : ℕ) (text : List ℕ) → Completes (string (high_backslash lead) text hole)
-    at_high_backslash lead text = string_by (high_backslash lead) text 117 (low_4 lead 0 text)
+    at_high_backslash lead text = string_by (high_backslash lead) text 117 (at_low lead 3 0 text)
 
     at_high : (lead : ℕ) (text : List ℕ) → Completes (string (high lead) text hole)
     at_high lead text = string_by (high lead) text 92 (at_high_backslash lead text)
 
-    -- a code unit
-    alone_1 : (n : ℕ) (text : List ℕ) → Completes (string (hex None 1 n) text hole)
-    alone_1 n text = string_by (hex None 1 n) text 48 (cond_both (is_within 0xD800 0xDBFF (16 * n + 0)) _ _ (Good text) (λ _. at_high (16 * n + 0) text)
-        (λ _. at_between (text ++ encode_utf8 (16 * n + 0))))
+    alone : (u : ℕ) (text : List ℕ) → Good text (unit_step text None u)
+    alone u text = cond_both (is_within 0xD800 0xDBFF u) _ _ (Good text) (λ _. at_high u text) (λ _. at_between (text ++ encode_utf8 u))
 
-    alone_2 : (n : ℕ) (text : List ℕ) → Completes (string (hex None 2 n) text hole)
-    alone_2 n text = string_by (hex None 2 n) text 48 (alone_1 (16 * n + 0) text)
+    at_tail : (n low width : ℕ) (text : List ℕ) → Good (text ++ low ∷ []) (goes_on (tail_after n) (text ++ low ∷ []))
+        → Completes (string (tail low width n) text hole)
+    at_tail n low width text c = string_by (tail low width n) text low (subst (Good text) (sym (cond-true _ _ _ (lowest low width))) c)
+      where
+        lowest : (low width : ℕ) → is_within low (low + width) low ≡ true
+        lowest low width = grind (arith, nat_tests)
 
-    fits_zero : (n : ℕ) → digit_fits None 3 n 0 ≡ true
-    fits_zero n = nothing_fits (n == 13)
+    tails : (n low width : ℕ) (text : List ℕ) → Completes (string (tail low width n) text hole)
+    tails zero low width text = at_tail zero low width text (at_between (text ++ low ∷ []))
+    tails (suc n) low width text = at_tail (suc n) low width text (tails n 128 63 (text ++ low ∷ []))
 
-    alone_3 : (n : ℕ) (text : List ℕ) → Completes (string (hex None 3 n) text hole)
-    alone_3 n text = string_by (hex None 3 n) text 48 (subst (Good text) (sym (cond-true _ _ _ (fits_zero n))) (alone_2 (16 * n + 0) text))
-
-    alone_4 : (n : ℕ) (text : List ℕ) → Completes (string (hex None 4 n) text hole)
-    alone_4 n text = string_by (hex None 4 n) text 48 (alone_3 (16 * n + 0) text)
-
-    at_hex : (lead : Option ℕ) (left n : ℕ) (text : List ℕ) → SoundPart (hex lead left n) → Completes (string (hex lead left n) text hole)
-    at_hex None left n text h =
-        ⊎_elim (λ e. subst (λ l. Completes (string (hex None l n) text hole)) (sym e) (alone_4 n text)) (λ h.
-        ⊎_elim (λ e. subst (λ l. Completes (string (hex None l n) text hole)) (sym e) (alone_3 n text)) (λ h.
-        ⊎_elim (λ e. subst (λ l. Completes (string (hex None l n) text hole)) (sym e) (alone_2 n text))
-        (λ e. subst (λ l. Completes (string (hex None l n) text hole)) (sym e) (alone_1 n text)) h) h) h
-    at_hex (Some lead) left n text h =
-        ⊎_elim (λ e. subst (λ l. Completes (string (hex (Some lead) l n) text hole)) (sym e) (low_4 lead n text)) (λ h.
-        ⊎_elim (λ e. subst (λ l. Completes (string (hex (Some lead) l n) text hole)) (sym e) (low_3 lead n text)) (λ h.
-        ⊎_elim (λ e. subst (λ l. Completes (string (hex (Some lead) l n) text hole)) (sym e) (low_2 lead n text))
-        (λ e. subst (λ l. Completes (string (hex (Some lead) l n) text hole)) (sym e) (low_1 lead n text)) h) h) h
-
-    lowest : (low up : ℕ) → low ≤ up → is_within low up low ≡ true
-    lowest low up h = and_from (nat_le low low) (nat_le low up) (le-leb low low (omega arith)) (le-leb low up h)
-
-    at_tail : (n low up : ℕ) (text : List ℕ) → low ≤ up → Completes (string (tail low up n) text hole)
-    at_tail zero low up text h = string_by (tail low up zero) text low
-        (subst (Good text) (sym (cond-true _ _ _ (lowest low up h))) (at_between (text ++ low ∷ [])))
-    at_tail (suc n) low up text h = string_by (tail low up (suc n)) text low
-        (subst (Good text) (sym (cond-true _ _ _ (lowest low up h))) (at_tail n 128 191 (text ++ low ∷ []) (omega arith)))
-
-    complete_within : (part : StringPart) (text : List ℕ) → SoundPart part → Completes (string part text hole)
-    complete_within between text h = at_between text
-    complete_within backslash text h = at_backslash text
-    complete_within (hex lead left n) text h = at_hex lead left n text h
-    complete_within (high lead) text h = at_high lead text
-    complete_within (high_backslash lead) text h = at_high_backslash lead text
-    complete_within (tail low up n) text h = at_tail n low up text h
-
-  complete_string : (part : StringPart) (text : List ℕ) (outer : List Waiting) → SoundPart part → Completes (string part text (in_value outer))
-  complete_string part text outer h = complete_within (in_value outer) (λ t. complete_put (text_node t) outer) part text h
+    within : (part : StringPart) (text : List ℕ) → Completes (string part text hole)
+    within between text = at_between text
+    within backslash text = string_by backslash text 34 (at_between (text ++ 34 ∷ []))
+    within (hex None more n) text = at_hex None alone more n text
+    within (hex (Some lead) more n) text = at_low lead more n text
+    within (high lead) text = at_high lead text
+    within (high_backslash lead) text = at_high_backslash lead text
+    within (tail low width n) text = tails n low width text
 
   complete_value : (outer : List Waiting) → Completes (value outer)
-  complete_value outer = by (value outer) (string between [] (in_value outer)) 34 (λ at. refl) (complete_string between [] outer tt)
+  complete_value outer = by (value outer) (string between [] (in_value outer)) 34 (λ at. refl)
+      (at_between (in_value outer) (λ t. complete_put (text_node t) outer) [])
 
   complete_colon : (ms : List Member) (place : ℕ) (key : List ℕ) (outer : List Waiting) → Completes (colon ms place key outer)
-  complete_colon ms place key outer = by (colon ms place key outer) (value (in_object ms place key ∷ outer)) 58 (λ at. refl)
-      (complete_value (in_object ms place key ∷ outer))
+  complete_colon ms place key outer = by _ (value (in_object ms place key ∷ outer)) 58 (λ at. refl) (complete_value (in_object ms place key ∷ outer))
 
-  complete_key : (part : StringPart) (text : List ℕ) (place : ℕ) (ms : List Member) (outer : List Waiting) → SoundPart part
-      → Completes (string part text (in_key place ms outer))
-  complete_key part text place ms outer h = complete_within (in_key place ms outer) (λ t. complete_colon ms place t outer) part text h
+  complete_string : (hole : Hole) (part : StringPart) (text : List ℕ) → Completes (string part text hole)
+  complete_string (in_value outer) = within (in_value outer) (λ t. complete_put (text_node t) outer)
+  complete_string (in_key place ms outer) = within (in_key place ms outer) (λ t. complete_colon ms place t outer)
 
-  pub completes : (state : State) → SoundParts state → Completes state
-  completes (value outer) h = complete_value outer
-  completes (first_item outer) h = by (first_item outer) (put (list_node no_nodes) outer) 93 (λ at. refl) (complete_put (list_node no_nodes) outer)
-  completes (after_item ns outer) h = by (after_item ns outer) (put (list_node (nodes_of ns)) outer) 93 (λ at. refl)
-      (complete_put (list_node (nodes_of ns)) outer)
-  completes (first_key outer) h = by (first_key outer) (put (object_node no_fields) outer) 125 (λ at. refl) (complete_put (object_node no_fields) outer)
-  completes (next_key ms outer) h = by_byte (next_key ms outer) 34
-      (λ at. (string between [] (in_key at ms outer), refl, complete_key between [] at ms outer tt))
-  completes (colon ms place key outer) h = complete_colon ms place key outer
-  completes (after_member ms outer) h = by (after_member ms outer) (put (object_node (fields_of ms)) outer) 125 (λ at. refl)
-      (complete_put (object_node (fields_of ms)) outer)
-  completes (whole n) h = complete_put n []
-  completes (word c rest n outer) h = complete_word rest c n outer
-  completes (digits part spelling outer) h = complete_digits part spelling outer
-  completes (string part text (in_value outer)) h = complete_string part text outer h
-  completes (string part text (in_key place ms outer)) h = complete_key part text place ms outer h
+  pub completes : (state : State) → Completes state
+  completes (value outer) = complete_value outer
+  completes (first_item outer) = by _ (put (list_node no_nodes) outer) 93 (λ at. refl) (complete_put (list_node no_nodes) outer)
+  completes (after_item ns outer) = by _ (put (list_node (nodes_of ns)) outer) 93 (λ at. refl) (complete_put (list_node (nodes_of ns)) outer)
+  completes (first_key outer) = by _ (put (object_node no_fields) outer) 125 (λ at. refl) (complete_put (object_node no_fields) outer)
+  completes (next_key ms outer) = by_byte _ 34 (λ at. (string between [] (in_key at ms outer), refl, complete_string (in_key at ms outer) between []))
+  completes (colon ms place key outer) = complete_colon ms place key outer
+  completes (after_member ms outer) = by _ (put (object_node (fields_of ms)) outer) 125 (λ at. refl) (complete_put (object_node (fields_of ms)) outer)
+  completes (whole n) = complete_put n []
+  completes (word c rest n outer) = complete_word rest c n outer
+  completes (digits part spelling outer) = complete_digits part spelling outer
+  completes (string part text hole) = complete_string hole part text

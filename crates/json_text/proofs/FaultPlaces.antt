@@ -6,7 +6,7 @@ use Rattle.json_text.specs.Faults.{FailsAt, OpensTooMany}
 use Rattle.json_text.specs.Reading.{Stop, unexpected, too_deep, State, value, Fault, step, end_of, ended, read_from, read_text}
 use Rattle.json_text.proofs.ReadingSteps.{read_ok, read_err, read_nil}
 use Rattle.json_text.proofs.Completions.{completes}
-use Rattle.json_text.proofs.OneLevelMore.{Sound, start, Fares, fares}
+use Rattle.json_text.proofs.OneLevelMore.{depth, Fares, fares}
 
 abbrev fault : Stop → ℕ → Fault
 fault why at = record { why = why; at = at }
@@ -42,28 +42,28 @@ module _ (levels : ℕ) where
     state : State
     joined : bytes ≡ front ++ rest
     place : f.at ≡ at + length front
-    sound : Sound levels state
+    shallow : depth state ≤ levels
     same : (more : List ℕ) → read_from levels at from (front ++ more) ≡ read_from levels f.at state more
     deeper : (more : List ℕ) → read_from (suc levels) at from (front ++ more) ≡ read_from (suc levels) f.at state more
     stops : StopsAt state f rest
 
-  stops_here : (state : State) (at : ℕ) (f : Fault) (bytes : List ℕ) → Sound levels state → f.at ≡ at → StopsAt state f bytes → Stopped state at f bytes
+  stops_here : (state : State) (at : ℕ) (f : Fault) (bytes : List ℕ) → depth state ≤ levels → f.at ≡ at → StopsAt state f bytes → Stopped state at f bytes
   stops_here state at f bytes s e h = record {
     front = [];
     rest = bytes;
     state = state;
     joined = refl;
     place = e ∙ sym (add-zero at);
-    sound = s;
+    shallow = s;
     same = λ more. ap (λ n. read_from levels n state more) (sym e);
     deeper = λ more. ap (λ n. read_from (suc levels) n state more) (sym e);
     stops = h;
   }
 
   stopped_by : (from : State) (at b : ℕ) (bs : List ℕ) (f : Fault) (r other : Result State Stop) → step levels at from b ≡ r
-      → step (suc levels) at from b ≡ other → Fares levels r other → Sound levels from
+      → step (suc levels) at from b ≡ other → Fares levels r other → depth from ≤ levels
       → read_from levels at from (b ∷ bs) ≡ Err f
-      → ((next : State) → Sound levels next → read_from levels (at + 1) next bs ≡ Err f → Stopped next (at + 1) f bs) → Stopped from at f (b ∷ bs)
+      → ((next : State) → depth next ≤ levels → read_from levels (at + 1) next bs ≡ Err f → Stopped next (at + 1) f bs) → Stopped from at f (b ∷ bs)
   stopped_by from at b bs f (Err why) other e o t s h g =
       let is : fault why at ≡ f = let k = sym (read_err levels at from why b bs e) ∙ h in cc in
       stops_here from at f (b ∷ bs) s (ap (λ x. x.at) (sym is)) (subst (λ f. step levels f.at from b ≡ Err f.why) is e)
@@ -74,13 +74,13 @@ module _ (levels : ℕ) where
         state = r.state;
         joined = ap (λ t. b ∷ t) r.joined;
         place = r.place ∙ omega arith;
-        sound = r.sound;
+        shallow = r.shallow;
         same = λ more. read_ok levels at from next b (r.front ++ more) e ∙ r.same more;
         deeper = λ more. read_ok (suc levels) at from next b (r.front ++ more) (o ∙ t.0) ∙ r.deeper more;
         stops = r.stops;
       }
 
-  stopped : (bytes : List ℕ) (from : State) (at : ℕ) (f : Fault) → Sound levels from → read_from levels at from bytes ≡ Err f → Stopped from at f bytes
+  stopped : (bytes : List ℕ) (from : State) (at : ℕ) (f : Fault) → depth from ≤ levels → read_from levels at from bytes ≡ Err f → Stopped from at f bytes
   stopped [] from at f s h = let e = ended_err at (end_of from) f (sym (read_nil levels at from) ∙ h) in
       stops_here from at f [] s (ap (λ x. x.at) e) (ap (λ x. x.why) e)
   stopped (b ∷ bs) from at f s h = stopped_by from at b bs f (step levels at from b) (step (suc levels) at from b) refl refl (fares levels from at b s) s h
@@ -94,11 +94,11 @@ module _ (levels : ℕ) where
 
 pub read_fails : (levels : ℕ) (bytes : List ℕ) (f : Fault) → read_text levels bytes ≡ Err f → FailsAt levels bytes f.at
 read_fails levels bytes f h =
-    let s = stopped levels bytes (value []) 0 f (start levels) h in
+    let s = stopped levels bytes (value []) 0 f (omega arith) h in
     let size : f.at ≡ length s.front = s.place ∙ zero-add (length s.front) in
     let front : take f.at bytes ≡ s.front = ap (λ t. take f.at t) s.joined ∙ take_at s.front s.rest f.at (sym size) in record {
       within = omega (arith, size, ap length s.joined, length-append s.front s.rest);
-      front = let (more, n, e) = completes levels s.state s.sound.parts f.at in
+      front = let (more, n, e) = completes levels s.state f.at in
           (more, n, read_spelled levels (take f.at bytes ++ more) n (ap (λ t. read_text levels (t ++ more)) front ∙ s.same more ∙ e));
       longest = λ k l u (more, n, text).
           let (b, bs, rest, is, e) = take_past s.front s.rest k (omega (arith, l, size)) (omega (arith, u, ap length s.joined)) in
@@ -119,13 +119,13 @@ next_byte levels bytes f s b bs e =
     )
 
 pub opens_too_many : (levels : ℕ) (bytes : List ℕ) (f : Fault) → read_text levels bytes ≡ Err f → f.why ≡ too_deep → OpensTooMany levels bytes f.at
-opens_too_many levels bytes f h w = by (stopped levels bytes (value []) 0 f (start levels) h)
+opens_too_many levels bytes f h w = by (stopped levels bytes (value []) 0 f (omega arith) h)
   where
     deep : (s : Stopped levels (value []) 0 f bytes) (b : ℕ) (bs : List ℕ) → s.rest ≡ b ∷ bs → Fares levels (Err too_deep) (step (suc levels) f.at s.state b)
         → OpensTooMany levels bytes f.at
-    deep s b bs e (next, o, parts) =
+    deep s b bs e (next, o) =
         let (within, front) = next_byte levels bytes f s b bs e in
-        let (more, n, k) = completes (suc levels) next parts (f.at + 1) in (
+        let (more, n, k) = completes (suc levels) next (f.at + 1) in (
           within,
           (
             more,
@@ -138,19 +138,19 @@ opens_too_many levels bytes f h w = by (stopped levels bytes (value []) 0 f (sta
 
     at : (s : Stopped levels (value []) 0 f bytes) (rest : List ℕ) → s.rest ≡ rest → StopsAt levels s.state f rest → OpensTooMany levels bytes f.at
     at s [] e t = unlike (sym t ∙ w)
-    at s (b ∷ bs) e t = deep s b bs e (subst (λ r. Fares levels r (step (suc levels) f.at s.state b)) (t ∙ ap Err w) (fares levels s.state f.at b s.sound))
+    at s (b ∷ bs) e t = deep s b bs e (subst (λ r. Fares levels r (step (suc levels) f.at s.state b)) (t ∙ ap Err w) (fares levels s.state f.at b s.shallow))
 
     by : Stopped levels (value []) 0 f bytes → OpensTooMany levels bytes f.at
     by s = at s s.rest refl s.stops
 
 pub opens_no_more : (levels : ℕ) (bytes : List ℕ) (f : Fault) → read_text levels bytes ≡ Err f → f.why ≡ unexpected → ¬ OpensTooMany levels bytes f.at
-opens_no_more levels bytes f h w (within, (more, n, text)) = by (stopped levels bytes (value []) 0 f (start levels) h)
+opens_no_more levels bytes f h w (within, (more, n, text)) = by (stopped levels bytes (value []) 0 f (omega arith) h)
   where
     at : (s : Stopped levels (value []) 0 f bytes) (rest : List ℕ) → s.rest ≡ rest → StopsAt levels s.state f rest → ⊥
     at s [] e t = omega (arith, within, s.place, ap length (s.joined ∙ ap (λ t. s.front ++ t) e ∙ append-nil s.front))
     at s (b ∷ bs) e t =
         let o : step (suc levels) f.at s.state b ≡ Err unexpected =
-        subst (λ r. Fares levels r (step (suc levels) f.at s.state b)) (t ∙ ap Err w) (fares levels s.state f.at b s.sound) in
+        subst (λ r. Fares levels r (step (suc levels) f.at s.state b)) (t ∙ ap Err w) (fares levels s.state f.at b s.shallow) in
         both (read_text (suc levels) (take (suc f.at) bytes ++ more)) n (fault unexpected f.at)
         (spelled_read (suc levels) (take (suc f.at) bytes ++ more) n text)
         (ap (λ t. read_text (suc levels) (t ++ more)) (next_byte levels bytes f s b bs e).1 ∙ ap (read_text (suc levels)) (append_assoc s.front (b ∷ []) more)

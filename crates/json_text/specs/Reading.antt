@@ -52,9 +52,9 @@ number_step exponent b = if (b == 45) || (b == 43) then Some exponent_sign else 
 number_step exponent_sign b = digit_goes exponent_digits b
 number_step exponent_digits b = digit_goes exponent_digits b
 
--- Within a string: between characters, after a backslash, with a number of hexadecimal digits of a code unit to come (after a
--- high surrogate, if there is one), after a high surrogate, after it and a backslash, and within a character whose next byte
--- is in a range and which has a number of bytes after that.
+-- Within a string: between characters, after a backslash, before a hexadecimal digit of a code unit with a number of digits after
+-- it (after a high surrogate, if there is one), after a high surrogate, after it and a backslash, and within a character whose
+-- next byte is in a range of this first byte and width and which has a number of bytes after that. So each part can be completed.
 pub data StringPart : Type 0 where
   between : StringPart
   backslash : StringPart
@@ -76,18 +76,18 @@ is_within low up b = nat_le low b && nat_le b up
 abbrev pub unescaped_step : List ℕ → ℕ → StringStep
 unescaped_step text b =
     if is_within 32 127 b then goes_on between (text ++ b ∷ []) else
-    if is_within 194 223 b then goes_on (tail 128 191 0) (text ++ b ∷ []) else
-    if b == 224 then goes_on (tail 160 191 1) (text ++ b ∷ []) else
-    if b == 237 then goes_on (tail 128 159 1) (text ++ b ∷ []) else
-    if is_within 225 239 b then goes_on (tail 128 191 1) (text ++ b ∷ []) else
-    if b == 240 then goes_on (tail 144 191 2) (text ++ b ∷ []) else
-    if is_within 241 243 b then goes_on (tail 128 191 2) (text ++ b ∷ []) else
-    if b == 244 then goes_on (tail 128 143 2) (text ++ b ∷ []) else stops
+    if is_within 194 223 b then goes_on (tail 128 63 0) (text ++ b ∷ []) else
+    if b == 224 then goes_on (tail 160 31 1) (text ++ b ∷ []) else
+    if b == 237 then goes_on (tail 128 31 1) (text ++ b ∷ []) else
+    if is_within 225 239 b then goes_on (tail 128 63 1) (text ++ b ∷ []) else
+    if b == 240 then goes_on (tail 144 47 2) (text ++ b ∷ []) else
+    if is_within 241 243 b then goes_on (tail 128 63 2) (text ++ b ∷ []) else
+    if b == 244 then goes_on (tail 128 15 2) (text ++ b ∷ []) else stops
 
 -- the part after a byte of a character of several bytes
 abbrev pub tail_after : ℕ → StringPart
 tail_after zero = between
-tail_after (suc more) = tail 128 191 more
+tail_after (suc more) = tail 128 63 more
 
 abbrev pub escape_step : List ℕ → Option ℕ → StringStep
 escape_step text None = stops
@@ -95,27 +95,30 @@ escape_step text (Some c) = goes_on between (text ++ c ∷ [])
 
 -- A code unit may not be a low surrogate alone, and after a high one it has to be low: the first two digits decide.
 abbrev pub digit_fits : Option ℕ → ℕ → ℕ → ℕ → Bool
-digit_fits None left unit d = not ((left == 3) && ((unit == 13) && nat_le 12 d))
-digit_fits (Some lead) left unit d = if left == 4 then d == 13 else (not (left == 3) || nat_le 12 d)
+digit_fits None more unit d = not ((more == 2) && ((unit == 13) && nat_le 12 d))
+digit_fits (Some lead) more unit d = if more == 3 then d == 13 else (not (more == 2) || nat_le 12 d)
 
 -- the code unit is whole
 abbrev pub unit_step : List ℕ → Option ℕ → ℕ → StringStep
 unit_step text None unit = if is_within 0xD800 0xDBFF unit then goes_on (high unit) text else goes_on between (text ++ encode_utf8 unit)
 unit_step text (Some lead) unit = goes_on between (text ++ encode_utf8 (pair_of lead unit))
 
+-- a number of digits is to come
+abbrev pub unit_after : List ℕ → Option ℕ → ℕ → ℕ → StringStep
+unit_after text lead zero unit = unit_step text lead unit
+unit_after text lead (suc more) unit = goes_on (hex lead more unit) text
+
 abbrev pub hex_step : List ℕ → Option ℕ → ℕ → ℕ → Option ℕ → StringStep
-hex_step text lead left unit None = stops
-hex_step text lead left unit (Some d) =
-    if digit_fits lead left unit d then
-    (if left == 1 then unit_step text lead (16 * unit + d) else goes_on (hex lead (left - 1) (16 * unit + d)) text) else stops
+hex_step text lead more unit None = stops
+hex_step text lead more unit (Some d) = if digit_fits lead more unit d then unit_after text lead more (16 * unit + d) else stops
 
 abbrev pub string_step : StringPart → List ℕ → ℕ → StringStep
 string_step between text b = if b == 34 then ends else if b == 92 then goes_on backslash text else unescaped_step text b
-string_step backslash text b = if b == 117 then goes_on (hex None 4 0) text else escape_step text (escape_of b)
-string_step (hex lead left unit) text b = hex_step text lead left unit (hex_digit_of b)
+string_step backslash text b = if b == 117 then goes_on (hex None 3 0) text else escape_step text (escape_of b)
+string_step (hex lead more unit) text b = hex_step text lead more unit (hex_digit_of b)
 string_step (high lead) text b = if b == 92 then goes_on (high_backslash lead) text else stops
-string_step (high_backslash lead) text b = if b == 117 then goes_on (hex (Some lead) 4 0) text else stops
-string_step (tail low up more) text b = if is_within low up b then goes_on (tail_after more) (text ++ b ∷ []) else stops
+string_step (high_backslash lead) text b = if b == 117 then goes_on (hex (Some lead) 3 0) text else stops
+string_step (tail low width more) text b = if is_within low (low + width) b then goes_on (tail_after more) (text ++ b ∷ []) else stops
 
 -- a member without its place in the list of them
 pub record Member : Type 0 where

@@ -62,25 +62,28 @@ HasRoom count (Err NoMemory) = Unit {0}
 -- the first byte of a character of several bytes, with the range of the next byte and how many come after that
 abbrev pub first_step : List ℕ → ℕ → Option (ℕ × ℕ × ℕ) → StringStep
 first_step text b None = stops
-first_step text b (Some t) = goes_on (tail t.0 t.1 t.2) (text ++ b ∷ [])
+first_step text b (Some t) = goes_on (tail t.0 (t.1 - t.0) t.2) (text ++ b ∷ [])
 
 -- what the digits so far make sure of, by how many are left
+abbrev pub IsSoFar : Option ℕ → ℕ → ℕ → Type 0
+IsSoFar None zero unit = (unit < 0xDC00) ⊎ (0xE000 ≤ unit)
+IsSoFar None (suc zero) unit = (unit < 4096) × ((unit < 0xDC0) ⊎ (0xE00 ≤ unit))
+IsSoFar None (suc (suc zero)) unit = (unit < 256) × ((unit < 0xDC) ⊎ (0xE0 ≤ unit))
+IsSoFar None (suc (suc (suc zero))) unit = unit < 16
+IsSoFar None (suc (suc (suc (suc left)))) unit = unit ≡ 0
+IsSoFar (Some lead) zero unit = (0xDC00 ≤ unit) × (unit < 0xE000)
+IsSoFar (Some lead) (suc zero) unit = (0xDC0 ≤ unit) × (unit < 0xE00)
+IsSoFar (Some lead) (suc (suc zero)) unit = (0xDC ≤ unit) × (unit < 0xE0)
+IsSoFar (Some lead) (suc (suc (suc zero))) unit = unit ≡ 13
+IsSoFar (Some lead) (suc (suc (suc (suc left)))) unit = unit ≡ 0
+
 abbrev pub IsUnitSoFar : Option ℕ → ℕ → ℕ → Type 0
-IsUnitSoFar None zero unit = (unit < 65536) × ((unit < 0xDC00) ⊎ (0xE000 ≤ unit))
-IsUnitSoFar None (suc zero) unit = (unit < 4096) × ((unit < 0xDC0) ⊎ (0xE00 ≤ unit))
-IsUnitSoFar None (suc (suc zero)) unit = (unit < 256) × ((unit < 0xDC) ⊎ (0xE0 ≤ unit))
-IsUnitSoFar None (suc (suc (suc zero))) unit = unit < 16
-IsUnitSoFar None (suc (suc (suc (suc left)))) unit = unit ≡ 0
-IsUnitSoFar (Some lead) zero unit = (0xDC00 ≤ unit) × (unit < 0xE000)
-IsUnitSoFar (Some lead) (suc zero) unit = (0xDC0 ≤ unit) × (unit < 0xE00)
-IsUnitSoFar (Some lead) (suc (suc zero)) unit = (0xDC ≤ unit) × (unit < 0xE0)
-IsUnitSoFar (Some lead) (suc (suc (suc zero))) unit = unit ≡ 13
-IsUnitSoFar (Some lead) (suc (suc (suc (suc left)))) unit = unit ≡ 0
+IsUnitSoFar lead left unit = (unit < 65536) × IsSoFar lead left unit
 
 -- a code unit of which a number of digits is left
 abbrev pub unit_left : Option ℕ → ℕ → ℕ → List ℕ → ℕ → List ℕ → Result (List ℕ × ℕ) ℕ
 unit_left lead zero unit text base bytes = string_on (unit_step text lead unit) text base (λ p t. scan_string p t base bytes)
-unit_left lead (suc left) unit text base bytes = scan_string (hex lead (suc left) unit) text base bytes
+unit_left lead (suc left) unit text base bytes = scan_string (hex lead left unit) text base bytes
 
 -- the digit at a place continues the unit so far, or is not allowed there
 abbrev pub GoesToUnit : Option ℕ → List ℕ → ℕ → ℕ → ℕ → Type 0
@@ -94,6 +97,6 @@ StopsAt lead digits place unit = (text : List ℕ) (base : ℕ) → unit_left le
 -- Four digits after the lead, if there is one, are read as the code unit, or give the place at which they cannot continue.
 abbrev pub IsUnit : Option ℕ → List ℕ → Result ℕ TokenFault → Type 0
 IsUnit lead digits (Ok unit) = (4 ≤ length digits) × IsUnitSoFar lead 0 unit
-    × ((text : List ℕ) (base : ℕ) → scan_string (hex lead 4 0) text base digits ≡ unit_left lead 0 unit text (base + 4) (drop 4 digits))
-IsUnit lead digits (Err (Stop n)) = (n ≤ length digits) × ((text : List ℕ) (base : ℕ) → scan_string (hex lead 4 0) text base digits ≡ Err (base + n))
+    × ((text : List ℕ) (base : ℕ) → scan_string (hex lead 3 0) text base digits ≡ unit_left lead 0 unit text (base + 4) (drop 4 digits))
+IsUnit lead digits (Err (Stop n)) = (n ≤ length digits) × ((text : List ℕ) (base : ℕ) → scan_string (hex lead 3 0) text base digits ≡ Err (base + n))
 IsUnit lead digits (Err NoMemory) = Unit {0}

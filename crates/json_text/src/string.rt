@@ -1,5 +1,5 @@
 //! The characters of a string, byte for byte.
-ghost use Rattle.std.specs.Prelude.{◌≡◌, ◌≤◌, ◌<◌, ◌-◌, ◌&&◌, ◌==◌, not, false, ℕ, List, [], ◌++◌, Some, None, Ok, Err, IfOk, IfErr, OnOk, length, take, slice_index, ◌≢◌, true, IfSome, encode_utf8};
+ghost use Rattle.std.specs.Prelude.{◌≡◌, ◌≤◌, ◌<◌, ◌-◌, ◌+◌, ◌&&◌, ◌==◌, not, false, ℕ, List, [], ◌++◌, Some, None, Ok, Err, IfOk, IfErr, OnOk, length, take, slice_index, ◌≢◌, true, IfSome, encode_utf8};
 ghost use Rattle.std.specs.Char.{IsScalar};
 ghost use Rattle.json_text.specs.Characters.{escape_of, hex_digit_of};
 ghost use Rattle.json_text.specs.Reading.{digit_fits, between, backslash, hex, high, tail, is_within, unescaped_step};
@@ -10,6 +10,7 @@ use super::fault::TokenFault;
 use std::alloc::Global;
 
 /// A string's text, and the number of bytes after its first quotation mark.
+#[tactic(auto, unfolding(crate::specs::Scan::scan_string))]
 pub(crate) fn string(alloc: Global, bytes: &[u8]) -> Result<(Text, usize), TokenFault>
     ensures ok { IfOk result (λ r. scan_string between [] 0 bytes.now ≡ Ok (r.0, r.1)) }
     ensures within { IfOk result (λ r. r.1 ≤ length bytes.now) }
@@ -30,6 +31,7 @@ pub(crate) fn string(alloc: Global, bytes: &[u8]) -> Result<(Text, usize), Token
 }
 
 /// Puts the characters at the front, of which the first is no quotation mark, and answers how many bytes they take.
+#[tactic(auto, unfolding(crate::specs::Scan::scan_string))]
 fn push_characters(text: &mut Vec<u8>, bytes: &[u8]) -> Result<usize, TokenFault>
     requires some { 0 < length bytes.now }
     requires no_end { slice_index bytes.now 0 ≢ 34 }
@@ -70,6 +72,7 @@ fn is_plain(byte: u8) -> bool
 }
 
 /// Adds the character after a backslash, and returns the number of its bytes.
+#[tactic(auto, unfolding(crate::specs::Scan::scan_string))]
 fn push_escaped(text: &mut Vec<u8>, bytes: &[u8]) -> Result<usize, TokenFault>
     ensures { Scanned backslash text.old.items bytes.now between text.new.items result }
 {
@@ -114,8 +117,9 @@ fn unescaped(byte: u8) -> Option<u8>
 }
 
 /// Puts the character of one code unit or of a pair of them, and answers how many bytes they take.
+#[tactic(auto, unfolding(crate::specs::Scan::scan_string))]
 fn push_unicode(text: &mut Vec<u8>, digits: &[u8]) -> Result<usize, TokenFault>
-    ensures { Scanned (hex None 4 0) text.old.items digits.now between text.new.items result }
+    ensures { Scanned (hex None 3 0) text.old.items digits.now between text.new.items result }
 {
     let unit = code_unit(digits, None)?;
     if (0xD800..=0xDBFF).contains(&unit) {
@@ -126,6 +130,7 @@ fn push_unicode(text: &mut Vec<u8>, digits: &[u8]) -> Result<usize, TokenFault>
 }
 
 /// Adds the character of a high surrogate and of the low one that is spelled after it.
+#[tactic(auto, unfolding(crate::specs::Scan::scan_string))]
 fn push_pair(text: &mut Vec<u8>, lead: u32, bytes: &[u8]) -> Result<usize, TokenFault>
     requires { is_within 0xD800 0xDBFF lead ≡ true }
     ensures { Scanned (high lead) text.old.items bytes.now between text.new.items result }
@@ -140,7 +145,7 @@ fn push_pair(text: &mut Vec<u8>, lead: u32, bytes: &[u8]) -> Result<usize, Token
 /// Puts the character of a high surrogate and of the low one that the digits spell.
 fn push_low(text: &mut Vec<u8>, lead: u32, digits: &[u8]) -> Result<usize, TokenFault>
     requires { is_within 0xD800 0xDBFF lead ≡ true }
-    ensures { Scanned (hex (Some lead) 4 0) text.old.items digits.now between text.new.items result }
+    ensures { Scanned (hex (Some lead) 3 0) text.old.items digits.now between text.new.items result }
 {
     let low = code_unit(digits, Some(lead))?;
     push_character(text, 0x10000 + 0x400 * (lead - 0xD800) + (low - 0xDC00))?;
@@ -192,7 +197,7 @@ fn with_digit(digits: &[u8], place: usize, lead: Option<u32>, unit: u32) -> Opti
 /// Whether the unit can go on with the digit.
 fn fits(lead: Option<u32>, place: usize, unit: u32, digit: u32) -> bool
     requires { place < 4 }
-    ensures { result ≡ digit_fits lead (4 - place) unit digit }
+    ensures { result ≡ digit_fits lead (4 - (place + 1)) unit digit }
 {
     match lead {
         None => !(place == 1 && unit == 0xD && digit >= 0xC),
@@ -216,6 +221,7 @@ fn hex_digit(byte: u8) -> Option<u32>
 }
 
 /// How many bytes the character at the front takes, which is not escaped.
+#[tactic(auto, unfolding(crate::specs::Scan::scan_string))]
 fn character_len(bytes: &[u8]) -> Result<usize, TokenFault>
     requires some { 0 < length bytes.now }
     requires no_end { slice_index bytes.now 0 ≢ 34 }
@@ -235,7 +241,8 @@ fn character_len(bytes: &[u8]) -> Result<usize, TokenFault>
 /// For a character of several bytes: the range of the byte after the first one, and the number of bytes after that.
 fn tail_of(first: u8) -> Option<(u8, u8, usize)>
     requires { is_within 32 127 first ≡ false }
-    ensures { (text : List ℕ) → unescaped_step text first ≡ first_step text first result }
+    ensures step { (text : List ℕ) → unescaped_step text first ≡ first_step text first result }
+    ensures range { IfSome result (λ t. t.0 ≤ t.1) }
 {
     match first {
         0xC2..=0xDF => Some((0x80, 0xBF, 0)),
@@ -250,8 +257,10 @@ fn tail_of(first: u8) -> Option<(u8, u8, usize)>
 }
 
 /// The number of bytes of the rest of a character: the first in the range, and `more` others.
+#[tactic(auto, unfolding(crate::specs::Scan::scan_string))]
 fn tail_len(bytes: &[u8], low: u8, up: u8, more: usize) -> Result<usize, TokenFault>
-    ensures { Taken (tail low up more) bytes.now result }
+    requires { low ≤ up }
+    ensures { Taken (tail low (up - low) more) bytes.now result }
 {
     match bytes {
         [byte, rest @ ..] if low <= *byte && *byte <= up => match more {

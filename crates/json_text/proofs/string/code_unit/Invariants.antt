@@ -9,5 +9,5 @@ invariant-loop-place l = record {
   within : l.place ≤ length l.digits;
   unit : IsUnitSoFar l.lead (4 - l.place) l.unit;
   same : (text : List ℕ) (base : ℕ)
-      → scan_string (hex l.lead 4 0) text base l.digits ≡ unit_left l.lead (4 - l.place) l.unit text (base + l.place) (drop l.place l.digits);
+      → scan_string (hex l.lead 3 0) text base l.digits ≡ unit_left l.lead (4 - l.place) l.unit text (base + l.place) (drop l.place l.digits);
 }

@@ -1,7 +1,7 @@
-use Rattle.std.proofs.Common.{◌-◌, ◌++◌, ◌≤◌, [], take, drop, length, arith, sym, subst, List, ℕ, length-take}
+use Rattle.std.proofs.Common.{◌++◌, ◌≤◌, [], rules, refl, length, arith, sym, subst, List, ℕ, length-take}
 use Rattle.json_text.specs.Reading.{between, backslash}
-use Rattle.json_text.specs.Scan.{Passes}
-use Rattle.json_text.proofs.StringScan.{scanned_behind, rest_is, backslash_passes, stopped}
+use Rattle.json_text.specs.Scan.{scan_string, Passes}
+use Rattle.json_text.proofs.StringScan.{scanned_behind, stopped}
 use Rattle.std.proofs.lemmas.Result.{err_from_is_err_and}
 use Rattle.json_text.proofs.string.push_characters.Goals as goal
 
@@ -14,10 +14,9 @@ returns-then-plain-gt0-clause-scanned c = subst (λ (t : List ℕ). Passes betwe
     (sym c.in_ok-extend_from_slice.ensures.items) (c.plain_len-plain.ensures c.args.text.now.items)
 
 pub returns-then-bytes-eq92-clause-scanned : goal.returns-then-bytes-eq92-clause-scanned
-returns-then-bytes-eq92-clause-scanned c = rw c.behind.ensures
-    (scanned_behind between c.args.text.now.items c.args.bytes.now backslash c.args.text.now.items 1
-    (take (length c.args.bytes.now - 1) (drop 1 c.args.bytes.now)) between c.push_escaped.new.text.items c.push_escaped.result
-    (backslash_passes c.args.text.now.items c.args.bytes.now c.requires.some c.if-bytes-eq92.true) (rest_is 1 c.args.bytes.now) c.push_escaped.ensures)
+unfolding scan_string
+returns-then-bytes-eq92-clause-scanned c = scanned_behind between backslash between c.args.text.now.items c.args.text.now.items c.push_escaped.new.text.items
+    c.args.bytes.now _ 1 c.push_escaped.result c.behind.result c.behind.ensures refl (search rules) c.push_escaped.ensures
 
 pub returns-in_err-len-clause-scanned : goal.returns-in_err-len-clause-scanned
 returns-in_err-len-clause-scanned c = let p = err_from_is_err_and c.from_residual-in_err-len.result c.from_residual-in_err-len.ensures.1 in
