@@ -80,10 +80,10 @@ escapes_3 a b c h i j = rw (escape_high a h, escape_high b i, escape_high c j)
 escapes_4 : (a b c d : ℕ) → 128 ≤ a → 128 ≤ b → 128 ≤ c → 128 ≤ d → flat_map escape (a ∷ b ∷ c ∷ d ∷ []) ≡ a ∷ b ∷ c ∷ d ∷ []
 escapes_4 a b c d h i j k = rw (escape_high a h, escape_high b i, escape_high c j, escape_high d k)
 
-abbrev pub IsPlain : List ℕ → Type 0
+abbrev IsPlain : List ℕ → Type 0
 IsPlain bytes = flat_map escape bytes ≡ bytes
 
-pub long_plain : (c : ℕ) → 128 ≤ c → IsPlain (encode_utf8 c)
+long_plain : (c : ℕ) → 128 ≤ c → IsPlain (encode_utf8 c)
 long_plain c h =
     ⊎_elim (λ l. subst IsPlain (sym (encode_2 c h l)) (escapes_2 _ _ (omega arith) (omega arith))) (λ l.
     ⊎_elim (λ u. subst IsPlain (sym (encode_3 c l u)) (escapes_3 _ _ _ (omega arith) (omega arith) (omega arith)))
@@ -106,7 +106,7 @@ characters_spelled (c ∷ cs) h = let p = and_parts _ _ h in
     subst (λ x. SpellsCharacters x (encode_utf8 c ++ encode_utf8_all cs)) (sym (flat_map-append escape (encode_utf8 c) (encode_utf8_all cs)))
     (more (character_spelled c p.0) (characters_spelled cs p.1))
 
-quoted_spelled : (bytes : List ℕ) → IsUtf8 bytes → SpellsString (quoted bytes) bytes
+pub quoted_spelled : (bytes : List ℕ) → IsUtf8 bytes → SpellsString (quoted bytes) bytes
 quoted_spelled bytes u = (flat_map escape bytes, refl, subst (λ x. SpellsCharacters (flat_map escape x) x) u.1.1 (characters_spelled u.0 u.1.0))
 
 -- a node that represents a tree, with no key twice and as many levels

@@ -42,6 +42,22 @@ later L at m b bs count state next read (Err k) same (n, e, h) = (suc n, omega (
 stops_here : (at m : ℕ) (read : Result Node Fault) → read ≡ fault at → (n : ℕ) × (m ≡ m + n) × (read ≡ fault (at + n))
 stops_here at m read h = (0, omega arith, h ∙ ap fault (omega arith))
 
+-- A token after its first byte: what is read goes on after it, or has its fault.
+module _ {A : Type 0} (L at : ℕ) (s t : State) (byte : ℕ) (rest : List ℕ) (count : A → ℕ) (state : A → ℕ → State) (r : Result A ℕ)
+    (h : StartsWith byte rest) (goes : step L at s byte ≡ Ok t)
+    (agrees : Agrees L (at + 1) 0 (drop 1 rest) count state (read_from L (at + 1) t (drop 1 rest)) r) where
+  takes : (x : A) (there : ℕ) (behind : List ℕ) → r ≡ Ok x → there ≡ at + 1 + count x → behind ≡ drop (count x) (drop 1 rest)
+      → read_from L at s rest ≡ read_from L there (state x (count x)) behind
+  takes x there behind scan place is =
+      let (k, f, g) = subst (Agrees L (at + 1) 0 (drop 1 rest) count state (read_from L (at + 1) t (drop 1 rest))) scan agrees in
+      by_byte L at s byte rest (Ok t) h goes ∙ g ∙ ap (λ k. read_from L (at + 1 + k) (state x k) (drop k (drop 1 rest))) (omega (arith, f))
+      ∙ ap (λ k. read_from L k (state x (count x)) (drop (count x) (drop 1 rest))) (sym place) ∙ ap (read_from L there (state x (count x))) (sym is)
+
+  fails : (n there : ℕ) → r ≡ Err n → there ≡ at + 1 + n → read_from L at s rest ≡ fault there
+  fails n there scan place =
+      let (k, f, g) = subst (Agrees L (at + 1) 0 (drop 1 rest) count state (read_from L (at + 1) t (drop 1 rest))) scan agrees in
+      by_byte L at s byte rest (Ok t) h goes ∙ g ∙ ap fault (omega (arith, f, place))
+
 module _ (L : ℕ) (hole : Hole) where
   abbrev StringAgrees : ℕ → ℕ → List ℕ → Result Node Fault → Result (List ℕ × ℕ) ℕ → Type 0
   StringAgrees at m bs = Agrees L at m bs (λ x. x.1) (λ x _. fill hole x.0)
@@ -59,15 +75,6 @@ module _ (L : ℕ) (hole : Hole) where
   unfolding scan_string read_from
   string_agrees [] at m part text = stops_here at m _ refl
   string_agrees (b ∷ bs) at m part text = string_by at m text b bs (string_step part text b) (λ p u. string_agrees bs (at + 1) (m + 1) p u)
-
-  string_ok : (at : ℕ) (bs t : List ℕ) (n : ℕ) → scan_string between [] 0 bs ≡ Ok (t, n)
-      → read_from L at (string between [] hole) bs ≡ read_from L (at + n) (fill hole t) (drop n bs)
-  string_ok at bs t n e = let (k, f, g) = subst (StringAgrees at 0 bs (read_from L at (string between [] hole) bs)) e (string_agrees bs at 0 between []) in
-      g ∙ ap (λ k. read_from L (at + k) (fill hole t) (drop k bs)) (omega (arith, f))
-
-  string_err : (at : ℕ) (bs : List ℕ) (n : ℕ) → scan_string between [] 0 bs ≡ Err n → read_from L at (string between [] hole) bs ≡ fault (at + n)
-  string_err at bs n e = let (k, f, g) = subst (StringAgrees at 0 bs (read_from L at (string between [] hole) bs)) e (string_agrees bs at 0 between []) in g
-      ∙ ap fault (omega (arith, f))
 
 -- white space changes nothing
 space_runs : (L : ℕ) (s : State) → SkipsSpace L s → (at : ℕ) (front rest : List ℕ) → IsSpace front
@@ -116,18 +123,15 @@ module _ (L : ℕ) (outer : List Waiting) where
   unfolding read_from
   end_read at s = refl
 
-  end_by : (v : Bool) (outer : List Waiting) (part : NumberPart) (spelling : List ℕ) → may_end part ≡ v
+  end_by : (outer : List Waiting) (part : NumberPart) (spelling : List ℕ)
       → end_of (digits part spelling outer) ≡ cond (may_end part) (end_of (put (number_node spelling) outer)) None
-  end_by v [] part spelling h = refl
-  end_by true (in_list ns ∷ outer) part spelling h = rw h refl
-  end_by false (in_list ns ∷ outer) part spelling h = rw h refl
-  end_by true (in_object ms place key ∷ outer) part spelling h = rw h refl
-  end_by false (in_object ms place key ∷ outer) part spelling h = rw h refl
+  end_by [] part spelling = refl
+  end_by (in_list ns ∷ outer) part spelling = elim (may_end part) as (λ v. ◌≡◌ {A = Option Node} None (cond v None None)) [ true ↦ refl | false ↦ refl ]
+  end_by (in_object ms place key ∷ outer) part spelling = elim (may_end part) as (λ v. ◌≡◌ {A = Option Node} None (cond v None None)) [ true ↦ refl | false ↦ refl ]
 
   number_ends : (at m : ℕ) (part : NumberPart) (spelling : List ℕ)
       → Agrees L at m [] (λ e. e) (Spelled spelling []) (ended at (end_of (digits part spelling outer))) (number_end part m)
-  number_ends at m part spelling = subst (λ o. Agrees L at m [] (λ e. e) (Spelled spelling []) (ended at o) (number_end part m))
-      (sym (end_by (may_end part) outer part spelling refl))
+  number_ends at m part spelling = subst (λ o. Agrees L at m [] (λ e. e) (Spelled spelling []) (ended at o) (number_end part m)) (sym (end_by outer part spelling))
       (elim (may_end part) as
       (λ v. Agrees L at m [] (λ e. e) (Spelled spelling []) (ended at (cond v (end_of (put (number_node spelling) outer)) None)) (cond v (Ok m) (Err m)))
       [ true ↦ ends_here at m spelling [] _ (end_read at (put (number_node spelling) outer)) | false ↦ stops_here at m _ refl ])
@@ -138,18 +142,6 @@ module _ (L : ℕ) (outer : List Waiting) where
   number_agrees [] at m part spelling = number_ends at m part spelling
   number_agrees (b ∷ bs) at m part spelling = number_by at m part spelling b bs (number_step part b)
       (λ p. number_agrees bs (at + 1) (m + 1) p (spelling ++ b ∷ []))
-
-  number_ok : (at : ℕ) (part : NumberPart) (spelling bs : List ℕ) (n : ℕ) → scan_number part 0 bs ≡ Ok n
-      → read_from L at (digits part spelling outer) bs ≡ read_from L (at + n) (put (number_node (spelling ++ take n bs)) outer) (drop n bs)
-  number_ok at part spelling bs n e = let (k, f, g) = subst (Agrees L at 0 bs (λ e. e) (Spelled spelling bs) (read_from L at (digits part spelling outer) bs)) e
-      (number_agrees bs at 0 part spelling) in
-      g ∙ ap (λ k. read_from L (at + k) (put (number_node (spelling ++ take k bs)) outer) (drop k bs)) (omega (arith, f))
-
-  number_err : (at : ℕ) (part : NumberPart) (spelling bs : List ℕ) (n : ℕ) → scan_number part 0 bs ≡ Err n
-      → read_from L at (digits part spelling outer) bs ≡ fault (at + n)
-  number_err at part spelling bs n e =
-      let (k, f, g) = subst (Agrees L at 0 bs (λ e. e) (Spelled spelling bs) (read_from L at (digits part spelling outer) bs)) e
-      (number_agrees bs at 0 part spelling) in g ∙ ap fault (omega (arith, f))
 
 -- a word, from its second byte on
 module _ (L : ℕ) (outer : List Waiting) (n : Node) where
@@ -175,71 +167,50 @@ module _ (L : ℕ) (outer : List Waiting) (n : Node) where
         | false ↦ stops_here at m _ refl
       ]
 
-  word_ok : (at len c : ℕ) (cs bs : List ℕ) → scan_word (c ∷ cs) 0 bs ≡ Ok len
-      → read_from L at (word c cs n outer) bs ≡ read_from L (at + len) (put n outer) (drop len bs)
-  word_ok at len c cs bs e = let (k, f, g) = subst (Agrees L at 0 bs (λ e. e) (λ _ _. put n outer) (read_from L at (word c cs n outer) bs)) e
-      (word_agrees (c ∷ cs) bs at 0) in
-      g ∙ ap (λ k. read_from L (at + k) (put n outer) (drop k bs)) (omega (arith, f))
-
-  word_err : (at len c : ℕ) (cs bs : List ℕ) → scan_word (c ∷ cs) 0 bs ≡ Err len → read_from L at (word c cs n outer) bs ≡ fault (at + len)
-  word_err at len c cs bs e = let (k, f, g) = subst (Agrees L at 0 bs (λ e. e) (λ _ _. put n outer) (read_from L at (word c cs n outer) bs)) e
-      (word_agrees (c ∷ cs) bs at 0) in g ∙ ap fault (omega (arith, f))
-
 abbrev pub deep : ℕ → Result Node Fault
 deep at = Err (record { why = too_deep; at = at })
 
 module _ (L at : ℕ) where
   -- a string, at the places where one may begin
   pub string_takes : (s : State) (hole : Hole) (rest t : List ℕ) (n there : ℕ) (behind : List ℕ) → StartsWith 34 rest
-      → step L at s 34 ≡ Ok (string between [] hole)
-      → scan_string between [] 0 (drop 1 rest) ≡ Ok (t, n) → there ≡ at + 1 + n → behind ≡ drop n (drop 1 rest)
+      → step L at s 34 ≡ Ok (string between [] hole) → scan_string between [] 0 (drop 1 rest) ≡ Ok (t, n) → there ≡ at + 1 + n → behind ≡ drop n (drop 1 rest)
       → read_from L at s rest ≡ read_from L there (fill hole t) behind
-  string_takes s hole rest t n there behind h e scan place is = by_byte L at s 34 rest (Ok (string between [] hole)) h e
-      ∙ string_ok L hole (at + 1) (drop 1 rest) t n scan
-      ∙ ap (λ k. read_from L k (fill hole t) (drop n (drop 1 rest))) (sym place) ∙ ap (read_from L there (fill hole t)) (sym is)
-
-  string_fails : (s : State) (hole : Hole) (rest : List ℕ) (n there : ℕ) → StartsWith 34 rest → step L at s 34 ≡ Ok (string between [] hole)
-      → scan_string between [] 0 (drop 1 rest) ≡ Err n → there ≡ at + 1 + n → read_from L at s rest ≡ fault there
-  string_fails s hole rest n there h e scan place = by_byte L at s 34 rest (Ok (string between [] hole)) h e ∙ string_err L hole (at + 1) (drop 1 rest) n scan
-      ∙ ap fault (sym place)
+  string_takes s hole rest t n there behind h e = takes L at s (string between [] hole) 34 rest (λ x. x.1) (λ x _. fill hole x.0) _ h e
+      (string_agrees L hole (drop 1 rest) (at + 1) 0 between []) (t, n) there behind
 
   -- a number
   pub value_number : (outer : List Waiting) (part : NumberPart) (rest : List ℕ) (n there : ℕ) (behind : List ℕ) → BeginsNumber part rest
-      → scan_number part 0 (drop 1 rest) ≡ Ok n
-      → there ≡ at + 1 + n → behind ≡ drop n (drop 1 rest)
-      → read_from L at (value outer) rest ≡ read_from L there (put (number_node (take (1 + n) rest)) outer) behind
+      → scan_number part 0 (drop 1 rest) ≡ Ok n → there ≡ at + 1 + n → behind ≡ drop n (drop 1 rest)
+      → (read_from L at (value outer) rest ≡ read_from L there (put (number_node (take (1 + n) rest)) outer) behind) × (length behind < length rest)
   value_number outer part [] n there behind h scan place is = absurd h
-  value_number outer part (b ∷ bs) n there behind h scan place is =
-      by_byte L at (value outer) b (b ∷ bs) (Ok (digits part (b ∷ []) outer)) refl (h.1 L at outer) ∙ number_ok L outer (at + 1) part (b ∷ []) bs n scan
-      ∙ ap (λ k. read_from L k (put (number_node (b ∷ take n bs)) outer) (drop n bs)) (sym place)
-      ∙ ap (λ k. read_from L there (put (number_node (take k (b ∷ bs))) outer) (drop n bs)) (let e : suc n ≡ 1 + n = omega arith in e)
-      ∙ ap (read_from L there (put (number_node (take (1 + n) (b ∷ bs))) outer)) (sym is)
+  value_number outer part (b ∷ bs) n there behind h scan place is = (
+    takes L at (value outer) (digits part (b ∷ []) outer) b (b ∷ bs) (λ e. e) (Spelled L outer (b ∷ []) bs) _ refl (h.1 L at outer)
+        (number_agrees L outer bs (at + 1) 0 part (b ∷ [])) n there behind scan place is
+        ∙ ap (λ k. read_from L there (put (number_node (take k (b ∷ bs))) outer) behind) (let e : suc n ≡ 1 + n = omega arith in e),
+    omega (arith, ap length is, length-drop n bs),
+  )
 
   pub value_number_stops : (outer : List Waiting) (part : NumberPart) (rest : List ℕ) (n there : ℕ) → BeginsNumber part rest
-      → scan_number part 0 (drop 1 rest) ≡ Err n → there ≡ at + 1 + n
-      → read_from L at (value outer) rest ≡ fault there
-  value_number_stops outer part [] n there h scan place = absurd h
-  value_number_stops outer part (b ∷ bs) n there h scan place =
-      by_byte L at (value outer) b (b ∷ bs) (Ok (digits part (b ∷ []) outer)) refl (h.1 L at outer) ∙ number_err L outer (at + 1) part (b ∷ []) bs n scan
-      ∙ ap fault (sym place)
+      → scan_number part 0 (drop 1 rest) ≡ Err n → there ≡ at + 1 + n → read_from L at (value outer) rest ≡ fault there
+  value_number_stops outer part [] n there h = absurd h
+  value_number_stops outer part (b ∷ bs) n there h = fails L at (value outer) (digits part (b ∷ []) outer) b (b ∷ bs) (λ e. e) (Spelled L outer (b ∷ []) bs) _ refl
+      (h.1 L at outer) (number_agrees L outer bs (at + 1) 0 part (b ∷ [])) n there
 
   -- a word
   pub value_word : (outer : List Waiting) (w : List ℕ) (n : Node) (rest : List ℕ) (len there : ℕ) (behind : List ℕ) → BeginsWord w n rest
-      → scan_word w 0 (drop 1 rest) ≡ Ok len
-      → there ≡ at + 1 + len → behind ≡ drop len (drop 1 rest) → read_from L at (value outer) rest ≡ read_from L there (put n outer) behind
+      → scan_word w 0 (drop 1 rest) ≡ Ok len → there ≡ at + 1 + len → behind ≡ drop len (drop 1 rest)
+      → (read_from L at (value outer) rest ≡ read_from L there (put n outer) behind) × (length behind < length rest)
   value_word outer [] n rest len there behind h scan place is = absurd h
   value_word outer (c ∷ cs) n [] len there behind h scan place is = absurd h
-  value_word outer (c ∷ cs) n (b ∷ bs) len there behind h scan place is =
-      by_byte L at (value outer) b (b ∷ bs) (Ok (word c cs n outer)) refl (h L at outer) ∙ word_ok L outer n (at + 1) len c cs bs scan
-      ∙ ap (λ k. read_from L k (put n outer) (drop len bs)) (sym place) ∙ ap (read_from L there (put n outer)) (sym is)
+  value_word outer (c ∷ cs) n (b ∷ bs) len there behind h scan place is = (takes L at (value outer) (word c cs n outer) b (b ∷ bs) (λ e. e) (λ _ _. put n outer) _
+      refl (h L at outer) (word_agrees L outer n (c ∷ cs) bs (at + 1) 0) len there behind scan place is, omega (arith, ap length is, length-drop len bs))
 
   pub value_word_stops : (outer : List Waiting) (w : List ℕ) (n : Node) (rest : List ℕ) (len there : ℕ) → BeginsWord w n rest
-      → scan_word w 0 (drop 1 rest) ≡ Err len → there ≡ at + 1 + len
-      → read_from L at (value outer) rest ≡ fault there
-  value_word_stops outer [] n rest len there h scan place = absurd h
-  value_word_stops outer (c ∷ cs) n [] len there h scan place = absurd h
-  value_word_stops outer (c ∷ cs) n (b ∷ bs) len there h scan place =
-      by_byte L at (value outer) b (b ∷ bs) (Ok (word c cs n outer)) refl (h L at outer) ∙ word_err L outer n (at + 1) len c cs bs scan ∙ ap fault (sym place)
+      → scan_word w 0 (drop 1 rest) ≡ Err len → there ≡ at + 1 + len → read_from L at (value outer) rest ≡ fault there
+  value_word_stops outer [] n rest len there h = absurd h
+  value_word_stops outer (c ∷ cs) n [] len there h = absurd h
+  value_word_stops outer (c ∷ cs) n (b ∷ bs) len there h = fails L at (value outer) (word c cs n outer) b (b ∷ bs) (λ e. e) (λ _ _. put n outer) _ refl
+      (h L at outer) (word_agrees L outer n (c ∷ cs) bs (at + 1) 0) len there
 
 -- as many wait as are kept
 pub keeps_length : (ks : List Kept) (outer : List Waiting) → KeepsAll ks outer → length outer ≡ length ks
@@ -252,27 +223,15 @@ keeps_length (k ∷ ks) (w ∷ ws) h = ap suc (keeps_length ks ws h.1)
 pub string_faults : (L : ℕ) (s : State) (hole : Hole) (place : Place) (f : JsonFault) → step L place.at s 34 ≡ Ok (string between [] hole)
     → StartsWith 34 place.rest.now
     → StringFault place f → FailsSo (read_at L place s) f
-string_faults L s hole place (NotJson at) e h (n, scan, is) = string_fails L place.at s hole place.rest.now n at h e scan is
+string_faults L s hole place (NotJson at) e h (n, scan, is) = fails L place.at s (string between [] hole) 34 place.rest.now (λ x. x.1) (λ x _. fill hole x.0) _ h e
+    (string_agrees L hole (drop 1 place.rest.now) (place.at + 1) 0 between []) n at scan is
 string_faults L s hole place (TooDeep at) e h f = absurd f
 string_faults L s hole place (KeyTwice at) e h f = f
 string_faults L s hole place NoMemory e h f = tt
 
 pub number_front : (part : NumberPart) (n : ℕ) (rest : List ℕ) → BeginsNumber part rest → scan_number part 0 (drop 1 rest) ≡ Ok n → IsUtf8 (take (1 + n) rest)
 number_front part n [] h scan = absurd h
-number_front part n (b ∷ bs) h scan = number_utf8 part n (b ∷ bs) b bs refl h.0 scan
-
--- what is left after some bytes is shorter
-pub shorter : (rest behind : List ℕ) (n : ℕ) → 0 < length rest → behind ≡ drop n (drop 1 rest) → length behind < length rest
-shorter rest behind n h is = omega (arith, ap length is, length-drop n (drop 1 rest), length-drop 1 rest)
-
-pub number_is_some : (part : NumberPart) (rest : List ℕ) → BeginsNumber part rest → 0 < length rest
-number_is_some part [] h = absurd h
-number_is_some part (b ∷ bs) h = omega arith
-
-pub word_is_some : (w : List ℕ) (n : Node) (rest : List ℕ) → BeginsWord w n rest → 0 < length rest
-word_is_some [] n rest h = absurd h
-word_is_some (c ∷ cs) n [] h = absurd h
-word_is_some (c ∷ cs) n (b ∷ bs) h = omega arith
+number_front part n (b ∷ bs) h scan = number_utf8 part n b bs h.0 scan
 
 pub IsSpace-more : (bs : List ℕ) (b : ℕ) → IsSpace bs → is_space b ≡ true → IsSpace (bs ++ b ∷ [])
 IsSpace-more [] b h g = (g, tt)

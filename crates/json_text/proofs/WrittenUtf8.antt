@@ -1,5 +1,5 @@
 -- The compact text of a value is UTF-8: `compact_utf8`.
-use Rattle.std.proofs.Common.{◌≡◌, ℕ, ◌/◌, ◌%◌, ◌<◌, Bool, true, false, if◌then◌else◌, ◌==◌, nat_lt, List, [], ◌∷◌, refl, sym, subst, arith, append-nil, flat_map, codes}
+use Rattle.std.proofs.Common.{◌≡◌, ℕ, ◌/◌, ◌%◌, ◌<◌, Bool, true, false, if◌then◌else◌, ◌==◌, nat_lt, List, [], ◌∷◌, Some, refl, sym, subst, arith, append-nil, flat_map, codes}
 use Rattle.std.specs.Prelude.{encode_utf8, encode_utf8_all}
 use Rattle.std.specs.Str.{IsUtf8, all_scalars}
 use Rattle.std.specs.Char.{IsScalar}
@@ -8,20 +8,16 @@ use Rattle.std.proofs.lemmas.Str.{IsUtf8-append, IsUtf8-encode, IsUtf8-nil}
 use Rattle.std.proofs.lemmas.Grind.{flat_map-append}
 use Rattle.std.proofs.lemmas.Bool.{and_parts, cases_lt}
 use Rattle.std.proofs.lemmas.Bool.Decides.{nat_tests}
-use Rattle.std.proofs.Common.{⊎_elim}
 use Rattle.json_text.specs.Tree.{Tree, null, truth, number, text, list, object, Items, no_items, item, Members, no_members, member}
 use Rattle.json_text.specs.Compact.{lower_hex, escape, quoted, compact_text, items_text, more_items_text, members_text, more_members_text, IsValue, AreItems, AreMembers}
 use Rattle.json_text.specs.Reading.{NumberPart, minus, zero_int, int}
-use Rattle.json_text.proofs.NumberReads.{Accepts, Starts, with_minus, with_zero, with_digit, starts}
-use Rattle.json_text.proofs.NumberText.{goes_ascii}
-use Rattle.json_text.proofs.Encoded.{encode_1, low_is_scalar}
-use Rattle.json_text.proofs.SpelledBack.{long_plain}
+use Rattle.json_text.proofs.NumberReads.{Starts, with_minus, with_zero, with_digit, starts}
+use Rattle.json_text.proofs.NumberText.{ascii_cons, accepted_utf8}
+use Rattle.json_text.proofs.SpelledBack.{quoted_spelled}
+use Rattle.json_text.specs.Characters.{SpellsCharacter, unescaped, escaped, unit, pair, SpellsCharacters, none, more, IsHex, hex_digit_of, escape_of}
 
 byte_utf8 : (c : ℕ) → c < 128 → IsUtf8 (c ∷ [])
-byte_utf8 c h = subst IsUtf8 (encode_1 c h) (IsUtf8-encode c (low_is_scalar c (omega arith)))
-
-pub ascii_cons : (c : ℕ) (bs : List ℕ) → c < 128 → IsUtf8 bs → IsUtf8 (c ∷ bs)
-ascii_cons c bs h u = IsUtf8-append (c ∷ []) bs (byte_utf8 c h) u
+byte_utf8 c h = ascii_cons c [] h IsUtf8-nil
 
 small_byte : (b : ℕ) → nat_lt b 128 ≡ true → b < 128
 small_byte b h = grind (arith, nat_tests)
@@ -30,50 +26,30 @@ pub small_utf8 : (bs : List ℕ) → list_all (λ b. nat_lt b 128) bs ≡ true �
 small_utf8 [] h = IsUtf8-nil
 small_utf8 (b ∷ bs) h = let p = and_parts (nat_lt b 128) (list_all (λ b. nat_lt b 128) bs) h in ascii_cons b bs (small_byte b p.0) (small_utf8 bs p.1)
 
-by_if : (b : Bool) (x y : List ℕ) → IsUtf8 x → IsUtf8 y → IsUtf8 (if b then x else y)
-by_if true x y p q = p
-by_if false x y p q = q
+-- the bytes that spell characters are UTF-8
+hex_ascii : (b d : ℕ) → hex_digit_of b ≡ Some d → b < 128
+hex_ascii b d e = grind (arith, nat_tests)
 
-hex_small : (n : ℕ) → n < 16 → lower_hex n < 128
-hex_small n h = grind (arith, nat_tests)
+escape_ascii : (b c : ℕ) → escape_of b ≡ Some c → b < 128
+escape_ascii b c e = grind (arith, nat_tests)
 
-two : (a b : ℕ) → a < 128 → b < 128 → IsUtf8 (a ∷ b ∷ [])
-two a b h k = ascii_cons a (b ∷ []) h (byte_utf8 b k)
+unit_utf8 : (digits : List ℕ) (u : ℕ) → IsHex digits u → IsUtf8 (92 ∷ 117 ∷ digits)
+unit_utf8 digits u (a, b, c, d, w, x, y, z, is, e, f, g, h, sum) = rw is (ascii_cons 92 _ (omega arith) (ascii_cons 117 _ (omega arith)
+    (ascii_cons a _ (hex_ascii a w e) (ascii_cons b _ (hex_ascii b x f) (ascii_cons c _ (hex_ascii c y g) (byte_utf8 d (hex_ascii d z h)))))))
 
-unit_utf8 : (c : ℕ) → c < 128 → IsUtf8 (92 ∷ 117 ∷ 48 ∷ 48 ∷ lower_hex (c / 16) ∷ lower_hex (c % 16) ∷ [])
-unit_utf8 c h =
-    ascii_cons 92 _ (omega arith) (ascii_cons 117 _ (omega arith) (ascii_cons 48 _ (omega arith) (ascii_cons 48 _ (omega arith)
-    (two (lower_hex (c / 16)) (lower_hex (c % 16)) (hex_small (c / 16) (omega arith)) (hex_small (c % 16) (omega arith))))))
+character_utf8 : {bytes text : List ℕ} → SpellsCharacter bytes text → IsUtf8 bytes
+character_utf8 (unescaped c s l q t) = IsUtf8-encode c s
+character_utf8 (escaped b c e) = ascii_cons 92 (b ∷ []) (omega arith) (byte_utf8 b (escape_ascii b c e))
+character_utf8 (unit digits c h s) = unit_utf8 digits c h
+character_utf8 (pair first second lead low h i j k) = IsUtf8-append _ _ (unit_utf8 first lead h) (unit_utf8 second low i)
 
-escape_utf8 : (c : ℕ) → c < 128 → IsUtf8 (escape c)
-escape_utf8 c h =
-    by_if (c == 34) _ _ (two 92 34 (omega arith) (omega arith))
-    (by_if (c == 92) _ _ (two 92 92 (omega arith) (omega arith))
-    (by_if (c == 8) _ _ (two 92 98 (omega arith) (omega arith))
-    (by_if (c == 12) _ _ (two 92 102 (omega arith) (omega arith))
-    (by_if (c == 10) _ _ (two 92 110 (omega arith) (omega arith))
-    (by_if (c == 13) _ _ (two 92 114 (omega arith) (omega arith))
-    (by_if (c == 9) _ _ (two 92 116 (omega arith) (omega arith))
-    (by_if (nat_lt c 32) _ _ (unit_utf8 c h) (byte_utf8 c h))))))))
-
-short_utf8 : (c : ℕ) → c < 128 → IsUtf8 (flat_map escape (encode_utf8 c))
-short_utf8 c h = subst (λ x. IsUtf8 (flat_map escape x)) (sym (encode_1 c h)) (subst IsUtf8 (sym (append-nil (escape c))) (escape_utf8 c h))
-
-character_utf8 : (c : ℕ) → IsScalar c → IsUtf8 (flat_map escape (encode_utf8 c))
-character_utf8 c s = ⊎_elim (λ h. short_utf8 c h) (λ h. subst IsUtf8 (sym (long_plain c h)) (IsUtf8-encode c s)) (cases_lt c 128)
-
-escaped_utf8 : (cs : List ℕ) → all_scalars cs ≡ true → IsUtf8 (flat_map escape (encode_utf8_all cs))
-escaped_utf8 [] h = IsUtf8-nil
-escaped_utf8 (c ∷ cs) h = let p = and_parts _ _ h in
-    subst IsUtf8 (sym (flat_map-append escape (encode_utf8 c) (encode_utf8_all cs))) (IsUtf8-append _ _ (character_utf8 c p.0) (escaped_utf8 cs p.1))
+spelled_utf8 : {bytes text : List ℕ} → SpellsCharacters bytes text → IsUtf8 bytes
+spelled_utf8 none = IsUtf8-nil
+spelled_utf8 (more p ps) = IsUtf8-append _ _ (character_utf8 p) (spelled_utf8 ps)
 
 quoted_utf8 : (bytes : List ℕ) → IsUtf8 bytes → IsUtf8 (quoted bytes)
-quoted_utf8 bytes u =
-    ascii_cons 34 _ (omega arith) (IsUtf8-append _ _ (subst (λ x. IsUtf8 (flat_map escape x)) u.1.1 (escaped_utf8 u.0 u.1.0)) (byte_utf8 34 (omega arith)))
-
-accepted_utf8 : (part : NumberPart) (bs : List ℕ) → Accepts part bs → IsUtf8 bs
-accepted_utf8 part [] h = IsUtf8-nil
-accepted_utf8 part (b ∷ bs) (p, e, h) = ascii_cons b bs (goes_ascii part b p e) (accepted_utf8 p bs h)
+quoted_utf8 bytes u = let (inside, is, spelled) = quoted_spelled bytes u in
+    subst IsUtf8 (sym is) (ascii_cons 34 _ (omega arith) (IsUtf8-append _ _ (spelled_utf8 spelled) (byte_utf8 34 (omega arith))))
 
 number_utf8 : (bs : List ℕ) → Starts bs → IsUtf8 bs
 number_utf8 _ (with_minus t h) = ascii_cons 45 t (omega arith) (accepted_utf8 minus t h)
