@@ -1,4 +1,4 @@
--- One step of a reading at a time: `read_ok`, `read_err`, `read_nil`, `cons_ok`, `ended_ok`.
+-- One step of a reading at a time: `read_ok`, `read_err`, `read_nil`, `ended_ok`.
 use Rattle.std.proofs.Common.{◌≡◌, ℕ, ◌+◌, List, [], ◌∷◌, Option, Some, None, Result, Ok, Err, refl, sym, ap, ◌∙◌}
 use Rattle.json_text.specs.Node.{Node}
 use Rattle.json_text.specs.Reading.{Stop, State, step, go_on, ended, end_of, read_from, Fault}
@@ -20,15 +20,6 @@ pub read_err : (levels at : ℕ) (state : State) (why : Stop) (b : ℕ) (bs : Li
     → read_from levels at state (b ∷ bs) ≡ Err (record { why = why; at = at })
 read_err levels at state why b bs e = read_cons levels at state b bs ∙ ap (λ s. go_on at s (λ next. read_from levels (at + 1) next bs)) e
 
-went_on : (at : ℕ) (s : Result State Stop) (f : State → Result Node Fault) (r : Node) → go_on at s f ≡ Ok r
-    → (next : State) × (s ≡ Ok next) × (f next ≡ Ok r)
-went_on at (Ok next) f r h = (next, refl, h)
-went_on at (Err why) f r h = cc
-
 pub ended_ok : (at : ℕ) (o : Option Node) (r : Node) → ended at o ≡ Ok r → o ≡ Some r
 ended_ok at None r h = cc
 ended_ok at (Some n) r h = cc
-
-pub cons_ok : (levels at : ℕ) (state : State) (b : ℕ) (bs : List ℕ) (r : Node) → read_from levels at state (b ∷ bs) ≡ Ok r
-    → (next : State) × (step levels at state b ≡ Ok next) × (read_from levels (at + 1) next bs ≡ Ok r)
-cons_ok levels at state b bs r h = went_on at (step levels at state b) (λ next. read_from levels (at + 1) next bs) r (sym (read_cons levels at state b bs) ∙ h)

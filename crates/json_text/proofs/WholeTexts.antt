@@ -1,25 +1,37 @@
 -- The byte machine reads exactly the texts of the grammar: `read_spelled`, `spelled_read`.
-use Rattle.std.proofs.Common.{◌≡◌, ℕ, ◌+◌, ◌-◌, List, [], ◌∷◌, ◌++◌, length, Ok, refl, sym, ap, ◌∙◌, subst, arith, append-nil, zero-add}
+use Rattle.std.proofs.Common.{◌≡◌, ℕ, ◌+◌, ◌-◌, List, [], ◌∷◌, ◌++◌, length, Result, Ok, Err, refl, sym, ap, ◌∙◌, subst, arith, append-nil, zero-add}
 use Rattle.json_text.specs.Node.{Node}
 use Rattle.json_text.specs.Grammar.{IsText}
-use Rattle.json_text.specs.Reading.{State, value, end_of, ended, read_from, read_text}
+use Rattle.json_text.specs.Reading.{State, Stop, Fault, value, step, go_on, end_of, ended, read_from, read_text}
 use Rattle.json_text.proofs.Following.{Space, Value, After, Following}
 use Rattle.json_text.proofs.Productions.{text_reads}
-use Rattle.json_text.proofs.ReadingSteps.{read_ok, read_nil, ended_ok, cons_ok}
-use Rattle.json_text.proofs.ByteSteps.{follows_step, step_follows, follows_end, end_follows}
+use Rattle.json_text.proofs.ReadingSteps.{ended_ok}
+use Rattle.json_text.proofs.ByteSteps.{On, follows_step, step_follows, follows_end, end_follows}
 
 module _ (size levels : ℕ) (r : Node) where
+  on_read : (bs : List ℕ) (s : Result State Stop) (at : ℕ) (f : State → Result Node Fault) → go_on at s f ≡ Ok r
+      → ((next : State) → f next ≡ Ok r → Following size levels r next bs) → On size levels r bs s
+  on_read bs (Ok next) at f e g = g next e
+  on_read bs (Err why) at f e g = cc
+
+  read_on : (bs : List ℕ) (s : Result State Stop) (at : ℕ) (f : State → Result Node Fault) → On size levels r bs s
+      → ((next : State) → Following size levels r next bs → f next ≡ Ok r) → go_on at s f ≡ Ok r
+  read_on bs (Ok next) at f h g = g next h
+  read_on bs (Err why) at f h g = absurd h
+
   pub follows_read : (bytes : List ℕ) (state : State) (at : ℕ) → at + length bytes ≡ size → read_from levels at state bytes ≡ Ok r
       → Following size levels r state bytes
-  follows_read [] state at s e = follows_end size levels r state (ended_ok at (end_of state) r (sym (read_nil levels at state) ∙ e))
-  follows_read (b ∷ bs) state at s e = let (next, f, g) = cons_ok levels at state b bs r e in
-      follows_step size levels r state next at b bs s f (follows_read bs next (at + 1) (omega (arith, s)) g)
+  unfolding read_from
+  follows_read [] state at s e = follows_end size levels r state (ended_ok at (end_of state) r e)
+  follows_read (b ∷ bs) state at s e = follows_step size levels r state at b bs s (on_read bs (step levels at state b) at _ e
+      (λ next f. follows_read bs next (at + 1) (omega (arith, s)) f))
 
   pub read_follows : (bytes : List ℕ) (state : State) (at : ℕ) → at + length bytes ≡ size → Following size levels r state bytes
       → read_from levels at state bytes ≡ Ok r
-  read_follows [] state at s h = read_nil levels at state ∙ ap (ended at) (end_follows size levels r state h)
-  read_follows (b ∷ bs) state at s h = let (next, f, g) = step_follows size levels r state at b bs s h in
-      read_ok levels at state next b bs f ∙ read_follows bs next (at + 1) (omega (arith, s)) g
+  unfolding read_from
+  read_follows [] state at s h = ap (ended at) (end_follows size levels r state h)
+  read_follows (b ∷ bs) state at s h = read_on bs (step levels at state b) at _ (step_follows size levels r state at b bs s h)
+      (λ next f. read_follows bs next (at + 1) (omega (arith, s)) f)
 
 pub read_spelled : (levels : ℕ) (bytes : List ℕ) (n : Node) → read_text levels bytes ≡ Ok n → IsText levels bytes n
 read_spelled levels bytes n e =
