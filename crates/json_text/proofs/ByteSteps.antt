@@ -133,8 +133,10 @@ module _ (size levels : ℕ) (r : Node) where
       → Follows (after_item ns outer) (b ∷ bs)
   item_follows ns outer b bs h =
       on_if (is_space b) bs _ _ h (λ t (future, k). (future, inr (t, k))) (λ _ h.
-      on_if (b == 44) bs _ _ h (λ t (n, future, k). ((node n future.0, future.1),
-      inl (eqb-true b 44 t, subst (λ all. NextItem outer n future all bs) (then_node ns n future.0) k))) (λ _ h.
+      on_if (b == 44) bs _ _ h (λ t (n, future, k). (
+        (node n future.0, future.1),
+        inl (eqb-true b 44 t, subst (λ all. NextItem outer n future all bs) (then_node ns n future.0) k),
+      )) (λ _ h.
       on_if (b == 93) bs _ _ h (λ t h. let (future, k) = follows_put (list_node (nodes_of ns)) outer bs h in ((no_nodes, future), inl (eqb-true b 93 t, k)))
       (λ _ h. absurd h)))
 
@@ -142,8 +144,10 @@ module _ (size levels : ℕ) (r : Node) where
       → Follows (after_member ms outer) (b ∷ bs)
   member_follows ms outer b bs h =
       on_if (is_space b) bs _ _ h (λ t (future, k). (future, inr (t, k))) (λ _ h.
-      on_if (b == 44) bs _ _ h (λ t (place, key, n, future, k). ((field place key n future.0, future.1),
-      inl (eqb-true b 44 t, subst (λ all. NextMember outer place key n future all bs) (then_field ms place key n future.0) k))) (λ _ h.
+      on_if (b == 44) bs _ _ h (λ t (place, key, n, future, k). (
+        (field place key n future.0, future.1),
+        inl (eqb-true b 44 t, subst (λ all. NextMember outer place key n future all bs) (then_field ms place key n future.0) k),
+      )) (λ _ h.
       on_if (b == 125) bs _ _ h (λ t h. let (future, k) = follows_put (object_node (fields_of ms)) outer bs h in ((no_fields, future), inl (eqb-true b 125 t, k)))
       (λ _ h. absurd h)))
 

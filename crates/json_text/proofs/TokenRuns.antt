@@ -202,8 +202,11 @@ module _ (L at : ℕ) where
       → (read_from L at (value outer) rest ≡ read_from L there (put n outer) behind) × (length behind < length rest)
   value_word outer [] n rest len there behind h scan place is = absurd h
   value_word outer (c ∷ cs) n [] len there behind h scan place is = absurd h
-  value_word outer (c ∷ cs) n (b ∷ bs) len there behind h scan place is = (takes L at (value outer) (word c cs n outer) b (b ∷ bs) (λ e. e) (λ _ _. put n outer) _
-      refl (h L at outer) (word_agrees L outer n (c ∷ cs) bs (at + 1) 0) len there behind scan place is, omega (arith, ap length is, length-drop len bs))
+  value_word outer (c ∷ cs) n (b ∷ bs) len there behind h scan place is = (
+    takes L at (value outer) (word c cs n outer) b (b ∷ bs) (λ e. e) (λ _ _. put n outer) _
+        refl (h L at outer) (word_agrees L outer n (c ∷ cs) bs (at + 1) 0) len there behind scan place is,
+    omega (arith, ap length is, length-drop len bs),
+  )
 
   pub value_word_stops : (outer : List Waiting) (w : List ℕ) (n : Node) (rest : List ℕ) (len there : ℕ) → BeginsWord w n rest
       → scan_word w 0 (drop 1 rest) ≡ Err len → there ≡ at + 1 + len → read_from L at (value outer) rest ≡ fault there
