@@ -198,15 +198,12 @@ module _ (K : List ℕ → List ℕ → Type 0) where
       let (d, z, ds, is_d, e_d, f_d, h_d) = digit lead 0 (16 * (16 * (16 * 0 + w) + x) + y) text cs h_c in
       let one = so_far_more lead 3 0 w (omega arith) start (hex_below a w e_a) f_a in
       let two = so_far_more lead 2 (16 * 0 + w) x (omega arith) one (hex_below b x e_b) f_b in
-      let three = so_far_more lead 1 (16 * (16 * 0 + w) + x) y (omega arith) two (hex_below c y e_c) f_c in (
-        a ∷ b ∷ c ∷ d ∷ [],
-        ds,
-        16 * (16 * (16 * (16 * 0 + w) + x) + y) + z,
-        is_a ∙ ap (λ t. a ∷ t) (is_b ∙ ap (λ t. b ∷ t) (is_c ∙ ap (λ t. c ∷ t) is_d)),
-        (a, b, c, d, w, x, y, z, refl, e_a, e_b, e_c, e_d, omega arith),
-        so_far_more lead zero (16 * (16 * (16 * 0 + w) + x) + y) z (omega arith) three (hex_below d z e_d) f_d,
-        h_d,
-      )
+      let three = so_far_more lead 1 (16 * (16 * 0 + w) + x) y (omega arith) two (hex_below c y e_c) f_c in
+      let so = so_far_more lead zero (16 * (16 * (16 * 0 + w) + x) + y) z (omega arith) three (hex_below d z e_d) f_d in
+      let is = is_a ∙ ap (λ t. a ∷ t) (is_b ∙ ap (λ t. b ∷ t) (is_c ∙ ap (λ t. c ∷ t) is_d)) in
+      let hexed : IsHex (a ∷ b ∷ c ∷ d ∷ []) (16 * (16 * (16 * (16 * 0 + w) + x) + y) + z) =
+      (a, b, c, d, w, x, y, z, refl, e_a, e_b, e_c, e_d, omega arith) in
+      (a ∷ b ∷ c ∷ d ∷ [], ds, 16 * (16 * (16 * (16 * 0 + w) + x) + y) + z, is, hexed, so, h_d)
 
   -- one byte that has to come
   expected : (part p : StringPart) (text bytes : List ℕ) (c : ℕ) → ((b : ℕ) → string_step part text b ≡ cond (b == c) (goes_on p text) stops)
@@ -228,15 +225,11 @@ module _ (K : List ℕ → List ℕ → Type 0) where
   unit_by text bytes digits back u is hexed so true t h =
       let (t_a, is_a, h_a) = expected (high u) (high_backslash u) text back 92 (λ b. refl) h in
       let (bs, is_b, h_b) = expected (high_backslash u) (hex (Some u) 3 0) text t_a 117 (λ b. refl) h_a in
-      let (second, rest, low, is_l, hexed_l, so_l, k) = four (Some u) text bs (omega arith, refl) h_b in (
-        117 ∷ (digits ++ (92 ∷ 117 ∷ second)),
-        encode_utf8 (pair_of u low),
-        rest,
-        is ∙ ap (λ t. 117 ∷ t) (ap (λ t. digits ++ t) (is_a ∙ ap (λ t. 92 ∷ t) (is_b ∙ ap (λ t. 117 ∷ t) is_l))
-            ∙ sym (append_assoc digits (92 ∷ 117 ∷ second) rest)),
-        pair digits second u low hexed hexed_l (within_from 0xD800 0xDBFF u t, within_to 0xD800 0xDBFF u t) (omega arith, omega arith),
-        k,
-      )
+      let (second, rest, low, is_l, hexed_l, so_l, k) = four (Some u) text bs (omega arith, refl) h_b in
+      let all = is ∙ ap (λ t. 117 ∷ t) (ap (λ t. digits ++ t) (is_a ∙ ap (λ t. 92 ∷ t) (is_b ∙ ap (λ t. 117 ∷ t) is_l))
+      ∙ sym (append_assoc digits (92 ∷ 117 ∷ second) rest)) in
+      let spelled = pair digits second u low hexed hexed_l (within_from 0xD800 0xDBFF u t, within_to 0xD800 0xDBFF u t) (omega arith, omega arith) in
+      (117 ∷ (digits ++ (92 ∷ 117 ∷ second)), encode_utf8 (pair_of u low), rest, all, spelled, k)
 
   escape_by : (text : List ℕ) (b : ℕ) (bs : List ℕ) (o : Option ℕ) → escape_of b ≡ o → Then (escape_step text o) text bs → One 92 text (b ∷ bs)
   escape_by text b bs None e h = absurd h
@@ -257,13 +250,10 @@ module _ (K : List ℕ → List ℕ → Type 0) where
       (b ∷ [], bs, refl, f b (within_from low (low + width) b t) (within_to low (low + width) b t), k)
   tails (suc m) low width front text (b ∷ bs) f h =
       let (t, k) = cond_on (is_within low (low + width) b) _ _ _ h in
-      let (rest, back, is, long, g) = tails m 128 63 (front ++ b ∷ []) (text ++ b ∷ []) bs (f b (within_from low (low + width) b t) (within_to low (low + width) b t)) k in (
-        b ∷ rest,
-        back,
-        ap (λ t. b ∷ t) is,
-        subst IsLong (append_assoc front (b ∷ []) rest) long,
-        subst (λ t. Characters between t K back) (append_assoc text (b ∷ []) rest) g,
-      )
+      let (rest, back, is, long, g) = tails m 128 63 (front ++ b ∷ []) (text ++ b ∷ []) bs
+      (f b (within_from low (low + width) b t) (within_to low (low + width) b t)) k in
+      let left = subst (λ t. Characters between t K back) (append_assoc text (b ∷ []) rest) g in
+      (b ∷ rest, back, ap (λ t. b ∷ t) is, subst IsLong (append_assoc front (b ∷ []) rest) long, left)
 
   one : (text : List ℕ) (b : ℕ) (bs : List ℕ) → Characters between text K (b ∷ bs) → ((b ≡ 34) × K text bs) ⊎ One b text bs
   one text b bs h =
@@ -284,15 +274,9 @@ module _ (K : List ℕ → List ℕ → Type 0) where
     | inl mark ↦ ([], [], bs, ap (λ x. x ∷ bs) mark.0, none, subst (λ t. K t bs) (sym (append-nil text)) mark.1)
     | inr character ↦
         let (a, x, rest, is, spelled, k) = character in
-        let (inside, t, back, same, others, g) = all n (text ++ x) rest (omega (arith, l, ap length is, length-append a rest)) k in (
-          (b ∷ a) ++ inside,
-          x ++ t,
-          back,
-          ap (λ t. b ∷ t) (is ∙ ap (λ t. a ++ t) same)
-              ∙ sym (append_assoc (b ∷ a) inside (34 ∷ back)),
-          more spelled others,
-          subst (λ t. K t back) (append_assoc text x t) g,
-        )
+        let (inside, t, back, same, others, g) = all n (text ++ x) rest (omega (arith, l, ap length is, length-append a rest)) k in
+        let joined = ap (λ t. b ∷ t) (is ∙ ap (λ t. a ++ t) same) ∙ sym (append_assoc (b ∷ a) inside (34 ∷ back)) in
+        ((b ∷ a) ++ inside, x ++ t, back, joined, more spelled others, subst (λ t. K t back) (append_assoc text x t) g)
   ]
 
   pub characters_spelled : (bytes : List ℕ) → Characters between [] K bytes

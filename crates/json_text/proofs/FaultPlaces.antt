@@ -47,18 +47,15 @@ module _ (levels : ℕ) where
     deeper : (more : List ℕ) → read_from (suc levels) at from (front ++ more) ≡ read_from (suc levels) f.at state more
     stops : StopsAt state f rest
 
+  so : {from : State} {at : ℕ} {f : Fault} {bytes : List ℕ} (front rest : List ℕ) (state : State) → bytes ≡ front ++ rest → f.at ≡ at + length front
+      → depth state ≤ levels → ((more : List ℕ) → read_from levels at from (front ++ more) ≡ read_from levels f.at state more)
+      → ((more : List ℕ) → read_from (suc levels) at from (front ++ more) ≡ read_from (suc levels) f.at state more) → StopsAt state f rest
+      → Stopped from at f bytes
+  so a b c d e f g h i = record { front = a; rest = b; state = c; joined = d; place = e; shallow = f; same = g; deeper = h; stops = i }
+
   stops_here : (state : State) (at : ℕ) (f : Fault) (bytes : List ℕ) → depth state ≤ levels → f.at ≡ at → StopsAt state f bytes → Stopped state at f bytes
-  stops_here state at f bytes s e h = record {
-    front = [];
-    rest = bytes;
-    state = state;
-    joined = refl;
-    place = e ∙ sym (add-zero at);
-    shallow = s;
-    same = λ more. ap (λ n. read_from levels n state more) (sym e);
-    deeper = λ more. ap (λ n. read_from (suc levels) n state more) (sym e);
-    stops = h;
-  }
+  stops_here state at f bytes s e h = so [] bytes state refl (e ∙ sym (add-zero at)) s (λ more. ap (λ n. read_from levels n state more) (sym e))
+      (λ more. ap (λ n. read_from (suc levels) n state more) (sym e)) h
 
   stopped_by : (from : State) (at b : ℕ) (bs : List ℕ) (f : Fault) (r other : Result State Stop) → step levels at from b ≡ r
       → step (suc levels) at from b ≡ other → Fares levels r other → depth from ≤ levels
@@ -68,17 +65,10 @@ module _ (levels : ℕ) where
       let is : fault why at ≡ f = let k = sym (read_err levels at from why b bs e) ∙ h in cc in
       stops_here from at f (b ∷ bs) s (ap (λ x. x.at) (sym is)) (subst (λ f. step levels f.at from b ≡ Err f.why) is e)
   stopped_by from at b bs f (Ok next) other e o t s h g =
-      let r = g next t.1 (sym (read_ok levels at from next b bs e) ∙ h) in record {
-        front = b ∷ r.front;
-        rest = r.rest;
-        state = r.state;
-        joined = ap (λ t. b ∷ t) r.joined;
-        place = r.place ∙ omega arith;
-        shallow = r.shallow;
-        same = λ more. read_ok levels at from next b (r.front ++ more) e ∙ r.same more;
-        deeper = λ more. read_ok (suc levels) at from next b (r.front ++ more) (o ∙ t.0) ∙ r.deeper more;
-        stops = r.stops;
-      }
+      let r = g next t.1 (sym (read_ok levels at from next b bs e) ∙ h) in
+      so (b ∷ r.front) r.rest r.state (ap (λ t. b ∷ t) r.joined) (r.place ∙ omega arith) r.shallow
+      (λ more. read_ok levels at from next b (r.front ++ more) e ∙ r.same more)
+      (λ more. read_ok (suc levels) at from next b (r.front ++ more) (o ∙ t.0) ∙ r.deeper more) r.stops
 
   stopped : (bytes : List ℕ) (from : State) (at : ℕ) (f : Fault) → depth from ≤ levels → read_from levels at from bytes ≡ Err f → Stopped from at f bytes
   stopped [] from at f s h = let e = ended_err at (end_of from) f (sym (read_nil levels at from) ∙ h) in
@@ -112,11 +102,9 @@ next_byte : (levels : ℕ) (bytes : List ℕ) (f : Fault) (s : Stopped levels (v
     → (f.at < length bytes) × (take (suc f.at) bytes ≡ s.front ++ b ∷ [])
 next_byte levels bytes f s b bs e =
     let all : bytes ≡ (s.front ++ b ∷ []) ++ bs = s.joined ∙ ap (λ t. s.front ++ t) e ∙ sym (append_assoc s.front (b ∷ []) bs) in
-    let size : suc f.at ≡ length (s.front ++ b ∷ []) = omega (arith, s.place, length-append s.front (b ∷ [])) in (
-      omega (arith, size, ap length all, length-append (s.front ++ b ∷ []) bs),
-      ap (λ t. take (suc f.at) t) all
-          ∙ take_at (s.front ++ b ∷ []) bs (suc f.at) (sym size),
-    )
+    let size : suc f.at ≡ length (s.front ++ b ∷ []) = omega (arith, s.place, length-append s.front (b ∷ [])) in
+    let front = ap (take (suc f.at)) all ∙ take_at (s.front ++ b ∷ []) bs (suc f.at) (sym size) in
+    (omega (arith, size, ap length all, length-append (s.front ++ b ∷ []) bs), front)
 
 pub opens_too_many : (levels : ℕ) (bytes : List ℕ) (f : Fault) → read_text levels bytes ≡ Err f → f.why ≡ too_deep → OpensTooMany levels bytes f.at
 opens_too_many levels bytes f h w = by (stopped levels bytes (value []) 0 f (omega arith) h)
@@ -125,16 +113,10 @@ opens_too_many levels bytes f h w = by (stopped levels bytes (value []) 0 f (ome
         → OpensTooMany levels bytes f.at
     deep s b bs e (next, o) =
         let (within, front) = next_byte levels bytes f s b bs e in
-        let (more, n, k) = completes (suc levels) next (f.at + 1) in (
-          within,
-          (
-            more,
-            n,
-            read_spelled (suc levels) (take (suc f.at) bytes ++ more) n
-                (ap (λ t. read_text (suc levels) (t ++ more)) front ∙ ap (read_text (suc levels)) (append_assoc s.front (b ∷ []) more)
-                ∙ s.deeper (b ∷ more) ∙ read_ok (suc levels) f.at s.state next b more o ∙ k),
-          ),
-        )
+        let (more, n, k) = completes (suc levels) next (f.at + 1) in
+        let text = read_spelled (suc levels) (take (suc f.at) bytes ++ more) n
+        (ap (λ t. read_text (suc levels) (t ++ more)) front ∙ ap (read_text (suc levels)) (append_assoc s.front (b ∷ []) more)
+        ∙ s.deeper (b ∷ more) ∙ read_ok (suc levels) f.at s.state next b more o ∙ k) in (within, (more, n, text))
 
     at : (s : Stopped levels (value []) 0 f bytes) (rest : List ℕ) → s.rest ≡ rest → StopsAt levels s.state f rest → OpensTooMany levels bytes f.at
     at s [] e t = unlike (sym t ∙ w)

@@ -13,11 +13,14 @@ pub record Front (P K : List ℕ → Type 0) (bytes : List ℕ) : Type 0 where
   pub first : P front
   pub second : K back
 
+parted : {P K : List ℕ → Type 0} {bytes : List ℕ} (front back : List ℕ) → bytes ≡ front ++ back → P front → K back → Front P K bytes
+parted front back e p k = record { front = front; back = back; joined = e; first = p; second = k }
+
 space_front : (K : List ℕ → Type 0) (bytes : List ℕ) → Space K bytes → Front IsSpace K bytes
-space_front K [] h = record { front = []; back = []; joined = refl; first = tt; second = h }
-space_front K (b ∷ bs) (inl h) = record { front = []; back = b ∷ bs; joined = refl; first = tt; second = h }
+space_front K [] h = parted ([]) ([]) refl tt h
+space_front K (b ∷ bs) (inl h) = parted ([]) (b ∷ bs) refl tt h
 space_front K (b ∷ bs) (inr h) = let r = space_front K bs h.1 in
-    record { front = b ∷ r.front; back = r.back; joined = ap (λ x. b ∷ x) r.joined; first = (h.0, r.first); second = r.second }
+    parted (b ∷ r.front) r.back (ap (λ x. b ∷ x) r.joined) (h.0, r.first) r.second
 
 pub no_space : (K : List ℕ → Type 0) (bytes : List ℕ) → K bytes → Space K bytes
 no_space K [] h = h
@@ -62,13 +65,9 @@ module _ (size : ℕ) where
     to = λ at K bytes e h.
         let s = space_front (X (Space K)) bytes h in
         let v = x.to (at + length s.front) (Space K) s.back (behind at bytes s.front s.back e s.joined) s.second in
-        let t = space_front K v.back v.second in record {
-          front = s.front ++ (v.front ++ t.front);
-          back = t.back;
-          joined = padded_joined bytes s.front s.back v.front v.back t.front t.back s.joined v.joined t.joined;
-          first = ((s.front, v.front, t.front, refl, s.first, v.first.0, t.first), v.first.1);
-          second = t.second;
-        };
+        let t = space_front K v.back v.second in
+        parted (s.front ++ (v.front ++ t.front)) t.back (padded_joined bytes s.front s.back v.front v.back t.front t.back s.joined v.joined t.joined)
+        ((s.front, v.front, t.front, refl, s.first, v.first.0, t.first), v.first.1) t.second;
     from = λ at K front back e (before, inside, after, is, s, v, t) w k.
         let all : front ++ back ≡ before ++ (inside ++ (after ++ back)) = ap (λ x. x ++ back) is ∙ simp append_assoc in
         subst (Space (X (Space K))) (sym all)
@@ -84,13 +83,9 @@ module _ (size : ℕ) where
     to = λ at K bytes e h.
         let b = byte_back a (X (Byte c K)) bytes h in
         let v = x.to (at + 1) (Byte c K) b.0 (behind_byte at a bytes b.0 e b.1) b.2 in
-        let d = byte_back c K v.back v.second in record {
-          front = a ∷ (v.front ++ c ∷ []);
-          back = d.0;
-          joined = b.1 ∙ ap (λ t. a ∷ t) (v.joined ∙ ap (λ t. v.front ++ t) d.1 ∙ sym (append_assoc v.front (c ∷ []) d.0));
-          first = ((v.front, refl, v.first.0), v.first.1);
-          second = d.2;
-        };
+        let d = byte_back c K v.back v.second in
+        parted (a ∷ (v.front ++ c ∷ [])) d.0 (b.1 ∙ ap (λ t. a ∷ t) (v.joined ∙ ap (λ t. v.front ++ t) d.1 ∙ sym (append_assoc v.front (c ∷ []) d.0)))
+        ((v.front, refl, v.first.0), v.first.1) d.2;
     from = λ at K front back e (inside, is, v) w k.
         let all : front ++ back ≡ a ∷ (inside ++ (c ∷ back)) = ap (λ x. x ++ back) is ∙ ap (λ t. a ∷ t) (append_assoc inside (c ∷ []) back) in
         subst (Byte a (X (Byte c K))) (sym all)
@@ -117,13 +112,9 @@ module _ (size : ℕ) where
         let here : place ≡ at + length s.front = omega (arith, behind at bytes s.front s.back e s.joined, s.second.0) in
         let all : bytes ≡ s.front ++ (name ++ (g.front ++ 58 ∷ c.0)) =
         s.joined ∙ ap (λ t. s.front ++ t) (is ∙ ap (λ t. 34 ∷ (inside ++ 34 ∷ t)) (g.joined ∙ ap (λ t. g.front ++ t) c.1)) ∙ simp append_assoc in
-        let v = x.to (at + length s.front + length name + length g.front + 1) K c.0 (field_at at bytes s.front name g.front c.0 e all) c.2 in record {
-          front = s.front ++ (name ++ (g.front ++ 58 ∷ v.front));
-          back = v.back;
-          joined = all ∙ ap (λ t. s.front ++ (name ++ (g.front ++ 58 ∷ t))) v.joined ∙ simp append_assoc;
-          first = ((s.front, name, g.front, v.front, refl, s.first, here, (inside, refl, spelled), g.first, v.first.0), v.first.1);
-          second = v.second;
-        }
+        let v = x.to (at + length s.front + length name + length g.front + 1) K c.0 (field_at at bytes s.front name g.front c.0 e all) c.2 in
+        parted (s.front ++ (name ++ (g.front ++ 58 ∷ v.front))) v.back (all ∙ ap (λ t. s.front ++ (name ++ (g.front ++ 58 ∷ t))) v.joined ∙ simp append_assoc)
+        ((s.front, name, g.front, v.front, refl, s.first, here, (inside, refl, spelled), g.first, v.first.0), v.first.1) v.second
 
     member_from : (at : ℕ) (K : List ℕ → Type 0) (front back : List ℕ) → at + length (front ++ back) ≡ size → SpellsField V at front place key → W → K back
         → Member K (front ++ back)
@@ -148,13 +139,9 @@ module _ (size : ℕ) where
   sequence X Y V U W Z x y = record {
     to = λ at K bytes e h.
         let v = x.to at (Y K) bytes e h in
-        let u = y.to (at + length v.front) K v.back (behind at bytes v.front v.back e v.joined) v.second in record {
-          front = v.front ++ u.front;
-          back = u.back;
-          joined = v.joined ∙ ap (λ t. v.front ++ t) u.joined ∙ sym (append_assoc v.front u.front u.back);
-          first = ((v.front, u.front, refl, v.first.0, u.first.0), (v.first.1, u.first.1));
-          second = u.second;
-        };
+        let u = y.to (at + length v.front) K v.back (behind at bytes v.front v.back e v.joined) v.second in
+        parted (v.front ++ u.front) u.back (v.joined ∙ ap (λ t. v.front ++ t) u.joined ∙ sym (append_assoc v.front u.front u.back))
+        ((v.front, u.front, refl, v.first.0, u.first.0), (v.first.1, u.first.1)) u.second;
     from = λ at K front back e (first, rest, is, v, u) w k.
         let all : front ++ back ≡ first ++ (rest ++ back) = ap (λ x. x ++ back) is ∙ append_assoc first rest back in
         subst (X (Y K)) (sym all) (x.from at (Y K) first (rest ++ back) (sym (ap (λ t. at + length t) all) ∙ e) v w.0
@@ -168,13 +155,8 @@ module _ (size : ℕ) where
     to = λ at K bytes e h.
         let b = byte_back 44 (X K) bytes h in
         let v = x.to (at + 1) K b.0 (behind_byte at 44 bytes b.0 e b.1) b.2 in
-        let (first, rest, is, p, q) = v.first.0 in record {
-          front = 44 ∷ v.front;
-          back = v.back;
-          joined = b.1 ∙ ap (λ t. 44 ∷ t) v.joined;
-          first = ((first, rest, ap (λ t. 44 ∷ t) is, p, q), v.first.1);
-          second = v.second;
-        };
+        let (first, rest, is, p, q) = v.first.0 in
+        parted (44 ∷ v.front) v.back (b.1 ∙ ap (λ t. 44 ∷ t) v.joined) ((first, rest, ap (λ t. 44 ∷ t) is, p, q), v.first.1) v.second;
     from = λ at K front back e (first, rest, is, v, u) w k.
         let all : front ++ back ≡ 44 ∷ ((first ++ rest) ++ back) = ap (λ x. x ++ back) is in
         subst (Byte 44 (X K)) (sym all)
@@ -185,7 +167,7 @@ module _ (size : ℕ) where
   levels_so : (X : (List ℕ → Type 0) → List ℕ → Type 0) (V : ℕ → List ℕ → Type 0) (W Z : Type 0) → (W → Z) → (Z → W) → Reads X V W → Reads X V Z
   levels_so X V W Z f g x = record {
     to = λ at K bytes e h. let v = x.to at K bytes e h in
-        record { front = v.front; back = v.back; joined = v.joined; first = (v.first.0, f v.first.1); second = v.second };
+        parted v.front v.back v.joined (v.first.0, f v.first.1) v.second;
     from = λ at K front back e v z k. x.from at K front back e v (g z) k;
   }
 
@@ -194,26 +176,26 @@ module _ (size : ℕ) where
       → Reads (λ K bytes. (m : ℕ) × (l ≡ suc m) × X m K bytes) V (suc w ≤ l)
   deeper X V l w x = record {
     to = λ at K bytes e (m, is, h). let v = (x m).to at K bytes e h in
-        record { front = v.front; back = v.back; joined = v.joined; first = (v.first.0, omega (arith, is, v.first.1)); second = v.second };
+        parted v.front v.back v.joined (v.first.0, omega (arith, is, v.first.1)) v.second;
     from = λ at K front back e v z k. (l - 1, omega (arith, z), (x (l - 1)).from at K front back e v (omega (arith, z)) k);
   }
 
   literal : (word : List ℕ) (W : Type 0) → W → Reads (Literal word) (λ at front. front ≡ word) W
   literal word W w = record {
-    to = λ at K bytes e h. let (back, is, k) = literal_back word K bytes h in record { front = word; back = back; joined = is; first = (refl, w); second = k };
+    to = λ at K bytes e h. let (back, is, k) = literal_back word K bytes h in parted word back is (refl, w) k;
     from = λ at K front back e v w k. subst (Literal word K) (sym (ap (λ x. x ++ back) v)) (literal_from word K back k);
   }
 
   spaces : (W : Type 0) → W → Reads (λ K. Space K) (λ at front. IsSpace front) W
   spaces W w = record {
     to = λ at K bytes e h. let s = space_front K bytes h in
-        record { front = s.front; back = s.back; joined = s.joined; first = (s.first, w); second = s.second };
+        parted s.front s.back s.joined (s.first, w) s.second;
     from = λ at K front back e v w k. space_from K front back v k;
   }
 
   nothing : (W : Type 0) → W → Reads (λ K. K) (λ at front. front ≡ []) W
   nothing W w = record {
-    to = λ at K bytes e h. record { front = []; back = bytes; joined = refl; first = (refl, w); second = h };
+    to = λ at K bytes e h. parted ([]) bytes refl (refl, w) h;
     from = λ at K front back e v w k. subst K (sym (ap (λ x. x ++ back) v)) k;
   }
 
@@ -233,17 +215,13 @@ module _ (size : ℕ) where
     value_reads (truth_node true) l = literal (codes "true") (0 ≤ l) (omega arith)
     value_reads (truth_node false) l = literal (codes "false") (0 ≤ l) (omega arith)
     value_reads (number_node spelling) l = record {
-      to = λ at K bytes e (back, is, number, k). record { front = spelling; back = back; joined = is; first = ((refl, number), omega arith); second = k };
+      to = λ at K bytes e (back, is, number, k). parted spelling back is ((refl, number), omega arith) k;
       from = λ at K front back e v w k. (back, ap (λ x. x ++ back) v.0, v.1, k);
     }
     value_reads (text_node t) l = record {
-      to = λ at K bytes e (inside, back, is, spelled, k). record {
-        front = 34 ∷ (inside ++ 34 ∷ []);
-        back = back;
-        joined = is ∙ ap (λ t. 34 ∷ t) (sym (append_assoc inside (34 ∷ []) back));
-        first = ((inside, refl, spelled), omega arith);
-        second = k;
-      };
+      to = λ at K bytes e (inside, back, is, spelled, k).
+          parted (34 ∷ (inside ++ 34 ∷ [])) back (is ∙ ap (λ t. 34 ∷ t) (sym (append_assoc inside (34 ∷ []) back)))
+          ((inside, refl, spelled), omega arith) k;
       from = λ at K front back e
           (inside, is, spelled) w k. (inside, back, ap (λ x. x ++ back) is ∙ ap (λ t. 34 ∷ t) (append_assoc inside (34 ∷ []) back), spelled, k);
     }
