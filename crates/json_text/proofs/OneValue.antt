@@ -8,13 +8,7 @@ use Rattle.json_text.proofs.WholeTexts.{spelled_read}
 deeper : (a b : ℕ) (bytes : List ℕ) (n : Node) → a ≤ b → IsText a bytes n → IsText b bytes n
 deeper a b bytes n le is = record { spelled = is.spelled; within = let w = is.within in omega (arith, w, le) }
 
-one_within : (levels : ℕ) (bytes : List ℕ) (n m : Node) → IsText levels bytes n → IsText levels bytes m → n ≡ m
-one_within levels bytes n m p q =
-    let a = spelled_read levels bytes n p in
-    let b = spelled_read levels bytes m q in
-    let same : Ok n ≡ Ok m = sym a ∙ b in
-    cc
-
 pub one_value : (a b : ℕ) (bytes : List ℕ) (n m : Node) → IsText a bytes n → IsText b bytes m → n ≡ m
 one_value a b bytes n m p q =
-    one_within (a + b) bytes n m (deeper a (a + b) bytes n (omega arith) p) (deeper b (a + b) bytes m (omega arith) q)
+    let first = spelled_read (a + b) bytes n (deeper a (a + b) bytes n (omega arith) p) in
+    let second = spelled_read (a + b) bytes m (deeper b (a + b) bytes m (omega arith) q) in let same : Ok n ≡ Ok m = sym first ∙ second in cc

@@ -1,5 +1,5 @@
 -- One byte that is no white space, at each place between tokens: `begins_word`, `opened_goes`, and a lemma for the bytes that stop
--- each state. Turns seen from another state: `goes_same`, `fails_same`, `led`, `barred`.
+-- each state. Turns seen from another state: `goes_same`, `goes_by`, `led`, `barred`.
 use Rattle.json_text.specs.Reading.{word, Member, Waiting, in_list, in_object, State, value, first_item, after_item, first_key, next_key, colon, after_member, whole, step, value_step, go_on, read_from, too_deep, unexpected, opened, ended, end_of, Fault}
 use Rattle.std.proofs.Common.{Result, ◌≡◌, ◌≢◌, ◌≤◌, ◌<◌, ℕ, ◌+◌, List, [], ◌∷◌, length, drop, reverse, false, Option, Ok, Err, refl, sym, ap, ◌∙◌, arith, cond, ◌==◌, ◌⊎◌, subst}
 use Rattle.std.proofs.lemmas.Bool.Decides.{nat_tests}
@@ -93,7 +93,7 @@ colon_skips L ms place key outer at b h =
     ap (λ v. cond v (Ok (colon ms place key outer)) (cond (b == 58) (Ok (value (in_object ms place key ∷ outer))) (Err unexpected))) h
 
 -- one byte less is left
-pub less : (byte : ℕ) (rest behind : List ℕ) → StartsWith byte rest → behind ≡ drop 1 rest → length behind < length rest
+less : (byte : ℕ) (rest behind : List ℕ) → StartsWith byte rest → behind ≡ drop 1 rest → length behind < length rest
 less byte [] behind h is = absurd h
 less byte (b ∷ bs) behind h is = let e : length behind ≡ length bs = ap length is in omega (arith, e)
 
@@ -154,7 +154,7 @@ unfolding read_from
 finished n s L at h = ap (λ t. ended at (end_of t)) h
 
 -- the same fault where the same is read
-pub fails_same : (a b : Result Node Fault) (f : JsonFault) → a ≡ b → FailsSo b f → FailsSo a f
+fails_same : (a b : Result Node Fault) (f : JsonFault) → a ≡ b → FailsSo b f → FailsSo a f
 fails_same a b (NotJson at) e h = e ∙ h
 fails_same a b (TooDeep at) e h = e ∙ h
 fails_same a b (KeyTwice at) e h = h
@@ -174,7 +174,12 @@ led L s next byte place there h goes at rest =
     by_byte L place.at s byte place.rest.now (Ok next) h goes ∙ ap (λ k. read_from L k next (drop 1 place.rest.now)) (sym at)
     ∙ ap (read_from L there.at next) (sym rest)
 
--- a byte that is not allowed there
-pub barred : (L : ℕ) (s : State) (byte : ℕ) (place : Place) (f : JsonFault) → StartsWith byte place.rest.now → step L place.at s byte ≡ Err unexpected
-    → f ≡ NotJson place.at → FailsSo (read_at L place s) f
-barred L s byte place f h goes is = subst (FailsSo (read_at L place s)) (sym is) (by_byte L place.at s byte place.rest.now (Err unexpected) h goes)
+-- a turn by one byte, and a byte that is not allowed there, from a state that is known
+module _ (L : ℕ) (s t : State) (byte : ℕ) (place : Place) (same : s ≡ t) (h : StartsWith byte place.rest.now) where
+  pub goes_by : (I : State → Type 0) (next : State) (there : Place) → I next → step L place.at t byte ≡ Ok next → there.at ≡ place.at + 1
+      → there.rest.now ≡ drop 1 place.rest.now → (x : State) × I x × (read_at L place s ≡ read_at L there x) × (length there.rest.now < length place.rest.now)
+  goes_by I next there is goes at rest =
+      let read = ap (read_at L place) same ∙ led L t next byte place there h goes at rest in (next, is, read, less byte place.rest.now there.rest.now h rest)
+
+  pub barred : (f : JsonFault) → step L place.at t byte ≡ Err unexpected → f ≡ NotJson place.at → FailsSo (read_at L place s) f
+  barred f goes is = subst (FailsSo (read_at L place s)) (sym is) (ap (read_at L place) same ∙ by_byte L place.at t byte place.rest.now (Err unexpected) h goes)

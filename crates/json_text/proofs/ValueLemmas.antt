@@ -77,37 +77,24 @@ with_member_levels key t (m ∷ ms) =
     (λ _. let h : members_levels (members_of (with_member key t ms)) ≤ max (members_levels (members_of ms)) (tree_levels t) = with_member_levels key t ms in
     omega arith)
 
--- orders of the larger of two
-suc_le : (a b : ℕ) → a ≤ b → suc a ≤ suc b
-suc_le a b h = omega arith
-
-suc_le_max : (a b : ℕ) → a ≤ max 0 b → suc a ≤ suc b
-suc_le_max a b h = omega arith
-
-max_le : (a b c d : ℕ) → a ≤ c → b ≤ d → max a b ≤ max c d
-max_le a b c d h i = omega arith
-
-through_max : (a b c d e f : ℕ) → a ≤ max b c → b ≤ max d e → e ≤ f → a ≤ max d (max f c)
-through_max a b c d e f h i j = omega arith
-
 mutual
   levels_kept : (n : Node) → tree_levels (value_of n) ≤ levels_of n
   levels_kept null_node = omega arith
   levels_kept (truth_node b) = omega arith
   levels_kept (number_node spelling) = omega arith
   levels_kept (text_node t) = omega arith
-  levels_kept (list_node ns) = suc_le _ _ (levels_of_items_kept ns)
-  levels_kept (object_node fs) = suc_le_max _ _ (levels_of_members_kept fs [])
+  levels_kept (list_node ns) = omega (arith, levels_of_items_kept ns)
+  levels_kept (object_node fs) = omega (arith, levels_of_members_kept fs [])
 
   levels_of_items_kept : (ns : Nodes) → items_levels (items_of (values_of ns)) ≤ levels_of_nodes ns
   levels_of_items_kept no_nodes = omega arith
-  levels_of_items_kept (node n ns) = max_le _ _ _ _ (levels_kept n) (levels_of_items_kept ns)
+  levels_of_items_kept (node n ns) = omega (arith, levels_kept n, levels_of_items_kept ns)
 
   levels_of_members_kept : (fs : Fields) (ms : List (List ℕ × Tree))
       → members_levels (members_of (members_after ms fs)) ≤ max (members_levels (members_of ms)) (levels_of_fields fs)
   levels_of_members_kept no_fields ms = omega arith
-  levels_of_members_kept (field place key n fs) ms = through_max _ _ _ _ _ _ (levels_of_members_kept fs (with_member key (value_of n) ms))
-      (with_member_levels key (value_of n) ms) (levels_kept n)
+  levels_of_members_kept (field place key n fs) ms =
+      omega (arith, levels_of_members_kept fs (with_member key (value_of n) ms), with_member_levels key (value_of n) ms, levels_kept n)
 
 pub text_within : (levels : ℕ) (bytes : List ℕ) (n : Node) → IsText levels bytes n → tree_levels (value_of n) ≤ levels
 text_within levels bytes n h = let a : tree_levels (value_of n) ≤ levels_of n = levels_kept n in let b : levels_of n ≤ levels = h.within in omega arith

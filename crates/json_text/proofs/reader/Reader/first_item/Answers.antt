@@ -1,4 +1,4 @@
-use Rattle.std.proofs.Common.{reverse, ◌∙◌, ◌∷◌, [], sym, ap, arith, subst}
+use Rattle.std.proofs.Common.{reverse, ◌∙◌, ◌∷◌, [], refl, sym, ap, arith, subst}
 use Rattle.json_text.specs.Kept.{KeepsAll, repeat_of}
 use Rattle.json_text.specs.declared.state.Kept.TheVariants.{List as kept_list}
 use Rattle.json_text.specs.Tree.{list, items_of}
@@ -7,18 +7,15 @@ use Rattle.json_text.specs.Node.{list_node, no_nodes}
 use Rattle.json_text.specs.Reading.{step, put, value, first_item, in_list}
 use Rattle.json_text.proofs.ViewLemmas.{tree_of_list}
 use Rattle.json_text.proofs.KeptLemmas.{first_of-none, keeps_more}
-use Rattle.json_text.proofs.StepLemmas.{alike, less, first_item_goes, goes_same, led}
+use Rattle.json_text.proofs.StepLemmas.{alike, first_item_goes, goes_same, goes_by}
 use Rattle.json_text.proofs.reader.Reader.first_item.Goals as goal
 
 pub returns-then-byte-eq93-clause-goes : goal.returns-then-byte-eq93-clause-goes
-returns-then-byte-eq93-clause-goes c outer kept r = (
-  put (list_node no_nodes) outer,
-  c.in_ok-next.ensures.ok (list_node no_nodes) outer (tree_of_list c.new.result ∙ ap (λ js. list (items_of (trees_of js))) c.new.ensures.items) kept
-      (r ∙ sym (first_of-none (repeat_of outer))),
-  led c.args.self.now.levels (first_item outer) (put (list_node no_nodes) outer) c.args.byte c.args.place c.behind.result c.requires.first
-      (ap (step c.args.self.now.levels c.args.place.at (first_item outer)) c.if-byte-eq93.true) c.behind.ensures.at c.behind.ensures.rest,
-  less c.args.byte c.args.place.rest.now c.behind.result.rest.now c.requires.first c.behind.ensures.rest,
-)
+returns-then-byte-eq93-clause-goes c outer kept r =
+    goes_by c.args.self.now.levels (first_item outer) (first_item outer) c.args.byte c.args.place refl c.requires.first _ (put (list_node no_nodes) outer)
+    c.behind.result (c.in_ok-next.ensures.ok (list_node no_nodes) outer (tree_of_list c.new.result
+    ∙ ap (λ js. list (items_of (trees_of js))) c.new.ensures.items) kept (r ∙ sym (first_of-none (repeat_of outer))))
+    (ap (step c.args.self.now.levels c.args.place.at (first_item outer)) c.if-byte-eq93.true) c.behind.ensures.at c.behind.ensures.rest
 
 pub returns-clause-goes : goal.returns-clause-goes
 returns-clause-goes c outer kept r =

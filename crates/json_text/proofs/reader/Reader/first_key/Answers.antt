@@ -1,4 +1,4 @@
-use Rattle.std.proofs.Common.{◌∙◌, [], sym, ap, arith}
+use Rattle.std.proofs.Common.{◌∙◌, [], refl, sym, ap, arith}
 use Rattle.json_text.specs.Tree.{object, members_of}
 use Rattle.json_text.specs.View.{pairs_of}
 use Rattle.json_text.specs.Node.{object_node, no_fields}
@@ -6,7 +6,7 @@ use Rattle.json_text.specs.Reading.{step, put, first_key, next_key}
 use Rattle.json_text.specs.Kept.{repeat_of}
 use Rattle.json_text.proofs.ViewLemmas.{tree_of_object}
 use Rattle.json_text.proofs.KeptLemmas.{first_of-none}
-use Rattle.json_text.proofs.StepLemmas.{alike, less, first_key_is, first_key_other, goes_same, led, barred}
+use Rattle.json_text.proofs.StepLemmas.{alike, first_key_is, first_key_other, goes_same, goes_by, barred}
 use Rattle.json_text.proofs.reader.Reader.first_key.Goals as goal
 
 pub returns-in_ok-object-in-34-clause-goes : goal.returns-in_ok-object-in-34-clause-goes
@@ -19,16 +19,13 @@ returns-in_ok-object-in-34-clause-goes c outer kept r =
 
 pub returns-in_ok-next-in-125-clause-goes : goal.returns-in_ok-next-in-125-clause-goes
 returns-in_ok-next-in-125-clause-goes c outer kept r =
-    let n = object_node no_fields in (
-      put n outer,
-      c.in_ok-next-in-125.ensures.ok n outer (tree_of_object c.new-in-125.result ∙ ap (λ ms. object (members_of (pairs_of ms))) c.new-in-125.ensures.items) kept
-          (r ∙ sym (first_of-none (repeat_of outer))),
-      led c.args.self.now.levels (first_key outer) (put n outer) c.args.byte c.args.place c.behind.result c.requires.first
-          (ap (step c.args.self.now.levels c.args.place.at (first_key outer)) c.in-125.is) c.behind.ensures.at c.behind.ensures.rest,
-      less c.args.byte c.args.place.rest.now c.behind.result.rest.now c.requires.first c.behind.ensures.rest,
-    )
+    let n = object_node no_fields in
+    goes_by c.args.self.now.levels (first_key outer) (first_key outer) c.args.byte c.args.place refl c.requires.first _ (put n outer) c.behind.result
+    (c.in_ok-next-in-125.ensures.ok n outer (tree_of_object c.new-in-125.result ∙ ap (λ ms. object (members_of (pairs_of ms))) c.new-in-125.ensures.items) kept
+    (r ∙ sym (first_of-none (repeat_of outer)))) (ap (step c.args.self.now.levels c.args.place.at (first_key outer)) c.in-125.is)
+    c.behind.ensures.at c.behind.ensures.rest
 
 pub returns-in_default-clause-goes : goal.returns-in_default-clause-goes
 returns-in_default-clause-goes c outer kept r =
-    barred c.args.self.now.levels (first_key outer) c.args.byte c.args.place c.not_json.result c.requires.first
+    barred c.args.self.now.levels (first_key outer) (first_key outer) c.args.byte c.args.place refl c.requires.first c.not_json.result
     (first_key_other c.args.self.now.levels c.args.place.at outer c.args.byte c.requires.no_space (omega arith) (omega arith)) c.not_json.ensures

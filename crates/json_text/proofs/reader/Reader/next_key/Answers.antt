@@ -1,7 +1,7 @@
 use Rattle.std.proofs.Common.{ap, arith}
 use Rattle.json_text.specs.Reading.{next_key}
 use Rattle.json_text.specs.Kept.{read_at}
-use Rattle.json_text.proofs.StepLemmas.{next_key_other, goes_same, fails_same, barred}
+use Rattle.json_text.proofs.StepLemmas.{next_key_other, goes_same, barred}
 use Rattle.json_text.proofs.reader.Reader.next_key.Goals as goal
 
 pub returns-in-34-clause-goes : goal.returns-in-34-clause-goes
@@ -12,7 +12,5 @@ returns-in-34-clause-goes c s st =
 
 pub returns-in_default-clause-goes : goal.returns-in_default-clause-goes
 returns-in_default-clause-goes c s st =
-    fails_same (read_at c.args.self.now.levels c.args.place s) (read_at c.args.self.now.levels c.args.place (next_key st.0 st.1)) c.not_json.result
-    (ap (read_at c.args.self.now.levels c.args.place) st.2)
-    (barred c.args.self.now.levels (next_key st.0 st.1) c.args.byte c.args.place c.not_json.result c.requires.first
-    (next_key_other c.args.self.now.levels c.args.place.at st.0 st.1 c.args.byte c.requires.no_space (omega arith)) c.not_json.ensures)
+    barred c.args.self.now.levels s (next_key st.0 st.1) c.args.byte c.args.place st.2 c.requires.first c.not_json.result
+    (next_key_other c.args.self.now.levels c.args.place.at st.0 st.1 c.args.byte c.requires.no_space (omega arith)) c.not_json.ensures

@@ -13,10 +13,7 @@ returns-in-Err-clause-goes c outer kept r =
 
 pub returns-in_ok-next-in-Ok-clause-goes : goal.returns-in_ok-next-in-Ok-clause-goes
 returns-in_ok-next-in-Ok-clause-goes c outer kept r =
-    let read = c.in-Ok.ensures.ok in (
-      put (text_node c.in-Ok.text) outer,
-      c.in_ok-next-in-Ok.ensures.ok (text_node c.in-Ok.text) outer (tree_of_text c.in-Ok.text) kept (r ∙ sym (first_of-none (repeat_of outer))),
-      string_takes c.args.self.now.levels c.args.place.at (value outer)
-          (in_value outer) c.args.place.rest.now c.in-Ok.text read.0 c.in-Ok.there.at c.in-Ok.there.rest.now c.requires refl read.1 read.2 read.3,
-      read.4,
-    )
+    let read = c.in-Ok.ensures.ok in
+    let state = c.in_ok-next-in-Ok.ensures.ok (text_node c.in-Ok.text) outer (tree_of_text c.in-Ok.text) kept (r ∙ sym (first_of-none (repeat_of outer))) in
+    let same = string_takes c.args.self.now.levels c.args.place.at (value outer) (in_value outer) c.args.place.rest.now c.in-Ok.text read.0 c.in-Ok.there.at
+    c.in-Ok.there.rest.now c.requires refl read.1 read.2 read.3 in (put (text_node c.in-Ok.text) outer, state, same, read.4)
