@@ -133,10 +133,8 @@ module _ (size levels : ℕ) (r : Node) where
       → Follows (after_item ns outer) (b ∷ bs)
   item_follows ns outer b bs h =
       on_if (is_space b) bs _ _ h (λ t (future, k). (future, inr (t, k))) (λ _ h.
-      on_if (b == 44) bs _ _ h (λ t (n, future, k). (
-        (node n future.0, future.1),
-        inl (eqb-true b 44 t, subst (λ all. NextItem outer n future all bs) (then_node ns n future.0) k),
-      )) (λ _ h.
+      on_if (b == 44) bs _ _ h (λ t (n, future, k). let same = subst (λ all. NextItem outer n future all bs) (then_node ns n future.0) k in
+      ((node n future.0, future.1), inl (eqb-true b 44 t, same))) (λ _ h.
       on_if (b == 93) bs _ _ h (λ t h. let (future, k) = follows_put (list_node (nodes_of ns)) outer bs h in ((no_nodes, future), inl (eqb-true b 93 t, k)))
       (λ _ h. absurd h)))
 
@@ -144,10 +142,9 @@ module _ (size levels : ℕ) (r : Node) where
       → Follows (after_member ms outer) (b ∷ bs)
   member_follows ms outer b bs h =
       on_if (is_space b) bs _ _ h (λ t (future, k). (future, inr (t, k))) (λ _ h.
-      on_if (b == 44) bs _ _ h (λ t (place, key, n, future, k). (
-        (field place key n future.0, future.1),
-        inl (eqb-true b 44 t, subst (λ all. NextMember outer place key n future all bs) (then_field ms place key n future.0) k),
-      )) (λ _ h.
+      on_if (b == 44) bs _ _ h (λ t (place, key, n, future, k).
+      let same = subst (λ all. NextMember outer place key n future all bs) (then_field ms place key n future.0) k in
+      ((field place key n future.0, future.1), inl (eqb-true b 44 t, same))) (λ _ h.
       on_if (b == 125) bs _ _ h (λ t h. let (future, k) = follows_put (object_node (fields_of ms)) outer bs h in ((no_fields, future), inl (eqb-true b 125 t, k)))
       (λ _ h. absurd h)))
 
@@ -259,12 +256,11 @@ module _ (size levels : ℕ) (r : Node) where
       → Key size place key (Space (Byte 58 (Space (Value size n (levels - suc (length outer)) (Space (Waits (in_object ms place key ∷ outer) future n))))))
       (b ∷ bs)
       → (b ≡ 34) × Follows (string between [] (in_key at ms outer)) bs
-  key_goes ms outer at place b key bs n future s (p, (inside, back, is, spelled, k)) = let (f, g) = heads b 34 bs (inside ++ 34 ∷ back) is in (
-    f,
-    subst (λ p. Follows (string between [] (in_key p ms outer)) bs) (omega (arith, s, p))
-        (subst (λ bs. Follows (string between [] (in_key place ms outer)) bs) (sym g)
-        (characters_from (Colon size levels r ms place outer) inside key back spelled (n, future, k))),
-  )
+  key_goes ms outer at place b key bs n future s (p, (inside, back, is, spelled, k)) =
+      let (f, g) = heads b 34 bs (inside ++ 34 ∷ back) is in
+      let there = subst (λ bs. Follows (string between [] (in_key place ms outer)) bs) (sym g)
+      (characters_from (Colon size levels r ms place outer) inside key back spelled (n, future, k)) in
+      (f, subst (λ p. Follows (string between [] (in_key p ms outer)) bs) (omega (arith, s, p)) there)
 
   item_goes : (ns : List Node) (outer : List Waiting) (b : ℕ) (bs : List ℕ) → Follows (after_item ns outer) (b ∷ bs)
       → On bs (after_step (after_item ns outer) b)

@@ -158,13 +158,11 @@ list_takes : (v : _) (w : Waiting) (rest : List Waiting) (pushed : List Json) (j
     → Keeps (kept_list v) w → pushed ≡ v.items ++ json ∷ [] → tree_of json ≡ value_of n → repeat ≡ first_of (repeat_of (w ∷ rest)) (first_repeat n)
     → (x : List Node) × (put n (w ∷ rest) ≡ after_item x rest) × (repeat ≡ first_of (repeat_of rest) (first_repeat_in (nodes_of x)))
     × (trees_of pushed ≡ map value_of x)
-list_takes v (in_list ns) rest pushed json n repeat k more is r = (
-  ns ++ n ∷ [],
-  refl,
-  r ∙ first_of-assoc (repeat_of rest) (first_repeat_in (nodes_of ns)) (first_repeat n) ∙ ap (first_of (repeat_of rest)) (sym (first_repeat_in-more ns n)),
-  ap trees_of more ∙ map-append tree_of v.items (json ∷ []) ∙ ap (λ ts. ts ++ tree_of json ∷ []) k ∙ ap (λ t. map value_of ns ++ t ∷ []) is
-      ∙ sym (map-append value_of ns (n ∷ [])),
-)
+list_takes v (in_list ns) rest pushed json n repeat k more is r =
+    let again = r ∙ first_of-assoc (repeat_of rest) (first_repeat_in (nodes_of ns)) (first_repeat n)
+    ∙ ap (first_of (repeat_of rest)) (sym (first_repeat_in-more ns n)) in
+    let trees = ap trees_of more ∙ map-append tree_of v.items (json ∷ []) ∙ ap (λ ts. ts ++ tree_of json ∷ []) k ∙ ap (λ t. map value_of ns ++ t ∷ []) is
+    ∙ sym (map-append value_of ns (n ∷ [])) in (ns ++ n ∷ [], refl, again, trees)
 list_takes v (in_object ms place key) rest pushed json n repeat k more is r = absurd k
 
 pub put_in_list : (ks all : List Kept) (v : _) (pushed : List Json) (json : Json) (n : Node) (outer : List Waiting) (repeat : Option ℕ)
@@ -185,14 +183,12 @@ object_takes : (o : _) (w : Waiting) (rest : List Waiting) (set : List (List ℕ
     × HoldsMembers set x
 object_takes o (in_list ns) rest set json n repeat k more is r = absurd k
 object_takes o (in_object ms place key) rest set json n repeat k more is r =
-    let m : Member = record { place = place; key = key; of = n } in (
-      ms ++ m ∷ [],
-      refl,
-      r ∙ first_of-assoc (repeat_of rest) (first_of (first_repeat_behind [] (fields_of ms)) (repeat_at (keys_behind [] ms) place key)) (first_repeat n)
-          ∙ ap (first_of (repeat_of rest)) (first_of-assoc (first_repeat_behind [] (fields_of ms)) (repeat_at (keys_behind [] ms) place key) (first_repeat n)
-          ∙ sym (first_repeat_behind-more [] ms m)),
-      more ∙ k (tree_of json) ∙ ap (λ t. with_member key t (members_after [] (fields_of ms))) is ∙ sym (members_after-more [] ms m),
-    )
+    let m : Member = record { place = place; key = key; of = n } in
+    let behind = first_repeat_behind [] (fields_of ms) in let twice = repeat_at (keys_behind [] ms) place key in
+    let again = r ∙ first_of-assoc (repeat_of rest) (first_of behind twice) (first_repeat n)
+    ∙ ap (first_of (repeat_of rest)) (first_of-assoc behind twice (first_repeat n) ∙ sym (first_repeat_behind-more [] ms m)) in
+    let trees = more ∙ k (tree_of json) ∙ ap (λ t. with_member key t (members_after [] (fields_of ms))) is ∙ sym (members_after-more [] ms m) in
+    (ms ++ m ∷ [], refl, again, trees)
 
 pub put_in_object : (ks all : List Kept) (o : _) (set : List (List ℕ × Json)) (json : Json) (n : Node) (outer : List Waiting) (repeat : Option ℕ)
     → all ≡ ks ++ kept_object o ∷ [] → pairs_of set ≡ with_value o.slot (tree_of json) (pairs_of o.object.value.members.items) → tree_of json ≡ value_of n

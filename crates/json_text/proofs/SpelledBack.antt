@@ -26,22 +26,8 @@ hex_lower n h = cond_both (nat_lt n 10) (48 + n) (87 + n) (λ x. hex_digit_of x 
     (λ f. letter_hex n (ltb-false n 10 f) h)
 
 control_hex : (c : ℕ) → c < 32 → IsHex (48 ∷ 48 ∷ lower_hex (c / 16) ∷ lower_hex (c % 16) ∷ []) c
-control_hex c h = (
-  48,
-  48,
-  lower_hex (c / 16),
-  lower_hex (c % 16),
-  0,
-  0,
-  c / 16,
-  c % 16,
-  refl,
-  refl,
-  refl,
-  hex_lower (c / 16) (omega arith),
-  hex_lower (c % 16) (omega arith),
-  omega arith,
-)
+control_hex c h = let a = hex_lower (c / 16) (omega arith) in let b = hex_lower (c % 16) (omega arith) in
+    (48, 48, lower_hex (c / 16), lower_hex (c % 16), 0, 0, c / 16, c % 16, refl, refl, refl, a, b, omega arith)
 
 one_byte : (c : ℕ) → c < 128 → (a : List ℕ) → SpellsCharacter a (encode_utf8 c) → SpellsCharacter a (c ∷ [])
 one_byte c h a p = subst (SpellsCharacter a) (encode_1 c h) p

@@ -129,13 +129,10 @@ pub opened_goes : (next : Next) (L at : ℕ) (ks : List Kept) (repeat : Option �
     → Opens next rest → KeepsAll (reverse ks) outer → repeat ≡ repeat_of outer → length ks < L → there ≡ at + 1 → behind ≡ drop 1 rest
     → (x : State) × IsState next ks repeat x × (read_from L at (value outer) rest ≡ read_from L there x behind) × (length behind < length rest)
 opened_goes next L at ks repeat outer rest there behind h k r m place is =
-    let b = bracket next rest h in let s = b.state outer in (
-      s,
-      b.is ks repeat outer k r,
-      by_byte L at (value outer) b.byte rest (Ok s) b.starts (b.opens L at outer ∙ opens_level L outer s (omega (arith, m, kept_waits ks outer k)))
-          ∙ ap (λ p. read_from L p s (drop 1 rest)) (sym place) ∙ ap (read_from L there s) (sym is),
-      less b.byte rest behind b.starts is,
-    )
+    let b = bracket next rest h in let s = b.state outer in
+    let read = by_byte L at (value outer) b.byte rest (Ok s) b.starts (b.opens L at outer ∙ opens_level L outer s (omega (arith, m, kept_waits ks outer k)))
+    ∙ ap (λ p. read_from L p s (drop 1 rest)) (sym place) ∙ ap (read_from L there s) (sym is) in
+    (s, b.is ks repeat outer k r, read, less b.byte rest behind b.starts is)
 
 -- the bytes end before the text does
 pub unfinished : (next : Next) (ks : List Kept) (repeat : Option ℕ) (s : State) (L at : ℕ) → IsState next ks repeat s → ((json : Json) → next ≡ End json → ⊥)

@@ -26,11 +26,8 @@ scanned_behind part mid other text t new xs rest n r whole e f p s =
     subst (Scanned part text xs other new) (sym e) (on r (subst (λ l. Scanned mid t l other new r) (f ∙ rest_is n xs) s))
   where
     on : (r : Result ℕ TokenFault) → Scanned mid t (drop n xs) other new r → Scanned part text xs other new (behind_of n r)
-    on (Ok m) s = (
-      omega (arith, p.0, s.0, length-drop n xs),
-      λ base. p.1 base ∙ s.1 (base + n)
-          ∙ ap (scan_string other new ((base + n) + m)) (drop-drop m n xs) ∙ ap (λ k. scan_string other new k (drop (n + m) xs)) (omega arith),
-    )
+    on (Ok m) s = let same = λ (base : ℕ). p.1 base ∙ s.1 (base + n) ∙ ap (scan_string other new ((base + n) + m)) (drop-drop m n xs)
+        ∙ ap (λ k. scan_string other new k (drop (n + m) xs)) (omega arith) in (omega (arith, p.0, s.0, length-drop n xs), same)
     on (Err (Stop m)) s = (omega (arith, p.0, s.0, length-drop n xs), λ base. p.1 base ∙ s.1 (base + n) ∙ ap Err (omega arith))
     on (Err NoMemory) s = tt
 
@@ -78,11 +75,8 @@ taken_behind part mid (b ∷ bs) rest r whole h step e f s text =
 -- a unit that is a high surrogate
 pub high_unit : (text digits : List ℕ) (unit : ℕ) → IsUnit None digits (Ok unit) → is_within 0xD800 0xDBFF unit ≡ true
     → Passes (hex None 3 0) text digits (high unit) text 4
-high_unit text digits unit h e = (
-  h.0,
-  λ base. h.2 text base
-      ∙ ap (λ s. string_on s text (base + 4) (λ p t. scan_string p t (base + 4) (drop 4 digits))) (cond-true _ _ _ e),
-)
+high_unit text digits unit h e = let same = λ (base : ℕ). h.2 text base
+    ∙ ap (λ s. string_on s text (base + 4) (λ p t. scan_string p t (base + 4) (drop 4 digits))) (cond-true _ _ _ e) in (h.0, same)
 
 -- where it stops does not depend on the text that was to be
 pub stopped : (part : StringPart) (text xs : List ℕ) (other : StringPart) (new new' : List ℕ) (e : TokenFault) → Scanned part text xs other new (Err e)
@@ -162,12 +156,10 @@ module _ (lead : Option ℕ) (digits : List ℕ) (place unit : ℕ) (h : place <
 
   pub place_goes : (d : ℕ) → place < length digits → IsUnitSoFar lead (4 - place) unit → hex_digit_of (get_or digits place 0) ≡ Some d
       → digit_fits lead (4 - (place + 1)) unit d ≡ true → GoesToUnit lead digits place unit (16 * unit + d)
-  place_goes d i s e f = let u = 16 * unit + d in (
-    i,
-    so_far_more lead (4 - (place + 1)) unit d (omega arith)
-        (subst (λ n. IsUnitSoFar lead n unit) (let k : 4 - place ≡ suc (4 - (place + 1)) = omega arith in k) s) (hex_below (get_or digits place 0) d e) f,
-    λ text base. by_fit text base d true i e f ∙ whole text base (4 - (place + 1)) u,
-  )
+  place_goes d i s e f = let u = 16 * unit + d in
+      let so = so_far_more lead (4 - (place + 1)) unit d (omega arith)
+      (subst (λ n. IsUnitSoFar lead n unit) (let k : 4 - place ≡ suc (4 - (place + 1)) = omega arith in k) s) (hex_below (get_or digits place 0) d e) f in
+      (i, so, λ text base. by_fit text base d true i e f ∙ whole text base (4 - (place + 1)) u)
     where
       whole : (text : List ℕ) (base more u : ℕ) → string_on (unit_after text lead more u) text base (λ p t. scan_string p t (base + 1) (drop (place + 1) digits))
           ≡ unit_left lead more u text (base + 1) (drop (place + 1) digits)

@@ -31,12 +31,8 @@ Agrees L at m bs count state read (Err e) = (n : ℕ) × (e ≡ m + n) × (read 
 
 later : {A : Type 0} (L at m b : ℕ) (bs : List ℕ) (count : A → ℕ) (state next : A → ℕ → State) (read : Result Node Fault) (r : Result A ℕ)
     → ((x : A) (n : ℕ) → next x n ≡ state x (suc n)) → Agrees L (at + 1) (m + 1) bs count next read r → Agrees L at m (b ∷ bs) count state read r
-later L at m b bs count state next read (Ok x) same (n, e, h) = (
-  suc n,
-  omega (arith, e),
-  h ∙ ap (λ s. read_from L ((at + 1) + n) s (drop n bs)) (same x n)
-      ∙ ap (λ k. read_from L k (state x (suc n)) (drop n bs)) (omega arith),
-)
+later L at m b bs count state next read (Ok x) same (n, e, h) = let on = h ∙ ap (λ s. read_from L ((at + 1) + n) s (drop n bs)) (same x n)
+    ∙ ap (λ k. read_from L k (state x (suc n)) (drop n bs)) (omega arith) in (suc n, omega (arith, e), on)
 later L at m b bs count state next read (Err k) same (n, e, h) = (suc n, omega (arith, e), h ∙ ap fault (omega arith))
 
 stops_here : (at m : ℕ) (read : Result Node Fault) → read ≡ fault at → (n : ℕ) × (m ≡ m + n) × (read ≡ fault (at + n))
@@ -100,12 +96,8 @@ module _ (L : ℕ) (outer : List Waiting) where
   -- a number that may end here
   ends_here : (at m : ℕ) (spelling bs : List ℕ) (read : Result Node Fault) → read ≡ read_from L at (put (number_node spelling) outer) bs
       → Agrees L at m bs (λ e. e) (Spelled spelling bs) read (Ok m)
-  ends_here at m spelling bs read h = (
-    0,
-    omega arith,
-    h ∙ ap (λ s. read_from L at (put (number_node s) outer) bs) (sym (append-nil spelling))
-        ∙ ap (λ k. read_from L k (put (number_node (spelling ++ [])) outer) bs) (omega arith),
-  )
+  ends_here at m spelling bs read h = let on = h ∙ ap (λ s. read_from L at (put (number_node s) outer) bs) (sym (append-nil spelling))
+      ∙ ap (λ k. read_from L k (put (number_node (spelling ++ [])) outer) bs) (omega arith) in (0, omega arith, on)
 
   number_by : (at m : ℕ) (part : NumberPart) (spelling : List ℕ) (b : ℕ) (bs : List ℕ) (o : Option NumberPart)
       → ((p : NumberPart) → Agrees L (at + 1) (m + 1) bs (λ e. e) (Spelled (spelling ++ b ∷ []) bs)
@@ -183,12 +175,11 @@ module _ (L at : ℕ) where
       → scan_number part 0 (drop 1 rest) ≡ Ok n → there ≡ at + 1 + n → behind ≡ drop n (drop 1 rest)
       → (read_from L at (value outer) rest ≡ read_from L there (put (number_node (take (1 + n) rest)) outer) behind) × (length behind < length rest)
   value_number outer part [] n there behind h scan place is = absurd h
-  value_number outer part (b ∷ bs) n there behind h scan place is = (
-    takes L at (value outer) (digits part (b ∷ []) outer) b (b ∷ bs) (λ e. e) (Spelled L outer (b ∷ []) bs) _ refl (h.1 L at outer)
-        (number_agrees L outer bs (at + 1) 0 part (b ∷ [])) n there behind scan place is
-        ∙ ap (λ k. read_from L there (put (number_node (take k (b ∷ bs))) outer) behind) (let e : suc n ≡ 1 + n = omega arith in e),
-    omega (arith, ap length is, length-drop n bs),
-  )
+  value_number outer part (b ∷ bs) n there behind h scan place is =
+      let read = takes L at (value outer) (digits part (b ∷ []) outer) b (b ∷ bs) (λ e. e) (Spelled L outer (b ∷ []) bs) _ refl (h.1 L at outer)
+      (number_agrees L outer bs (at + 1) 0 part (b ∷ [])) n there behind scan place is
+      ∙ ap (λ k. read_from L there (put (number_node (take k (b ∷ bs))) outer) behind) (let e : suc n ≡ 1 + n = omega arith in e) in
+      (read, omega (arith, ap length is, length-drop n bs))
 
   pub value_number_stops : (outer : List Waiting) (part : NumberPart) (rest : List ℕ) (n there : ℕ) → BeginsNumber part rest
       → scan_number part 0 (drop 1 rest) ≡ Err n → there ≡ at + 1 + n → read_from L at (value outer) rest ≡ fault there
@@ -202,11 +193,9 @@ module _ (L at : ℕ) where
       → (read_from L at (value outer) rest ≡ read_from L there (put n outer) behind) × (length behind < length rest)
   value_word outer [] n rest len there behind h scan place is = absurd h
   value_word outer (c ∷ cs) n [] len there behind h scan place is = absurd h
-  value_word outer (c ∷ cs) n (b ∷ bs) len there behind h scan place is = (
-    takes L at (value outer) (word c cs n outer) b (b ∷ bs) (λ e. e) (λ _ _. put n outer) _
-        refl (h L at outer) (word_agrees L outer n (c ∷ cs) bs (at + 1) 0) len there behind scan place is,
-    omega (arith, ap length is, length-drop len bs),
-  )
+  value_word outer (c ∷ cs) n (b ∷ bs) len there behind h scan place is =
+      let read = takes L at (value outer) (word c cs n outer) b (b ∷ bs) (λ e. e) (λ _ _. put n outer) _ refl (h L at outer)
+      (word_agrees L outer n (c ∷ cs) bs (at + 1) 0) len there behind scan place is in (read, omega (arith, ap length is, length-drop len bs))
 
   pub value_word_stops : (outer : List Waiting) (w : List ℕ) (n : Node) (rest : List ℕ) (len there : ℕ) → BeginsWord w n rest
       → scan_word w 0 (drop 1 rest) ≡ Err len → there ≡ at + 1 + len → read_from L at (value outer) rest ≡ fault there

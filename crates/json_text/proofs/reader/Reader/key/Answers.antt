@@ -1,4 +1,4 @@
-use Rattle.std.proofs.Common.{length, if◌then◌else◌, Some, None, reverse, ◌∙◌, ◌∷◌, [], refl, sym, ap, arith, subst}
+use Rattle.std.proofs.Common.{length, ◌<◌, if◌then◌else◌, Some, None, reverse, ◌∙◌, ◌∷◌, [], refl, sym, ap, arith, subst}
 use Rattle.std.proofs.lemmas.List.{length-drop}
 use Rattle.json_text.specs.Node.{first_repeat_behind, first_of}
 use Rattle.json_text.specs.Kept.{repeat_at, KeepsAll, repeat_of, read_at, FailsSo, keys_behind}
@@ -33,25 +33,21 @@ returns-clause-goes c ms outer kept r holds =
     let place = c.args.place.at in
     let key = c.in-Ok.read.0 in
     let after = colon ms place key outer in
-    let next = value (in_object ms place key ∷ outer) in (
-      next,
-      (
-        in_object ms place key ∷ outer,
-        refl,
-        subst (λ ks. KeepsAll (reverse ks) (in_object ms place key ∷ outer)) (sym c.in_ok-push.ensures.items)
-            (keeps_more c.args.self.now.waiting.items (kept_object _) outer (in_object ms place key) kept
-            (key_waits (pairs_of c.deref_mut.result.now.members.items)
-            (pairs_of c.reserve.new.self.members.items) key c.in_ok-slot.slot c.in_ok-slot.is_repeated ms c.in_ok-slot.ensures.place same)),
-        c.first_repeat_of-self.ensures ∙ ap (λ o. first_of o (if c.in_ok-slot.is_repeated then Some place else None)) r
-            ∙ ap (first_of (first_of (repeat_of outer) (first_repeat_behind [] (fields_of ms))))
-            (sym (key_repeats (pairs_of c.deref_mut.result.now.members.items)
-            (pairs_of c.reserve.new.self.members.items) key c.in_ok-slot.slot place c.in_ok-slot.is_repeated ms c.in_ok-slot.ensures.place same))
-            ∙ first_of-assoc (repeat_of outer) (first_repeat_behind [] (fields_of ms)) (repeat_at (keys_behind [] ms) place key),
-      ),
-      string_takes c.args.self.now.levels place (next_key ms outer)
-          (in_key place ms outer) c.args.place.rest.now key read.0 c.in-Ok.read.1.at c.in-Ok.read.1.rest.now c.requires refl read.1 read.2 read.3
-          ∙ c.without_space-there.ensures.same c.args.self.now.levels after (colon_skips c.args.self.now.levels ms place key outer)
-          ∙ led c.args.self.now.levels after next 58 c.without_space-there.result c.behind.result c.if-not-starts_with.ensures
-          (colon_goes c.args.self.now.levels c.without_space-there.result.at ms place key outer) c.behind.ensures.at c.behind.ensures.rest,
-      omega (arith, ap length c.behind.ensures.rest, length-drop 1 c.without_space-there.result.rest.now, c.without_space-there.ensures.later, read.4),
-    )
+    let next = value (in_object ms place key ∷ outer) in
+    let kept = subst (λ ks. KeepsAll (reverse ks) (in_object ms place key ∷ outer)) (sym c.in_ok-push.ensures.items)
+    (keeps_more c.args.self.now.waiting.items (kept_object _) outer (in_object ms place key) kept
+    (key_waits (pairs_of c.deref_mut.result.now.members.items)
+    (pairs_of c.reserve.new.self.members.items) key c.in_ok-slot.slot c.in_ok-slot.is_repeated ms c.in_ok-slot.ensures.place same)) in
+    let repeat = c.first_repeat_of-self.ensures ∙ ap (λ o. first_of o (if c.in_ok-slot.is_repeated then Some place else None)) r
+    ∙ ap (first_of (first_of (repeat_of outer) (first_repeat_behind [] (fields_of ms))))
+    (sym (key_repeats (pairs_of c.deref_mut.result.now.members.items)
+    (pairs_of c.reserve.new.self.members.items) key c.in_ok-slot.slot place c.in_ok-slot.is_repeated ms c.in_ok-slot.ensures.place same))
+    ∙ first_of-assoc (repeat_of outer) (first_repeat_behind [] (fields_of ms)) (repeat_at (keys_behind [] ms) place key) in
+    let read_so = string_takes c.args.self.now.levels place (next_key ms outer)
+    (in_key place ms outer) c.args.place.rest.now key read.0 c.in-Ok.read.1.at c.in-Ok.read.1.rest.now c.requires refl read.1 read.2 read.3
+    ∙ c.without_space-there.ensures.same c.args.self.now.levels after (colon_skips c.args.self.now.levels ms place key outer)
+    ∙ led c.args.self.now.levels after next 58 c.without_space-there.result c.behind.result c.if-not-starts_with.ensures
+    (colon_goes c.args.self.now.levels c.without_space-there.result.at ms place key outer) c.behind.ensures.at c.behind.ensures.rest in
+    let shorter : length c.behind.result.rest.now < length c.args.place.rest.now =
+    omega (arith, ap length c.behind.ensures.rest, length-drop 1 c.without_space-there.result.rest.now, c.without_space-there.ensures.later, read.4) in
+    (next, (in_object ms place key ∷ outer, refl, kept, repeat), read_so, shorter)
