@@ -114,17 +114,14 @@ inside : (low up b : ℕ) → low ≤ b → b ≤ up → is_within low up b ≡ 
 inside low up b l u = grind (arith, nat_tests)
 
 -- the first byte of an unescaped character
-short_step : (text : List ℕ) (b : ℕ) → 32 ≤ b → b < 128 → b ≢ 34 → b ≢ 92 → string_step between text b ≡ goes_on between (text ++ b ∷ [])
-short_step text b l u q s = grind (arith, nat_tests)
+short : (text : List ℕ) (b : ℕ) → 32 ≤ b → b < 128 → b ≢ 34 → b ≢ 92 → string_step between text b ≡ goes_on between (text ++ b ∷ [])
+short text b l u q s = grind (arith, nat_tests)
 
-two_step : (text : List ℕ) (b : ℕ) → 194 ≤ b → b ≤ 223 → string_step between text b ≡ goes_on (tail 128 63 0) (text ++ b ∷ [])
-two_step text b l u = grind (arith, nat_tests)
+lead_3 : (text : List ℕ) (b : ℕ) → 225 ≤ b → b ≤ 239 → b ≢ 237 → string_step between text b ≡ goes_on (tail 128 63 1) (text ++ b ∷ [])
+lead_3 text b l u n = grind (arith, nat_tests)
 
-three_step : (text : List ℕ) (b : ℕ) → 225 ≤ b → b ≤ 239 → b ≢ 237 → string_step between text b ≡ goes_on (tail 128 63 1) (text ++ b ∷ [])
-three_step text b l u n = grind (arith, nat_tests)
-
-four_step : (text : List ℕ) (b : ℕ) → 241 ≤ b → b ≤ 243 → string_step between text b ≡ goes_on (tail 128 63 2) (text ++ b ∷ [])
-four_step text b l u = grind (arith, nat_tests)
+lead_4 : (text : List ℕ) (b : ℕ) → 241 ≤ b → b ≤ 243 → string_step between text b ≡ goes_on (tail 128 63 2) (text ++ b ∷ [])
+lead_4 text b l u = grind (arith, nat_tests)
 
 below : (c : ℕ) → (c < 55296) ⊎ ((57344 ≤ c) × (c < 1114112)) → c < 1114112
 below c (inl h) = omega arith
@@ -294,7 +291,7 @@ module _ (K : List ℕ → List ℕ → Type 0) where
 
   back_2 : (text : List ℕ) (a b : ℕ) (bs : List ℕ) → 194 ≤ a → a ≤ 223 → 128 ≤ b → b ≤ 191 → Characters between (text ++ a ∷ b ∷ []) K bs
       → Characters between text K (a ∷ b ∷ bs)
-  back_2 text a b bs h i j k g = back between (tail 128 63 0) text (text ++ a ∷ []) a (b ∷ bs) (two_step text a h i)
+  back_2 text a b bs h i j k g = back between (tail 128 63 0) text (text ++ a ∷ []) a (b ∷ bs) (grind (arith, nat_tests))
       (tail_back 128 63 0 (text ++ a ∷ []) b bs j k (subst (λ t. Characters between t K bs) (sym (append_assoc text (a ∷ []) (b ∷ []))) g))
 
   back_3 : (text : List ℕ) (a b c low width : ℕ) (bs : List ℕ) → string_step between text a ≡ goes_on (tail low width 1) (text ++ a ∷ []) → low ≤ b → b ≤ low + width → 128 ≤ c
@@ -318,7 +315,7 @@ module _ (K : List ℕ → List ℕ → Type 0) where
   long_3_back text c bs l u s a x y e f g h =
       ⊎_elim (λ n. back_3 text a x y 160 31 bs (rw n refl) (omega arith) (omega arith) (omega arith) (omega arith) h) (λ m.
       ⊎_elim (λ n. back_3 text a x y 128 31 bs (rw n refl) (omega arith) (omega arith) (omega arith) (omega arith) h) (λ n.
-      back_3 text a x y 128 63 bs (three_step text a (omega arith) (omega arith) n) (omega arith) (omega arith) (omega arith) (omega arith) h)
+      back_3 text a x y 128 63 bs (lead_3 text a (omega arith) (omega arith) n) (omega arith) (omega arith) (omega arith) (omega arith) h)
       (cases_eq a 237)) (cases_eq a 224)
 
   long_4_back : (text : List ℕ) (c : ℕ) (bs : List ℕ) → 65536 ≤ c → c < 1114112 → (a x y z : ℕ) → a ≡ 240 + c / 262144 → x ≡ 128 + (c / 4096) % 64
@@ -329,7 +326,7 @@ module _ (K : List ℕ → List ℕ → Type 0) where
       (λ m.
       ⊎_elim (λ n. back_4 text a x y z 128 15 bs (rw n refl) (omega arith) (omega arith) (omega arith) (omega arith) (omega arith) (omega arith) h)
       (λ n.
-      back_4 text a x y z 128 63 bs (four_step text a (omega arith) (omega arith)) (omega arith) (omega arith) (omega arith) (omega arith) (omega arith)
+      back_4 text a x y z 128 63 bs (lead_4 text a (omega arith) (omega arith)) (omega arith) (omega arith) (omega arith) (omega arith) (omega arith)
       (omega arith) h)
       (cases_eq a 244)) (cases_eq a 240)
 
@@ -337,7 +334,7 @@ module _ (K : List ℕ → List ℕ → Type 0) where
       → Characters between (text ++ encode_utf8 c) K bs → Characters between text K (encode_utf8 c ++ bs)
   unescaped_back text c bs s l q r h =
       let P : List ℕ → Type 0 = λ x. Characters between (text ++ x) K bs → Characters between text K (x ++ bs) in
-      ⊎_elim (λ u. subst P (sym (encode_1 c u)) (back between between text (text ++ c ∷ []) c bs (short_step text c l u q r)) h) (λ a.
+      ⊎_elim (λ u. subst P (sym (encode_1 c u)) (back between between text (text ++ c ∷ []) c bs (short text c l u q r)) h) (λ a.
       ⊎_elim (λ u. subst P (sym (encode_2 c a u)) (back_2 text _ _ bs (omega arith) (omega arith) (omega arith) (omega arith)) h) (λ a.
       ⊎_elim (λ u. subst P (sym (encode_3 c a u)) (long_3_back text c bs a u (⊎_elim (λ x. inl x) (λ x. inr x.0) s) _ _ _ refl refl refl) h) (λ a.
       subst P (sym (encode_4 c a)) (long_4_back text c bs a (below c s) _ _ _ _ refl refl refl refl) h)

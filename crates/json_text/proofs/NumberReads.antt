@@ -34,17 +34,11 @@ Tail exponent t = IsSignedDigits t
 Tail exponent_sign t = IsDigits t
 Tail exponent_digits t = AreDigits t
 
-same : (x p : NumberPart) → Some x ≡ Some p → x ≡ p
-same x p e = cc
-
-none_not : {P : Type 0} (p : NumberPart) → None ≡ Some p → P
-none_not p e = cc
-
 came : (x p : NumberPart) (bs : List ℕ) → Some x ≡ Some p → Tail p bs → Tail x bs
-came x p bs e h = subst (λ q. Tail q bs) (sym (same x p e)) h
+came x p bs e h = subst (λ q. Tail q bs) (let same : p ≡ x = cc in same) h
 
 step_digit : {P : Type 0} (x p : NumberPart) (b : ℕ) (bs : List ℕ) → digit_goes x b ≡ Some p → (is_ascii_digit b ≡ true → Tail x bs → P) → Tail p bs → P
-step_digit x p b bs e f h = choose (is_ascii_digit b) _ _ _ (λ t e. f t (came x p bs e h)) (λ _ e. none_not p e) e
+step_digit x p b bs e f h = choose (is_ascii_digit b) _ _ _ (λ t e. f t (came x p bs e h)) (λ _ e. absurd (cc e)) e
 
 step_exponent : {P : Type 0} (p : NumberPart) (b : ℕ) (bs : List ℕ) (other : Option NumberPart) → exponent_goes b other ≡ Some p
     → ((b == 101) || (b == 69) ≡ true → IsSignedDigits bs → P) → (other ≡ Some p → P) → Tail p bs → P
@@ -57,16 +51,13 @@ with_point b bs t h = (b ∷ h.0, h.1, ap (λ u. b ∷ u) h.2, (eqb-true b 46 t,
 with_exponent : (b : ℕ) (bs : List ℕ) → (b == 101) || (b == 69) ≡ true → IsSignedDigits bs → AreFractionExponent (b ∷ bs)
 with_exponent b bs t h = ([], b ∷ bs, refl, tt, (t, h))
 
-above_zero : (b : ℕ) → is_ascii_digit b ≡ true → (b == 48) ≡ false → is_digit_above_zero b ≡ true
-above_zero b t f = rw (t, f)
-
 tail_step : (part p : NumberPart) (b : ℕ) (bs : List ℕ) → number_step part b ≡ Some p → Tail p bs → Tail part (b ∷ bs)
 tail_step minus p b bs e h =
     choose (b == 48) _ _ _ (λ t e. (b ∷ [], bs, refl, inl (eqb-true b 48 t, refl), came zero_int p bs e h)) (λ f e.
-    step_digit int p b bs e (λ t u. (b ∷ u.0, u.1, ap (λ x. b ∷ x) u.2, inr (above_zero b t f, u.3), u.4)) h) e
+    step_digit int p b bs e (λ t u. (b ∷ u.0, u.1, ap (λ x. b ∷ x) u.2, inr (rw (t, f), u.3), u.4)) h) e
 tail_step zero_int p b bs e h =
     choose (b == 46) _ _ _ (λ t e. with_point b bs t (came point p bs e h)) (λ _ e.
-    step_exponent p b bs None e (λ t u. with_exponent b bs t u) (λ e. none_not p e) h) e
+    step_exponent p b bs None e (λ t u. with_exponent b bs t u) (λ e. absurd (cc e)) h) e
 tail_step int p b bs e h =
     choose (b == 46) _ _ _ (λ t e. ([], b ∷ bs, refl, tt, with_point b bs t (came point p bs e h))) (λ _ e.
     step_exponent p b bs (digit_goes int b) e (λ t u. ([], b ∷ bs, refl, tt, with_exponent b bs t u)) (λ e.
@@ -111,24 +102,13 @@ pub int_number : (b : ℕ) (t : List ℕ) → is_digit_above_zero b ≡ true →
 int_number b t d h = let (ds, u, is, are, (f, e, both, frac, exp)) = tail_of t int h in
     number_of [] (b ∷ ds) f e (b ∷ t) (ap (λ x. b ∷ x) (is ∙ ap (λ x. ds ++ x) both)) tt (inr (d, are)) frac exp
 
--- the other way: the parts that digits repeat
-int_digit : (b : ℕ) → is_ascii_digit b ≡ true → number_step int b ≡ Some int
-int_digit b t = grind (arith, nat_tests)
+-- the other way: what a digit and an `e` lead to
+digit_steps : (b : ℕ) → is_ascii_digit b ≡ true
+    → (number_step int b ≡ Some int) × (number_step fraction b ≡ Some fraction) × (number_step exponent b ≡ Some exponent_digits)
+digit_steps b t = (grind (arith, nat_tests), grind (arith, nat_tests), grind (arith, nat_tests))
 
-fraction_digit : (b : ℕ) → is_ascii_digit b ≡ true → number_step fraction b ≡ Some fraction
-fraction_digit b t = grind (arith, nat_tests)
-
-exponent_digit : (b : ℕ) → is_ascii_digit b ≡ true → number_step exponent_digits b ≡ Some exponent_digits
-exponent_digit b t = cond-true _ _ _ t
-
-no_sign : (b : ℕ) → is_ascii_digit b ≡ true → number_step exponent b ≡ Some exponent_digits
-no_sign b t = grind (arith, nat_tests)
-
-zero_exponent : (b : ℕ) → (b == 101) || (b == 69) ≡ true → number_step zero_int b ≡ Some exponent
-zero_exponent b t = grind (arith, nat_tests)
-
-int_exponent : (b : ℕ) → (b == 101) || (b == 69) ≡ true → number_step int b ≡ Some exponent
-int_exponent b t = grind (arith, nat_tests)
+exponent_steps : (b : ℕ) → (b == 101) || (b == 69) ≡ true → (number_step zero_int b ≡ Some exponent) × (number_step int b ≡ Some exponent)
+exponent_steps b t = (grind (arith, nat_tests), grind (arith, nat_tests))
 
 minus_digit : (b : ℕ) → is_digit_above_zero b ≡ true → number_step minus b ≡ Some int
 minus_digit b t = grind (arith, nat_tests)
@@ -140,26 +120,23 @@ digits_accepted part f (b ∷ ds) t d h = (part, f b d.0, digits_accepted part f
 
 exponent_only : (ds : List ℕ) → AreDigits ds → Accepts exponent_digits ds
 exponent_only [] d = refl
-exponent_only (b ∷ ds) d = (exponent_digits, exponent_digit b d.0, exponent_only ds d.1)
+exponent_only (b ∷ ds) d = (exponent_digits, cond-true _ _ _ d.0, exponent_only ds d.1)
 
 signed_accepted : (bs : List ℕ) → IsSignedDigits bs → Accepts exponent bs
 signed_accepted [] h = absurd h
 signed_accepted (b ∷ []) (inl h) = absurd h.1
 signed_accepted (b ∷ c ∷ ds) (inl h) = (exponent_sign, cond-true _ _ _ h.0, (exponent_digits, cond-true _ _ _ h.1.0, exponent_only ds h.1.1))
-signed_accepted (b ∷ bs) (inr h) = (exponent_digits, no_sign b h.0, exponent_only bs h.1)
+signed_accepted (b ∷ bs) (inr h) = (exponent_digits, (digit_steps b h.0).2, exponent_only bs h.1)
 
 exponent_accepted : (part : NumberPart) → may_end part ≡ true → ((b : ℕ) → (b == 101) || (b == 69) ≡ true → number_step part b ≡ Some exponent) → (e : List ℕ)
     → IsExponent e → Accepts part e
 exponent_accepted part m f [] h = m
 exponent_accepted part m f (b ∷ bs) h = (exponent, f b h.0, signed_accepted bs h.1)
 
-fraction_exponent : (b : ℕ) → (b == 101) || (b == 69) ≡ true → number_step fraction b ≡ Some exponent
-fraction_exponent b t = cond-true _ _ _ t
-
 point_accepted : (ds e : List ℕ) → IsDigits ds → IsExponent e → Accepts point (ds ++ e)
 point_accepted [] e d h = absurd d
 point_accepted (b ∷ ds) e d h =
-    (fraction, cond-true _ _ _ d.0, digits_accepted fraction fraction_digit ds e d.1 (exponent_accepted fraction refl fraction_exponent e h))
+    (fraction, cond-true _ _ _ d.0, digits_accepted fraction (λ b t. (digit_steps b t).1) ds e d.1 (exponent_accepted fraction refl (λ b t. cond-true _ _ _ t) e h))
 
 -- a fraction and an exponent, after a whole part
 tail_accepted : (part : NumberPart) → may_end part ≡ true → number_step part 46 ≡ Some point
@@ -168,10 +145,11 @@ tail_accepted part m p g [] e i h = exponent_accepted part m g e h
 tail_accepted part m p g (b ∷ ds) e i h = (point, ap (λ x. number_step part x) i.0 ∙ p, point_accepted ds e i.1 h)
 
 zero_accepted : (f e : List ℕ) → IsFraction f → IsExponent e → Accepts zero_int (f ++ e)
-zero_accepted f e i h = tail_accepted zero_int refl refl zero_exponent f e i h
+zero_accepted f e i h = tail_accepted zero_int refl refl (λ b t. (exponent_steps b t).0) f e i h
 
 int_accepted : (ds f e : List ℕ) → AreDigits ds → IsFraction f → IsExponent e → Accepts int (ds ++ (f ++ e))
-int_accepted ds f e d i h = digits_accepted int int_digit ds (f ++ e) d (tail_accepted int refl refl int_exponent f e i h)
+int_accepted ds f e d i h = digits_accepted int (λ b t. (digit_steps b t).0) ds (f ++ e) d
+    (tail_accepted int refl refl (λ b t. (exponent_steps b t).1) f e i h)
 
 -- how a number begins, and the part that it begins with
 pub data Starts : List ℕ → Type 0 where

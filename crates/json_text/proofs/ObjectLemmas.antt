@@ -18,36 +18,19 @@ use Rattle.json_text.specs.declared.value.Json.{Json}
 use Rattle.json_text.specs.declared.value.Json.TheVariants.{Null}
 use Rattle.json_text.proofs.ViewLemmas.{tree_of_null}
 
--- the key of the member at a place
-abbrev KeyAt : List (List ℕ × Json) → ℕ → List ℕ → Type 0
-KeyAt [] slot key = ⊥
-KeyAt (m ∷ ms) zero key = m.0 ≡ key
-KeyAt (m ∷ ms) (suc slot) key = KeyAt ms slot key
-
-key_at : (ms : List (List ℕ × Json)) (slot : ℕ) (d : List ℕ × Json) → slot < length ms → d ≡ get_or ms slot d → KeyAt ms slot d.0
-key_at [] slot d h e = absurd (omega (arith, h))
-key_at (m ∷ ms) zero d h e = sym (ap (λ p. p.0) e)
-key_at (m ∷ ms) (suc slot) d h e = key_at ms slot d (omega (arith, h)) e
-
-kept_slot : (at : ℕ) (key k : List ℕ) (v : Json) (slot : ℕ) (ms : List (List ℕ × Json)) → KeyAt ms slot k
-    → slot_from at key (set ms slot (k, v)) ≡ slot_from at key ms
-kept_slot at key k v slot [] h = absurd h
-kept_slot at key k v zero (m ∷ ms) h = ap (λ n. if bytes_eq key n then Some at else slot_from (at + 1) key ms) (sym h)
-kept_slot at key k v (suc slot) (m ∷ ms) h = ap (λ o. if bytes_eq key m.0 then Some at else o) (kept_slot (at + 1) key k v slot ms h)
-
+-- a member gets a value: each key is where it was
 slot_from-set : (at : ℕ) (key : List ℕ) (v : Json) (slot : ℕ) (ms : List (List ℕ × Json)) (d : List ℕ × Json) → slot < length ms → d ≡ get_or ms slot d
     → slot_from at key (set ms slot (d.0, v)) ≡ slot_from at key ms
-slot_from-set at key v slot ms d h e = kept_slot at key d.0 v slot ms (key_at ms slot d h e)
-
-valued : (k : List ℕ) (v : Json) (slot : ℕ) (ms : List (List ℕ × Json)) → KeyAt ms slot k
-    → pairs_of (set ms slot (k, v)) ≡ with_value slot (tree_of v) (pairs_of ms)
-valued k v slot [] h = absurd h
-valued k v zero (m ∷ ms) h = ap (λ n. (n, tree_of v) ∷ pairs_of ms) (sym h)
-valued k v (suc slot) (m ∷ ms) h = ap (λ rest. (m.0, tree_of m.1) ∷ rest) (valued k v slot ms h)
+slot_from-set at key v slot [] d h e = absurd (omega (arith, h))
+slot_from-set at key v zero (m ∷ ms) d h e = ap (λ p. if bytes_eq key p.0 then Some at else slot_from (at + 1) key ms) e
+slot_from-set at key v (suc slot) (m ∷ ms) d h e =
+    ap (λ o. if bytes_eq key m.0 then Some at else o) (slot_from-set (at + 1) key v slot ms d (omega (arith, h)) e)
 
 pub with_value-set : (v : Json) (slot : ℕ) (ms : List (List ℕ × Json)) (d : List ℕ × Json) → slot < length ms → d ≡ get_or ms slot d
     → pairs_of (set ms slot (d.0, v)) ≡ with_value slot (tree_of v) (pairs_of ms)
-with_value-set v slot ms d h e = valued d.0 v slot ms (key_at ms slot d h e)
+with_value-set v slot [] d h e = absurd (omega (arith, h))
+with_value-set v zero (m ∷ ms) d h e = ap (λ p. (p.0, tree_of v) ∷ pairs_of ms) e
+with_value-set v (suc slot) (m ∷ ms) d h e = ap (λ rest. (m.0, tree_of m.1) ∷ rest) (with_value-set v slot ms d (omega (arith, h)) e)
 
 pub slot_from-pairs : (at : ℕ) (key : List ℕ) (ms : List (List ℕ × Json)) → slot_from at key (pairs_of ms) ≡ slot_from at key ms
 slot_from-pairs at key [] = refl

@@ -38,19 +38,13 @@ module _ (levels : ℕ) where
   on : (s : State) → depth s ≤ levels → Fares (Ok s) (Ok s)
   on s d = (refl, d)
 
-  put_depth : (n : Node) (outer : List Waiting) → length outer ≤ levels → depth (put n outer) ≤ levels
-  put_depth n [] l = l
-  put_depth n (in_list ns ∷ outer) l = l
-  put_depth n (in_object ms place key ∷ outer) l = l
-
   on_put : (n : Node) (outer : List Waiting) → length outer ≤ levels → Fares (Ok (put n outer)) (Ok (put n outer))
-  on_put n outer l = (refl, put_depth n outer l)
+  on_put n [] l = (refl, l)
+  on_put n (in_list ns ∷ outer) l = (refl, l)
+  on_put n (in_object ms place key ∷ outer) l = (refl, l)
 
   no : Fares (Err unexpected) (Err unexpected)
   no = refl
-
-  less : (n : ℕ) → suc n ≤ levels → n ≤ levels
-  less n h = omega arith
 
   opened_fares : (outer : List Waiting) (s : State) → depth s ≡ suc (length outer) → length outer ≤ levels
       → Fares (opened levels outer s) (opened (suc levels) outer s)
@@ -117,12 +111,12 @@ module _ (levels : ℕ) where
   fares (value outer) at b h = fares_if (is_space b) _ _ _ _ (on (value outer) h) (value_fares outer b h)
   fares (first_item outer) at b h =
       fares_if (is_space b) _ _ _ _ (on (first_item outer) h) (
-      fares_if (b == 93) _ _ _ _ (on_put (list_node no_nodes) outer (less (length outer) h)) (value_fares (in_list [] ∷ outer) b h))
+      fares_if (b == 93) _ _ _ _ (on_put (list_node no_nodes) outer (omega arith)) (value_fares (in_list [] ∷ outer) b h))
   fares (after_item ns outer) at b h = after_item_fares ns outer b h
   fares (first_key outer) at b h =
       fares_if (is_space b) _ _ _ _ (on (first_key outer) h) (
       fares_if (b == 34) _ _ _ _ (on (string between [] (in_key at [] outer)) h) (
-      fares_if (b == 125) _ _ _ _ (on_put (object_node no_fields) outer (less (length outer) h)) no))
+      fares_if (b == 125) _ _ _ _ (on_put (object_node no_fields) outer (omega arith)) no))
   fares (next_key ms outer) at b h =
       fares_if (is_space b) _ _ _ _ (on (next_key ms outer) h) (
       fares_if (b == 34) _ _ _ _ (on (string between [] (in_key at ms outer)) h) no)

@@ -29,9 +29,6 @@ control_hex : (c : ℕ) → c < 32 → IsHex (48 ∷ 48 ∷ lower_hex (c / 16) �
 control_hex c h = let a = hex_lower (c / 16) (omega arith) in let b = hex_lower (c % 16) (omega arith) in
     (48, 48, lower_hex (c / 16), lower_hex (c % 16), 0, 0, c / 16, c % 16, refl, refl, refl, a, b, omega arith)
 
-one_byte : (c : ℕ) → c < 128 → (a : List ℕ) → SpellsCharacter a (encode_utf8 c) → SpellsCharacter a (c ∷ [])
-one_byte c h a p = subst (SpellsCharacter a) (encode_1 c h) p
-
 plain_character : (c : ℕ) → c < 128 → 32 ≤ c → c ≢ 34 → c ≢ 92 → SpellsCharacter (c ∷ []) (c ∷ [])
 plain_character c h l q s = subst (λ x. SpellsCharacter x x) (encode_1 c h) (unescaped c (low_is_scalar c (omega arith)) l q s)
 
@@ -49,7 +46,7 @@ escape_spelled c h =
     cond_both (c == 13) _ _ (λ e. SpellsCharacter e (c ∷ [])) (λ t. two_characters 114 13 c (eqb-true c 13 t) (escaped 114 13 refl)) (λ _.
     cond_both (c == 9) _ _ (λ e. SpellsCharacter e (c ∷ [])) (λ t. two_characters 116 9 c (eqb-true c 9 t) (escaped 116 9 refl)) (λ _.
     cond_both (nat_lt c 32) _ _ (λ e. SpellsCharacter e (c ∷ []))
-    (λ t. one_byte c h (92 ∷ 117 ∷ 48 ∷ 48 ∷ lower_hex (c / 16) ∷ lower_hex (c % 16) ∷ [])
+    (λ t. subst (SpellsCharacter (92 ∷ 117 ∷ 48 ∷ 48 ∷ lower_hex (c / 16) ∷ lower_hex (c % 16) ∷ [])) (encode_1 c h)
     (unit (48 ∷ 48 ∷ lower_hex (c / 16) ∷ lower_hex (c % 16) ∷ []) c (control_hex c (ltb-true c 32 t)) (low_is_scalar c (omega arith))))
     (λ f. plain_character c h (ltb-false c 32 f) (eqb-false c 34 q) (eqb-false c 92 s)))))))))
 
@@ -57,23 +54,22 @@ escape_spelled c h =
 escape_high : (b : ℕ) → 128 ≤ b → escape b ≡ b ∷ []
 escape_high b h = grind (arith, nat_tests)
 
-escapes_2 : (a b : ℕ) → 128 ≤ a → 128 ≤ b → flat_map escape (a ∷ b ∷ []) ≡ a ∷ b ∷ []
-escapes_2 a b h i = rw (escape_high a h, escape_high b i)
+abbrev AreHigh : List ℕ → Type 0
+AreHigh [] = Unit {0}
+AreHigh (b ∷ bs) = (128 ≤ b) × AreHigh bs
 
-escapes_3 : (a b c : ℕ) → 128 ≤ a → 128 ≤ b → 128 ≤ c → flat_map escape (a ∷ b ∷ c ∷ []) ≡ a ∷ b ∷ c ∷ []
-escapes_3 a b c h i j = rw (escape_high a h, escape_high b i, escape_high c j)
-
-escapes_4 : (a b c d : ℕ) → 128 ≤ a → 128 ≤ b → 128 ≤ c → 128 ≤ d → flat_map escape (a ∷ b ∷ c ∷ d ∷ []) ≡ a ∷ b ∷ c ∷ d ∷ []
-escapes_4 a b c d h i j k = rw (escape_high a h, escape_high b i, escape_high c j, escape_high d k)
+all_high : (bs : List ℕ) → AreHigh bs → flat_map escape bs ≡ bs
+all_high [] h = refl
+all_high (b ∷ bs) h = rw (escape_high b h.0, all_high bs h.1)
 
 abbrev IsPlain : List ℕ → Type 0
 IsPlain bytes = flat_map escape bytes ≡ bytes
 
 long_plain : (c : ℕ) → 128 ≤ c → IsPlain (encode_utf8 c)
 long_plain c h =
-    ⊎_elim (λ l. subst IsPlain (sym (encode_2 c h l)) (escapes_2 _ _ (omega arith) (omega arith))) (λ l.
-    ⊎_elim (λ u. subst IsPlain (sym (encode_3 c l u)) (escapes_3 _ _ _ (omega arith) (omega arith) (omega arith)))
-    (λ u. subst IsPlain (sym (encode_4 c u)) (escapes_4 _ _ _ _ (omega arith) (omega arith) (omega arith) (omega arith)))
+    ⊎_elim (λ l. subst IsPlain (sym (encode_2 c h l)) (all_high (_ ∷ _ ∷ []) (omega arith, (omega arith, tt)))) (λ l.
+    ⊎_elim (λ u. subst IsPlain (sym (encode_3 c l u)) (all_high (_ ∷ _ ∷ _ ∷ []) (omega arith, (omega arith, (omega arith, tt)))))
+    (λ u. subst IsPlain (sym (encode_4 c u)) (all_high (_ ∷ _ ∷ _ ∷ _ ∷ []) (omega arith, (omega arith, (omega arith, (omega arith, tt))))))
     (cases_lt c 65536)) (cases_lt c 2048)
 
 long_spelled : (c : ℕ) → IsScalar c → 128 ≤ c → SpellsCharacter (flat_map escape (encode_utf8 c)) (encode_utf8 c)
