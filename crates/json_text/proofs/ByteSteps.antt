@@ -1,17 +1,14 @@
 -- One byte of a text, read in both directions: `follows_step` leads from what follows the byte to what follows with it, and
 -- `step_follows` back. At the end of the bytes: `follows_end` and `end_follows`.
 use Rattle.std.proofs.Common.{◌≡◌, ℕ, suc, ◌+◌, ◌-◌, ◌<◌, true, false, List, [], ◌∷◌, ◌++◌, length, Option, Some, None, Result, Ok, Err, refl, sym, ap, ◌∙◌, subst, inl, inr, arith, eqb-true, ltb-true, lt-ltb, eq-eqb, ◌==◌, ◌||◌, Bool, cond, nat_lt, codes}
-use Rattle.std.proofs.lemmas.Bool.{cond-true, cond-false, or_left}
-use Rattle.std.proofs.lemmas.Bool.Decides.{nat_tests}
-use Rattle.json_text.proofs.NumberReads.{choose}
-use Rattle.json_text.specs.Number.{IsNumber, is_digit_above_zero}
-use Rattle.json_text.specs.Node.{Node, null_node, truth_node, list_node, object_node, number_node, text_node, Nodes, no_nodes, node, Fields, no_fields, field}
-use Rattle.json_text.specs.Grammar.{is_space}
-use Rattle.json_text.specs.Reading.{Stop, unexpected, too_deep, Member, Waiting, in_list, in_object, then_nodes, then_fields, nodes_of, fields_of, State, value, first_item, after_item, first_key, next_key, colon, after_member, whole, word, digits, string, Hole, in_value, in_key, fill, StringStep, goes_on, ends, stops, string_step, string_goes, between, NumberPart, number_step, may_end, minus, zero_int, int, point, fraction, exponent, exponent_sign, exponent_digits, put, opened, value_step, word_step, after_step, digits_step, step, end_of}
+use Rattle.std.proofs.{lemmas.Bool.cond-true, lemmas.Bool.cond-false, lemmas.Bool.or_left, lemmas.Bool.Decides.nat_tests}
+use Rattle.json_text.proofs.{NumberReads.choose, NumberReads.digits_spelled, NumberReads.digits_from}
 use Rattle.json_text.proofs.Following.{Byte, Space, Literal, Characters, StringOn, Future, Key, Value, Items, MoreItems, Members, MoreMembers, After, Ended, Colon, Filled, Following}
 use Rattle.json_text.proofs.NumberReads.{Accepts, Starts, with_minus, with_zero, with_digit, starts, minus_number, zero_number, int_number}
-use Rattle.json_text.proofs.NumberReads.{digits_spelled, digits_from}
 use Rattle.json_text.proofs.CharacterReads.{characters_spelled, characters_from}
+use Rattle.json_text.specs.{Number.IsNumber, Number.is_digit_above_zero, Grammar.is_space}
+use Rattle.json_text.specs.Node.{Node, null_node, truth_node, list_node, object_node, number_node, text_node, Nodes, no_nodes, node, Fields, no_fields, field}
+use Rattle.json_text.specs.Reading.{Stop, unexpected, too_deep, Member, Waiting, in_list, in_object, then_nodes, then_fields, nodes_of, fields_of, State, value, first_item, after_item, first_key, next_key, colon, after_member, whole, word, digits, string, Hole, in_value, in_key, fill, StringStep, goes_on, ends, stops, string_step, string_goes, between, NumberPart, number_step, may_end, minus, zero_int, int, point, fraction, exponent, exponent_sign, exponent_digits, put, opened, value_step, word_step, after_step, digits_step, step, end_of}
 
 heads : (b c : ℕ) (bs cs : List ℕ) → b ∷ bs ≡ c ∷ cs → (b ≡ c) × (bs ≡ cs)
 heads b c bs cs e = (cc, cc)
@@ -103,11 +100,11 @@ module _ (size levels : ℕ) (r : Node) where
       let (inside, t, back, is, spelled, (future, k)) = characters_spelled (λ t. Done outer (text_node t)) bs h in
       (text_node t, future, (inside, back, ap (λ c. c ∷ bs) e ∙ ap (λ t. 34 ∷ t) is, spelled, k))
 
-  number_value : (part : NumberPart) (outer : List Waiting) (b : ℕ) (bs : List ℕ) → ((t : List ℕ) → Accepts part t → IsNumber (b ∷ t))
+  number_value : (part : NumberPart) (outer : List Waiting) (b c : ℕ) (bs : List ℕ) → b ≡ c → ((t : List ℕ) → Accepts part t → IsNumber (c ∷ t))
       → Follows (digits part (b ∷ []) outer) bs → ValueFollows outer (b ∷ bs)
-  number_value part outer b bs f h =
-      let (tail, back, is, accepts, (future, k)) = digits_spelled part (b ∷ []) (λ s. Done outer (number_node s)) bs h in
-      (number_node (b ∷ tail), future, (back, ap (λ t. b ∷ t) is, f tail accepts, k))
+  number_value part outer b c bs is f h =
+      let (tail, back, e, accepts, (future, k)) = digits_spelled part (b ∷ []) (λ s. Done outer (number_node s)) bs h in
+      (number_node (b ∷ tail), future, (back, ap (λ t. b ∷ t) e, subst (λ c. IsNumber (c ∷ tail)) (sym is) (f tail accepts), k))
 
   list_value : (outer : List Waiting) (b : ℕ) (bs : List ℕ) → b ≡ 91 → On bs (opened levels outer (first_item outer)) → ValueFollows outer (b ∷ bs)
   list_value outer b bs e h = on_if (nat_lt (length outer) levels) bs _ _ h (λ t (ns, future, i). let deep : length outer < levels = ltb-true _ _ t in
@@ -122,9 +119,9 @@ module _ (size levels : ℕ) (r : Node) where
       on_if (b == 34) bs _ _ h (λ t k. string_value outer b bs (eqb-true b 34 t) k) (λ _ h.
       on_if (b == 91) bs _ _ h (λ t k. list_value outer b bs (eqb-true b 91 t) k) (λ _ h.
       on_if (b == 123) bs _ _ h (λ t k. object_value outer b bs (eqb-true b 123 t) k) (λ _ h.
-      on_if (b == 45) bs _ _ h (λ t k. number_value minus outer b bs (λ a x. subst (λ c. IsNumber (c ∷ a)) (sym (eqb-true b 45 t)) (minus_number a x)) k) (λ _ h.
-      on_if (b == 48) bs _ _ h (λ t k. number_value zero_int outer b bs (λ a x. subst (λ c. IsNumber (c ∷ a)) (sym (eqb-true b 48 t)) (zero_number a x)) k) (λ _ h.
-      on_if (is_digit_above_zero b) bs _ _ h (λ t k. number_value int outer b bs (λ a x. int_number b a t x) k) (λ _ h.
+      on_if (b == 45) bs _ _ h (λ t k. number_value minus outer b 45 bs (eqb-true b 45 t) (λ a x. minus_number a x) k) (λ _ h.
+      on_if (b == 48) bs _ _ h (λ t k. number_value zero_int outer b 48 bs (eqb-true b 48 t) (λ a x. zero_number a x) k) (λ _ h.
+      on_if (is_digit_above_zero b) bs _ _ h (λ t k. number_value int outer b b bs refl (λ a x. int_number b a t x) k) (λ _ h.
       on_if (b == 110) bs _ _ h (λ t (future, k). (null_node, future, (eqb-true b 110 t, k))) (λ _ h.
       on_if (b == 116) bs _ _ h (λ t (future, k). (truth_node true, future, (eqb-true b 116 t, k))) (λ _ h.
       on_if (b == 102) bs _ _ h (λ t (future, k). (truth_node false, future, (eqb-true b 102 t, k))) (λ _ h. absurd h)))))))))
@@ -145,8 +142,8 @@ module _ (size levels : ℕ) (r : Node) where
       on_if (b == 44) bs _ _ h (λ t (place, key, n, future, k).
       let same = subst (λ all. NextMember outer place key n future all bs) (then_field ms place key n future.0) k in
       ((field place key n future.0, future.1), inl (eqb-true b 44 t, same))) (λ _ h.
-      on_if (b == 125) bs _ _ h (λ t h. let (future, k) = follows_put (object_node (fields_of ms)) outer bs h in ((no_fields, future), inl (eqb-true b 125 t, k)))
-      (λ _ h. absurd h)))
+      on_if (b == 125) bs _ _ h (λ t h. let (future, k) = follows_put (object_node (fields_of ms)) outer bs h in
+      ((no_fields, future), inl (eqb-true b 125 t, k))) (λ _ h. absurd h)))
 
   whole_follows : (n : Node) (b : ℕ) (bs : List ℕ) → On bs (after_step (whole n) b) → Follows (whole n) (b ∷ bs)
   whole_follows n b bs h = on_if (is_space b) bs _ _ h (λ t (future, k). (future, inr (t, k))) (λ _ h. absurd h)
@@ -254,8 +251,7 @@ module _ (size levels : ℕ) (r : Node) where
   key_goes : (ms : List Member) (outer : List Waiting) (at place b : ℕ) (key bs : List ℕ) (n : Node) (future : Future (in_object ms place key ∷ outer))
       → at + suc (length bs) ≡ size
       → Key size place key (Space (Byte 58 (Space (Value size n (levels - suc (length outer)) (Space (Waits (in_object ms place key ∷ outer) future n))))))
-      (b ∷ bs)
-      → (b ≡ 34) × Follows (string between [] (in_key at ms outer)) bs
+      (b ∷ bs) → (b ≡ 34) × Follows (string between [] (in_key at ms outer)) bs
   key_goes ms outer at place b key bs n future s (p, (inside, back, is, spelled, k)) =
       let (f, g) = heads b 34 bs (inside ++ 34 ∷ back) is in
       let there = subst (λ bs. Follows (string between [] (in_key place ms outer)) bs) (sym g)

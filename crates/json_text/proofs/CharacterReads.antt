@@ -1,11 +1,9 @@
 -- The characters of a string, read in both directions: `characters_spelled` takes one character after another from the front of
 -- what may still come, and `characters_from` puts them back. What they represent is UTF-8: `characters_utf8`.
 use Rattle.std.proofs.Common.{◌≡◌, ◌≢◌, ℕ, zero, suc, ◌+◌, ◌-◌, ◌*◌, ◌/◌, ◌%◌, ◌<◌, ◌≤◌, Bool, true, false, ◌==◌, cond, List, [], ◌∷◌, ◌++◌, length, Option, Some, None, ◌⊎◌, inl, inr, ⊎_elim, refl, sym, ap, ◌∙◌, subst, arith, append_assoc, append-nil, eqb-true, IsUtf8, encode_utf8, length-append}
-use Rattle.std.specs.Char.{IsScalar}
-use Rattle.std.proofs.Math.Utf8.{scalar_cases}
+use Rattle.std.proofs.{Math.Utf8.scalar_cases, lemmas.Str.IsUtf8-append, lemmas.Str.IsUtf8-encode, lemmas.Str.IsUtf8-nil, lemmas.Bool.Decides.nat_tests}
 use Rattle.std.proofs.lemmas.Bool.{cond_both, cond-true, cond-false, eqb-false, cases_eq, cases_lt}
-use Rattle.std.proofs.lemmas.Str.{IsUtf8-append, IsUtf8-encode, IsUtf8-nil}
-use Rattle.std.proofs.lemmas.Bool.Decides.{nat_tests}
+use Rattle.std.specs.Char.{IsScalar}
 use Rattle.json_text.specs.Characters.{SpellsCharacter, unescaped, escaped, unit, pair, SpellsCharacters, none, more, escape_of, hex_digit_of, IsHex, IsHighSurrogate, IsLowSurrogate, pair_of}
 use Rattle.json_text.specs.Reading.{StringPart, between, backslash, hex, high, high_backslash, tail, StringStep, goes_on, stops, string_step, unescaped_step, is_within, tail_after, escape_step, digit_fits, unit_step, unit_after, hex_step}
 use Rattle.json_text.specs.Scan.{IsUnitSoFar}
@@ -56,8 +54,7 @@ unescaped_by P text b f g h =
     cond_both (is_within 194 223 b) _ _ P (λ t. g 128 63 0 (λ x i j. long_2 b x (within_from 194 223 b t) (within_to 194 223 b t) i j)) (λ _.
     cond_both (b == 224) _ _ P (λ t. g 160 31 1 (front_224 b (eqb-true b 224 t))) (λ _.
     cond_both (b == 237) _ _ P (λ t. g 128 31 1 (front_237 b (eqb-true b 237 t))) (λ n.
-    cond_both (is_within 225 239 b) _ _ P (λ t. g 128 63 1 (front_three b (within_from 225 239 b t) (within_to 225 239 b t) (eqb-false b 237 n)))
-    (λ _.
+    cond_both (is_within 225 239 b) _ _ P (λ t. g 128 63 1 (front_three b (within_from 225 239 b t) (within_to 225 239 b t) (eqb-false b 237 n))) (λ _.
     cond_both (b == 240) _ _ P (λ t. g 144 47 2 (front_240 b (eqb-true b 240 t))) (λ _.
     cond_both (is_within 241 243 b) _ _ P (λ t. g 128 63 2 (front_four b (within_from 241 243 b t) (within_to 241 243 b t))) (λ _.
     cond_both (b == 244) _ _ P (λ t. g 128 15 2 (front_244 b (eqb-true b 244 t))) (λ _. h))))))))
@@ -198,14 +195,12 @@ module _ (K : List ℕ → List ℕ → Type 0) where
       let three = so_far_more lead 1 (16 * (16 * 0 + w) + x) y (omega arith) two (hex_below c y e_c) f_c in
       let so = so_far_more lead zero (16 * (16 * (16 * 0 + w) + x) + y) z (omega arith) three (hex_below d z e_d) f_d in
       let is = is_a ∙ ap (λ t. a ∷ t) (is_b ∙ ap (λ t. b ∷ t) (is_c ∙ ap (λ t. c ∷ t) is_d)) in
-      let hexed : IsHex (a ∷ b ∷ c ∷ d ∷ []) (16 * (16 * (16 * (16 * 0 + w) + x) + y) + z) =
-      (a, b, c, d, w, x, y, z, refl, e_a, e_b, e_c, e_d, omega arith) in
+      let hexed : IsHex (a ∷ b ∷ c ∷ d ∷ []) (16 * (16 * (16 * (16 * 0 + w) + x) + y) + z) = (a, b, c, d, w, x, y, z, refl, e_a, e_b, e_c, e_d, omega arith) in
       (a ∷ b ∷ c ∷ d ∷ [], ds, 16 * (16 * (16 * (16 * 0 + w) + x) + y) + z, is, hexed, so, h_d)
 
   -- one byte that has to come
   expected : (part p : StringPart) (text bytes : List ℕ) (c : ℕ) → ((b : ℕ) → string_step part text b ≡ cond (b == c) (goes_on p text) stops)
-      → Characters part text K bytes
-      → (bs : List ℕ) × (bytes ≡ c ∷ bs) × Characters p text K bs
+      → Characters part text K bytes → (bs : List ℕ) × (bytes ≡ c ∷ bs) × Characters p text K bs
   expected part p text [] c f h = absurd h
   expected part p text (b ∷ bs) c f h = let (e, k) = cond_on (b == c) (goes_on p text) _ _ (subst (λ s. Then s text bs) (f b) h) in
       (bs, ap (λ x. x ∷ bs) (eqb-true b c e), k)
@@ -216,8 +211,7 @@ module _ (K : List ℕ → List ℕ → Type 0) where
 
   -- after a backslash and a `u`
   unit_by : (text bytes digits back : List ℕ) (u : ℕ) → bytes ≡ 117 ∷ (digits ++ back) → IsHex digits u → IsUnitSoFar None zero u → (v : Bool)
-      → is_within 0xD800 0xDBFF u ≡ v
-      → Then (cond v (goes_on (high u) text) (goes_on between (text ++ encode_utf8 u))) text back → One 92 text bytes
+      → is_within 0xD800 0xDBFF u ≡ v → Then (cond v (goes_on (high u) text) (goes_on between (text ++ encode_utf8 u))) text back → One 92 text bytes
   unit_by text bytes digits back u is hexed so false t h = (117 ∷ digits, encode_utf8 u, back, is, unit digits u hexed (unit_scalar u so t), h)
   unit_by text bytes digits back u is hexed so true t h =
       let (t_a, is_a, h_a) = expected (high u) (high_backslash u) text back 92 (λ b. refl) h in
@@ -256,8 +250,7 @@ module _ (K : List ℕ → List ℕ → Type 0) where
   one text b bs h =
       let P : StringStep → Type 0 = λ s. Then s text bs → ((b ≡ 34) × K text bs) ⊎ One b text bs in
       cond_both (b == 34) _ _ P (λ t k. inl (eqb-true b 34 t, k)) (λ q.
-      cond_both (b == 92) _ _ P (λ t k. inr (subst (λ c. One c text bs) (sym (eqb-true b 92 t)) (escape text bs k))) (λ s.
-      unescaped_by P text b
+      cond_both (b == 92) _ _ P (λ t k. inr (subst (λ c. One c text bs) (sym (eqb-true b 92 t)) (escape text bs k))) (λ s. unescaped_by P text b
       (λ l u k. inr ([], b ∷ [], bs, refl, short_character b l u (eqb-false b 34 q) (eqb-false b 92 s), k))
       (λ low width n f k. let (rest, back, is, long, g) = tails n low width (b ∷ []) (text ++ b ∷ []) bs f k in
       inr (rest, b ∷ rest, back, is, long_character (b ∷ rest) long, subst (λ t. Characters between t K back) (append_assoc text (b ∷ []) rest) g))
@@ -294,15 +287,14 @@ module _ (K : List ℕ → List ℕ → Type 0) where
   back_2 text a b bs h i j k g = back between (tail 128 63 0) text (text ++ a ∷ []) a (b ∷ bs) (grind (arith, nat_tests))
       (tail_back 128 63 0 (text ++ a ∷ []) b bs j k (subst (λ t. Characters between t K bs) (sym (append_assoc text (a ∷ []) (b ∷ []))) g))
 
-  back_3 : (text : List ℕ) (a b c low width : ℕ) (bs : List ℕ) → string_step between text a ≡ goes_on (tail low width 1) (text ++ a ∷ []) → low ≤ b → b ≤ low + width → 128 ≤ c
-      → c ≤ 191
-      → Characters between (text ++ a ∷ b ∷ c ∷ []) K bs → Characters between text K (a ∷ b ∷ c ∷ bs)
+  back_3 : (text : List ℕ) (a b c low width : ℕ) (bs : List ℕ) → string_step between text a ≡ goes_on (tail low width 1) (text ++ a ∷ [])
+      → low ≤ b → b ≤ low + width → 128 ≤ c → c ≤ 191 → Characters between (text ++ a ∷ b ∷ c ∷ []) K bs → Characters between text K (a ∷ b ∷ c ∷ bs)
   back_3 text a b c low width bs e h i j k g = back between (tail low width 1) text (text ++ a ∷ []) a (b ∷ c ∷ bs) e
       (tail_back low width 1 (text ++ a ∷ []) b (c ∷ bs) h i (tail_back 128 63 0 ((text ++ a ∷ []) ++ b ∷ []) c bs j k
       (subst (λ t. Characters between t K bs) (sym (simp append_assoc)) g)))
 
-  back_4 : (text : List ℕ) (a b c d low width : ℕ) (bs : List ℕ) → string_step between text a ≡ goes_on (tail low width 2) (text ++ a ∷ []) → low ≤ b → b ≤ low + width
-      → 128 ≤ c → c ≤ 191 → 128 ≤ d → d ≤ 191
+  back_4 : (text : List ℕ) (a b c d low width : ℕ) (bs : List ℕ) → string_step between text a ≡ goes_on (tail low width 2) (text ++ a ∷ [])
+      → low ≤ b → b ≤ low + width → 128 ≤ c → c ≤ 191 → 128 ≤ d → d ≤ 191
       → Characters between (text ++ a ∷ b ∷ c ∷ d ∷ []) K bs → Characters between text K (a ∷ b ∷ c ∷ d ∷ bs)
   back_4 text a b c d low width bs e h i j k l m g = back between (tail low width 2) text (text ++ a ∷ []) a (b ∷ c ∷ d ∷ bs) e
       (tail_back low width 2 (text ++ a ∷ []) b (c ∷ d ∷ bs) h i (tail_back 128 63 1 ((text ++ a ∷ []) ++ b ∷ []) c (d ∷ bs) j k
@@ -310,8 +302,7 @@ module _ (K : List ℕ → List ℕ → Type 0) where
 
   -- an unescaped character by its number of bytes
   long_3_back : (text : List ℕ) (c : ℕ) (bs : List ℕ) → 2048 ≤ c → c < 65536 → (c < 55296) ⊎ (57344 ≤ c) → (a x y : ℕ) → a ≡ 224 + c / 4096
-      → x ≡ 128 + (c / 64) % 64 → y ≡ 128 + c % 64
-      → Characters between (text ++ a ∷ x ∷ y ∷ []) K bs → Characters between text K (a ∷ x ∷ y ∷ bs)
+      → x ≡ 128 + (c / 64) % 64 → y ≡ 128 + c % 64 → Characters between (text ++ a ∷ x ∷ y ∷ []) K bs → Characters between text K (a ∷ x ∷ y ∷ bs)
   long_3_back text c bs l u s a x y e f g h =
       ⊎_elim (λ n. back_3 text a x y 160 31 bs (rw n refl) (omega arith) (omega arith) (omega arith) (omega arith) h) (λ m.
       ⊎_elim (λ n. back_3 text a x y 128 31 bs (rw n refl) (omega arith) (omega arith) (omega arith) (omega arith) h) (λ n.
@@ -319,16 +310,12 @@ module _ (K : List ℕ → List ℕ → Type 0) where
       (cases_eq a 237)) (cases_eq a 224)
 
   long_4_back : (text : List ℕ) (c : ℕ) (bs : List ℕ) → 65536 ≤ c → c < 1114112 → (a x y z : ℕ) → a ≡ 240 + c / 262144 → x ≡ 128 + (c / 4096) % 64
-      → y ≡ 128 + (c / 64) % 64 → z ≡ 128 + c % 64
-      → Characters between (text ++ a ∷ x ∷ y ∷ z ∷ []) K bs → Characters between text K (a ∷ x ∷ y ∷ z ∷ bs)
+      → y ≡ 128 + (c / 64) % 64 → z ≡ 128 + c % 64 → Characters between (text ++ a ∷ x ∷ y ∷ z ∷ []) K bs → Characters between text K (a ∷ x ∷ y ∷ z ∷ bs)
   long_4_back text c bs l u a x y z e f g i h =
-      ⊎_elim (λ n. back_4 text a x y z 144 47 bs (rw n refl) (omega arith) (omega arith) (omega arith) (omega arith) (omega arith) (omega arith) h)
-      (λ m.
-      ⊎_elim (λ n. back_4 text a x y z 128 15 bs (rw n refl) (omega arith) (omega arith) (omega arith) (omega arith) (omega arith) (omega arith) h)
-      (λ n.
+      ⊎_elim (λ n. back_4 text a x y z 144 47 bs (rw n refl) (omega arith) (omega arith) (omega arith) (omega arith) (omega arith) (omega arith) h) (λ m.
+      ⊎_elim (λ n. back_4 text a x y z 128 15 bs (rw n refl) (omega arith) (omega arith) (omega arith) (omega arith) (omega arith) (omega arith) h) (λ n.
       back_4 text a x y z 128 63 bs (lead_4 text a (omega arith) (omega arith)) (omega arith) (omega arith) (omega arith) (omega arith) (omega arith)
-      (omega arith) h)
-      (cases_eq a 244)) (cases_eq a 240)
+      (omega arith) h) (cases_eq a 244)) (cases_eq a 240)
 
   unescaped_back : (text : List ℕ) (c : ℕ) (bs : List ℕ) → (c < 55296) ⊎ ((57344 ≤ c) × (c < 1114112)) → 32 ≤ c → c ≢ 34 → c ≢ 92
       → Characters between (text ++ encode_utf8 c) K bs → Characters between text K (encode_utf8 c ++ bs)
@@ -337,12 +324,10 @@ module _ (K : List ℕ → List ℕ → Type 0) where
       ⊎_elim (λ u. subst P (sym (encode_1 c u)) (back between between text (text ++ c ∷ []) c bs (short text c l u q r)) h) (λ a.
       ⊎_elim (λ u. subst P (sym (encode_2 c a u)) (back_2 text _ _ bs (omega arith) (omega arith) (omega arith) (omega arith)) h) (λ a.
       ⊎_elim (λ u. subst P (sym (encode_3 c a u)) (long_3_back text c bs a u (⊎_elim (λ x. inl x) (λ x. inr x.0) s) _ _ _ refl refl refl) h) (λ a.
-      subst P (sym (encode_4 c a)) (long_4_back text c bs a (below c s) _ _ _ _ refl refl refl refl) h)
-      (cases_lt c 65536)) (cases_lt c 2048)) (cases_lt c 128)
+      subst P (sym (encode_4 c a)) (long_4_back text c bs a (below c s) _ _ _ _ refl refl refl refl) h) (cases_lt c 65536)) (cases_lt c 2048)) (cases_lt c 128)
 
   digit_back : (lead : Option ℕ) (left n : ℕ) (text : List ℕ) (b d : ℕ) (bs : List ℕ) → hex_digit_of b ≡ Some d → digit_fits lead left n d ≡ true
-      → Then (unit_after text lead left (16 * n + d)) text bs
-      → Characters (hex lead left n) text K (b ∷ bs)
+      → Then (unit_after text lead left (16 * n + d)) text bs → Characters (hex lead left n) text K (b ∷ bs)
   digit_back lead left n text b d bs e f h = subst (λ s. Then s text bs) (sym (ap (hex_step text lead left n) e ∙ cond-true _ _ _ f)) h
 
   four_back : (lead : Option ℕ) (text digits bs : List ℕ) (u : ℕ) → IsHex digits u → IsUnitSoFar lead zero u → Then (unit_step text lead u) text bs

@@ -1,15 +1,11 @@
 -- Each state that the machine comes to is on the way to some text: `completes`.
 use Rattle.std.proofs.Common.{◌≡◌, ◌≢◌, ℕ, zero, suc, ◌+◌, ◌*◌, true, List, [], ◌∷◌, ◌++◌, length, Option, Some, None, Ok, refl, sym, ap, ◌∙◌, subst, inl, inr, arith, eq-eqb, encode_utf8}
-use Rattle.std.proofs.lemmas.Bool.{cond-true, cond_both, cases_eq}
-use Rattle.std.proofs.lemmas.Bool.Decides.{nat_tests}
+use Rattle.std.proofs.{lemmas.Bool.cond-true, lemmas.Bool.cond_both, lemmas.Bool.cases_eq, lemmas.Bool.Decides.nat_tests}
 use Rattle.json_text.specs.Node.{Node, list_node, object_node, number_node, text_node, no_nodes, no_fields}
 use Rattle.json_text.specs.Characters.{hex_digit_of, pair_of}
 use Rattle.json_text.specs.Reading.{Member, Waiting, in_list, in_object, nodes_of, fields_of, State, value, first_item, after_item, first_key, next_key, colon, after_member, whole, word, digits, string, Hole, in_value, in_key, fill, StringPart, between, backslash, hex, high, high_backslash, tail, NumberPart, minus, zero_int, int, point, fraction, exponent, exponent_sign, exponent_digits, may_end, string_step, goes_on, ends, stops, StringStep, string_goes, put, step, digit_fits, unit_step, unit_after, hex_step, tail_after, is_within, read_from}
-use Rattle.json_text.proofs.ReadingSteps.{read_ok, read_nil}
-use Rattle.json_text.proofs.Following.{Ended}
-use Rattle.json_text.proofs.ByteSteps.{follows_put}
+use Rattle.json_text.proofs.{ReadingSteps.read_ok, ReadingSteps.read_nil, Following.Ended, ByteSteps.follows_put, NumberReads.digits_end}
 use Rattle.json_text.proofs.WholeTexts.{follows_read, read_follows}
-use Rattle.json_text.proofs.NumberReads.{digits_end}
 
 -- a digit that a code unit can go on with
 fits : (lead : Option ℕ) (more n : ℕ) → (b d : ℕ) × (hex_digit_of b ≡ Some d) × (digit_fits lead more n d ≡ true)
@@ -54,7 +50,8 @@ module _ (levels : ℕ) where
   complete_digits int spelling outer = complete_number int spelling outer refl
   complete_digits point spelling outer = by _ (digits fraction (spelling ++ 48 ∷ []) outer) 48 (λ at. refl) (complete_number fraction _ outer refl)
   complete_digits fraction spelling outer = complete_number fraction spelling outer refl
-  complete_digits exponent spelling outer = by _ (digits exponent_digits (spelling ++ 48 ∷ []) outer) 48 (λ at. refl) (complete_number exponent_digits _ outer refl)
+  complete_digits exponent spelling outer =
+      by _ (digits exponent_digits (spelling ++ 48 ∷ []) outer) 48 (λ at. refl) (complete_number exponent_digits _ outer refl)
   complete_digits exponent_sign spelling outer =
       by _ (digits exponent_digits (spelling ++ 48 ∷ []) outer) 48 (λ at. refl) (complete_number exponent_digits _ outer refl)
   complete_digits exponent_digits spelling outer = complete_number exponent_digits spelling outer refl

@@ -1,8 +1,7 @@
 -- The bytes of a character in UTF-8, by their ranges (RFC 3629, section 4): `encode_1` to `encode_4`, `long_2` to `long_4`.
 use Rattle.std.proofs.Common.{◌≡◌, ℕ, ◌+◌, ◌-◌, ◌*◌, ◌/◌, ◌%◌, ◌<◌, ◌≤◌, List, [], ◌∷◌, ◌⊎◌, ⊎_elim, refl, sym, ◌∙◌, arith, le-ltb, lt-ltb, le-leb}
+use Rattle.std.proofs.{Math.Utf8.low_scalar, lemmas.Bool.cond-true, lemmas.Bool.cond-false}
 use Rattle.std.specs.Char.{encode_utf8, IsScalar}
-use Rattle.std.proofs.Math.Utf8.{low_scalar}
-use Rattle.std.proofs.lemmas.Bool.{cond-true, cond-false}
 
 pub encode_1 : (c : ℕ) → c < 128 → encode_utf8 c ≡ c ∷ []
 unfolding encode_utf8
@@ -43,8 +42,7 @@ three a b c n e h j k l m =
     let f : a ≡ 224 + n / 4096 = omega arith in let g : b ≡ 128 + (n / 64) % 64 = omega arith in let i : c ≡ 128 + n % 64 = omega arith in cc
 
 four : (a b c d n : ℕ) → n ≡ 64 * (64 * (64 * (a - 240) + (b - 128)) + (c - 128)) + (d - 128) → 240 ≤ a → 128 ≤ b → b ≤ 191 → 128 ≤ c → c ≤ 191 → 128 ≤ d
-    → d ≤ 191
-    → a ∷ b ∷ c ∷ d ∷ [] ≡ (240 + n / 262144) ∷ (128 + (n / 4096) % 64) ∷ (128 + (n / 64) % 64) ∷ (128 + n % 64) ∷ []
+    → d ≤ 191 → a ∷ b ∷ c ∷ d ∷ [] ≡ (240 + n / 262144) ∷ (128 + (n / 4096) % 64) ∷ (128 + (n / 64) % 64) ∷ (128 + n % 64) ∷ []
 four a b c d n e h j k l m o p =
     let f : a ≡ 240 + n / 262144 = omega arith in let g : b ≡ 128 + (n / 4096) % 64 = omega arith in
     let i : c ≡ 128 + (n / 64) % 64 = omega arith in let q : d ≡ 128 + n % 64 = omega arith in cc

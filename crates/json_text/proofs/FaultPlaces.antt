@@ -1,12 +1,9 @@
 -- The byte machine stops where no text goes on: `read_fails`, `opens_too_many`, `opens_no_more`.
-use Rattle.json_text.proofs.WholeTexts.{read_spelled, spelled_read}
+use Rattle.json_text.proofs.{WholeTexts.read_spelled, WholeTexts.spelled_read, ReadingSteps.read_ok, ReadingSteps.read_err, ReadingSteps.read_nil}
+use Rattle.json_text.proofs.{Completions.completes, OneLevelMore.depth, OneLevelMore.Fares, OneLevelMore.fares}
 use Rattle.std.proofs.Common.{◌≡◌, ℕ, suc, ◌+◌, ◌-◌, ◌<◌, ◌≤◌, List, [], ◌∷◌, ◌++◌, length, take, Option, Some, None, Result, Ok, Err, refl, sym, ap, ◌∙◌, subst, arith, append_assoc, append-nil, length-append, add-zero, zero-add, take_at}
-use Rattle.json_text.specs.Node.{Node}
-use Rattle.json_text.specs.Faults.{FailsAt, OpensTooMany}
+use Rattle.json_text.specs.{Node.Node, Faults.FailsAt, Faults.OpensTooMany}
 use Rattle.json_text.specs.Reading.{Stop, unexpected, too_deep, State, value, Fault, step, end_of, ended, read_from, read_text}
-use Rattle.json_text.proofs.ReadingSteps.{read_ok, read_err, read_nil}
-use Rattle.json_text.proofs.Completions.{completes}
-use Rattle.json_text.proofs.OneLevelMore.{depth, Fares, fares}
 
 abbrev fault : Stop → ℕ → Fault
 fault why at = record { why = why; at = at }
@@ -58,8 +55,7 @@ module _ (levels : ℕ) where
       (λ more. ap (λ n. read_from (suc levels) n state more) (sym e)) h
 
   stopped_by : (from : State) (at b : ℕ) (bs : List ℕ) (f : Fault) (r other : Result State Stop) → step levels at from b ≡ r
-      → step (suc levels) at from b ≡ other → Fares levels r other → depth from ≤ levels
-      → read_from levels at from (b ∷ bs) ≡ Err f
+      → step (suc levels) at from b ≡ other → Fares levels r other → depth from ≤ levels → read_from levels at from (b ∷ bs) ≡ Err f
       → ((next : State) → depth next ≤ levels → read_from levels (at + 1) next bs ≡ Err f → Stopped next (at + 1) f bs) → Stopped from at f (b ∷ bs)
   stopped_by from at b bs f (Err why) other e o t s h g =
       let is : fault why at ≡ f = let k = sym (read_err levels at from why b bs e) ∙ h in cc in

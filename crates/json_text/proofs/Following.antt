@@ -1,9 +1,7 @@
 -- What may still come: the bytes that take a state to the end of a text with a node, by cases on the bytes. `Following` says it of each state.
 use Rattle.std.proofs.Common.{◌≡◌, ℕ, suc, ◌+◌, ◌-◌, true, false, List, [], ◌∷◌, ◌++◌, length, Some, ◌⊎◌, codes}
-use Rattle.json_text.specs.Number.{IsNumber}
-use Rattle.json_text.specs.Characters.{SpellsCharacters}
+use Rattle.json_text.specs.{Number.IsNumber, Characters.SpellsCharacters, Grammar.is_space}
 use Rattle.json_text.specs.Node.{Node, null_node, truth_node, list_node, object_node, number_node, text_node, Nodes, no_nodes, node, Fields, no_fields, field}
-use Rattle.json_text.specs.Grammar.{is_space}
 use Rattle.json_text.specs.Reading.{Member, Waiting, in_list, in_object, then_nodes, then_fields, State, value, first_item, after_item, first_key, next_key, colon, after_member, whole, word, digits, string, Hole, in_value, in_key, StringPart, StringStep, goes_on, ends, stops, string_step, NumberPart, number_step, may_end}
 
 -- one byte, and then K
@@ -89,8 +87,7 @@ module _ (size : ℕ) where
     After [] future n bytes = (bytes ≡ []) × (whole_node ≡ n)
     After (in_list ns ∷ outer) future n bytes =
         MoreItems future.0 (levels - suc (length outer)) (Byte 93 (Space (After outer future.1 (list_node (then_nodes (ns ++ n ∷ []) future.0))))) bytes
-    After (in_object ms place key ∷ outer) future n bytes =
-        MoreMembers future.0 (levels - suc (length outer))
+    After (in_object ms place key ∷ outer) future n bytes = MoreMembers future.0 (levels - suc (length outer))
         (Byte 125 (Space (After outer future.1 (object_node (then_fields (ms ++ record { place = place; key = key; of = n } ∷ []) future.0))))) bytes
 
     abbrev pub Ended : List Waiting → Node → List ℕ → Type 0

@@ -1,20 +1,12 @@
 -- What the reader keeps, as it goes on: `put_in_list`, `put_in_object`; a key and its place: `key_waits`.
 use Rattle.std.proofs.Common.{◌≡◌, ℕ, suc, ◌+◌, List, [], ◌∷◌, ◌++◌, length, map, reverse, Bool, true, false, Option, Some, None, refl, sym, ap, ◌∙◌, subst, arith, cond, if◌then◌else◌, ◌||◌, inl, inr}
-use Rattle.std.specs.Prelude.{unwrap_or}
-use Rattle.std.proofs.lemmas.Bool.{cases_Bool}
-use Rattle.std.proofs.lemmas.Slice.Eq.{bytes_eq-Decides}
-use Rattle.std.specs.List.{list_any}
-use Rattle.std.specs.Str.{bytes_eq}
-use Rattle.std.proofs.lemmas.List.{reverse-append, map-append}
-use Rattle.json_text.specs.Tree.{Tree, null}
-use Rattle.json_text.specs.View.{tree_of, trees_of, pairs_of}
+use Rattle.std.proofs.{lemmas.Bool.cases_Bool, lemmas.Slice.Eq.bytes_eq-Decides, lemmas.List.reverse-append, lemmas.List.map-append}
+use Rattle.std.specs.{Prelude.unwrap_or, List.list_any, Str.bytes_eq}
+use Rattle.json_text.specs.{Tree.Tree, Tree.null, View.tree_of, View.trees_of, View.pairs_of, Objects.with_value, Objects.slot_from, Objects.Reserves}
 use Rattle.json_text.specs.Node.{Node, value_of, values_of, members_after, with_member, first_of, first_repeat, first_repeat_in, first_repeat_behind}
-use Rattle.json_text.specs.Objects.{with_value, slot_from, Reserves}
 use Rattle.json_text.specs.Reading.{Member, Waiting, in_list, in_object, nodes_of, fields_of, after_item, after_member, put}
-use Rattle.json_text.specs.Kept.{keys_behind, repeat_at, repeat_of, Keeps, KeepsAll, HoldsMembers}
-use Rattle.json_text.specs.declared.value.Json.{Json}
-use Rattle.json_text.specs.declared.state.Kept.{Kept}
-use Rattle.json_text.specs.declared.state.Kept.TheVariants.{List as kept_list, Object as kept_object}
+use Rattle.json_text.specs.{Kept.keys_behind, Kept.repeat_at, Kept.repeat_of, Kept.Keeps, Kept.KeepsAll, Kept.HoldsMembers, declared.value.Json.Json}
+use Rattle.json_text.specs.{declared.state.Kept.Kept, declared.state.Kept.TheVariants.List as kept_list, declared.state.Kept.TheVariants.Object as kept_object}
 
 pub first_of-assoc : (a b c : Option ℕ) → first_of (first_of a b) c ≡ first_of a (first_of b c)
 first_of-assoc None b c = refl
@@ -49,8 +41,7 @@ first_repeat_behind-more keys (o ∷ ms) m =
     let inner = first_repeat o.of in
     let rest = first_repeat_behind (o.key ∷ keys) (fields_of ms) in
     let last = first_of (repeat_at (keys_behind (o.key ∷ keys) ms) m.place m.key) (first_repeat m.of) in
-    ap (λ r. first_of key (first_of inner r)) (first_repeat_behind-more (o.key ∷ keys) ms m)
-    ∙ ap (first_of key) (sym (first_of-assoc inner rest last))
+    ap (λ r. first_of key (first_of inner r)) (first_repeat_behind-more (o.key ∷ keys) ms m) ∙ ap (first_of key) (sym (first_of-assoc inner rest last))
     ∙ sym (first_of-assoc key (first_of inner rest) last)
 
 -- what stays at the end of a reversed list
@@ -93,8 +84,7 @@ has-with_member key k t (m ∷ ms) =
 has-members_after : (key : List ℕ) (keys : List (List ℕ)) (acc : List (List ℕ × Tree)) (ms : List Member)
     → has key acc ≡ list_any (bytes_eq key) keys → has key (members_after acc (fields_of ms)) ≡ list_any (bytes_eq key) (keys_behind keys ms)
 has-members_after key keys acc [] h = h
-has-members_after key keys acc (m ∷ ms) h =
-    has-members_after key (m.key ∷ keys) (with_member m.key (value_of m.of) acc) ms
+has-members_after key keys acc (m ∷ ms) h = has-members_after key (m.key ∷ keys) (with_member m.key (value_of m.of) acc) ms
     (has-with_member key m.key (value_of m.of) acc ∙ ap (λ b. bytes_eq key m.key || b) h)
 
 none_has : {V : Type 0} (at : ℕ) (key : List ℕ) (ms : List (List ℕ × V)) → slot_from at key ms ≡ None → has key ms ≡ false
@@ -137,8 +127,7 @@ with_value-end at key t u (m ∷ ms) h =
 
 -- A key's place was found or made: what the member's object becomes, and whether the key came twice.
 pub key_waits : (old new : List (List ℕ × Tree)) (key : List ℕ) (slot : ℕ) (there : Bool) (ms : List Member) → Reserves old new key slot there
-    → old ≡ members_after [] (fields_of ms)
-    → ((t : Tree) → with_value slot t new ≡ with_member key t (members_after [] (fields_of ms)))
+    → old ≡ members_after [] (fields_of ms) → ((t : Tree) → with_value slot t new ≡ with_member key t (members_after [] (fields_of ms)))
 key_waits old new key slot true ms h is t =
     let r = with_value-slot 0 slot key t old h.1 in
     ap (with_value slot t) h.0 ∙ ap (λ n. with_value n t old) (let e : slot ≡ r.0 = omega (arith, r.1) in e) ∙ r.2 ∙ ap (with_member key t) is
@@ -146,8 +135,7 @@ key_waits old new key slot false ms h is t =
     ap (with_value slot t) h.0 ∙ ap (λ n. with_value n t (old ++ (key, null) ∷ [])) h.2 ∙ with_value-end 0 key t null old h.1 ∙ ap (with_member key t) is
 
 pub key_repeats : (old new : List (List ℕ × Tree)) (key : List ℕ) (slot place : ℕ) (there : Bool) (ms : List Member) → Reserves old new key slot there
-    → old ≡ members_after [] (fields_of ms)
-    → repeat_at (keys_behind [] ms) place key ≡ (if there then Some place else None)
+    → old ≡ members_after [] (fields_of ms) → repeat_at (keys_behind [] ms) place key ≡ (if there then Some place else None)
 key_repeats old new key slot place true ms h is =
     ap (λ b. cond b (Some place) None) (sym (has-members_after key [] [] ms refl) ∙ ap (has key) (sym is) ∙ some_has 0 slot key old h.1)
 key_repeats old new key slot place false ms h is =
@@ -167,8 +155,7 @@ list_takes v (in_object ms place key) rest pushed json n repeat k more is r = ab
 
 pub put_in_list : (ks all : List Kept) (v : _) (pushed : List Json) (json : Json) (n : Node) (outer : List Waiting) (repeat : Option ℕ)
     → all ≡ ks ++ kept_list v ∷ [] → pushed ≡ v.items ++ json ∷ [] → tree_of json ≡ value_of n → KeepsAll (reverse all) outer
-    → repeat ≡ first_of (repeat_of outer) (first_repeat n)
-    → (x : List Node) × (x' : List Waiting) × (put n outer ≡ after_item x x') × KeepsAll (reverse ks) x'
+    → repeat ≡ first_of (repeat_of outer) (first_repeat n) → (x : List Node) × (x' : List Waiting) × (put n outer ≡ after_item x x') × KeepsAll (reverse ks) x'
     × (repeat ≡ first_of (repeat_of x') (first_repeat_in (nodes_of x))) × (trees_of pushed ≡ map value_of x)
 put_in_list ks all v pushed json n outer repeat last more is kept r =
     let cut = keeps_last ks (kept_list v) outer (subst (λ xs. KeepsAll (reverse xs) outer) last kept) in

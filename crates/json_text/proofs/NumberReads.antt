@@ -1,12 +1,11 @@
 -- A number's machine reads exactly the spellings of numbers: `starts`, `minus_number`, `zero_number`, `int_number`. What may still
 -- come inside a number: `digits_spelled`, `digits_from`. Which way a test went: `choose`.
 use Rattle.std.proofs.Common.{◌≡◌, ℕ, true, false, ◌||◌, ◌==◌, List, [], ◌∷◌, ◌++◌, Option, Some, None, inl, inr, refl, sym, ap, ◌∙◌, subst, arith, eqb-true, eq-eqb}
+use Rattle.std.proofs.{lemmas.Bool.Decides.nat_tests, lemmas.Bool.cond-true}
+use Rattle.std.proofs.Common.{Bool, subst, inl, inr, append_assoc, append-nil, cond}
 use Rattle.std.specs.Char.{is_ascii_digit}
-use Rattle.std.proofs.lemmas.Bool.Decides.{nat_tests}
-use Rattle.std.proofs.lemmas.Bool.{cond-true}
 use Rattle.json_text.specs.Number.{IsNumber, is_digit_above_zero, AreDigits, IsDigits, IsInt, IsFraction, IsSignedDigits, IsExponent, IsMinus}
 use Rattle.json_text.specs.Reading.{NumberPart, number_step, may_end, digit_goes, exponent_goes, minus, zero_int, int, point, fraction, exponent, exponent_sign, exponent_digits}
-use Rattle.std.proofs.Common.{Bool, subst, inl, inr, append_assoc, append-nil, cond}
 use Rattle.json_text.proofs.Following.{Digits}
 
 -- which way a test went
@@ -63,12 +62,10 @@ tail_step int p b bs e h =
     step_exponent p b bs (digit_goes int b) e (λ t u. ([], b ∷ bs, refl, tt, with_exponent b bs t u)) (λ e.
     step_digit int p b bs e (λ t u. (b ∷ u.0, u.1, ap (λ x. b ∷ x) u.2, (t, u.3), u.4)) h) h) e
 tail_step point p b bs e h = step_digit fraction p b bs e (λ t u. (b ∷ u.0, u.1, ap (λ x. b ∷ x) u.2, (t, u.3), u.4)) h
-tail_step fraction p b bs e h =
-    step_exponent p b bs (digit_goes fraction b) e (λ t u. ([], b ∷ bs, refl, tt, (t, u))) (λ e.
+tail_step fraction p b bs e h = step_exponent p b bs (digit_goes fraction b) e (λ t u. ([], b ∷ bs, refl, tt, (t, u))) (λ e.
     step_digit fraction p b bs e (λ t u. (b ∷ u.0, u.1, ap (λ x. b ∷ x) u.2, (t, u.3), u.4)) h) h
 tail_step exponent p b bs e h =
-    choose ((b == 45) || (b == 43)) _ _ _ (λ t e. inl (t, came exponent_sign p bs e h)) (λ _ e.
-    step_digit exponent_digits p b bs e (λ t u. inr (t, u)) h) e
+    choose ((b == 45) || (b == 43)) _ _ _ (λ t e. inl (t, came exponent_sign p bs e h)) (λ _ e. step_digit exponent_digits p b bs e (λ t u. inr (t, u)) h) e
 tail_step exponent_sign p b bs e h = step_digit exponent_digits p b bs e (λ t u. (t, u)) h
 tail_step exponent_digits p b bs e h = step_digit exponent_digits p b bs e (λ t u. (t, u)) h
 
@@ -136,7 +133,8 @@ exponent_accepted part m f (b ∷ bs) h = (exponent, f b h.0, signed_accepted bs
 point_accepted : (ds e : List ℕ) → IsDigits ds → IsExponent e → Accepts point (ds ++ e)
 point_accepted [] e d h = absurd d
 point_accepted (b ∷ ds) e d h =
-    (fraction, cond-true _ _ _ d.0, digits_accepted fraction (λ b t. (digit_steps b t).1) ds e d.1 (exponent_accepted fraction refl (λ b t. cond-true _ _ _ t) e h))
+    let all = digits_accepted fraction (λ b t. (digit_steps b t).1) ds e d.1
+    (exponent_accepted fraction refl (λ b t. cond-true _ _ _ t) e h) in (fraction, cond-true _ _ _ d.0, all)
 
 -- a fraction and an exponent, after a whole part
 tail_accepted : (part : NumberPart) → may_end part ≡ true → number_step part 46 ≡ Some point
@@ -148,8 +146,7 @@ zero_accepted : (f e : List ℕ) → IsFraction f → IsExponent e → Accepts z
 zero_accepted f e i h = tail_accepted zero_int refl refl (λ b t. (exponent_steps b t).0) f e i h
 
 int_accepted : (ds f e : List ℕ) → AreDigits ds → IsFraction f → IsExponent e → Accepts int (ds ++ (f ++ e))
-int_accepted ds f e d i h = digits_accepted int (λ b t. (digit_steps b t).0) ds (f ++ e) d
-    (tail_accepted int refl refl (λ b t. (exponent_steps b t).1) f e i h)
+int_accepted ds f e d i h = digits_accepted int (λ b t. (digit_steps b t).0) ds (f ++ e) d (tail_accepted int refl refl (λ b t. (exponent_steps b t).1) f e i h)
 
 -- how a number begins, and the part that it begins with
 pub data Starts : List ℕ → Type 0 where

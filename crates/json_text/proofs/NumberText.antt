@@ -1,10 +1,8 @@
 -- The bytes of a number are ASCII: `number_utf8`; how far a token reaches: `string_within`.
 use Rattle.std.proofs.Common.{◌≡◌, ◌≤◌, ◌<◌, ℕ, zero, suc, ◌+◌, List, [], ◌∷◌, length, take, Bool, true, false, Option, Some, None, Result, Ok, Err, refl, sym, ap, ◌∙◌, subst, arith, cond}
-use Rattle.std.proofs.lemmas.Bool.Decides.{nat_tests}
-use Rattle.json_text.proofs.NumberReads.{Accepts}
-use Rattle.json_text.proofs.Encoded.{encode_1, low_is_scalar}
+use Rattle.std.proofs.{lemmas.Bool.Decides.nat_tests, lemmas.Str.IsUtf8-append, lemmas.Str.IsUtf8-encode, lemmas.Str.IsUtf8-nil}
+use Rattle.json_text.proofs.{NumberReads.Accepts, Encoded.encode_1, Encoded.low_is_scalar}
 use Rattle.std.specs.Str.{IsUtf8}
-use Rattle.std.proofs.lemmas.Str.{IsUtf8-append, IsUtf8-encode, IsUtf8-nil}
 use Rattle.json_text.specs.Reading.{NumberPart, minus, zero_int, int, point, fraction, exponent, exponent_sign, exponent_digits, number_step, may_end, StringPart, StringStep, goes_on, ends, stops, string_step}
 use Rattle.json_text.specs.Scan.{scan_number, number_on, scan_string, string_on}
 

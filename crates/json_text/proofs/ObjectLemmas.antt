@@ -1,21 +1,12 @@
 -- The index of an object's members: `slot_from-set`, `slot_from-push`, `with_value-set`, `slot_from-pairs`, `slot_from-below`, `slot_from-drop`,
 -- `pairs_of-push`, `HasHashes-push`, `HasHashes-set`, `IsIndex-set`.
 use Rattle.std.proofs.Common.{◌≡◌, ◌<◌, ℕ, zero, suc, ◌+◌, List, [], ◌∷◌, ◌++◌, length, Bool, true, false, Some, None, refl, sym, ap, ◌∙◌, arith, cond, if◌then◌else◌, get_or, drop, inl, inr, ◌≢◌, ◌*◌, ◌%◌, ◌^◌, String, bit_or}
-use Rattle.std.proofs.lemmas.Slice.Eq.{bytes_eq-Decides}
-use Rattle.std.proofs.Math.ListN.{set}
-use Rattle.std.proofs.lemmas.List.{at_drop_more}
-use Rattle.std.proofs.lemmas.Bool.{cases_eq, cases_Bool}
+use Rattle.std.proofs.{lemmas.Slice.Eq.bytes_eq-Decides, Math.ListN.set, lemmas.List.at_drop_more, lemmas.Bool.cases_eq, lemmas.Bool.cases_Bool}
 use Rattle.std.proofs.lemmas.Nat.Bits.{bit_at_set_same, bit_at_set_other}
-use Rattle.std.specs.Prelude.{unwrap_or, IsOk, is_ok, Result, Ok, Err}
-use Rattle.std.specs.Str.{bytes_eq}
-use Rattle.std.specs.Global.{Global}
+use Rattle.std.specs.{Prelude.unwrap_or, Prelude.IsOk, Prelude.is_ok, Prelude.Result, Prelude.Ok, Prelude.Err, Str.bytes_eq, Global.Global, BTreeMap.BTreeMap}
 use Rattle.std.specs.Int.{bit_at, w128}
-use Rattle.std.specs.BTreeMap.{BTreeMap}
-use Rattle.json_text.specs.View.{tree_of, pairs_of}
-use Rattle.json_text.specs.Objects.{HasHashes, IsIndex, hash_of, slot_from, with_value}
-use Rattle.json_text.specs.Tree.{null}
-use Rattle.json_text.specs.declared.value.Json.{Json}
-use Rattle.json_text.specs.declared.value.Json.TheVariants.{Null}
+use Rattle.json_text.specs.{View.tree_of, View.pairs_of, Objects.HasHashes, Objects.IsIndex, Objects.hash_of, Objects.slot_from, Objects.with_value, Tree.null}
+use Rattle.json_text.specs.{declared.value.Json.Json, declared.value.Json.TheVariants.Null}
 use Rattle.json_text.proofs.ViewLemmas.{tree_of_null}
 
 -- a member gets a value: each key is where it was
@@ -68,23 +59,19 @@ pub slot_from-push : {V : Type 0} (at : ℕ) (key k : List ℕ) (v : V) (ms : Li
 slot_from-push at key k v [] h = ap (λ b. if b then Some at else None) (bytes_eq-comm key k) ∙ ap (λ n. if bytes_eq k key then Some n else None) (omega arith)
 slot_from-push at key k v (m ∷ ms) h =
     let first = not_first at k m ms h in
-    ap (λ o. if bytes_eq key m.0 then Some at else o) (slot_from-push (at + 1) key k v ms first.1)
-    ∙ elim (cases_Bool (bytes_eq k key)) [
-      | inl same ↦
-          ap (λ b. cond b (Some at) (cond (bytes_eq k key) (Some (at + 1 + length ms)) (slot_from (at + 1) key ms)))
+    ap (λ o. if bytes_eq key m.0 then Some at else o) (slot_from-push (at + 1) key k v ms first.1) ∙ elim (cases_Bool (bytes_eq k key)) [
+      | inl same ↦ ap (λ b. cond b (Some at) (cond (bytes_eq k key) (Some (at + 1 + length ms)) (slot_from (at + 1) key ms)))
           (ap (λ x. bytes_eq x m.0) (sym ((bytes_eq-Decides k key).0 same)) ∙ first.0)
           ∙ ap (λ b. cond b (Some (at + 1 + length ms)) (slot_from (at + 1) key ms)) same ∙ ap (λ n. Some n) (omega arith)
           ∙ sym (ap (λ b. cond b (Some (at + suc (length ms))) (cond (bytes_eq key m.0) (Some at) (slot_from (at + 1) key ms))) same)
-      | inr other ↦
-          ap (λ b. cond (bytes_eq key m.0) (Some at) (cond b (Some (at + 1 + length ms)) (slot_from (at + 1) key ms))) other
+      | inr other ↦ ap (λ b. cond (bytes_eq key m.0) (Some at) (cond b (Some (at + 1 + length ms)) (slot_from (at + 1) key ms))) other
           ∙ sym (ap (λ b. cond b (Some (at + suc (length ms))) (cond (bytes_eq key m.0) (Some at) (slot_from (at + 1) key ms))) other)
     ]
 
 -- the members from a place on begin with the member there
 pub slot_from-drop : (at : ℕ) (key : List ℕ) (n : ℕ) (ms : List (List ℕ × Json)) (d : List ℕ × Json) → n < length ms → d ≡ get_or ms n d
     → (if bytes_eq d.0 key then Some at else slot_from (at + 1) key (drop (n + 1) ms)) ≡ slot_from at key (drop n ms)
-slot_from-drop at key n ms d h e =
-    ap (λ b. cond b (Some at) (slot_from (at + 1) key (drop (n + 1) ms))) (bytes_eq-comm d.0 key ∙ ap (λ p. bytes_eq key p.0) e)
+slot_from-drop at key n ms d h e = ap (λ b. cond b (Some at) (slot_from (at + 1) key (drop (n + 1) ms))) (bytes_eq-comm d.0 key ∙ ap (λ p. bytes_eq key p.0) e)
     ∙ sym (at_drop_more (slot_from at key) ms n d h)
 
 pub pairs_of-push : (k : List ℕ) (ms : List (List ℕ × Json)) → pairs_of (ms ++ (k, Null) ∷ []) ≡ pairs_of ms ++ (k, null) ∷ []
@@ -97,14 +84,11 @@ with_bit n k = bit_or n (1 * 2 ^ k % 2 ^ 128)
 
 -- the key at the end has its hash's bit
 pub HasHashes-push : {V : Type 0} (hashes hash : ℕ) (k : List ℕ) (v : V) (ms : List (List ℕ × V)) → hash ≡ hash_of k → hash < 128 → slot_from 0 k ms ≡ None
-    → HasHashes hashes ms
-    → HasHashes (with_bit hashes hash) (ms ++ (k, v) ∷ [])
+    → HasHashes hashes ms → HasHashes (with_bit hashes hash) (ms ++ (k, v) ∷ [])
 HasHashes-push hashes hash k v ms is small new has q unset =
     elim (cases_eq (hash_of q) hash) [
       | inl same ↦ absurd (omega (arith, sym (bit_at_set_same w128 hashes hash small) ∙ ap (λ h. bit_at (with_bit hashes hash) h) (sym same) ∙ unset))
-      | inr other ↦
-          slot_from-push 0 q k v ms new
-          ∙ ap (λ b. cond b (Some (0 + length ms)) (slot_from 0 q ms)) (apart k q (λ e. other (e ∙ sym is)))
+      | inr other ↦ slot_from-push 0 q k v ms new ∙ ap (λ b. cond b (Some (0 + length ms)) (slot_from 0 q ms)) (apart k q (λ e. other (e ∙ sym is)))
           ∙ has q (sym (bit_at_set_other w128 hashes hash small (hash_of q) other) ∙ unset)
     ]
   where
@@ -120,8 +104,7 @@ pub HasHashes-set : (hashes : ℕ) (v : Json) (slot : ℕ) (ms : List (List ℕ 
 HasHashes-set hashes v slot ms d h e has q unset = slot_from-set 0 q v slot ms d h e ∙ has q unset
 
 pub IsIndex-set : (slots : BTreeMap (String Global) ℕ) (v : Json) (slot : ℕ) (ms : List (List ℕ × Json)) (d : List ℕ × Json) → slot < length ms
-    → d ≡ get_or ms slot d
-    → IsIndex slots ms → IsIndex slots (set ms slot (d.0, v))
+    → d ≡ get_or ms slot d → IsIndex slots ms → IsIndex slots (set ms slot (d.0, v))
 IsIndex-set slots v slot ms d h e index made q = index made q ∙ sym (slot_from-set 0 q v slot ms d h e)
 
 -- what a list is after a push that has its room

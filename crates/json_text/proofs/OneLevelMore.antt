@@ -1,9 +1,8 @@
 -- A byte does the same where one level more is allowed, but for a bracket too many: `fares`.
 use Rattle.std.proofs.Common.{◌≡◌, ℕ, zero, suc, ◌+◌, ◌-◌, ◌*◌, ◌<◌, ◌≤◌, Bool, true, false, cond, ◌==◌, nat_lt, List, [], ◌∷◌, ◌++◌, length, Option, Some, None, Result, Ok, Err, refl, sym, subst, ◌⊎◌, inl, inr, arith, ⊎_elim, ltb-true, lt-ltb, codes}
 use Rattle.std.proofs.lemmas.Bool.{cond-true, cond-false, cond_both, eqb-false, cases_Bool}
-use Rattle.json_text.specs.Number.{is_digit_above_zero}
+use Rattle.json_text.specs.{Number.is_digit_above_zero, Grammar.is_space}
 use Rattle.json_text.specs.Node.{Node, null_node, truth_node, list_node, object_node, number_node, text_node, no_nodes, no_fields}
-use Rattle.json_text.specs.Grammar.{is_space}
 use Rattle.json_text.specs.Reading.{Stop, unexpected, too_deep, Member, Waiting, in_list, in_object, nodes_of, fields_of, State, value, first_item, after_item, first_key, next_key, colon, after_member, whole, word, digits, string, Hole, in_value, in_key, fill, StringPart, between, backslash, hex, high, high_backslash, tail, NumberPart, minus, zero_int, int, number_step, may_end, string_step, goes_on, ends, stops, StringStep, string_goes, put, opened, value_step, word_step, after_step, digits_step, step, unit_step, escape_step, digit_fits, hex_step, tail_after, is_within}
 
 -- how many lists and objects are open

@@ -1,7 +1,6 @@
 -- A text spells at most one value: `one_value`.
 use Rattle.std.proofs.Common.{◌≡◌, ℕ, ◌+◌, ◌≤◌, List, Ok, sym, ◌∙◌, arith}
-use Rattle.json_text.specs.Node.{Node}
-use Rattle.json_text.specs.Grammar.{IsText}
+use Rattle.json_text.specs.{Node.Node, Grammar.IsText}
 use Rattle.json_text.proofs.WholeTexts.{spelled_read}
 
 -- more levels are allowed

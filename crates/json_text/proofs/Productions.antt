@@ -67,31 +67,26 @@ module _ (size : ℕ) where
 
   -- white space on both sides
   padded : (X : (List ℕ → Type 0) → List ℕ → Type 0) (V : ℕ → List ℕ → Type 0) (W : Type 0) → Reads X V W → Reads (λ K. Space (X (Space K))) (Padded V) W
-  padded X V W x = reads
-      (λ at K bytes e h.
+  padded X V W x = reads (λ at K bytes e h.
       let s = space_front (X (Space K)) bytes h in
       let v = x.to (at + length s.front) (Space K) s.back (behind at bytes s.front s.back e s.joined) s.second in
       let t = space_front K v.back v.second in
       parted (s.front ++ (v.front ++ t.front)) t.back (padded_joined bytes s.front s.back v.front v.back t.front t.back s.joined v.joined t.joined)
-      ((s.front, v.front, t.front, refl, s.first, v.first.0, t.first), v.first.1) t.second)
-      (λ at K front back e (before, inside, after, is, s, v, t) w k.
+      ((s.front, v.front, t.front, refl, s.first, v.first.0, t.first), v.first.1) t.second) (λ at K front back e (before, inside, after, is, s, v, t) w k.
       let all : front ++ back ≡ before ++ (inside ++ (after ++ back)) = ap (λ x. x ++ back) is ∙ simp append_assoc in
-      subst (Space (X (Space K))) (sym all)
-      (space_from (X (Space K)) before (inside ++ (after ++ back)) s
+      subst (Space (X (Space K))) (sym all) (space_from (X (Space K)) before (inside ++ (after ++ back)) s
       (x.from (at + length before) (Space K) inside (after ++ back) (behind at (front ++ back) before (inside ++ (after ++ back)) e all) v w
       (space_from K after back t k))))
 
   -- a byte on both sides
   enclosed : (X : (List ℕ → Type 0) → List ℕ → Type 0) (V : ℕ → List ℕ → Type 0) (W : Type 0) (a c : ℕ) → Reads X V W
       → Reads (λ K. Byte a (X (Byte c K))) (λ at front. (inside : List ℕ) × (front ≡ a ∷ (inside ++ c ∷ [])) × V (at + 1) inside) W
-  enclosed X V W a c x = reads
-      (λ at K bytes e h.
+  enclosed X V W a c x = reads (λ at K bytes e h.
       let b = byte_back a (X (Byte c K)) bytes h in
       let v = x.to (at + 1) (Byte c K) b.0 (behind_byte at a bytes b.0 e b.1) b.2 in
       let d = byte_back c K v.back v.second in
       parted (a ∷ (v.front ++ c ∷ [])) d.0 (b.1 ∙ ap (λ t. a ∷ t) (v.joined ∙ ap (λ t. v.front ++ t) d.1 ∙ sym (append_assoc v.front (c ∷ []) d.0)))
-      ((v.front, refl, v.first.0), v.first.1) d.2)
-      (λ at K front back e (inside, is, v) w k.
+      ((v.front, refl, v.first.0), v.first.1) d.2) (λ at K front back e (inside, is, v) w k.
       let all : front ++ back ≡ a ∷ (inside ++ (c ∷ back)) = ap (λ x. x ++ back) is ∙ ap (λ t. a ∷ t) (append_assoc inside (c ∷ []) back) in
       subst (Byte a (X (Byte c K))) (sym all)
       (refl, x.from (at + 1) (Byte c K) inside (c ∷ back) (behind_byte at a (front ++ back) (inside ++ (c ∷ back)) e all) v w (refl, k)))
@@ -140,13 +135,11 @@ module _ (size : ℕ) where
 
   sequence : (X Y : (List ℕ → Type 0) → List ℕ → Type 0) (V U : ℕ → List ℕ → Type 0) (W Z : Type 0) → Reads X V W → Reads Y U Z
       → Reads (λ K. X (Y K)) (Pair V U) (W × Z)
-  sequence X Y V U W Z x y = reads
-      (λ at K bytes e h.
+  sequence X Y V U W Z x y = reads (λ at K bytes e h.
       let v = x.to at (Y K) bytes e h in
       let u = y.to (at + length v.front) K v.back (behind at bytes v.front v.back e v.joined) v.second in
       parted (v.front ++ u.front) u.back (v.joined ∙ ap (λ t. v.front ++ t) u.joined ∙ sym (append_assoc v.front u.front u.back))
-      ((v.front, u.front, refl, v.first.0, u.first.0), (v.first.1, u.first.1)) u.second)
-      (λ at K front back e (first, rest, is, v, u) w k.
+      ((v.front, u.front, refl, v.first.0, u.first.0), (v.first.1, u.first.1)) u.second) (λ at K front back e (first, rest, is, v, u) w k.
       let all : front ++ back ≡ first ++ (rest ++ back) = ap (λ x. x ++ back) is ∙ append_assoc first rest back in
       subst (X (Y K)) (sym all) (x.from at (Y K) first (rest ++ back) (sym (ap (λ t. at + length t) all) ∙ e) v w.0
       (y.from (at + length first) K rest back (behind at (front ++ back) first (rest ++ back) e all) u w.1 k)))
@@ -154,8 +147,7 @@ module _ (size : ℕ) where
   -- the same after a comma
   more : (X : (List ℕ → Type 0) → List ℕ → Type 0) (V U : ℕ → List ℕ → Type 0) (W : Type 0) → Reads X (Pair V U) W
       → Reads (λ K. Byte 44 (X K)) (λ at front. (first rest : List ℕ) × (front ≡ 44 ∷ (first ++ rest)) × V (at + 1) first × U (at + 1 + length first) rest) W
-  more X V U W x = reads
-      (λ at K bytes e h.
+  more X V U W x = reads (λ at K bytes e h.
       let b = byte_back 44 (X K) bytes h in
       let v = x.to (at + 1) K b.0 (behind_byte at 44 bytes b.0 e b.1) b.2 in
       let (first, rest, is, p, q) = v.first.0 in
@@ -167,34 +159,26 @@ module _ (size : ℕ) where
 
   -- the levels of the parts are those of the whole
   levels_so : (X : (List ℕ → Type 0) → List ℕ → Type 0) (V : ℕ → List ℕ → Type 0) (W Z : Type 0) → (W → Z) → (Z → W) → Reads X V W → Reads X V Z
-  levels_so X V W Z f g x = reads
-      (λ at K bytes e h. let v = x.to at K bytes e h in
-      parted v.front v.back v.joined (v.first.0, f v.first.1) v.second)
-      (λ at K front back e v z k. x.from at K front back e v (g z) k)
+  levels_so X V W Z f g x = reads (λ at K bytes e h. let v = x.to at K bytes e h in
+      parted v.front v.back v.joined (v.first.0, f v.first.1) v.second) (λ at K front back e v z k. x.from at K front back e v (g z) k)
 
   -- one level deeper
   deeper : (X : ℕ → (List ℕ → Type 0) → List ℕ → Type 0) (V : ℕ → List ℕ → Type 0) (l w : ℕ) → ((m : ℕ) → Reads (X m) V (w ≤ m))
       → Reads (λ K bytes. (m : ℕ) × (l ≡ suc m) × X m K bytes) V (suc w ≤ l)
-  deeper X V l w x = reads
-      (λ at K bytes e (m, is, h). let v = (x m).to at K bytes e h in
+  deeper X V l w x = reads (λ at K bytes e (m, is, h). let v = (x m).to at K bytes e h in
       parted v.front v.back v.joined (v.first.0, omega (arith, is, v.first.1)) v.second)
       (λ at K front back e v z k. (l - 1, omega (arith, z), (x (l - 1)).from at K front back e v (omega (arith, z)) k))
 
   literal : (word : List ℕ) (W : Type 0) → W → Reads (Literal word) (λ at front. front ≡ word) W
-  literal word W w = reads
-      (λ at K bytes e h. let (back, is, k) = literal_back word K bytes h in parted word back is (refl, w) k)
+  literal word W w = reads (λ at K bytes e h. let (back, is, k) = literal_back word K bytes h in parted word back is (refl, w) k)
       (λ at K front back e v w k. subst (Literal word K) (sym (ap (λ x. x ++ back) v)) (literal_from word K back k))
 
   spaces : (W : Type 0) → W → Reads (λ K. Space K) (λ at front. IsSpace front) W
-  spaces W w = reads
-      (λ at K bytes e h. let s = space_front K bytes h in
-      parted s.front s.back s.joined (s.first, w) s.second)
-      (λ at K front back e v w k. space_from K front back v k)
+  spaces W w = reads (λ at K bytes e h. let s = space_front K bytes h in
+      parted s.front s.back s.joined (s.first, w) s.second) (λ at K front back e v w k. space_from K front back v k)
 
   nothing : (W : Type 0) → W → Reads (λ K. K) (λ at front. front ≡ []) W
-  nothing W w = reads
-      (λ at K bytes e h. parted ([]) bytes refl (refl, w) h)
-      (λ at K front back e v w k. subst K (sym (ap (λ x. x ++ back) v)) k)
+  nothing W w = reads (λ at K bytes e h. parted ([]) bytes refl (refl, w) h) (λ at K front back e v w k. subst K (sym (ap (λ x. x ++ back) v)) k)
 
   max_left : (a b l : ℕ) → max a b ≤ l → (a ≤ l) × (b ≤ l)
   max_left a b l h = (omega arith, omega arith)
@@ -211,13 +195,10 @@ module _ (size : ℕ) where
     value_reads null_node l = literal (codes "null") (0 ≤ l) (omega arith)
     value_reads (truth_node true) l = literal (codes "true") (0 ≤ l) (omega arith)
     value_reads (truth_node false) l = literal (codes "false") (0 ≤ l) (omega arith)
-    value_reads (number_node spelling) l = reads
-        (λ at K bytes e (back, is, number, k). parted spelling back is ((refl, number), omega arith) k)
+    value_reads (number_node spelling) l = reads (λ at K bytes e (back, is, number, k). parted spelling back is ((refl, number), omega arith) k)
         (λ at K front back e v w k. (back, ap (λ x. x ++ back) v.0, v.1, k))
-    value_reads (text_node t) l = reads
-        (λ at K bytes e (inside, back, is, spelled, k).
-        parted (34 ∷ (inside ++ 34 ∷ [])) back (is ∙ ap (λ t. 34 ∷ t) (sym (append_assoc inside (34 ∷ []) back)))
-        ((inside, refl, spelled), omega arith) k)
+    value_reads (text_node t) l = reads (λ at K bytes e (inside, back, is, spelled, k).
+        parted (34 ∷ (inside ++ 34 ∷ [])) back (is ∙ ap (λ t. 34 ∷ t) (sym (append_assoc inside (34 ∷ []) back))) ((inside, refl, spelled), omega arith) k)
         (λ at K front back e
         (inside, is, spelled) w k. (inside, back, ap (λ x. x ++ back) is ∙ ap (λ t. 34 ∷ t) (append_assoc inside (34 ∷ []) back), spelled, k))
     value_reads (list_node ns) l = deeper (λ m K. Byte 91 (Space (Items size ns m (Byte 93 K)))) (Spells (list_node ns)) l (levels_of_nodes ns)

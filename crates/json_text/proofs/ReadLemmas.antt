@@ -1,15 +1,9 @@
 -- From what the machine reads to what the public calls say: `is_only`, `only_memory`, `stands_so`, `deep_so`.
 use Rattle.std.proofs.Common.{◌≡◌, ℕ, List, Option, Some, None, Result, Ok, Err, refl, sym, ap, ◌∙◌, subst}
-use Rattle.json_text.specs.Node.{Node, null_node}
-use Rattle.json_text.specs.Grammar.{IsText}
-use Rattle.json_text.specs.Faults.{FailsAt, OpensTooMany}
-use Rattle.json_text.specs.Once.{IsRepeatOrMemory}
-use Rattle.json_text.specs.Reading.{Fault, unexpected, too_deep, read_text}
-use Rattle.json_text.specs.Kept.{FailsSo}
-use Rattle.json_text.specs.declared.fault.JsonFault.{JsonFault}
+use Rattle.json_text.specs.{Node.Node, Node.null_node, Grammar.IsText, Faults.FailsAt, Faults.OpensTooMany, Once.IsRepeatOrMemory, Kept.FailsSo}
+use Rattle.json_text.specs.{Reading.Fault, Reading.unexpected, Reading.too_deep, Reading.read_text, declared.fault.JsonFault.JsonFault}
 use Rattle.json_text.specs.declared.fault.JsonFault.TheVariants.{NotJson, TooDeep, KeyTwice, NoMemory}
-use Rattle.json_text.proofs.WholeTexts.{spelled_read}
-use Rattle.json_text.proofs.FaultPlaces.{read_fails, opens_too_many, opens_no_more}
+use Rattle.json_text.proofs.{WholeTexts.spelled_read, FaultPlaces.read_fails, FaultPlaces.opens_too_many, FaultPlaces.opens_no_more}
 
 abbrev node_in : Result Node Fault → Node
 node_in (Ok n) = n

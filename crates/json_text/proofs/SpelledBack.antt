@@ -1,12 +1,8 @@
 -- The compact text of a value spells it: `compact_spelled`.
 use Rattle.std.proofs.Common.{◌≡◌, ◌≢◌, ℕ, suc, max, ◌+◌, ◌/◌, ◌%◌, ◌≤◌, ◌<◌, Bool, true, false, cond, ◌==◌, nat_lt, List, [], ◌∷◌, ◌++◌, length, flat_map, Some, None, refl, sym, ap, ◌∙◌, subst, arith, IsUtf8, encode_utf8, append_assoc, append-nil, ⊎_elim, eqb-true}
-use Rattle.std.specs.Char.{IsScalar}
-use Rattle.std.specs.Str.{bytes_eq, encode_utf8_all, all_scalars}
-use Rattle.std.specs.List.{list_any}
 use Rattle.std.proofs.lemmas.Bool.{and_parts, cond_both, cond-false, eqb-false, ltb-true, ltb-false, cases_lt}
-use Rattle.std.proofs.lemmas.Grind.{flat_map-append}
-use Rattle.std.proofs.lemmas.Slice.Eq.{bytes_eq-Decides}
-use Rattle.std.proofs.lemmas.Bool.Decides.{nat_tests}
+use Rattle.std.proofs.{lemmas.Grind.flat_map-append, lemmas.Slice.Eq.bytes_eq-Decides, lemmas.Bool.Decides.nat_tests}
+use Rattle.std.specs.{Char.IsScalar, Str.bytes_eq, Str.encode_utf8_all, Str.all_scalars, List.list_any}
 use Rattle.json_text.specs.Tree.{Tree, null, truth, number, text, list, object, Items, no_items, item, Members, no_members, member, items_of, members_of}
 use Rattle.json_text.specs.Characters.{SpellsCharacter, unescaped, escaped, unit, SpellsCharacters, none, more, SpellsString, IsHex, hex_digit_of}
 use Rattle.json_text.specs.Node.{Node, null_node, truth_node, number_node, text_node, list_node, object_node, Nodes, no_nodes, node, Fields, no_fields, field, with_member, value_of, values_of, members_after, levels_of, levels_of_nodes, levels_of_fields, first_of, first_repeat, first_repeat_in, first_repeat_behind}
@@ -150,8 +146,7 @@ members_once : {fs : Fields} {ms : Members} → MembersBack fs ms → (ks : List
 members_once no_members_back ks v h = refl
 members_once (member_back place key {n = n} {t = t} {fs = fs} {ms = ms} b bs) ks v h =
     ap (λ x. first_of (cond x (Some place) None) (first_of (first_repeat n) (first_repeat_behind (key ∷ ks) fs))) (not_among ks key t ms h)
-    ∙ ap (λ x. first_of x (first_repeat_behind (key ∷ ks) fs)) b.once
-    ∙ members_once bs (key ∷ ks) v.3 (v.1, keys_behind_one ks key t ms h)
+    ∙ ap (λ x. first_of x (first_repeat_behind (key ∷ ks) fs)) b.once ∙ members_once bs (key ∷ ks) v.3 (v.1, keys_behind_one ks key t ms h)
 
 -- members after others
 abbrev joined : List (List ℕ × Tree) → Members → Members

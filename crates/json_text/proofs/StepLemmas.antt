@@ -1,20 +1,14 @@
 -- One byte that is no white space, at each place between tokens: `begins_word`, `opened_goes`, and a lemma for the bytes that stop
 -- each state. Turns seen from another state: `goes_same`, `goes_by`, `led`, `barred`.
 use Rattle.json_text.specs.Reading.{word, Member, Waiting, in_list, in_object, State, value, first_item, after_item, first_key, next_key, colon, after_member, whole, step, value_step, go_on, read_from, too_deep, unexpected, opened, ended, end_of, Fault}
-use Rattle.std.proofs.Common.{Result, ◌≡◌, ◌≢◌, ◌≤◌, ◌<◌, ℕ, ◌+◌, List, [], ◌∷◌, length, drop, reverse, false, Option, Ok, Err, refl, sym, ap, ◌∙◌, arith, cond, ◌==◌, ◌⊎◌, subst}
-use Rattle.std.proofs.lemmas.Bool.Decides.{nat_tests}
-use Rattle.json_text.specs.Node.{Node}
-use Rattle.json_text.specs.Grammar.{is_space}
+use Rattle.json_text.specs.{Node.Node, Grammar.is_space, declared.value.Json.Json, declared.state.Kept.Kept, declared.state.Next.Next}
 use Rattle.json_text.specs.Kept.{StartsWith, StartsWithNoSpace, BeginsWord, SkipsSpace, KeepsAll, Opens, IsState, repeat_of, FailsSo, Goes, read_at}
-use Rattle.json_text.specs.declared.value.Json.{Json}
-use Rattle.json_text.specs.declared.state.Kept.{Kept}
-use Rattle.json_text.specs.declared.state.Next.{Next}
 use Rattle.json_text.specs.declared.state.Next.TheVariants.{Value, FirstItem, AfterItem, FirstKey, NextKey, AfterMember, End}
-use Rattle.std.proofs.lemmas.List.{length-reverse}
-use Rattle.json_text.proofs.TokenRuns.{fault, by_byte, deep, keeps_length}
-use Rattle.json_text.specs.declared.state.Place.{Place}
-use Rattle.json_text.specs.declared.fault.JsonFault.{JsonFault}
+use Rattle.json_text.specs.{declared.state.Place.Place, declared.fault.JsonFault.JsonFault}
 use Rattle.json_text.specs.declared.fault.JsonFault.TheVariants.{NotJson, TooDeep, KeyTwice, NoMemory}
+use Rattle.std.proofs.Common.{Result, ◌≡◌, ◌≢◌, ◌≤◌, ◌<◌, ℕ, ◌+◌, List, [], ◌∷◌, length, drop, reverse, false, Option, Ok, Err, refl, sym, ap, ◌∙◌, arith, cond, ◌==◌, ◌⊎◌, subst}
+use Rattle.std.proofs.{lemmas.Bool.Decides.nat_tests, lemmas.List.length-reverse}
+use Rattle.json_text.proofs.TokenRuns.{fault, by_byte, deep, keeps_length}
 
 -- the first byte of a word
 pub begins_word : (byte first c : ℕ) (cs : List ℕ) (n : Node) (rest : List ℕ)
@@ -37,8 +31,7 @@ opens_none L outer next h = grind (arith, nat_tests)
 
 -- bytes that no value begins with
 pub value_other : (L at : ℕ) (outer : List Waiting) (b : ℕ) → is_space b ≡ false → b ≢ 34 → b ≢ 91 → b ≢ 123 → b ≢ 45 → (b < 48) ⊎ (57 < b) → b ≢ 110 → b ≢ 116
-    → b ≢ 102
-    → step L at (value outer) b ≡ Err unexpected
+    → b ≢ 102 → step L at (value outer) b ≡ Err unexpected
 value_other L at outer b space h1 h2 h3 h4 h5 h6 h7 h8 = grind (arith, nat_tests)
 
 pub first_item_goes : (L at : ℕ) (outer : List Waiting) (b : ℕ) → is_space b ≡ false → b ≢ 93
@@ -72,8 +65,7 @@ colon_goes L at ms place key outer = refl
 
 -- after a key there is no colon
 pub colon_other : (L at : ℕ) (ms : List Member) (place : ℕ) (key : List ℕ) (outer : List Waiting) (rest : List ℕ) → StartsWithNoSpace rest
-    → ¬ (StartsWith 58 rest)
-    → read_from L at (colon ms place key outer) rest ≡ fault at
+    → ¬ (StartsWith 58 rest) → read_from L at (colon ms place key outer) rest ≡ fault at
 unfolding read_from
 colon_other L at ms place key outer [] space h = refl
 colon_other L at ms place key outer (b ∷ bs) space h =
@@ -119,8 +111,7 @@ bracket (AfterMember object) rest h = absurd h
 bracket (End json) rest h = absurd h
 
 pub opened_too_deep : (next : Next) (L at : ℕ) (ks : List Kept) (outer : List Waiting) (rest : List ℕ) → Opens next rest → KeepsAll (reverse ks) outer
-    → L ≤ length ks
-    → read_from L at (value outer) rest ≡ deep at
+    → L ≤ length ks → read_from L at (value outer) rest ≡ deep at
 opened_too_deep next L at ks outer rest h k m = let b = bracket next rest h in
     by_byte L at (value outer) b.byte rest (Err too_deep) b.starts
     (b.opens L at outer ∙ opens_none L outer (b.state outer) (omega (arith, m, kept_waits ks outer k)))
@@ -165,8 +156,7 @@ goes_same L s t place (Err f) ks repeat e g = fails_same (read_at L place s) (re
 
 -- a byte that leads from a state to another
 pub led : (L : ℕ) (s next : State) (byte : ℕ) (place there : Place) → StartsWith byte place.rest.now → step L place.at s byte ≡ Ok next
-    → there.at ≡ place.at + 1 → there.rest.now ≡ drop 1 place.rest.now
-    → read_at L place s ≡ read_at L there next
+    → there.at ≡ place.at + 1 → there.rest.now ≡ drop 1 place.rest.now → read_at L place s ≡ read_at L there next
 led L s next byte place there h goes at rest =
     by_byte L place.at s byte place.rest.now (Ok next) h goes ∙ ap (λ k. read_from L k next (drop 1 place.rest.now)) (sym at)
     ∙ ap (read_from L there.at next) (sym rest)

@@ -1,19 +1,15 @@
 -- What `scan_string` does, a byte or a part at a time; its text is UTF-8: `scan_utf8`. A code unit of four hexadecimal digits:
 -- `place_goes`, `place_no_digit`, `place_no_fit`, `place_empty`.
 use Rattle.std.proofs.Common.{◌≡◌, ℕ, zero, suc, ◌+◌, ◌-◌, ◌^◌, ◌<◌, ◌≤◌, Bool, true, false, List, [], ◌∷◌, ◌++◌, length, take, drop, get_or, cond, ◌≢◌, Some, None, Result, Ok, Err, refl, sym, ap, ◌∙◌, subst, arith, append_assoc, append-nil, one-add, IsUtf8, length-drop, length-take, ne_eqb, eq-eqb, encode_utf8, ◌*◌, Option, ◌==◌}
-use Rattle.std.proofs.lemmas.Grind.{get_or_after_one}
+use Rattle.std.proofs.{lemmas.Grind.get_or_after_one, lemmas.List.drop-drop, lemmas.List.drop_all, lemmas.List.drop_more, lemmas.List.take_all}
+use Rattle.std.proofs.{lemmas.Bool.cond-true, lemmas.Bool.Decides.nat_tests, Math.ListN.drop_of_length-le}
 use Rattle.std.specs.Result.{result_unwrap_or}
-use Rattle.std.proofs.lemmas.List.{drop-drop, drop_all, drop_more, take_all}
-use Rattle.std.proofs.lemmas.Bool.{cond-true}
-use Rattle.std.proofs.lemmas.Bool.Decides.{nat_tests}
-use Rattle.json_text.specs.declared.fault.TokenFault.{TokenFault}
-use Rattle.json_text.specs.declared.fault.TokenFault.TheVariants.{Stop, NoMemory}
+use Rattle.json_text.specs.{declared.fault.TokenFault.TokenFault, declared.fault.TokenFault.TheVariants.Stop, declared.fault.TokenFault.TheVariants.NoMemory}
 use Rattle.json_text.specs.Characters.{escape_of, hex_digit_of}
 use Rattle.json_text.specs.Reading.{StringPart, between, backslash, hex, high, high_backslash, tail, StringStep, goes_on, ends, stops, string_step, tail_after, is_within, unescaped_step, escape_step, digit_fits, unit_step, unit_after, hex_step}
 use Rattle.json_text.specs.Scan.{scan_string, string_on, Passes, Scanned, Taken, HasRoom, behind_of, first_step, IsUnit, unit_left, IsUnitSoFar, GoesToUnit, StopsAt}
 use Rattle.json_text.proofs.Following.{Characters, StringOn}
 use Rattle.json_text.proofs.CharacterReads.{characters_spelled, characters_utf8, hex_below, so_far_more}
-use Rattle.std.proofs.Math.ListN.{drop_of_length-le}
 
 -- what a slice pattern leaves after n bytes
 rest_is : (n : ℕ) (xs : List ℕ) → take (length xs - n) (drop n xs) ≡ drop n xs
@@ -63,8 +59,7 @@ taken_behind part mid (b ∷ bs) rest r whole h step e f s text =
     one : (base : ℕ) → scan_string part text base (b ∷ bs) ≡ scan_string mid (text ++ b ∷ []) (base + 1) bs
     one base = ap (λ s. string_on s text base (λ q u. scan_string q u (base + 1) bs)) (step text)
 
-    on : (r : Result ℕ TokenFault) → whole ≡ behind_of 1 r
-        → Scanned mid (text ++ b ∷ []) rest between ((text ++ b ∷ []) ++ take (result_unwrap_or r 0) rest) r
+    on : (r : Result ℕ TokenFault) → whole ≡ behind_of 1 r → Scanned mid (text ++ b ∷ []) rest between ((text ++ b ∷ []) ++ take (result_unwrap_or r 0) rest) r
         → Scanned mid (text ++ b ∷ []) rest between (text ++ take (result_unwrap_or whole 0) (b ∷ bs)) r
     on (Ok n) e s = subst (λ t. Scanned mid (text ++ b ∷ []) rest between t (Ok n)) (append_assoc text (b ∷ []) (take n rest)
         ∙ ap (λ l. text ++ b ∷ take n l) (f ∙ rest_is 1 (b ∷ bs)) ∙ ap (λ k. text ++ take k (b ∷ bs)) (sym (one-add n))
@@ -126,8 +121,12 @@ mark_utf8 bytes text at h e same = scan_utf8 bytes text (at + 1) (same ∙ at_ma
 
 -- the digit at a place of a code unit
 module _ (lead : Option ℕ) (digits : List ℕ) (place unit : ℕ) (h : place < 4) where
+  -- what a step does there
+  abbrev Does : List ℕ → ℕ → StringStep → Result (List ℕ × ℕ) ℕ
+  Does text base s = string_on s text base (λ p t. scan_string p t (base + 1) (drop (place + 1) digits))
+
   at_place : (text : List ℕ) (base : ℕ) → place < length digits → unit_left lead (4 - place) unit text base (drop place digits)
-      ≡ string_on (hex_step text lead (4 - (place + 1)) unit (hex_digit_of (get_or digits place 0))) text base (λ p t. scan_string p t (base + 1) (drop (place + 1) digits))
+      ≡ Does text base (hex_step text lead (4 - (place + 1)) unit (hex_digit_of (get_or digits place 0)))
   unfolding scan_string
   at_place text base i = ap (λ n. unit_left lead n unit text base (drop place digits)) (let k : 4 - place ≡ suc (4 - (place + 1)) = omega arith in k)
       ∙ ap (scan_string (hex lead (4 - (place + 1)) unit) text base) (drop_more digits place 0 i)
@@ -139,29 +138,24 @@ module _ (lead : Option ℕ) (digits : List ℕ) (place unit : ℕ) (h : place <
       ∙ ap (scan_string (hex lead (4 - (place + 1)) unit) text base) (drop_of_length-le digits i)
 
   pub place_no_digit : place < length digits → hex_digit_of (get_or digits place 0) ≡ None → StopsAt lead digits place unit
-  place_no_digit i e text base = at_place text base i
-      ∙ ap (λ o. string_on (hex_step text lead (4 - (place + 1)) unit o) text base (λ p t. scan_string p t (base + 1) (drop (place + 1) digits))) e
+  place_no_digit i e text base = at_place text base i ∙ ap (λ o. Does text base (hex_step text lead (4 - (place + 1)) unit o)) e
 
   -- a digit that fits or not
-  by_fit : (text : List ℕ) (base d : ℕ) (v : Bool) → place < length digits → hex_digit_of (get_or digits place 0) ≡ Some d → digit_fits lead (4 - (place + 1)) unit d ≡ v
-      → unit_left lead (4 - place) unit text base (drop place digits)
-      ≡ string_on (cond v (unit_after text lead (4 - (place + 1)) (16 * unit + d)) stops) text base (λ p t. scan_string p t (base + 1) (drop (place + 1) digits))
-  by_fit text base d v i e f = at_place text base i
-      ∙ ap (λ o. string_on (hex_step text lead (4 - (place + 1)) unit o) text base (λ p t. scan_string p t (base + 1) (drop (place + 1) digits))) e
-      ∙ ap (λ v. string_on (cond v (unit_after text lead (4 - (place + 1)) (16 * unit + d)) stops) text base (λ p t. scan_string p t (base + 1) (drop (place + 1) digits))) f
+  module _ (d : ℕ) (i : place < length digits) (e : hex_digit_of (get_or digits place 0) ≡ Some d) where
+    by_fit : (text : List ℕ) (base : ℕ) (v : Bool) → digit_fits lead (4 - (place + 1)) unit d ≡ v
+        → unit_left lead (4 - place) unit text base (drop place digits) ≡ Does text base (cond v (unit_after text lead (4 - (place + 1)) (16 * unit + d)) stops)
+    by_fit text base v f = at_place text base i ∙ ap (λ o. Does text base (hex_step text lead (4 - (place + 1)) unit o)) e
+        ∙ ap (λ v. Does text base (cond v (unit_after text lead (4 - (place + 1)) (16 * unit + d)) stops)) f
 
-  pub place_no_fit : (d : ℕ) → place < length digits → hex_digit_of (get_or digits place 0) ≡ Some d → digit_fits lead (4 - (place + 1)) unit d ≡ false
-      → StopsAt lead digits place unit
-  place_no_fit d i e f text base = by_fit text base d false i e f
+    pub place_no_fit : digit_fits lead (4 - (place + 1)) unit d ≡ false → StopsAt lead digits place unit
+    place_no_fit f text base = by_fit text base false f
 
-  pub place_goes : (d : ℕ) → place < length digits → IsUnitSoFar lead (4 - place) unit → hex_digit_of (get_or digits place 0) ≡ Some d
-      → digit_fits lead (4 - (place + 1)) unit d ≡ true → GoesToUnit lead digits place unit (16 * unit + d)
-  place_goes d i s e f = let u = 16 * unit + d in
-      let so = so_far_more lead (4 - (place + 1)) unit d (omega arith)
-      (subst (λ n. IsUnitSoFar lead n unit) (let k : 4 - place ≡ suc (4 - (place + 1)) = omega arith in k) s) (hex_below (get_or digits place 0) d e) f in
-      (i, so, λ text base. by_fit text base d true i e f ∙ whole text base (4 - (place + 1)) u)
-    where
-      whole : (text : List ℕ) (base more u : ℕ) → string_on (unit_after text lead more u) text base (λ p t. scan_string p t (base + 1) (drop (place + 1) digits))
-          ≡ unit_left lead more u text (base + 1) (drop (place + 1) digits)
-      whole text base zero u = from_anywhere text lead u base (base + 1) (λ p t. scan_string p t (base + 1) (drop (place + 1) digits))
-      whole text base (suc more) u = refl
+    whole : (text : List ℕ) (base more u : ℕ) → Does text base (unit_after text lead more u) ≡ unit_left lead more u text (base + 1) (drop (place + 1) digits)
+    whole text base zero u = from_anywhere text lead u base (base + 1) (λ p t. scan_string p t (base + 1) (drop (place + 1) digits))
+    whole text base (suc more) u = refl
+
+    pub place_goes : IsUnitSoFar lead (4 - place) unit → digit_fits lead (4 - (place + 1)) unit d ≡ true → GoesToUnit lead digits place unit (16 * unit + d)
+    place_goes s f =
+        let so = so_far_more lead (4 - (place + 1)) unit d (omega arith)
+        (subst (λ n. IsUnitSoFar lead n unit) (let k : 4 - place ≡ suc (4 - (place + 1)) = omega arith in k) s) (hex_below (get_or digits place 0) d e) f in
+        (i, so, λ text base. by_fit text base true f ∙ whole text base (4 - (place + 1)) (16 * unit + d))

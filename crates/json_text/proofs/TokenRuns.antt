@@ -1,17 +1,14 @@
 -- A byte at the front: `by_byte`. A token by itself, and the same token at the front of a text: `string_takes`, `value_number`,
 -- `value_word` and where they stop. White space that the reader passes over: `behind_space`, `IsSpace-more`.
 use Rattle.std.proofs.Common.{◌≡◌, ℕ, suc, ◌+◌, List, [], ◌∷◌, ◌++◌, length, take, drop, true, false, Option, Some, None, Result, Ok, Err, refl, sym, ap, ◌∙◌, subst, arith, append_assoc, append-nil, Bool, ◌==◌, cond, ◌<◌, ◌≤◌}
-use Rattle.json_text.specs.Node.{Node, number_node}
-use Rattle.json_text.specs.Grammar.{IsSpace, is_space}
+use Rattle.std.proofs.lemmas.List.{length-drop, take-append-drop, length-take-le}
+use Rattle.json_text.specs.{Node.Node, Node.number_node, Grammar.IsSpace, Grammar.is_space, declared.state.Place.Place, declared.state.Kept.Kept}
 use Rattle.json_text.specs.Reading.{Stop, NumberPart, number_step, may_end, StringPart, StringStep, goes_on, ends, stops, string_step, between, Waiting, in_list, in_object, State, string, Hole, fill, digits, word, word_step, digits_step, put, step, string_goes, go_on, read_from, Fault, unexpected, end_of, ended, after_step, value, too_deep}
 use Rattle.json_text.specs.Kept.{SkipsSpace, StartsWith, BeginsNumber, BeginsWord, KeepsAll, StringFault, FailsSo, read_at}
 use Rattle.json_text.specs.Scan.{scan_string, string_on, scan_number, number_on, number_end, scan_word}
-use Rattle.json_text.specs.declared.state.Place.{Place}
-use Rattle.json_text.specs.declared.state.Kept.{Kept}
 use Rattle.json_text.specs.declared.fault.JsonFault.{JsonFault}
 use Rattle.json_text.specs.declared.fault.JsonFault.TheVariants.{NotJson, TooDeep, KeyTwice, NoMemory}
 use Rattle.std.specs.Str.{IsUtf8}
-use Rattle.std.proofs.lemmas.List.{length-drop, take-append-drop, length-take-le}
 use Rattle.json_text.proofs.NumberText.{number_utf8}
 
 abbrev pub fault : ℕ → Result Node Fault
@@ -77,8 +74,7 @@ space_runs : (L : ℕ) (s : State) → SkipsSpace L s → (at : ℕ) (front rest
     → read_from L at s (front ++ rest) ≡ read_from L (at + length front) s rest
 unfolding read_from
 space_runs L s skips at [] rest h = ap (λ k. read_from L k s rest) (omega arith)
-space_runs L s skips at (b ∷ bs) rest h =
-    ap (λ x. go_on at x (λ other. read_from L (at + 1) other (bs ++ rest))) (skips at b h.0)
+space_runs L s skips at (b ∷ bs) rest h = ap (λ x. go_on at x (λ other. read_from L (at + 1) other (bs ++ rest))) (skips at b h.0)
     ∙ space_runs L s skips (at + 1) bs rest h.1 ∙ ap (λ k. read_from L k s rest) (omega arith)
 
 module _ (L : ℕ) (outer : List Waiting) where
@@ -115,16 +111,20 @@ module _ (L : ℕ) (outer : List Waiting) where
   unfolding read_from
   end_read at s = refl
 
+  nothing : (v : Bool) → ◌≡◌ {A = Option Node} None (cond v None None)
+  nothing true = refl
+  nothing false = refl
+
   end_by : (outer : List Waiting) (part : NumberPart) (spelling : List ℕ)
       → end_of (digits part spelling outer) ≡ cond (may_end part) (end_of (put (number_node spelling) outer)) None
   end_by [] part spelling = refl
-  end_by (in_list ns ∷ outer) part spelling = elim (may_end part) as (λ v. ◌≡◌ {A = Option Node} None (cond v None None)) [ true ↦ refl | false ↦ refl ]
-  end_by (in_object ms place key ∷ outer) part spelling = elim (may_end part) as (λ v. ◌≡◌ {A = Option Node} None (cond v None None)) [ true ↦ refl | false ↦ refl ]
+  end_by (in_list ns ∷ outer) part spelling = nothing (may_end part)
+  end_by (in_object ms place key ∷ outer) part spelling = nothing (may_end part)
 
   number_ends : (at m : ℕ) (part : NumberPart) (spelling : List ℕ)
       → Agrees L at m [] (λ e. e) (Spelled spelling []) (ended at (end_of (digits part spelling outer))) (number_end part m)
-  number_ends at m part spelling = subst (λ o. Agrees L at m [] (λ e. e) (Spelled spelling []) (ended at o) (number_end part m)) (sym (end_by outer part spelling))
-      (elim (may_end part) as
+  number_ends at m part spelling =
+      subst (λ o. Agrees L at m [] (λ e. e) (Spelled spelling []) (ended at o) (number_end part m)) (sym (end_by outer part spelling)) (elim (may_end part) as
       (λ v. Agrees L at m [] (λ e. e) (Spelled spelling []) (ended at (cond v (end_of (put (number_node spelling) outer)) None)) (cond v (Ok m) (Err m)))
       [ true ↦ ends_here at m spelling [] _ (end_read at (put (number_node spelling) outer)) | false ↦ stops_here at m _ refl ])
 
@@ -184,7 +184,8 @@ module _ (L at : ℕ) where
   pub value_number_stops : (outer : List Waiting) (part : NumberPart) (rest : List ℕ) (n there : ℕ) → BeginsNumber part rest
       → scan_number part 0 (drop 1 rest) ≡ Err n → there ≡ at + 1 + n → read_from L at (value outer) rest ≡ fault there
   value_number_stops outer part [] n there h = absurd h
-  value_number_stops outer part (b ∷ bs) n there h = fails L at (value outer) (digits part (b ∷ []) outer) b (b ∷ bs) (λ e. e) (Spelled L outer (b ∷ []) bs) _ refl
+  value_number_stops outer part (b ∷ bs) n there h =
+      fails L at (value outer) (digits part (b ∷ []) outer) b (b ∷ bs) (λ e. e) (Spelled L outer (b ∷ []) bs) _ refl
       (h.1 L at outer) (number_agrees L outer bs (at + 1) 0 part (b ∷ [])) n there
 
   -- a word
@@ -213,9 +214,9 @@ keeps_length (k ∷ ks) (w ∷ ws) h = ap suc (keeps_length ks ws h.1)
 
 -- a string's fault is the text's
 pub string_faults : (L : ℕ) (s : State) (hole : Hole) (place : Place) (f : JsonFault) → step L place.at s 34 ≡ Ok (string between [] hole)
-    → StartsWith 34 place.rest.now
-    → StringFault place f → FailsSo (read_at L place s) f
-string_faults L s hole place (NotJson at) e h (n, scan, is) = fails L place.at s (string between [] hole) 34 place.rest.now (λ x. x.1) (λ x _. fill hole x.0) _ h e
+    → StartsWith 34 place.rest.now → StringFault place f → FailsSo (read_at L place s) f
+string_faults L s hole place (NotJson at) e h (n, scan, is) =
+    fails L place.at s (string between [] hole) 34 place.rest.now (λ x. x.1) (λ x _. fill hole x.0) _ h e
     (string_agrees L hole (drop 1 place.rest.now) (place.at + 1) 0 between []) n at scan is
 string_faults L s hole place (TooDeep at) e h f = absurd f
 string_faults L s hole place (KeyTwice at) e h f = f

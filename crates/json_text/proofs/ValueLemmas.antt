@@ -1,10 +1,8 @@
 -- What a spelled text represents is a value: `text_is_value`; its levels are no more than the text's: `text_within`.
 use Rattle.std.proofs.Common.{◌≡◌, ◌≢◌, ℕ, suc, max, ◌+◌, ◌≤◌, true, false, List, [], ◌∷◌, length, sym, arith, IsUtf8}
+use Rattle.std.proofs.{lemmas.Bool.cond_both, lemmas.Bool.both_ways, lemmas.Slice.Eq.bytes_eq-Decides}
 use Rattle.std.specs.Str.{bytes_eq}
-use Rattle.std.proofs.lemmas.Bool.{cond_both, both_ways}
-use Rattle.std.proofs.lemmas.Slice.Eq.{bytes_eq-Decides}
-use Rattle.json_text.specs.Tree.{Tree, items_of, members_of}
-use Rattle.json_text.specs.Characters.{SpellsString}
+use Rattle.json_text.specs.{Tree.Tree, Tree.items_of, Tree.members_of, Characters.SpellsString}
 use Rattle.json_text.specs.Node.{Node, null_node, truth_node, number_node, text_node, list_node, object_node, Nodes, no_nodes, node, Fields, no_fields, field, with_member, value_of, values_of, members_after, levels_of, levels_of_nodes, levels_of_fields}
 use Rattle.json_text.specs.Grammar.{SpellsValue, SpellsItems, SpellsMoreItems, SpellsMembers, SpellsMoreMembers, IsText}
 use Rattle.json_text.specs.Compact.{LacksKey, IsValue, AreItems, AreMembers, tree_levels, items_levels, members_levels}
@@ -28,8 +26,7 @@ with_member_are : (key : List ℕ) (t : Tree) (ms : List (List ℕ × Tree)) →
     → AreMembers (members_of (with_member key t ms))
 with_member_are key t [] u v h = (u, tt, v, tt)
 with_member_are key t (m ∷ ms) u v h =
-    cond_both (bytes_eq key m.0) ((m.0, t) ∷ ms) (m ∷ with_member key t ms) (λ x. AreMembers (members_of x))
-    (λ _. (h.0, h.1, v, h.3))
+    cond_both (bytes_eq key m.0) ((m.0, t) ∷ ms) (m ∷ with_member key t ms) (λ x. AreMembers (members_of x)) (λ _. (h.0, h.1, v, h.3))
     (λ f. (h.0, lacks_with m.0 key t ms (other_key key m.0 f) h.1, h.2, with_member_are key t ms u v h.3))
 
 mutual
@@ -52,15 +49,13 @@ mutual
 
   fields_are_members : (fs : Fields) (at : ℕ) (bytes : List ℕ) → SpellsMembers at bytes fs → AreMembers (members_of (members_after [] fs))
   fields_are_members no_fields at bytes h = tt
-  fields_are_members (field place key n fs) at bytes h =
-      more_fields_are_members fs (at + length h.0) h.1 ((key, value_of n) ∷ []) h.4
+  fields_are_members (field place key n fs) at bytes h = more_fields_are_members fs (at + length h.0) h.1 ((key, value_of n) ∷ []) h.4
       (string_utf8 h.3.1 key h.3.7, tt, node_is_value n (at + length h.3.0 + length h.3.1 + length h.3.2 + 1 + length h.3.9.0) h.3.9.1 h.3.9.5, tt)
 
   more_fields_are_members : (fs : Fields) (at : ℕ) (bytes : List ℕ) (ms : List (List ℕ × Tree)) → SpellsMoreMembers at bytes fs → AreMembers (members_of ms)
       → AreMembers (members_of (members_after ms fs))
   more_fields_are_members no_fields at bytes ms h g = g
-  more_fields_are_members (field place key n fs) at bytes ms h g =
-      more_fields_are_members fs (at + 1 + length h.0) h.1 (with_member key (value_of n) ms) h.4
+  more_fields_are_members (field place key n fs) at bytes ms h g = more_fields_are_members fs (at + 1 + length h.0) h.1 (with_member key (value_of n) ms) h.4
       (with_member_are key (value_of n) ms (string_utf8 h.3.1 key h.3.7)
       (node_is_value n (at + 1 + length h.3.0 + length h.3.1 + length h.3.2 + 1 + length h.3.9.0) h.3.9.1 h.3.9.5) g)
 
@@ -72,8 +67,7 @@ with_member_levels : (key : List ℕ) (t : Tree) (ms : List (List ℕ × Tree))
 with_member_levels key t [] = omega arith
 with_member_levels key t (m ∷ ms) =
     cond_both (bytes_eq key m.0) ((m.0, t) ∷ ms) (m ∷ with_member key t ms)
-    (λ x. members_levels (members_of x) ≤ max (members_levels (members_of (m ∷ ms))) (tree_levels t))
-    (λ _. omega arith)
+    (λ x. members_levels (members_of x) ≤ max (members_levels (members_of (m ∷ ms))) (tree_levels t)) (λ _. omega arith)
     (λ _. let h : members_levels (members_of (with_member key t ms)) ≤ max (members_levels (members_of ms)) (tree_levels t) = with_member_levels key t ms in
     omega arith)
 

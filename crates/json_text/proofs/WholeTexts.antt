@@ -1,11 +1,8 @@
 -- The byte machine reads exactly the texts of the grammar: `read_spelled`, `spelled_read`.
 use Rattle.std.proofs.Common.{◌≡◌, ℕ, ◌+◌, ◌-◌, List, [], ◌∷◌, ◌++◌, length, Result, Ok, Err, refl, sym, ap, ◌∙◌, subst, arith, append-nil, zero-add}
-use Rattle.json_text.specs.Node.{Node}
-use Rattle.json_text.specs.Grammar.{IsText}
+use Rattle.json_text.specs.{Node.Node, Grammar.IsText}
 use Rattle.json_text.specs.Reading.{State, Stop, Fault, value, step, go_on, end_of, ended, read_from, read_text}
-use Rattle.json_text.proofs.Following.{Space, Value, After, Following}
-use Rattle.json_text.proofs.Productions.{text_reads}
-use Rattle.json_text.proofs.ReadingSteps.{ended_ok}
+use Rattle.json_text.proofs.{Following.Space, Following.Value, Following.After, Following.Following, Productions.text_reads, ReadingSteps.ended_ok}
 use Rattle.json_text.proofs.ByteSteps.{On, follows_step, step_follows, follows_end, end_follows}
 
 module _ (size levels : ℕ) (r : Node) where

@@ -1,20 +1,14 @@
 -- The compact text of a value is UTF-8: `compact_utf8`.
 use Rattle.std.proofs.Common.{◌≡◌, ℕ, ◌/◌, ◌%◌, ◌<◌, Bool, true, false, if◌then◌else◌, ◌==◌, nat_lt, List, [], ◌∷◌, Some, refl, sym, subst, arith, append-nil, flat_map, codes}
-use Rattle.std.specs.Prelude.{encode_utf8, encode_utf8_all}
-use Rattle.std.specs.Str.{IsUtf8, all_scalars}
-use Rattle.std.specs.Char.{IsScalar}
-use Rattle.std.specs.List.{list_all}
-use Rattle.std.proofs.lemmas.Str.{IsUtf8-append, IsUtf8-encode, IsUtf8-nil}
-use Rattle.std.proofs.lemmas.Grind.{flat_map-append}
+use Rattle.std.proofs.{lemmas.Str.IsUtf8-append, lemmas.Str.IsUtf8-encode, lemmas.Str.IsUtf8-nil, lemmas.Grind.flat_map-append, lemmas.Bool.Decides.nat_tests}
 use Rattle.std.proofs.lemmas.Bool.{and_parts, cases_lt}
-use Rattle.std.proofs.lemmas.Bool.Decides.{nat_tests}
+use Rattle.std.specs.{Prelude.encode_utf8, Prelude.encode_utf8_all, Str.IsUtf8, Str.all_scalars, Char.IsScalar, List.list_all}
 use Rattle.json_text.specs.Tree.{Tree, null, truth, number, text, list, object, Items, no_items, item, Members, no_members, member}
 use Rattle.json_text.specs.Compact.{lower_hex, escape, quoted, compact_text, items_text, more_items_text, members_text, more_members_text, IsValue, AreItems, AreMembers}
 use Rattle.json_text.specs.Reading.{NumberPart, minus, zero_int, int}
-use Rattle.json_text.proofs.NumberReads.{Starts, with_minus, with_zero, with_digit, starts}
-use Rattle.json_text.proofs.NumberText.{ascii_cons, accepted_utf8}
-use Rattle.json_text.proofs.SpelledBack.{quoted_spelled}
 use Rattle.json_text.specs.Characters.{SpellsCharacter, unescaped, escaped, unit, pair, SpellsCharacters, none, more, IsHex, hex_digit_of, escape_of}
+use Rattle.json_text.proofs.NumberReads.{Starts, with_minus, with_zero, with_digit, starts}
+use Rattle.json_text.proofs.{NumberText.ascii_cons, NumberText.accepted_utf8, SpelledBack.quoted_spelled}
 
 byte_utf8 : (c : ℕ) → c < 128 → IsUtf8 (c ∷ [])
 byte_utf8 c h = ascii_cons c [] h IsUtf8-nil
@@ -81,6 +75,5 @@ mutual
 
   more_members_utf8 : (ms : Members) → AreMembers ms → IsUtf8 (more_members_text ms)
   more_members_utf8 no_members v = IsUtf8-nil
-  more_members_utf8 (member key t ms) v =
-      ascii_cons 44 _ (omega arith)
+  more_members_utf8 (member key t ms) v = ascii_cons 44 _ (omega arith)
       (IsUtf8-append _ _ (quoted_utf8 key v.0) (ascii_cons 58 _ (omega arith) (IsUtf8-append _ _ (compact_utf8 t v.2) (more_members_utf8 ms v.3))))

@@ -1,7 +1,5 @@
 use Rattle.std.proofs.Common.{◌≡◌, ◌++◌, length, take, drop}
-use Rattle.json_text.specs.View.{trees_of, pairs_of}
-use Rattle.json_text.specs.Tree.{items_of, members_of}
-use Rattle.json_text.specs.Compact.{items_text, members_text}
+use Rattle.json_text.specs.{View.trees_of, View.pairs_of, Tree.items_of, Tree.members_of, Compact.items_text, Compact.members_text}
 use Rattle.json_text.proofs.CompactLemmas.{items_left, members_left}
 use Rattle.json_text.proofs.compact.+push_value.Given as goal
 

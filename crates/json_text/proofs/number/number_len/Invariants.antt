@@ -1,6 +1,5 @@
 use Rattle.std.proofs.Common.{◌≡◌, drop}
-use Rattle.json_text.specs.Scan.{scan_number}
-use Rattle.json_text.specs.Parts.{part_of}
+use Rattle.json_text.specs.{Scan.scan_number, Parts.part_of}
 use Rattle.json_text.proofs.number.number_len.Given as goal
 
 -- reading what is left is reading everything

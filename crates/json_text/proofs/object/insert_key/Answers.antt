@@ -1,7 +1,5 @@
-use Rattle.std.proofs.Common.{◌∙◌, ap, cond, Some, string_bytes}
-use Rattle.std.specs.Str.{bytes_eq}
-use Rattle.std.specs.BTreeMap.{get_by_text}
-use Rattle.std.proofs.lemmas.Map.Text.{btree_map_updates_text}
+use Rattle.std.proofs.{Common.◌∙◌, Common.ap, Common.cond, Common.Some, Common.string_bytes, lemmas.Map.Text.btree_map_updates_text}
+use Rattle.std.specs.{Str.bytes_eq, BTreeMap.get_by_text}
 use Rattle.json_text.proofs.object.insert_key.Goals as goal
 
 pub returns-clause-ok : goal.returns-clause-ok

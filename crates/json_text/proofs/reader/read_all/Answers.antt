@@ -1,6 +1,5 @@
 use Rattle.std.proofs.Common.{◌∙◌, refl, sym, ap, subst, reverse, []}
-use Rattle.json_text.specs.Reading.{value, read_from}
-use Rattle.json_text.specs.Kept.{KeepsAll, IsState}
+use Rattle.json_text.specs.{Reading.value, Reading.read_from, Kept.KeepsAll, Kept.IsState}
 use Rattle.json_text.proofs.StepLemmas.{value_skips, unfinished, finished}
 use Rattle.json_text.proofs.reader.read_all.Goals as goal
 

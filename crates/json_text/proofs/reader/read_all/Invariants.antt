@@ -1,6 +1,5 @@
 use Rattle.std.proofs.Common.{◌≡◌, length}
-use Rattle.json_text.specs.Reading.{State, read_text}
-use Rattle.json_text.specs.Kept.{IsState, read_at, StartsWithNoSpace}
+use Rattle.json_text.specs.{Reading.State, Reading.read_text, Kept.IsState, Kept.read_at, Kept.StartsWithNoSpace}
 use Rattle.json_text.proofs.reader.read_all.Given as goal
 
 -- reading what is left is reading everything

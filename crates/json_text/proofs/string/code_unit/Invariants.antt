@@ -1,6 +1,5 @@
 use Rattle.std.proofs.Common.{◌≡◌, ◌≤◌, ◌+◌, ◌-◌, ℕ, List, length, drop}
-use Rattle.json_text.specs.Reading.{hex}
-use Rattle.json_text.specs.Scan.{scan_string, unit_left, IsUnitSoFar}
+use Rattle.json_text.specs.{Reading.hex, Scan.scan_string, Scan.unit_left, Scan.IsUnitSoFar}
 use Rattle.json_text.proofs.string.code_unit.Given as goal
 
 -- reading what is left is reading everything

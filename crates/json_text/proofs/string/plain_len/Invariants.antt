@@ -1,6 +1,5 @@
 use Rattle.std.proofs.Common.{◌≡◌, ◌++◌, ◌+◌, take, drop, List, ℕ}
-use Rattle.json_text.specs.Reading.{between}
-use Rattle.json_text.specs.Scan.{scan_string}
+use Rattle.json_text.specs.{Reading.between, Scan.scan_string}
 use Rattle.json_text.proofs.string.plain_len.Given as goal
 
 -- reading what is left is reading everything

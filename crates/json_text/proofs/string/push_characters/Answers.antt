@@ -1,8 +1,7 @@
 use Rattle.std.proofs.Common.{◌++◌, ◌≤◌, [], rules, refl, length, arith, sym, subst, List, ℕ, length-take}
-use Rattle.json_text.specs.Reading.{between, backslash}
-use Rattle.json_text.specs.Scan.{scan_string, Passes}
-use Rattle.json_text.proofs.StringScan.{scanned_behind, stopped}
 use Rattle.std.proofs.lemmas.Result.{err_from_is_err_and}
+use Rattle.json_text.specs.{Reading.between, Reading.backslash, Scan.scan_string, Scan.Passes}
+use Rattle.json_text.proofs.StringScan.{scanned_behind, stopped}
 use Rattle.json_text.proofs.string.push_characters.Goals as goal
 
 pub slice_bounds-extend_from_slice-end : goal.slice_bounds-extend_from_slice-end

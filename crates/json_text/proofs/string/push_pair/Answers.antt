@@ -1,6 +1,5 @@
 use Rattle.std.proofs.Common.{Some, rules, refl}
-use Rattle.json_text.specs.Reading.{between, hex, high}
-use Rattle.json_text.specs.Scan.{scan_string}
+use Rattle.json_text.specs.{Reading.between, Reading.hex, Reading.high, Scan.scan_string}
 use Rattle.json_text.proofs.StringScan.{scanned_behind}
 use Rattle.json_text.proofs.string.push_pair.Goals as goal
 

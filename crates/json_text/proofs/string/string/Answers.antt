@@ -1,7 +1,6 @@
 use Rattle.std.proofs.Common.{◌≡◌, get_or, arith}
-use Rattle.json_text.proofs.StringScan.{mark_utf8}
+use Rattle.json_text.proofs.{StringScan.mark_utf8, string.string.Goals.then-loop-at-test+else-bytes-at-ne34, string.string.Goals.else-loop-at-test}
 use Rattle.json_text.proofs.string.string.Goals as goal
-use Rattle.json_text.proofs.string.string.Goals.{then-loop-at-test+else-bytes-at-ne34, else-loop-at-test}
 
 pub from_utf8_unchecked-text-requires : goal.from_utf8_unchecked-text-requires
 from_utf8_unchecked-text-requires c =

@@ -13,8 +13,8 @@ returns-in_err-digit-clause-none c e = let found = c.in_ok-get.ensures.lookup.3 
 
 pub returns-then-fits-clause-some : goal.returns-then-fits-clause-some
 returns-then-fits-clause-some c = let found = c.in_ok-get.ensures.lookup.3 in
-    place_goes c.args.lead c.args.digits.now c.args.place c.args.unit c.requires.place c.in_ok-digit.digit found.0 c.requires.unit
-    (ap hex_digit_of (sym (found.1 0)) ∙ sym c.in_ok-digit.ensures) (sym c.if-fits.ensures)
+    place_goes c.args.lead c.args.digits.now c.args.place c.args.unit c.requires.place c.in_ok-digit.digit found.0
+    (ap hex_digit_of (sym (found.1 0)) ∙ sym c.in_ok-digit.ensures) c.requires.unit (sym c.if-fits.ensures)
 
 pub returns-else-fits-clause-none : goal.returns-else-fits-clause-none
 returns-else-fits-clause-none c e = let found = c.in_ok-get.ensures.lookup.3 in

@@ -1,11 +1,7 @@
 use Rattle.std.proofs.Common.{reverse, ◌∙◌, ◌∷◌, refl, sym, ap, arith, subst}
-use Rattle.json_text.specs.Kept.{KeepsAll}
-use Rattle.json_text.specs.declared.state.Kept.TheVariants.{List as kept_list}
-use Rattle.json_text.specs.Tree.{list, items_of}
-use Rattle.json_text.specs.Node.{list_node}
+use Rattle.json_text.specs.{Kept.KeepsAll, declared.state.Kept.TheVariants.List as kept_list, Tree.list, Tree.items_of, Node.list_node}
 use Rattle.json_text.specs.Reading.{step, put, value, after_item, in_list, nodes_of}
-use Rattle.json_text.proofs.ViewLemmas.{tree_of_list}
-use Rattle.json_text.proofs.KeptLemmas.{keeps_more, values_of-nodes}
+use Rattle.json_text.proofs.{ViewLemmas.tree_of_list, KeptLemmas.keeps_more, KeptLemmas.values_of-nodes}
 use Rattle.json_text.proofs.StepLemmas.{item_other, goes_by, barred}
 use Rattle.json_text.proofs.reader.Reader.after_item.Goals as goal
 
@@ -25,6 +21,5 @@ returns-in_ok-next-in-93-clause-goes c s st =
     (ap (step c.args.self.now.levels c.args.place.at (after_item st.0 st.1)) c.in-93.is) c.behind-in-93.ensures.at c.behind-in-93.ensures.rest
 
 pub returns-in_default-clause-goes : goal.returns-in_default-clause-goes
-returns-in_default-clause-goes c s st =
-    barred c.args.self.now.levels s (after_item st.0 st.1) c.args.byte c.args.place st.2 c.requires.first c.not_json.result
+returns-in_default-clause-goes c s st = barred c.args.self.now.levels s (after_item st.0 st.1) c.args.byte c.args.place st.2 c.requires.first c.not_json.result
     (item_other c.args.self.now.levels c.args.place.at st.0 st.1 c.args.byte c.requires.no_space (omega arith) (omega arith)) c.not_json.ensures

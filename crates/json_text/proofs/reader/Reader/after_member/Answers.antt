@@ -1,10 +1,7 @@
 use Rattle.std.proofs.Common.{◌∙◌, refl, ap, arith}
-use Rattle.json_text.specs.Tree.{object, members_of}
-use Rattle.json_text.specs.View.{pairs_of}
-use Rattle.json_text.specs.Node.{object_node}
+use Rattle.json_text.specs.{Tree.object, Tree.members_of, View.pairs_of, Node.object_node}
 use Rattle.json_text.specs.Reading.{step, put, next_key, after_member, fields_of}
-use Rattle.json_text.proofs.ViewLemmas.{tree_of_object}
-use Rattle.json_text.proofs.StepLemmas.{member_other, goes_by, barred}
+use Rattle.json_text.proofs.{ViewLemmas.tree_of_object, StepLemmas.member_other, StepLemmas.goes_by, StepLemmas.barred}
 use Rattle.json_text.proofs.reader.Reader.after_member.Goals as goal
 
 pub returns-in-44-clause-goes : goal.returns-in-44-clause-goes

@@ -1,12 +1,7 @@
 use Rattle.std.proofs.Common.{reverse, ◌∙◌, ◌∷◌, [], refl, sym, ap, arith, subst}
-use Rattle.json_text.specs.Kept.{KeepsAll, repeat_of}
-use Rattle.json_text.specs.declared.state.Kept.TheVariants.{List as kept_list}
-use Rattle.json_text.specs.Tree.{list, items_of}
-use Rattle.json_text.specs.View.{trees_of}
-use Rattle.json_text.specs.Node.{list_node, no_nodes}
-use Rattle.json_text.specs.Reading.{step, put, value, first_item, in_list}
-use Rattle.json_text.proofs.ViewLemmas.{tree_of_list}
-use Rattle.json_text.proofs.KeptLemmas.{first_of-none, keeps_more}
+use Rattle.json_text.specs.{Kept.KeepsAll, Kept.repeat_of, declared.state.Kept.TheVariants.List as kept_list, Tree.list, Tree.items_of, View.trees_of}
+use Rattle.json_text.specs.{Node.list_node, Node.no_nodes, Reading.step, Reading.put, Reading.value, Reading.first_item, Reading.in_list}
+use Rattle.json_text.proofs.{ViewLemmas.tree_of_list, KeptLemmas.first_of-none, KeptLemmas.keeps_more}
 use Rattle.json_text.proofs.StepLemmas.{alike, first_item_goes, goes_same, goes_by}
 use Rattle.json_text.proofs.reader.Reader.first_item.Goals as goal
 
@@ -18,12 +13,10 @@ returns-then-byte-eq93-clause-goes c outer kept r =
     (ap (step c.args.self.now.levels c.args.place.at (first_item outer)) c.if-byte-eq93.true) c.behind.ensures.at c.behind.ensures.rest
 
 pub returns-clause-goes : goal.returns-clause-goes
-returns-clause-goes c outer kept r =
-    goes_same c.args.self.now.levels (first_item outer)
+returns-clause-goes c outer kept r = goes_same c.args.self.now.levels (first_item outer)
     (value (in_list [] ∷ outer)) c.args.place c.value.result c.value.new.self.waiting.items c.value.new.self.repeat
     (alike c.args.self.now.levels c.args.place.at (first_item outer) (value (in_list [] ∷ outer)) c.args.byte c.args.place.rest.now c.requires.first
-    (first_item_goes c.args.self.now.levels c.args.place.at outer c.args.byte c.requires.no_space (omega arith)))
-    (c.value.ensures.goes (in_list [] ∷ outer)
+    (first_item_goes c.args.self.now.levels c.args.place.at outer c.args.byte c.requires.no_space (omega arith))) (c.value.ensures.goes (in_list [] ∷ outer)
     (subst (λ ks. KeepsAll (reverse ks) (in_list [] ∷ outer)) (sym c.in_ok-push.ensures.items)
     (keeps_more c.args.self.now.waiting.items (kept_list c.new-2.result) outer (in_list []) kept (ap trees_of c.new-2.ensures.items)))
     (r ∙ sym (first_of-none (repeat_of outer))))

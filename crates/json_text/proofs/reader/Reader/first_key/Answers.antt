@@ -1,11 +1,7 @@
 use Rattle.std.proofs.Common.{◌∙◌, [], refl, sym, ap, arith}
-use Rattle.json_text.specs.Tree.{object, members_of}
-use Rattle.json_text.specs.View.{pairs_of}
-use Rattle.json_text.specs.Node.{object_node, no_fields}
+use Rattle.json_text.specs.{Tree.object, Tree.members_of, View.pairs_of, Node.object_node, Node.no_fields, Kept.repeat_of}
 use Rattle.json_text.specs.Reading.{step, put, first_key, next_key}
-use Rattle.json_text.specs.Kept.{repeat_of}
-use Rattle.json_text.proofs.ViewLemmas.{tree_of_object}
-use Rattle.json_text.proofs.KeptLemmas.{first_of-none}
+use Rattle.json_text.proofs.{ViewLemmas.tree_of_object, KeptLemmas.first_of-none}
 use Rattle.json_text.proofs.StepLemmas.{alike, first_key_is, first_key_other, goes_same, goes_by, barred}
 use Rattle.json_text.proofs.reader.Reader.first_key.Goals as goal
 

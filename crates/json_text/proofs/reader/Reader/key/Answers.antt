@@ -1,9 +1,7 @@
 use Rattle.std.proofs.Common.{length, ◌<◌, if◌then◌else◌, Some, None, reverse, ◌∙◌, ◌∷◌, [], refl, sym, ap, arith, subst}
 use Rattle.std.proofs.lemmas.List.{length-drop}
-use Rattle.json_text.specs.Node.{first_repeat_behind, first_of}
+use Rattle.json_text.specs.{Node.first_repeat_behind, Node.first_of, declared.state.Kept.TheVariants.Object as kept_object, View.pairs_of}
 use Rattle.json_text.specs.Kept.{repeat_at, KeepsAll, repeat_of, read_at, FailsSo, keys_behind}
-use Rattle.json_text.specs.declared.state.Kept.TheVariants.{Object as kept_object}
-use Rattle.json_text.specs.View.{pairs_of}
 use Rattle.json_text.specs.Reading.{in_key, value, next_key, colon, in_object, fields_of}
 use Rattle.json_text.proofs.KeptLemmas.{first_of-assoc, keeps_more, key_waits, key_repeats}
 use Rattle.json_text.proofs.StepLemmas.{colon_goes, colon_other, colon_skips, led}
@@ -23,8 +21,7 @@ returns-then-not-starts_with-clause-goes c ms outer kept r holds =
     c.in-Ok.read.1.at c.in-Ok.read.1.rest.now c.requires refl read.1 read.2 read.3
     ∙ c.without_space-there.ensures.same c.args.self.now.levels after (colon_skips c.args.self.now.levels ms c.args.place.at c.in-Ok.read.0 outer)
     ∙ colon_other c.args.self.now.levels c.without_space-there.result.at ms c.args.place.at c.in-Ok.read.0 outer c.without_space-there.result.rest.now
-    c.without_space-there.ensures.no_space
-    c.if-not-starts_with.ensures)
+    c.without_space-there.ensures.no_space c.if-not-starts_with.ensures)
 
 pub returns-clause-goes : goal.returns-clause-goes
 returns-clause-goes c ms outer kept r holds =
@@ -35,12 +32,10 @@ returns-clause-goes c ms outer kept r holds =
     let after = colon ms place key outer in
     let next = value (in_object ms place key ∷ outer) in
     let kept = subst (λ ks. KeepsAll (reverse ks) (in_object ms place key ∷ outer)) (sym c.in_ok-push.ensures.items)
-    (keeps_more c.args.self.now.waiting.items (kept_object _) outer (in_object ms place key) kept
-    (key_waits (pairs_of c.deref_mut.result.now.members.items)
+    (keeps_more c.args.self.now.waiting.items (kept_object _) outer (in_object ms place key) kept (key_waits (pairs_of c.deref_mut.result.now.members.items)
     (pairs_of c.reserve.new.self.members.items) key c.in_ok-slot.slot c.in_ok-slot.is_repeated ms c.in_ok-slot.ensures.place same)) in
     let repeat = c.first_repeat_of-self.ensures ∙ ap (λ o. first_of o (if c.in_ok-slot.is_repeated then Some place else None)) r
-    ∙ ap (first_of (first_of (repeat_of outer) (first_repeat_behind [] (fields_of ms))))
-    (sym (key_repeats (pairs_of c.deref_mut.result.now.members.items)
+    ∙ ap (first_of (first_of (repeat_of outer) (first_repeat_behind [] (fields_of ms)))) (sym (key_repeats (pairs_of c.deref_mut.result.now.members.items)
     (pairs_of c.reserve.new.self.members.items) key c.in_ok-slot.slot place c.in_ok-slot.is_repeated ms c.in_ok-slot.ensures.place same))
     ∙ first_of-assoc (repeat_of outer) (first_repeat_behind [] (fields_of ms)) (repeat_at (keys_behind [] ms) place key) in
     let read_so = string_takes c.args.self.now.levels place (next_key ms outer)

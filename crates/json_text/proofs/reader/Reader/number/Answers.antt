@@ -1,13 +1,6 @@
-use Rattle.json_text.specs.Scan.{scan_number}
+use Rattle.json_text.specs.{Scan.scan_number, Node.number_node, Tree.number, Reading.put, Parts.part_of, Kept.repeat_of}
 use Rattle.std.proofs.Common.{◌+◌, ◌∙◌, sym, ap, take, drop}
-use Rattle.json_text.specs.Node.{number_node}
-use Rattle.json_text.specs.Tree.{number}
-use Rattle.json_text.specs.Reading.{put}
-use Rattle.json_text.specs.Parts.{part_of}
-use Rattle.json_text.specs.Kept.{repeat_of}
-use Rattle.json_text.proofs.KeptLemmas.{first_of-none}
-use Rattle.json_text.proofs.ViewLemmas.{tree_of_number}
-use Rattle.json_text.proofs.TokenRuns.{value_number, value_number_stops, number_front}
+use Rattle.json_text.proofs.{KeptLemmas.first_of-none, ViewLemmas.tree_of_number, TokenRuns.value_number, TokenRuns.value_number_stops, TokenRuns.number_front}
 use Rattle.json_text.proofs.reader.Reader.number.Goals as goal
 
 pub from_utf8-requires : goal.from_utf8-requires

@@ -1,10 +1,6 @@
 use Rattle.std.proofs.Common.{◌∙◌, sym, refl}
-use Rattle.json_text.specs.Node.{text_node}
-use Rattle.json_text.specs.Reading.{put, value, in_value}
-use Rattle.json_text.specs.Kept.{repeat_of}
-use Rattle.json_text.proofs.KeptLemmas.{first_of-none}
-use Rattle.json_text.proofs.ViewLemmas.{tree_of_text}
-use Rattle.json_text.proofs.TokenRuns.{string_takes, string_faults}
+use Rattle.json_text.specs.{Node.text_node, Reading.put, Reading.value, Reading.in_value, Kept.repeat_of}
+use Rattle.json_text.proofs.{KeptLemmas.first_of-none, ViewLemmas.tree_of_text, TokenRuns.string_takes, TokenRuns.string_faults}
 use Rattle.json_text.proofs.reader.Reader.string.Goals as goal
 
 pub returns-in-Err-clause-goes : goal.returns-in-Err-clause-goes

@@ -1,6 +1,5 @@
-use Rattle.json_text.specs.Kept.{IsState}
+use Rattle.json_text.specs.{Kept.IsState, Reading.whole}
 use Rattle.std.proofs.Common.{subst}
-use Rattle.json_text.specs.Reading.{whole}
 use Rattle.json_text.proofs.StepLemmas.{whole_other, barred}
 use Rattle.json_text.proofs.reader.Reader.turn.Goals as goal
 
