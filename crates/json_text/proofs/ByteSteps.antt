@@ -87,8 +87,7 @@ module _ (size levels : ℕ) (r : Node) where
       Space (Value size n l (Space (MoreItems size future.0 l (Byte 93 (Space (Waits outer future.1 (list_node all)))))))
 
   abbrev NextMember : (outer : List Waiting) → ℕ → List ℕ → Node → Fields × Future outer → Fields → List ℕ → Type 0
-  NextMember outer place key n future all = let l = levels - suc (length outer) in
-      Space (Key size place key
+  NextMember outer place key n future all = let l = levels - suc (length outer) in Space (Key size place key
       (Space (Byte 58 (Space (Value size n l (Space (MoreMembers size future.0 l (Byte 125 (Space (Waits outer future.1 (object_node all)))))))))))
 
   -- from what follows a byte to what follows with it
@@ -96,14 +95,12 @@ module _ (size levels : ℕ) (r : Node) where
   ValueFollows outer bytes = (n : Node) × (future : Future outer) × Value size n (levels - length outer) (Space (Waits outer future n)) bytes
 
   string_value : (outer : List Waiting) (b : ℕ) (bs : List ℕ) → b ≡ 34 → Follows (string between [] (in_value outer)) bs → ValueFollows outer (b ∷ bs)
-  string_value outer b bs e h =
-      let (inside, t, back, is, spelled, (future, k)) = characters_spelled (λ t. Done outer (text_node t)) bs h in
+  string_value outer b bs e h = let (inside, t, back, is, spelled, (future, k)) = characters_spelled (λ t. Done outer (text_node t)) bs h in
       (text_node t, future, (inside, back, ap (λ c. c ∷ bs) e ∙ ap (λ t. 34 ∷ t) is, spelled, k))
 
   number_value : (part : NumberPart) (outer : List Waiting) (b c : ℕ) (bs : List ℕ) → b ≡ c → ((t : List ℕ) → Accepts part t → IsNumber (c ∷ t))
       → Follows (digits part (b ∷ []) outer) bs → ValueFollows outer (b ∷ bs)
-  number_value part outer b c bs is f h =
-      let (tail, back, e, accepts, (future, k)) = digits_spelled part (b ∷ []) (λ s. Done outer (number_node s)) bs h in
+  number_value part outer b c bs is f h = let (tail, back, e, accepts, (future, k)) = digits_spelled part (b ∷ []) (λ s. Done outer (number_node s)) bs h in
       (number_node (b ∷ tail), future, (back, ap (λ t. b ∷ t) e, subst (λ c. IsNumber (c ∷ tail)) (sym is) (f tail accepts), k))
 
   list_value : (outer : List Waiting) (b : ℕ) (bs : List ℕ) → b ≡ 91 → On bs (opened levels outer (first_item outer)) → ValueFollows outer (b ∷ bs)
@@ -240,7 +237,7 @@ module _ (size levels : ℕ) (r : Node) where
   value_goes (number_node spelling) outer future b bs (back, is, number, k) = numbers_go outer spelling b bs back future (starts spelling number) is k
   value_goes (text_node t) outer future b bs (inside, back, is, spelled, k) = let (f, g) = heads b 34 bs (inside ++ 34 ∷ back) is in
       value_at outer b 34 bs f refl refl (subst (λ bs. Follows (string between [] (in_value outer)) bs) (sym g)
-      (characters_from (λ t. Done outer (text_node t)) inside t back spelled (future, k)))
+      (characters_from (λ t. Done outer (text_node t)) [] back spelled (future, k)))
   value_goes (list_node ns) outer future b bs (m, e, (f, k)) = let (o, same) = opens outer (first_item outer) m e in
       value_at outer b 91 bs f refl refl (subst (On bs) (sym o)
       (ns, future, subst (λ l. Space (Items size ns l (Byte 93 (Space (Waits outer future (list_node ns))))) bs) same k))
@@ -252,10 +249,9 @@ module _ (size levels : ℕ) (r : Node) where
       → at + suc (length bs) ≡ size
       → Key size place key (Space (Byte 58 (Space (Value size n (levels - suc (length outer)) (Space (Waits (in_object ms place key ∷ outer) future n))))))
       (b ∷ bs) → (b ≡ 34) × Follows (string between [] (in_key at ms outer)) bs
-  key_goes ms outer at place b key bs n future s (p, (inside, back, is, spelled, k)) =
-      let (f, g) = heads b 34 bs (inside ++ 34 ∷ back) is in
+  key_goes ms outer at place b key bs n future s (p, (inside, back, is, spelled, k)) = let (f, g) = heads b 34 bs (inside ++ 34 ∷ back) is in
       let there = subst (λ bs. Follows (string between [] (in_key place ms outer)) bs) (sym g)
-      (characters_from (Colon size levels r ms place outer) inside key back spelled (n, future, k)) in
+      (characters_from (Colon size levels r ms place outer) [] back spelled (n, future, k)) in
       (f, subst (λ p. Follows (string between [] (in_key p ms outer)) bs) (omega (arith, s, p)) there)
 
   item_goes : (ns : List Node) (outer : List Waiting) (b : ℕ) (bs : List ℕ) → Follows (after_item ns outer) (b ∷ bs)

@@ -95,7 +95,7 @@ so_far_more (Some lead) (suc (suc (suc (suc left)))) n d l h k f = absurd (omega
 long_character : (bytes : List ℕ) → IsLong bytes → SpellsCharacter bytes bytes
 long_character bytes h = subst (λ x. SpellsCharacter x x) (sym h.3) (unescaped h.0 h.1 (omega arith) (λ e. omega arith) (λ e. omega arith))
 
-short_character : (b : ℕ) → 32 ≤ b → b ≤ 127 → (b ≡ 34 → ⊥) → (b ≡ 92 → ⊥) → SpellsCharacter (b ∷ []) (b ∷ [])
+pub short_character : (b : ℕ) → 32 ≤ b → b ≤ 127 → (b ≡ 34 → ⊥) → (b ≡ 92 → ⊥) → SpellsCharacter (b ∷ []) (b ∷ [])
 short_character b l h q s = subst (λ x. SpellsCharacter x x) (encode_1 b (omega arith)) (unescaped b (low_is_scalar b (omega arith)) l q s)
 
 unit_scalar : (u : ℕ) → IsUnitSoFar None zero u → is_within 0xD800 0xDBFF u ≡ false → IsScalar u
@@ -185,8 +185,7 @@ module _ (K : List ℕ → List ℕ → Type 0) where
       × Then (unit_step text lead u) text back
 
   four : (lead : Option ℕ) (text bytes : List ℕ) → IsUnitSoFar lead 4 0 → Characters (hex lead 3 0) text K bytes → Unit4 lead text bytes
-  four lead text bytes start h =
-      let (a, w, t_a, is_a, e_a, f_a, h_a) = digit lead 3 0 text bytes h in
+  four lead text bytes start h = let (a, w, t_a, is_a, e_a, f_a, h_a) = digit lead 3 0 text bytes h in
       let (b, x, bs, is_b, e_b, f_b, h_b) = digit lead 2 (16 * 0 + w) text t_a h_a in
       let (c, y, cs, is_c, e_c, f_c, h_c) = digit lead 1 (16 * (16 * 0 + w) + x) text bs h_b in
       let (d, z, ds, is_d, e_d, f_d, h_d) = digit lead 0 (16 * (16 * (16 * 0 + w) + x) + y) text cs h_c in
@@ -213,8 +212,7 @@ module _ (K : List ℕ → List ℕ → Type 0) where
   unit_by : (text bytes digits back : List ℕ) (u : ℕ) → bytes ≡ 117 ∷ (digits ++ back) → IsHex digits u → IsUnitSoFar None zero u → (v : Bool)
       → is_within 0xD800 0xDBFF u ≡ v → Then (cond v (goes_on (high u) text) (goes_on between (text ++ encode_utf8 u))) text back → One 92 text bytes
   unit_by text bytes digits back u is hexed so false t h = (117 ∷ digits, encode_utf8 u, back, is, unit digits u hexed (unit_scalar u so t), h)
-  unit_by text bytes digits back u is hexed so true t h =
-      let (t_a, is_a, h_a) = expected (high u) (high_backslash u) text back 92 (λ b. refl) h in
+  unit_by text bytes digits back u is hexed so true t h = let (t_a, is_a, h_a) = expected (high u) (high_backslash u) text back 92 (λ b. refl) h in
       let (bs, is_b, h_b) = expected (high_backslash u) (hex (Some u) 3 0) text t_a 117 (λ b. refl) h_a in
       let (second, rest, low, is_l, hexed_l, so_l, k) = four (Some u) text bs (omega arith, refl) h_b in
       let all = is ∙ ap (λ t. 117 ∷ t) (ap (λ t. digits ++ t) (is_a ∙ ap (λ t. 92 ∷ t) (is_b ∙ ap (λ t. 117 ∷ t) is_l))
@@ -239,16 +237,14 @@ module _ (K : List ℕ → List ℕ → Type 0) where
   tails n low width front text [] f h = absurd h
   tails zero low width front text (b ∷ bs) f h = let (t, k) = cond_on (is_within low (low + width) b) _ _ _ h in
       (b ∷ [], bs, refl, f b (within_from low (low + width) b t) (within_to low (low + width) b t), k)
-  tails (suc m) low width front text (b ∷ bs) f h =
-      let (t, k) = cond_on (is_within low (low + width) b) _ _ _ h in
+  tails (suc m) low width front text (b ∷ bs) f h = let (t, k) = cond_on (is_within low (low + width) b) _ _ _ h in
       let (rest, back, is, long, g) = tails m 128 63 (front ++ b ∷ []) (text ++ b ∷ []) bs
       (f b (within_from low (low + width) b t) (within_to low (low + width) b t)) k in
       let left = subst (λ t. Characters between t K back) (append_assoc text (b ∷ []) rest) g in
       (b ∷ rest, back, ap (λ t. b ∷ t) is, subst IsLong (append_assoc front (b ∷ []) rest) long, left)
 
   one : (text : List ℕ) (b : ℕ) (bs : List ℕ) → Characters between text K (b ∷ bs) → ((b ≡ 34) × K text bs) ⊎ One b text bs
-  one text b bs h =
-      let P : StringStep → Type 0 = λ s. Then s text bs → ((b ≡ 34) × K text bs) ⊎ One b text bs in
+  one text b bs h = let P : StringStep → Type 0 = λ s. Then s text bs → ((b ≡ 34) × K text bs) ⊎ One b text bs in
       cond_both (b == 34) _ _ P (λ t k. inl (eqb-true b 34 t, k)) (λ q.
       cond_both (b == 92) _ _ P (λ t k. inr (subst (λ c. One c text bs) (sym (eqb-true b 92 t)) (escape text bs k))) (λ s. unescaped_by P text b
       (λ l u k. inr ([], b ∷ [], bs, refl, short_character b l u (eqb-false b 34 q) (eqb-false b 92 s), k))
@@ -262,8 +258,7 @@ module _ (K : List ℕ → List ℕ → Type 0) where
   all zero text (b ∷ bs) l h = absurd (omega (arith, l))
   all (suc n) text (b ∷ bs) l h = elim (one text b bs h) [
     | inl mark ↦ ([], [], bs, ap (λ x. x ∷ bs) mark.0, none, subst (λ t. K t bs) (sym (append-nil text)) mark.1)
-    | inr character ↦
-        let (a, x, rest, is, spelled, k) = character in
+    | inr character ↦ let (a, x, rest, is, spelled, k) = character in
         let (inside, t, back, same, others, g) = all n (text ++ x) rest (omega (arith, l, ap length is, length-append a rest)) k in
         let joined = ap (λ t. b ∷ t) (is ∙ ap (λ t. a ++ t) same) ∙ sym (append_assoc (b ∷ a) inside (34 ∷ back)) in
         ((b ∷ a) ++ inside, x ++ t, back, joined, more spelled others, subst (λ t. K t back) (append_assoc text x t) g)
@@ -319,8 +314,7 @@ module _ (K : List ℕ → List ℕ → Type 0) where
 
   unescaped_back : (text : List ℕ) (c : ℕ) (bs : List ℕ) → (c < 55296) ⊎ ((57344 ≤ c) × (c < 1114112)) → 32 ≤ c → c ≢ 34 → c ≢ 92
       → Characters between (text ++ encode_utf8 c) K bs → Characters between text K (encode_utf8 c ++ bs)
-  unescaped_back text c bs s l q r h =
-      let P : List ℕ → Type 0 = λ x. Characters between (text ++ x) K bs → Characters between text K (x ++ bs) in
+  unescaped_back text c bs s l q r h = let P : List ℕ → Type 0 = λ x. Characters between (text ++ x) K bs → Characters between text K (x ++ bs) in
       ⊎_elim (λ u. subst P (sym (encode_1 c u)) (back between between text (text ++ c ∷ []) c bs (short text c l u q r)) h) (λ a.
       ⊎_elim (λ u. subst P (sym (encode_2 c a u)) (back_2 text _ _ bs (omega arith) (omega arith) (omega arith) (omega arith)) h) (λ a.
       ⊎_elim (λ u. subst P (sym (encode_3 c a u)) (long_3_back text c bs a u (⊎_elim (λ x. inl x) (λ x. inr x.0) s) _ _ _ refl refl refl) h) (λ a.
@@ -332,36 +326,28 @@ module _ (K : List ℕ → List ℕ → Type 0) where
 
   four_back : (lead : Option ℕ) (text digits bs : List ℕ) (u : ℕ) → IsHex digits u → IsUnitSoFar lead zero u → Then (unit_step text lead u) text bs
       → Characters (hex lead 3 0) text K (digits ++ bs)
-  four_back lead text digits bs u (a, b, c, d, w, x, y, z, is, e_a, e_b, e_c, e_d, sum) so h =
-      let one : 16 * 0 + w ≡ w = omega arith in
+  four_back lead text digits bs u (a, b, c, d, w, x, y, z, is, e_a, e_b, e_c, e_d, sum) so h = let one : 16 * 0 + w ≡ w = omega arith in
       let (f, g, i, j) = all_fit lead u w x y z so sum (hex_below a w e_a) (hex_below b x e_b) (hex_below c y e_c) (hex_below d z e_d) in
       subst (λ ds. Characters (hex lead 3 0) text K (ds ++ bs)) (sym is)
       (digit_back lead 3 0 text a w (b ∷ c ∷ d ∷ bs) e_a f (subst (λ n. Characters (hex lead 2 n) text K (b ∷ c ∷ d ∷ bs)) (sym one)
       (digit_back lead 2 w text b x (c ∷ d ∷ bs) e_b g (digit_back lead 1 (16 * w + x) text c y (d ∷ bs) e_c i
       (digit_back lead 0 (16 * (16 * w + x) + y) text d z bs e_d j (subst (λ n. Then (unit_step text lead n) text bs) sum h))))))
 
-  unit_back : (text digits bs : List ℕ) (u : ℕ) → IsHex digits u → IsUnitSoFar None zero u → Then (unit_step text None u) text bs
-      → Characters between text K (92 ∷ 117 ∷ (digits ++ bs))
-  unit_back text digits bs u hexed so h = four_back None text digits bs u hexed so h
-
   character_from : {a x : List ℕ} (text bs : List ℕ) → SpellsCharacter a x → Characters between (text ++ x) K bs → Characters between text K (a ++ bs)
   character_from text bs (unescaped c s l q r) h = unescaped_back text c bs (scalar_cases c s) l q r h
   character_from text bs (escaped b c e) h = back backslash between text (text ++ c ∷ []) b bs (cond-false _ _ _ (not_unit b c e) ∙ ap (escape_step text) e) h
   character_from text bs (unit digits c hexed s) h = let (so, t) = scalar_unit c (hex_small digits c hexed) (scalar_cases c s) in
-      unit_back text digits bs c hexed so (subst (λ s. Then s text bs) (sym (cond-false _ _ _ t)) h)
-  character_from text bs (pair first second lead low i j k l) h =
-      let (so, t) = high_unit lead k in
+      four_back None text digits bs c hexed so (subst (λ s. Then s text bs) (sym (cond-false _ _ _ t)) h)
+  character_from text bs (pair first second lead low i j k l) h = let (so, t) = high_unit lead k in
       subst (λ bs. Characters between text K bs) (sym (append_assoc (92 ∷ 117 ∷ first) (92 ∷ 117 ∷ second) bs))
-      (unit_back text first (92 ∷ 117 ∷ (second ++ bs)) lead i so (subst (λ s. Then s text (92 ∷ 117 ∷ (second ++ bs))) (sym (cond-true _ _ _ t))
+      (four_back None text first (92 ∷ 117 ∷ (second ++ bs)) lead i so (subst (λ s. Then s text (92 ∷ 117 ∷ (second ++ bs))) (sym (cond-true _ _ _ t))
       (four_back (Some lead) text second bs low j (omega (arith, l.1), (l.0, omega (arith, l.1))) h)))
 
-  from_any : {inside t : List ℕ} (text back : List ℕ) → SpellsCharacters inside t → K (text ++ t) back → Characters between text K (inside ++ 34 ∷ back)
-  from_any text back none k = subst (λ t. K t back) (append-nil text) k
-  from_any text back (more {a = a} {x = x} {b = b} {y = y} p ps) k = subst (λ bs. Characters between text K bs) (sym (append_assoc a b (34 ∷ back)))
-      (character_from text (b ++ 34 ∷ back) p (from_any (text ++ x) back ps (subst (λ t. K t back) (sym (append_assoc text x y)) k)))
-
-  pub characters_from : (inside text back : List ℕ) → SpellsCharacters inside text → K text back → Characters between [] K (inside ++ 34 ∷ back)
-  characters_from inside text back s k = from_any [] back s k
+  pub characters_from : {inside t : List ℕ} (text back : List ℕ) → SpellsCharacters inside t → K (text ++ t) back
+      → Characters between text K (inside ++ 34 ∷ back)
+  characters_from text back none k = subst (λ t. K t back) (append-nil text) k
+  characters_from text back (more {a = a} {x = x} {b = b} {y = y} p ps) k = subst (λ bs. Characters between text K bs) (sym (append_assoc a b (34 ∷ back)))
+      (character_from text (b ++ 34 ∷ back) p (characters_from (text ++ x) back ps (subst (λ t. K t back) (sym (append_assoc text x y)) k)))
 
 -- a character after a backslash is one byte
 escape_below : (b c : ℕ) → escape_of b ≡ Some c → c < 128

@@ -20,8 +20,7 @@ kept_further a b c h k = kept_behind a b (drop (length b) c) c h (begins b c k)
 -- the plain bytes at the front, an escape, and what is left
 pub quoted_turn : (out rest behind : List ℕ) (n b : ℕ) (front : List ℕ) → front ≡ take n rest → flat_map escape (take n rest) ≡ take n rest
     → drop n rest ≡ b ∷ behind → ((out ++ front) ++ escape b) ++ flat_map escape behind ≡ out ++ flat_map escape rest
-quoted_turn out rest behind n b front is plain cut =
-    let split : flat_map escape rest ≡ take n rest ++ (escape b ++ flat_map escape behind) =
+quoted_turn out rest behind n b front is plain cut = let split : flat_map escape rest ≡ take n rest ++ (escape b ++ flat_map escape behind) =
     ap (flat_map escape) (sym (take-append-drop n rest)) ∙ flat_map-append escape (take n rest) (drop n rest)
     ∙ ap (λ t. t ++ flat_map escape (drop n rest)) plain ∙ ap (λ t. take n rest ++ flat_map escape t) cut in
     ap (λ t. ((out ++ t) ++ escape b) ++ flat_map escape behind) is ∙ append_assoc (out ++ take n rest) (escape b) (flat_map escape behind)

@@ -38,8 +38,7 @@ module _ (levels : ℕ) where
       by (after_member all outer) (put (object_node (fields_of all)) outer) 125 (λ at. refl) (complete_put (object_node (fields_of all)) outer) at
 
   complete_number : (part : NumberPart) (spelling : List ℕ) (outer : List Waiting) → may_end part ≡ true → Completes (digits part spelling outer)
-  complete_number part spelling outer m at =
-      let (more, n, e) = complete_put (number_node spelling) outer at in let size = at + length more in
+  complete_number part spelling outer m at = let (more, n, e) = complete_put (number_node spelling) outer at in let size = at + length more in
       let follows = digits_end part spelling (λ s. Ended size levels n outer (number_node s)) more m
       (follows_put size levels n (number_node spelling) outer more (follows_read size levels n more (put (number_node spelling) outer) at refl e)) in
       (more, n, read_follows size levels n more (digits part spelling outer) at refl follows)

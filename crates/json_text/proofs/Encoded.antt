@@ -43,8 +43,7 @@ three a b c n e h j k l m =
 
 four : (a b c d n : ℕ) → n ≡ 64 * (64 * (64 * (a - 240) + (b - 128)) + (c - 128)) + (d - 128) → 240 ≤ a → 128 ≤ b → b ≤ 191 → 128 ≤ c → c ≤ 191 → 128 ≤ d
     → d ≤ 191 → a ∷ b ∷ c ∷ d ∷ [] ≡ (240 + n / 262144) ∷ (128 + (n / 4096) % 64) ∷ (128 + (n / 64) % 64) ∷ (128 + n % 64) ∷ []
-four a b c d n e h j k l m o p =
-    let f : a ≡ 240 + n / 262144 = omega arith in let g : b ≡ 128 + (n / 4096) % 64 = omega arith in
+four a b c d n e h j k l m o p = let f : a ≡ 240 + n / 262144 = omega arith in let g : b ≡ 128 + (n / 4096) % 64 = omega arith in
     let i : c ≡ 128 + (n / 64) % 64 = omega arith in let q : d ≡ 128 + n % 64 = omega arith in cc
 
 apart : (a b c : ℕ) → 224 ≤ a → a ≤ 239 → 128 ≤ b → b ≤ 191 → 128 ≤ c → c ≤ 191 → (b < 160) ⊎ ((a < 237) ⊎ (237 < a))
@@ -54,9 +53,7 @@ apart a b c h i j k l m v = grind arith
 -- three bytes, below the surrogates and above them
 pub long_3 : (a b c : ℕ) → 224 ≤ a → a ≤ 239 → 128 ≤ b → b ≤ 191 → 128 ≤ c → c ≤ 191 → (160 ≤ b) ⊎ (225 ≤ a) → (b < 160) ⊎ ((a < 237) ⊎ (237 < a))
     → IsLong (a ∷ b ∷ c ∷ [])
-long_3 a b c h i j k l m u v =
-    let n : ℕ = 64 * (64 * (a - 224) + (b - 128)) + (c - 128) in
-    let low : 2048 ≤ n = omega arith in
+long_3 a b c h i j k l m u v = let n : ℕ = 64 * (64 * (a - 224) + (b - 128)) + (c - 128) in let low : 2048 ≤ n = omega arith in
     let up : n < 65536 = omega arith in
     let scalar : IsScalar n = ⊎_elim (λ x. low_is_scalar n x) (λ x. high_is_scalar n x (omega arith)) (apart a b c h i j k l m v) in
     (n, scalar, omega arith, three a b c n refl h j k l m ∙ sym (encode_3 n low up))
@@ -64,8 +61,5 @@ long_3 a b c h i j k l m u v =
 -- four bytes
 pub long_4 : (a b c d : ℕ) → 240 ≤ a → a ≤ 244 → 128 ≤ b → b ≤ 191 → 128 ≤ c → c ≤ 191 → 128 ≤ d → d ≤ 191 → (144 ≤ b) ⊎ (241 ≤ a) → (b < 144) ⊎ (a < 244)
     → IsLong (a ∷ b ∷ c ∷ d ∷ [])
-long_4 a b c d h i j k l m o p u v =
-    let n : ℕ = 64 * (64 * (64 * (a - 240) + (b - 128)) + (c - 128)) + (d - 128) in
-    let low : 65536 ≤ n = omega arith in
-    let up : n < 1114112 = omega arith in
-    (n, high_is_scalar n (omega arith) up, omega arith, four a b c d n refl h j k l m o p ∙ sym (encode_4 n low))
+long_4 a b c d h i j k l m o p u v = let n : ℕ = 64 * (64 * (64 * (a - 240) + (b - 128)) + (c - 128)) + (d - 128) in let low : 65536 ≤ n = omega arith in
+    let up : n < 1114112 = omega arith in (n, high_is_scalar n (omega arith) up, omega arith, four a b c d n refl h j k l m o p ∙ sym (encode_4 n low))

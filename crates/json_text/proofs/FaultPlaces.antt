@@ -15,15 +15,11 @@ ended_err : (at : ℕ) (o : Option Node) (f : Fault) → ended at o ≡ Err f �
 ended_err at None f h = cc
 ended_err at (Some n) f h = cc
 
-unlike : {P : Type 0} → unexpected ≡ too_deep → P
-unlike e = cc
-
 take_past : (front rest : List ℕ) (k : ℕ) → length front < k → k ≤ length (front ++ rest)
     → (b : ℕ) × (bs more : List ℕ) × (rest ≡ b ∷ bs) × (take k (front ++ rest) ≡ front ++ b ∷ more)
 take_past [] [] k l u = absurd (omega (arith, l, u))
 take_past [] (b ∷ bs) k l u = (b, bs, take (k - 1) bs, refl, ap (λ k. take k (b ∷ bs)) (let e : k ≡ suc (k - 1) = omega (arith, l) in e))
-take_past (a ∷ front) rest k l u =
-    let (b, bs, more, is, e) = take_past front rest (k - 1) (omega (arith, l)) (omega (arith, u)) in
+take_past (a ∷ front) rest k l u = let (b, bs, more, is, e) = take_past front rest (k - 1) (omega (arith, l)) (omega (arith, u)) in
     (b, bs, more, is, ap (λ k. take k (a ∷ (front ++ rest))) (let e : k ≡ suc (k - 1) = omega (arith, l) in e) ∙ ap (λ t. a ∷ t) e)
 
 module _ (levels : ℕ) where
@@ -57,11 +53,9 @@ module _ (levels : ℕ) where
   stopped_by : (from : State) (at b : ℕ) (bs : List ℕ) (f : Fault) (r other : Result State Stop) → step levels at from b ≡ r
       → step (suc levels) at from b ≡ other → Fares levels r other → depth from ≤ levels → read_from levels at from (b ∷ bs) ≡ Err f
       → ((next : State) → depth next ≤ levels → read_from levels (at + 1) next bs ≡ Err f → Stopped next (at + 1) f bs) → Stopped from at f (b ∷ bs)
-  stopped_by from at b bs f (Err why) other e o t s h g =
-      let is : fault why at ≡ f = let k = sym (read_err levels at from why b bs e) ∙ h in cc in
+  stopped_by from at b bs f (Err why) other e o t s h g = let is : fault why at ≡ f = let k = sym (read_err levels at from why b bs e) ∙ h in cc in
       stops_here from at f (b ∷ bs) s (ap (λ x. x.at) (sym is)) (subst (λ f. step levels f.at from b ≡ Err f.why) is e)
-  stopped_by from at b bs f (Ok next) other e o t s h g =
-      let r = g next t.1 (sym (read_ok levels at from next b bs e) ∙ h) in
+  stopped_by from at b bs f (Ok next) other e o t s h g = let r = g next t.1 (sym (read_ok levels at from next b bs e) ∙ h) in
       so (b ∷ r.front) r.rest r.state (ap (λ t. b ∷ t) r.joined) (r.place ∙ omega arith) r.shallow
       (λ more. read_ok levels at from next b (r.front ++ more) e ∙ r.same more)
       (λ more. read_ok (suc levels) at from next b (r.front ++ more) (o ∙ t.0) ∙ r.deeper more) r.stops
@@ -79,8 +73,7 @@ module _ (levels : ℕ) where
       (s.same (b ∷ more) ∙ read_err levels f.at s.state f.why b more (subst (StopsAt s.state f) e s.stops))
 
 pub read_fails : (levels : ℕ) (bytes : List ℕ) (f : Fault) → read_text levels bytes ≡ Err f → FailsAt levels bytes f.at
-read_fails levels bytes f h =
-    let s = stopped levels bytes (value []) 0 f (omega arith) h in
+read_fails levels bytes f h = let s = stopped levels bytes (value []) 0 f (omega arith) h in
     let size : f.at ≡ length s.front = s.place ∙ zero-add (length s.front) in
     let front : take f.at bytes ≡ s.front = ap (λ t. take f.at t) s.joined ∙ take_at s.front s.rest f.at (sym size) in record {
       within = omega (arith, size, ap length s.joined, length-append s.front s.rest);
@@ -103,36 +96,28 @@ next_byte levels bytes f s b bs e =
     (omega (arith, size, ap length all, length-append (s.front ++ b ∷ []) bs), front)
 
 pub opens_too_many : (levels : ℕ) (bytes : List ℕ) (f : Fault) → read_text levels bytes ≡ Err f → f.why ≡ too_deep → OpensTooMany levels bytes f.at
-opens_too_many levels bytes f h w = by (stopped levels bytes (value []) 0 f (omega arith) h)
+opens_too_many levels bytes f h w = let s = stopped levels bytes (value []) 0 f (omega arith) h in at s s.rest refl s.stops
   where
     deep : (s : Stopped levels (value []) 0 f bytes) (b : ℕ) (bs : List ℕ) → s.rest ≡ b ∷ bs → Fares levels (Err too_deep) (step (suc levels) f.at s.state b)
         → OpensTooMany levels bytes f.at
-    deep s b bs e (next, o) =
-        let (within, front) = next_byte levels bytes f s b bs e in
-        let (more, n, k) = completes (suc levels) next (f.at + 1) in
+    deep s b bs e (next, o) = let (within, front) = next_byte levels bytes f s b bs e in let (more, n, k) = completes (suc levels) next (f.at + 1) in
         let text = read_spelled (suc levels) (take (suc f.at) bytes ++ more) n
         (ap (λ t. read_text (suc levels) (t ++ more)) front ∙ ap (read_text (suc levels)) (append_assoc s.front (b ∷ []) more)
         ∙ s.deeper (b ∷ more) ∙ read_ok (suc levels) f.at s.state next b more o ∙ k) in (within, (more, n, text))
 
     at : (s : Stopped levels (value []) 0 f bytes) (rest : List ℕ) → s.rest ≡ rest → StopsAt levels s.state f rest → OpensTooMany levels bytes f.at
-    at s [] e t = unlike (sym t ∙ w)
+    at s [] e t = absurd (let e : unexpected ≡ too_deep = sym t ∙ w in cc)
     at s (b ∷ bs) e t = deep s b bs e (subst (λ r. Fares levels r (step (suc levels) f.at s.state b)) (t ∙ ap Err w) (fares levels s.state f.at b s.shallow))
 
-    by : Stopped levels (value []) 0 f bytes → OpensTooMany levels bytes f.at
-    by s = at s s.rest refl s.stops
-
 pub opens_no_more : (levels : ℕ) (bytes : List ℕ) (f : Fault) → read_text levels bytes ≡ Err f → f.why ≡ unexpected → ¬ OpensTooMany levels bytes f.at
-opens_no_more levels bytes f h w (within, (more, n, text)) = by (stopped levels bytes (value []) 0 f (omega arith) h)
+opens_no_more levels bytes f h w (within, (more, n, text)) =
+    let s = stopped levels bytes (value []) 0 f (omega arith) h in at s s.rest refl s.stops
   where
     at : (s : Stopped levels (value []) 0 f bytes) (rest : List ℕ) → s.rest ≡ rest → StopsAt levels s.state f rest → ⊥
     at s [] e t = omega (arith, within, s.place, ap length (s.joined ∙ ap (λ t. s.front ++ t) e ∙ append-nil s.front))
-    at s (b ∷ bs) e t =
-        let o : step (suc levels) f.at s.state b ≡ Err unexpected =
+    at s (b ∷ bs) e t = let o : step (suc levels) f.at s.state b ≡ Err unexpected =
         subst (λ r. Fares levels r (step (suc levels) f.at s.state b)) (t ∙ ap Err w) (fares levels s.state f.at b s.shallow) in
         both (read_text (suc levels) (take (suc f.at) bytes ++ more)) n (fault unexpected f.at)
         (spelled_read (suc levels) (take (suc f.at) bytes ++ more) n text)
         (ap (λ t. read_text (suc levels) (t ++ more)) (next_byte levels bytes f s b bs e).1 ∙ ap (read_text (suc levels)) (append_assoc s.front (b ∷ []) more)
         ∙ s.deeper (b ∷ more) ∙ read_err (suc levels) f.at s.state unexpected b more o)
-
-    by : Stopped levels (value []) 0 f bytes → ⊥
-    by s = at s s.rest refl s.stops

@@ -36,9 +36,7 @@ first_repeat_behind-more : (keys : List (List ℕ)) (ms : List Member) (m : Memb
     → first_repeat_behind keys (fields_of (ms ++ m ∷ [])) ≡ first_of (first_repeat_behind keys (fields_of ms))
     (first_of (repeat_at (keys_behind keys ms) m.place m.key) (first_repeat m.of))
 first_repeat_behind-more keys [] m = ap (first_of (repeat_at keys m.place m.key)) (first_of-none (first_repeat m.of))
-first_repeat_behind-more keys (o ∷ ms) m =
-    let key = repeat_at keys o.place o.key in
-    let inner = first_repeat o.of in
+first_repeat_behind-more keys (o ∷ ms) m = let key = repeat_at keys o.place o.key in let inner = first_repeat o.of in
     let rest = first_repeat_behind (o.key ∷ keys) (fields_of ms) in
     let last = first_of (repeat_at (keys_behind (o.key ∷ keys) ms) m.place m.key) (first_repeat m.of) in
     ap (λ r. first_of key (first_of inner r)) (first_repeat_behind-more (o.key ∷ keys) ms m) ∙ ap (first_of key) (sym (first_of-assoc inner rest last))
@@ -128,8 +126,7 @@ with_value-end at key t u (m ∷ ms) h =
 -- A key's place was found or made: what the member's object becomes, and whether the key came twice.
 pub key_waits : (old new : List (List ℕ × Tree)) (key : List ℕ) (slot : ℕ) (there : Bool) (ms : List Member) → Reserves old new key slot there
     → old ≡ members_after [] (fields_of ms) → ((t : Tree) → with_value slot t new ≡ with_member key t (members_after [] (fields_of ms)))
-key_waits old new key slot true ms h is t =
-    let r = with_value-slot 0 slot key t old h.1 in
+key_waits old new key slot true ms h is t = let r = with_value-slot 0 slot key t old h.1 in
     ap (with_value slot t) h.0 ∙ ap (λ n. with_value n t old) (let e : slot ≡ r.0 = omega (arith, r.1) in e) ∙ r.2 ∙ ap (with_member key t) is
 key_waits old new key slot false ms h is t =
     ap (with_value slot t) h.0 ∙ ap (λ n. with_value n t (old ++ (key, null) ∷ [])) h.2 ∙ with_value-end 0 key t null old h.1 ∙ ap (with_member key t) is
@@ -169,8 +166,7 @@ object_takes : (o : _) (w : Waiting) (rest : List Waiting) (set : List (List ℕ
     → (x : List Member) × (put n (w ∷ rest) ≡ after_member x rest) × (repeat ≡ first_of (repeat_of rest) (first_repeat_behind [] (fields_of x)))
     × HoldsMembers set x
 object_takes o (in_list ns) rest set json n repeat k more is r = absurd k
-object_takes o (in_object ms place key) rest set json n repeat k more is r =
-    let m : Member = record { place = place; key = key; of = n } in
+object_takes o (in_object ms place key) rest set json n repeat k more is r = let m : Member = record { place = place; key = key; of = n } in
     let behind = first_repeat_behind [] (fields_of ms) in let twice = repeat_at (keys_behind [] ms) place key in
     let again = r ∙ first_of-assoc (repeat_of rest) (first_of behind twice) (first_repeat n)
     ∙ ap (first_of (repeat_of rest)) (first_of-assoc behind twice (first_repeat n) ∙ sym (first_repeat_behind-more [] ms m)) in

@@ -132,8 +132,7 @@ exponent_accepted part m f (b ∷ bs) h = (exponent, f b h.0, signed_accepted bs
 
 point_accepted : (ds e : List ℕ) → IsDigits ds → IsExponent e → Accepts point (ds ++ e)
 point_accepted [] e d h = absurd d
-point_accepted (b ∷ ds) e d h =
-    let all = digits_accepted fraction (λ b t. (digit_steps b t).1) ds e d.1
+point_accepted (b ∷ ds) e d h = let all = digits_accepted fraction (λ b t. (digit_steps b t).1) ds e d.1
     (exponent_accepted fraction refl (λ b t. cond-true _ _ _ t) e h) in (fraction, cond-true _ _ _ d.0, all)
 
 -- a fraction and an exponent, after a whole part
@@ -180,8 +179,7 @@ pub digits_spelled : (part : NumberPart) (spelling : List ℕ) (K : List ℕ →
     → (tail back : List ℕ) × (bytes ≡ tail ++ back) × Accepts part tail × K (spelling ++ tail) back
 digits_spelled part spelling K [] h = ([], [], refl, h.0, subst (λ s. K s []) (sym (append-nil spelling)) h.1)
 digits_spelled part spelling K (b ∷ bs) (inl h) = ([], b ∷ bs, refl, h.0, subst (λ s. K s (b ∷ bs)) (sym (append-nil spelling)) h.1)
-digits_spelled part spelling K (b ∷ bs) (inr (p, e, h)) =
-    let (tail, back, is, accepts, k) = digits_spelled p (spelling ++ b ∷ []) K bs h in
+digits_spelled part spelling K (b ∷ bs) (inr (p, e, h)) = let (tail, back, is, accepts, k) = digits_spelled p (spelling ++ b ∷ []) K bs h in
     (b ∷ tail, back, ap (λ t. b ∷ t) is, (p, e, accepts), subst (λ s. K s back) (append_assoc spelling (b ∷ []) tail) k)
 
 pub digits_end : (part : NumberPart) (spelling : List ℕ) (K : List ℕ → List ℕ → Type 0) (bytes : List ℕ) → may_end part ≡ true → K spelling bytes

@@ -57,8 +57,7 @@ not_first at k m ms = elim (bytes_eq k m.0) as (λ b. cond b (Some at) (slot_fro
 pub slot_from-push : {V : Type 0} (at : ℕ) (key k : List ℕ) (v : V) (ms : List (List ℕ × V)) → slot_from at k ms ≡ None
     → slot_from at key (ms ++ (k, v) ∷ []) ≡ (if bytes_eq k key then Some (at + length ms) else slot_from at key ms)
 slot_from-push at key k v [] h = ap (λ b. if b then Some at else None) (bytes_eq-comm key k) ∙ ap (λ n. if bytes_eq k key then Some n else None) (omega arith)
-slot_from-push at key k v (m ∷ ms) h =
-    let first = not_first at k m ms h in
+slot_from-push at key k v (m ∷ ms) h = let first = not_first at k m ms h in
     ap (λ o. if bytes_eq key m.0 then Some at else o) (slot_from-push (at + 1) key k v ms first.1) ∙ elim (cases_Bool (bytes_eq k key)) [
       | inl same ↦ ap (λ b. cond b (Some at) (cond (bytes_eq k key) (Some (at + 1 + length ms)) (slot_from (at + 1) key ms)))
           (ap (λ x. bytes_eq x m.0) (sym ((bytes_eq-Decides k key).0 same)) ∙ first.0)

@@ -47,8 +47,7 @@ module _ (levels : ℕ) where
 
   opened_fares : (outer : List Waiting) (s : State) → depth s ≡ suc (length outer) → length outer ≤ levels
       → Fares (opened levels outer s) (opened (suc levels) outer s)
-  opened_fares outer s d l =
-      let more : opened (suc levels) outer s ≡ Ok s = cond-true _ _ _ (lt-ltb (length outer) (suc levels) (omega arith)) in
+  opened_fares outer s d l = let more : opened (suc levels) outer s ≡ Ok s = cond-true _ _ _ (lt-ltb (length outer) (suc levels) (omega arith)) in
       cond_both (nat_lt (length outer) levels) _ _ (λ x. Fares x (opened (suc levels) outer s))
       (λ t. let h : length outer < levels = ltb-true (length outer) levels t in (more, omega arith)) (λ _. (s, more))
 

@@ -8,6 +8,5 @@ deeper : (a b : ℕ) (bytes : List ℕ) (n : Node) → a ≤ b → IsText a byte
 deeper a b bytes n le is = record { spelled = is.spelled; within = let w = is.within in omega (arith, w, le) }
 
 pub one_value : (a b : ℕ) (bytes : List ℕ) (n m : Node) → IsText a bytes n → IsText b bytes m → n ≡ m
-one_value a b bytes n m p q =
-    let first = spelled_read (a + b) bytes n (deeper a (a + b) bytes n (omega arith) p) in
+one_value a b bytes n m p q = let first = spelled_read (a + b) bytes n (deeper a (a + b) bytes n (omega arith) p) in
     let second = spelled_read (a + b) bytes m (deeper b (a + b) bytes m (omega arith) q) in let same : Ok n ≡ Ok m = sym first ∙ second in cc

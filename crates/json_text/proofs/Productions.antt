@@ -19,8 +19,7 @@ parted front back e p k = record { front = front; back = back; joined = e; first
 space_front : (K : List ℕ → Type 0) (bytes : List ℕ) → Space K bytes → Front IsSpace K bytes
 space_front K [] h = parted ([]) ([]) refl tt h
 space_front K (b ∷ bs) (inl h) = parted ([]) (b ∷ bs) refl tt h
-space_front K (b ∷ bs) (inr h) = let r = space_front K bs h.1 in
-    parted (b ∷ r.front) r.back (ap (λ x. b ∷ x) r.joined) (h.0, r.first) r.second
+space_front K (b ∷ bs) (inr h) = let r = space_front K bs h.1 in parted (b ∷ r.front) r.back (ap (λ x. b ∷ x) r.joined) (h.0, r.first) r.second
 
 pub no_space : (K : List ℕ → Type 0) (bytes : List ℕ) → K bytes → Space K bytes
 no_space K [] h = h
@@ -67,10 +66,8 @@ module _ (size : ℕ) where
 
   -- white space on both sides
   padded : (X : (List ℕ → Type 0) → List ℕ → Type 0) (V : ℕ → List ℕ → Type 0) (W : Type 0) → Reads X V W → Reads (λ K. Space (X (Space K))) (Padded V) W
-  padded X V W x = reads (λ at K bytes e h.
-      let s = space_front (X (Space K)) bytes h in
-      let v = x.to (at + length s.front) (Space K) s.back (behind at bytes s.front s.back e s.joined) s.second in
-      let t = space_front K v.back v.second in
+  padded X V W x = reads (λ at K bytes e h. let s = space_front (X (Space K)) bytes h in
+      let v = x.to (at + length s.front) (Space K) s.back (behind at bytes s.front s.back e s.joined) s.second in let t = space_front K v.back v.second in
       parted (s.front ++ (v.front ++ t.front)) t.back (padded_joined bytes s.front s.back v.front v.back t.front t.back s.joined v.joined t.joined)
       ((s.front, v.front, t.front, refl, s.first, v.first.0, t.first), v.first.1) t.second) (λ at K front back e (before, inside, after, is, s, v, t) w k.
       let all : front ++ back ≡ before ++ (inside ++ (after ++ back)) = ap (λ x. x ++ back) is ∙ simp append_assoc in
@@ -81,10 +78,8 @@ module _ (size : ℕ) where
   -- a byte on both sides
   enclosed : (X : (List ℕ → Type 0) → List ℕ → Type 0) (V : ℕ → List ℕ → Type 0) (W : Type 0) (a c : ℕ) → Reads X V W
       → Reads (λ K. Byte a (X (Byte c K))) (λ at front. (inside : List ℕ) × (front ≡ a ∷ (inside ++ c ∷ [])) × V (at + 1) inside) W
-  enclosed X V W a c x = reads (λ at K bytes e h.
-      let b = byte_back a (X (Byte c K)) bytes h in
-      let v = x.to (at + 1) (Byte c K) b.0 (behind_byte at a bytes b.0 e b.1) b.2 in
-      let d = byte_back c K v.back v.second in
+  enclosed X V W a c x = reads (λ at K bytes e h. let b = byte_back a (X (Byte c K)) bytes h in
+      let v = x.to (at + 1) (Byte c K) b.0 (behind_byte at a bytes b.0 e b.1) b.2 in let d = byte_back c K v.back v.second in
       parted (a ∷ (v.front ++ c ∷ [])) d.0 (b.1 ∙ ap (λ t. a ∷ t) (v.joined ∙ ap (λ t. v.front ++ t) d.1 ∙ sym (append_assoc v.front (c ∷ []) d.0)))
       ((v.front, refl, v.first.0), v.first.1) d.2) (λ at K front back e (inside, is, v) w k.
       let all : front ++ back ≡ a ∷ (inside ++ (c ∷ back)) = ap (λ x. x ++ back) is ∙ ap (λ t. a ∷ t) (append_assoc inside (c ∷ []) back) in
@@ -102,12 +97,8 @@ module _ (size : ℕ) where
 
     member_to : (at : ℕ) (K : List ℕ → Type 0) (bytes : List ℕ) → at + length bytes ≡ size → Member K bytes
         → Front (λ front. SpellsField V at front place key × W) K bytes
-    member_to at K bytes e h =
-        let s = space_front (Key size place key (Space (Byte 58 (X K)))) bytes h in
-        let (inside, rest, is, spelled, k) = s.second.1 in
-        let name = 34 ∷ (inside ++ 34 ∷ []) in
-        let g = space_front (Byte 58 (X K)) rest k in
-        let c = byte_back 58 (X K) g.back g.second in
+    member_to at K bytes e h = let s = space_front (Key size place key (Space (Byte 58 (X K)))) bytes h in let (inside, rest, is, spelled, k) = s.second.1 in
+        let name = 34 ∷ (inside ++ 34 ∷ []) in let g = space_front (Byte 58 (X K)) rest k in let c = byte_back 58 (X K) g.back g.second in
         let here : place ≡ at + length s.front = omega (arith, behind at bytes s.front s.back e s.joined, s.second.0) in
         let all : bytes ≡ s.front ++ (name ++ (g.front ++ 58 ∷ c.0)) =
         s.joined ∙ ap (λ t. s.front ++ t) (is ∙ ap (λ t. 34 ∷ (inside ++ 34 ∷ t)) (g.joined ∙ ap (λ t. g.front ++ t) c.1)) ∙ simp append_assoc in
@@ -117,8 +108,7 @@ module _ (size : ℕ) where
 
     member_from : (at : ℕ) (K : List ℕ → Type 0) (front back : List ℕ) → at + length (front ++ back) ≡ size → SpellsField V at front place key → W → K back
         → Member K (front ++ back)
-    member_from at K front back e (before, name, gap, rest, is, s, here, (inside, quoted, spelled), t, v) w k =
-        let left = gap ++ 58 ∷ (rest ++ back) in
+    member_from at K front back e (before, name, gap, rest, is, s, here, (inside, quoted, spelled), t, v) w k = let left = gap ++ 58 ∷ (rest ++ back) in
         let all : front ++ back ≡ before ++ (name ++ left) = ap (λ x. x ++ back) is ∙ simp append_assoc in
         let same : name ++ left ≡ 34 ∷ (inside ++ 34 ∷ left) = ap (λ n. n ++ left) quoted ∙ ap (λ t. 34 ∷ t) (append_assoc inside (34 ∷ []) left) in
         let there = field_at at (front ++ back) before name gap (rest ++ back) e all in
@@ -135,8 +125,7 @@ module _ (size : ℕ) where
 
   sequence : (X Y : (List ℕ → Type 0) → List ℕ → Type 0) (V U : ℕ → List ℕ → Type 0) (W Z : Type 0) → Reads X V W → Reads Y U Z
       → Reads (λ K. X (Y K)) (Pair V U) (W × Z)
-  sequence X Y V U W Z x y = reads (λ at K bytes e h.
-      let v = x.to at (Y K) bytes e h in
+  sequence X Y V U W Z x y = reads (λ at K bytes e h. let v = x.to at (Y K) bytes e h in
       let u = y.to (at + length v.front) K v.back (behind at bytes v.front v.back e v.joined) v.second in
       parted (v.front ++ u.front) u.back (v.joined ∙ ap (λ t. v.front ++ t) u.joined ∙ sym (append_assoc v.front u.front u.back))
       ((v.front, u.front, refl, v.first.0, u.first.0), (v.first.1, u.first.1)) u.second) (λ at K front back e (first, rest, is, v, u) w k.
@@ -147,13 +136,10 @@ module _ (size : ℕ) where
   -- the same after a comma
   more : (X : (List ℕ → Type 0) → List ℕ → Type 0) (V U : ℕ → List ℕ → Type 0) (W : Type 0) → Reads X (Pair V U) W
       → Reads (λ K. Byte 44 (X K)) (λ at front. (first rest : List ℕ) × (front ≡ 44 ∷ (first ++ rest)) × V (at + 1) first × U (at + 1 + length first) rest) W
-  more X V U W x = reads (λ at K bytes e h.
-      let b = byte_back 44 (X K) bytes h in
-      let v = x.to (at + 1) K b.0 (behind_byte at 44 bytes b.0 e b.1) b.2 in
+  more X V U W x = reads (λ at K bytes e h. let b = byte_back 44 (X K) bytes h in let v = x.to (at + 1) K b.0 (behind_byte at 44 bytes b.0 e b.1) b.2 in
       let (first, rest, is, p, q) = v.first.0 in
       parted (44 ∷ v.front) v.back (b.1 ∙ ap (λ t. 44 ∷ t) v.joined) ((first, rest, ap (λ t. 44 ∷ t) is, p, q), v.first.1) v.second)
-      (λ at K front back e (first, rest, is, v, u) w k.
-      let all : front ++ back ≡ 44 ∷ ((first ++ rest) ++ back) = ap (λ x. x ++ back) is in
+      (λ at K front back e (first, rest, is, v, u) w k. let all : front ++ back ≡ 44 ∷ ((first ++ rest) ++ back) = ap (λ x. x ++ back) is in
       subst (Byte 44 (X K)) (sym all)
       (refl, x.from (at + 1) K (first ++ rest) back (behind_byte at 44 (front ++ back) ((first ++ rest) ++ back) e all) (first, rest, refl, v, u) w k))
 

@@ -8,6 +8,7 @@ use Rattle.json_text.specs.Characters.{SpellsCharacter, unescaped, escaped, unit
 use Rattle.json_text.specs.Node.{Node, null_node, truth_node, number_node, text_node, list_node, object_node, Nodes, no_nodes, node, Fields, no_fields, field, with_member, value_of, values_of, members_after, levels_of, levels_of_nodes, levels_of_fields, first_of, first_repeat, first_repeat_in, first_repeat_behind}
 use Rattle.json_text.specs.Grammar.{SpellsValue, SpellsItems, SpellsMoreItems, SpellsMembers, SpellsMoreMembers, IsText, Padded, SpellsField}
 use Rattle.json_text.specs.Compact.{lower_hex, escape, quoted, compact_text, items_text, more_items_text, members_text, more_members_text, LacksKey, IsValue, AreItems, AreMembers, tree_levels, items_levels, members_levels}
+use Rattle.json_text.proofs.CharacterReads.{short_character}
 use Rattle.json_text.proofs.Encoded.{encode_1, encode_2, encode_3, encode_4, low_is_scalar}
 
 -- strings
@@ -25,9 +26,6 @@ control_hex : (c : ℕ) → c < 32 → IsHex (48 ∷ 48 ∷ lower_hex (c / 16) �
 control_hex c h = let a = hex_lower (c / 16) (omega arith) in let b = hex_lower (c % 16) (omega arith) in
     (48, 48, lower_hex (c / 16), lower_hex (c % 16), 0, 0, c / 16, c % 16, refl, refl, refl, a, b, omega arith)
 
-plain_character : (c : ℕ) → c < 128 → 32 ≤ c → c ≢ 34 → c ≢ 92 → SpellsCharacter (c ∷ []) (c ∷ [])
-plain_character c h l q s = subst (λ x. SpellsCharacter x x) (encode_1 c h) (unescaped c (low_is_scalar c (omega arith)) l q s)
-
 two_characters : (b d c : ℕ) → c ≡ d → SpellsCharacter (92 ∷ b ∷ []) (d ∷ []) → SpellsCharacter (92 ∷ b ∷ []) (c ∷ [])
 two_characters b d c e p = subst (λ x. SpellsCharacter (92 ∷ b ∷ []) (x ∷ [])) (sym e) p
 
@@ -44,7 +42,7 @@ escape_spelled c h =
     cond_both (nat_lt c 32) _ _ (λ e. SpellsCharacter e (c ∷ []))
     (λ t. subst (SpellsCharacter (92 ∷ 117 ∷ 48 ∷ 48 ∷ lower_hex (c / 16) ∷ lower_hex (c % 16) ∷ [])) (encode_1 c h)
     (unit (48 ∷ 48 ∷ lower_hex (c / 16) ∷ lower_hex (c % 16) ∷ []) c (control_hex c (ltb-true c 32 t)) (low_is_scalar c (omega arith))))
-    (λ f. plain_character c h (ltb-false c 32 f) (eqb-false c 34 q) (eqb-false c 92 s)))))))))
+    (λ f. short_character c (ltb-false c 32 f) (omega arith) (eqb-false c 34 q) (eqb-false c 92 s)))))))))
 
 -- a byte of a longer character is not escaped
 escape_high : (b : ℕ) → 128 ≤ b → escape b ≡ b ∷ []
@@ -184,12 +182,6 @@ members_same (member_back place key {n = n} {t = t} {fs = fs} {ms = ms} b bs) be
     ∙ members_same bs (before ++ (key, t) ∷ []) v.3 (lack_one_more before key t ms (keys_behind_one (keys_of before) key t ms h) v.1)
     ∙ joined_one before key t ms
 
-list_back : (ns : Nodes) (items : Items) → ItemsBack ns items → Back (list_node ns) (list items)
-list_back ns items bs = record { same = ap list (items_same bs); once = items_once bs; levels = ap suc (items_same_levels bs) }
-
-object_back : (fs : Fields) (ms : Members) → AreMembers ms → MembersBack fs ms → Back (object_node fs) (object ms)
-object_back fs ms v bs = record { same = ap object (members_same bs [] v tt); once = members_once bs [] v tt; levels = ap suc (members_same_levels bs) }
-
 leaf_back : (n : Node) (t : Tree) → value_of n ≡ t → first_repeat n ≡ None → levels_of n ≡ tree_levels t → Back n t
 leaf_back n t e f g = record { same = e; once = f; levels = g }
 
@@ -218,44 +210,42 @@ mutual
   value_spelled (truth false) at v = (truth_node false, refl, leaf_back (truth_node false) (truth false) refl refl refl)
   value_spelled (number spelling) at v = (number_node spelling, (refl, v), leaf_back (number_node spelling) (number spelling) refl refl refl)
   value_spelled (text t) at v = (text_node t, quoted_spelled t v, leaf_back (text_node t) (text t) refl refl refl)
-  value_spelled (list items) at v = let r = items_spelled items (at + 1) v in (list_node r.0, (items_text items, refl, r.1), list_back r.0 items r.2)
-  value_spelled (object ms) at v = let r = members_spelled ms (at + 1) v in (object_node r.0, (members_text ms, refl, r.1), object_back r.0 ms v r.2)
+  value_spelled (list items) at v = let r = items_spelled items (at + 1) v in
+      (list_node r.0, (items_text items, refl, r.1), record { same = ap list (items_same r.2); once = items_once r.2; levels = ap suc (items_same_levels r.2) })
+  value_spelled (object ms) at v = let r = members_spelled ms (at + 1) v in (
+    object_node r.0,
+    (members_text ms, refl, r.1),
+    record { same = ap object (members_same r.2 [] v tt); once = members_once r.2 [] v tt; levels = ap suc (members_same_levels r.2) },
+  )
 
   items_spelled : (items : Items) (at : ℕ) → AreItems items → (ns : Nodes) × SpellsItems at (items_text items) ns × ItemsBack ns items
   items_spelled no_items at v = (no_nodes, tt, no_items_back)
-  items_spelled (item t items) at v =
-      let (n, here, back) = value_spelled t (at + 0) v.0 in
+  items_spelled (item t items) at v = let (n, here, back) = value_spelled t (at + 0) v.0 in
       let (ns, rest, others) = more_items_spelled items (at + length (compact_text t)) v.1 in
       (node n ns, (compact_text t, more_items_text items, refl, plain_value n at (compact_text t) here, rest), item_back back others)
 
   more_items_spelled : (items : Items) (at : ℕ) → AreItems items → (ns : Nodes) × SpellsMoreItems at (more_items_text items) ns × ItemsBack ns items
   more_items_spelled no_items at v = (no_nodes, refl, no_items_back)
-  more_items_spelled (item t items) at v =
-      let (n, here, back) = value_spelled t (at + 1 + 0) v.0 in
+  more_items_spelled (item t items) at v = let (n, here, back) = value_spelled t (at + 1 + 0) v.0 in
       let (ns, rest, others) = more_items_spelled items (at + 1 + length (compact_text t)) v.1 in
       (node n ns, (compact_text t, more_items_text items, refl, plain_value n (at + 1) (compact_text t) here, rest), item_back back others)
 
   members_spelled : (ms : Members) (at : ℕ) → AreMembers ms → (fs : Fields) × SpellsMembers at (members_text ms) fs × MembersBack fs ms
   members_spelled no_members at v = (no_fields, tt, no_members_back)
-  members_spelled (member key t ms) at v =
-      let first = quoted key ++ 58 ∷ compact_text t in
-      let (n, here, back) = value_spelled t (after_key at key + 0) v.2 in
+  members_spelled (member key t ms) at v = let first = quoted key ++ 58 ∷ compact_text t in let (n, here, back) = value_spelled t (after_key at key + 0) v.2 in
       let (fs, rest, others) = more_members_spelled ms (at + length first) v.3 in
       let join = sym (append_assoc (quoted key) (58 ∷ compact_text t) (more_members_text ms)) in
       (field (at + 0) key n fs, (first, more_members_text ms, join, plain_field n at key (compact_text t) v.0 here, rest), member_back (at + 0) key back others)
 
   more_members_spelled : (ms : Members) (at : ℕ) → AreMembers ms → (fs : Fields) × SpellsMoreMembers at (more_members_text ms) fs × MembersBack fs ms
   more_members_spelled no_members at v = (no_fields, refl, no_members_back)
-  more_members_spelled (member key t ms) at v =
-      let first = quoted key ++ 58 ∷ compact_text t in
-      let (n, here, back) = value_spelled t (after_key (at + 1) key + 0) v.2 in
-      let (fs, rest, others) = more_members_spelled ms (at + 1 + length first) v.3 in
+  more_members_spelled (member key t ms) at v = let first = quoted key ++ 58 ∷ compact_text t in
+      let (n, here, back) = value_spelled t (after_key (at + 1) key + 0) v.2 in let (fs, rest, others) = more_members_spelled ms (at + 1 + length first) v.3 in
       let join = ap (λ x. 44 ∷ x) (sym (append_assoc (quoted key) (58 ∷ compact_text t) (more_members_text ms))) in
       let spelled = plain_field n (at + 1) key (compact_text t) v.0 here in
       (field (at + 1 + 0) key n fs, (first, more_members_text ms, join, spelled, rest), member_back (at + 1 + 0) key back others)
 
 -- the compact text of a value is a JSON text of its levels that represents it, with no key twice
 pub compact_spelled : (t : Tree) → IsValue t → (n : Node) × IsText (tree_levels t) (compact_text t) n × (value_of n ≡ t) × (first_repeat n ≡ None)
-compact_spelled t v =
-    let (n, here, back) = value_spelled t (0 + 0) v in
+compact_spelled t v = let (n, here, back) = value_spelled t (0 + 0) v in
     (n, record { spelled = plain_value n 0 (compact_text t) here; within = omega (arith, back.levels) }, back.same, back.once)

@@ -42,9 +42,6 @@ pub item_other : (L at : ℕ) (ns : List Node) (outer : List Waiting) (b : ℕ) 
     → step L at (after_item ns outer) b ≡ Err unexpected
 item_other L at ns outer b space h g = grind (arith, nat_tests)
 
-pub first_key_is : (L at : ℕ) (outer : List Waiting) (b : ℕ) → b ≡ 34 → step L at (first_key outer) b ≡ step L at (next_key [] outer) b
-first_key_is L at outer b h = ap (step L at (first_key outer)) h ∙ ap (step L at (next_key [] outer)) (sym h)
-
 pub first_key_other : (L at : ℕ) (outer : List Waiting) (b : ℕ) → is_space b ≡ false → b ≢ 34 → b ≢ 125 → step L at (first_key outer) b ≡ Err unexpected
 first_key_other L at outer b space h g = grind (arith, nat_tests)
 
@@ -58,10 +55,6 @@ member_other L at ms outer b space h g = grind (arith, nat_tests)
 
 pub whole_other : (L at : ℕ) (n : Node) (b : ℕ) → is_space b ≡ false → step L at (whole n) b ≡ Err unexpected
 whole_other L at n b space = ap (λ v. cond v (Ok (whole n)) (Err unexpected)) space
-
-pub colon_goes : (L at : ℕ) (ms : List Member) (place : ℕ) (key : List ℕ) (outer : List Waiting)
-    → step L at (colon ms place key outer) 58 ≡ Ok (value (in_object ms place key ∷ outer))
-colon_goes L at ms place key outer = refl
 
 -- after a key there is no colon
 pub colon_other : (L at : ℕ) (ms : List Member) (place : ℕ) (key : List ℕ) (outer : List Waiting) (rest : List ℕ) → StartsWithNoSpace rest
@@ -112,15 +105,13 @@ bracket (End json) rest h = absurd h
 
 pub opened_too_deep : (next : Next) (L at : ℕ) (ks : List Kept) (outer : List Waiting) (rest : List ℕ) → Opens next rest → KeepsAll (reverse ks) outer
     → L ≤ length ks → read_from L at (value outer) rest ≡ deep at
-opened_too_deep next L at ks outer rest h k m = let b = bracket next rest h in
-    by_byte L at (value outer) b.byte rest (Err too_deep) b.starts
+opened_too_deep next L at ks outer rest h k m = let b = bracket next rest h in by_byte L at (value outer) b.byte rest (Err too_deep) b.starts
     (b.opens L at outer ∙ opens_none L outer (b.state outer) (omega (arith, m, kept_waits ks outer k)))
 
 pub opened_goes : (next : Next) (L at : ℕ) (ks : List Kept) (repeat : Option ℕ) (outer : List Waiting) (rest : List ℕ) (there : ℕ) (behind : List ℕ)
     → Opens next rest → KeepsAll (reverse ks) outer → repeat ≡ repeat_of outer → length ks < L → there ≡ at + 1 → behind ≡ drop 1 rest
     → (x : State) × IsState next ks repeat x × (read_from L at (value outer) rest ≡ read_from L there x behind) × (length behind < length rest)
-opened_goes next L at ks repeat outer rest there behind h k r m place is =
-    let b = bracket next rest h in let s = b.state outer in
+opened_goes next L at ks repeat outer rest there behind h k r m place is = let b = bracket next rest h in let s = b.state outer in
     let read = by_byte L at (value outer) b.byte rest (Ok s) b.starts (b.opens L at outer ∙ opens_level L outer s (omega (arith, m, kept_waits ks outer k)))
     ∙ ap (λ p. read_from L p s (drop 1 rest)) (sym place) ∙ ap (read_from L there s) (sym is) in
     (s, b.is ks repeat outer k r, read, less b.byte rest behind b.starts is)

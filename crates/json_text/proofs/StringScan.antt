@@ -155,7 +155,6 @@ module _ (lead : Option ℕ) (digits : List ℕ) (place unit : ℕ) (h : place <
     whole text base (suc more) u = refl
 
     pub place_goes : IsUnitSoFar lead (4 - place) unit → digit_fits lead (4 - (place + 1)) unit d ≡ true → GoesToUnit lead digits place unit (16 * unit + d)
-    place_goes s f =
-        let so = so_far_more lead (4 - (place + 1)) unit d (omega arith)
+    place_goes s f = let so = so_far_more lead (4 - (place + 1)) unit d (omega arith)
         (subst (λ n. IsUnitSoFar lead n unit) (let k : 4 - place ≡ suc (4 - (place + 1)) = omega arith in k) s) (hex_below (get_or digits place 0) d e) f in
         (i, so, λ text base. by_fit text base true f ∙ whole text base (4 - (place + 1)) (16 * unit + d))

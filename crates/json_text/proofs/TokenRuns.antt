@@ -47,8 +47,7 @@ module _ {A : Type 0} (L at : ℕ) (s t : State) (byte : ℕ) (rest : List ℕ) 
       ∙ ap (λ k. read_from L k (state x (count x)) (drop (count x) (drop 1 rest))) (sym place) ∙ ap (read_from L there (state x (count x))) (sym is)
 
   fails : (n there : ℕ) → r ≡ Err n → there ≡ at + 1 + n → read_from L at s rest ≡ fault there
-  fails n there scan place =
-      let (k, f, g) = subst (Agrees L (at + 1) 0 (drop 1 rest) count state (read_from L (at + 1) t (drop 1 rest))) scan agrees in
+  fails n there scan place = let (k, f, g) = subst (Agrees L (at + 1) 0 (drop 1 rest) count state (read_from L (at + 1) t (drop 1 rest))) scan agrees in
       by_byte L at s byte rest (Ok t) h goes ∙ g ∙ ap fault (omega (arith, f, place))
 
 module _ (L : ℕ) (hole : Hole) where

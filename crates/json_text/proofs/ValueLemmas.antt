@@ -8,9 +8,6 @@ use Rattle.json_text.specs.Grammar.{SpellsValue, SpellsItems, SpellsMoreItems, S
 use Rattle.json_text.specs.Compact.{LacksKey, IsValue, AreItems, AreMembers, tree_levels, items_levels, members_levels}
 use Rattle.json_text.proofs.CharacterReads.{characters_utf8}
 
-string_utf8 : (bytes t : List ℕ) → SpellsString bytes t → IsUtf8 t
-string_utf8 bytes t h = characters_utf8 h.2
-
 -- another key is lacking as before
 lacks_with : (k key : List ℕ) (t : Tree) (ms : List (List ℕ × Tree)) → k ≢ key → LacksKey k (members_of ms) → LacksKey k (members_of (with_member key t ms))
 lacks_with k key t [] apart h = (apart, tt)
@@ -35,7 +32,7 @@ mutual
   node_is_value (truth_node true) at bytes h = tt
   node_is_value (truth_node false) at bytes h = tt
   node_is_value (number_node spelling) at bytes h = h.1
-  node_is_value (text_node t) at bytes h = string_utf8 bytes t h
+  node_is_value (text_node t) at bytes h = characters_utf8 h.2
   node_is_value (list_node ns) at bytes h = nodes_are_items ns (at + 1) h.0 h.2
   node_is_value (object_node fs) at bytes h = fields_are_members fs (at + 1) h.0 h.2
 
@@ -50,13 +47,13 @@ mutual
   fields_are_members : (fs : Fields) (at : ℕ) (bytes : List ℕ) → SpellsMembers at bytes fs → AreMembers (members_of (members_after [] fs))
   fields_are_members no_fields at bytes h = tt
   fields_are_members (field place key n fs) at bytes h = more_fields_are_members fs (at + length h.0) h.1 ((key, value_of n) ∷ []) h.4
-      (string_utf8 h.3.1 key h.3.7, tt, node_is_value n (at + length h.3.0 + length h.3.1 + length h.3.2 + 1 + length h.3.9.0) h.3.9.1 h.3.9.5, tt)
+      (characters_utf8 h.3.7.2, tt, node_is_value n (at + length h.3.0 + length h.3.1 + length h.3.2 + 1 + length h.3.9.0) h.3.9.1 h.3.9.5, tt)
 
   more_fields_are_members : (fs : Fields) (at : ℕ) (bytes : List ℕ) (ms : List (List ℕ × Tree)) → SpellsMoreMembers at bytes fs → AreMembers (members_of ms)
       → AreMembers (members_of (members_after ms fs))
   more_fields_are_members no_fields at bytes ms h g = g
   more_fields_are_members (field place key n fs) at bytes ms h g = more_fields_are_members fs (at + 1 + length h.0) h.1 (with_member key (value_of n) ms) h.4
-      (with_member_are key (value_of n) ms (string_utf8 h.3.1 key h.3.7)
+      (with_member_are key (value_of n) ms (characters_utf8 h.3.7.2)
       (node_is_value n (at + 1 + length h.3.0 + length h.3.1 + length h.3.2 + 1 + length h.3.9.0) h.3.9.1 h.3.9.5) g)
 
 pub text_is_value : (levels : ℕ) (bytes : List ℕ) (n : Node) → IsText levels bytes n → IsValue (value_of n)

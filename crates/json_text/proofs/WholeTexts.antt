@@ -31,18 +31,13 @@ module _ (size levels : ℕ) (r : Node) where
       (λ next f. read_follows bs next (at + 1) (omega (arith, s)) f)
 
 pub read_spelled : (levels : ℕ) (bytes : List ℕ) (n : Node) → read_text levels bytes ≡ Ok n → IsText levels bytes n
-read_spelled levels bytes n e =
-    let size = length bytes in
-    let (of, future, h) = follows_read size levels n bytes (value []) 0 (zero-add size) e in
+read_spelled levels bytes n e = let size = length bytes in let (of, future, h) = follows_read size levels n bytes (value []) 0 (zero-add size) e in
     let f = (text_reads size of (levels - 0)).to 0 (After size levels n [] future of) bytes (zero-add size) h in
-    let all : bytes ≡ f.front = f.joined ∙ ap (λ t. f.front ++ t) f.second.0 ∙ append-nil f.front in
-    subst (λ m. IsText levels bytes m) (sym f.second.1)
+    let all : bytes ≡ f.front = f.joined ∙ ap (λ t. f.front ++ t) f.second.0 ∙ append-nil f.front in subst (λ m. IsText levels bytes m) (sym f.second.1)
     (subst (λ t. IsText levels t of) (sym all) (record { spelled = f.first.0; within = omega (arith, f.first.1) }))
 
 pub spelled_read : (levels : ℕ) (bytes : List ℕ) (n : Node) → IsText levels bytes n → read_text levels bytes ≡ Ok n
-spelled_read levels bytes n h =
-    let size = length bytes in
-    let f = (text_reads size n (levels - 0)).from 0 (After size levels n [] tt n) bytes []
+spelled_read levels bytes n h = let size = length bytes in let f = (text_reads size n (levels - 0)).from 0 (After size levels n [] tt n) bytes []
     (zero-add (length (bytes ++ [])) ∙ ap length (append-nil bytes)) h.spelled (omega (arith, h.within)) (refl, refl) in
     read_follows size levels n bytes (value []) 0 (zero-add size)
     (n, tt, subst (Space (Value size n (levels - 0) (Space (After size levels n [] tt n)))) (append-nil bytes) f)

@@ -3,6 +3,7 @@ use Rattle.std.proofs.Common.{◌≡◌, ℕ, ◌/◌, ◌%◌, ◌<◌, Bool, t
 use Rattle.std.proofs.{lemmas.Str.IsUtf8-append, lemmas.Str.IsUtf8-encode, lemmas.Str.IsUtf8-nil, lemmas.Grind.flat_map-append, lemmas.Bool.Decides.nat_tests}
 use Rattle.std.proofs.lemmas.Bool.{and_parts, cases_lt}
 use Rattle.std.specs.{Prelude.encode_utf8, Prelude.encode_utf8_all, Str.IsUtf8, Str.all_scalars, Char.IsScalar, List.list_all}
+use Rattle.std.proofs.Common.{ltb-true}
 use Rattle.json_text.specs.Tree.{Tree, null, truth, number, text, list, object, Items, no_items, item, Members, no_members, member}
 use Rattle.json_text.specs.Compact.{lower_hex, escape, quoted, compact_text, items_text, more_items_text, members_text, more_members_text, IsValue, AreItems, AreMembers}
 use Rattle.json_text.specs.Reading.{NumberPart, minus, zero_int, int}
@@ -13,12 +14,9 @@ use Rattle.json_text.proofs.{NumberText.ascii_cons, NumberText.accepted_utf8, Sp
 byte_utf8 : (c : ℕ) → c < 128 → IsUtf8 (c ∷ [])
 byte_utf8 c h = ascii_cons c [] h IsUtf8-nil
 
-small_byte : (b : ℕ) → nat_lt b 128 ≡ true → b < 128
-small_byte b h = grind (arith, nat_tests)
-
 pub small_utf8 : (bs : List ℕ) → list_all (λ b. nat_lt b 128) bs ≡ true → IsUtf8 bs
 small_utf8 [] h = IsUtf8-nil
-small_utf8 (b ∷ bs) h = let p = and_parts (nat_lt b 128) (list_all (λ b. nat_lt b 128) bs) h in ascii_cons b bs (small_byte b p.0) (small_utf8 bs p.1)
+small_utf8 (b ∷ bs) h = let p = and_parts (nat_lt b 128) (list_all (λ b. nat_lt b 128) bs) h in ascii_cons b bs (ltb-true b 128 p.0) (small_utf8 bs p.1)
 
 -- the bytes that spell characters are UTF-8
 hex_ascii : (b d : ℕ) → hex_digit_of b ≡ Some d → b < 128

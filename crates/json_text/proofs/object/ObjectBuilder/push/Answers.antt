@@ -4,8 +4,7 @@ use Rattle.json_text.proofs.ObjectLemmas.{pushed, pairs_of-push, HasHashes-push}
 use Rattle.json_text.proofs.object.ObjectBuilder.push.Goals as goal
 
 pub invariant_of-self-2 : goal.invariant_of-self-2
-invariant_of-self-2 c =
-    let all : c.push.new.self.items ≡ c.try_reserve.new.self.items ++ (c.args.key, Null) ∷ [] =
+invariant_of-self-2 c = let all : c.push.new.self.items ≡ c.try_reserve.new.self.items ++ (c.args.key, Null) ∷ [] =
     pushed c.push.result _ _ c.push.new.self.items (c.push.ensures.succeeds (omega (arith, c.in_ok-try_reserve.ensures.ok))) c.push.ensures.items in
     let hashed = subst (HasHashes _) (sym (all ∙ ap (λ ms. ms ++ (c.args.key, Null) ∷ []) c.try_reserve.ensures.items))
     (HasHashes-push c.args.self.now.hashes c.args.hash c.args.key Null c.args.self.now.members.items c.requires.hash c.requires.small c.requires.new

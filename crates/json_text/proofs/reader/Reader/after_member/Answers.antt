@@ -11,8 +11,7 @@ returns-in-44-clause-goes c s st =
     c.behind.ensures.at c.behind.ensures.rest
 
 pub returns-in_ok-next-in-125-clause-goes : goal.returns-in_ok-next-in-125-clause-goes
-returns-in_ok-next-in-125-clause-goes c s st =
-    let n = object_node (fields_of st.0) in
+returns-in_ok-next-in-125-clause-goes c s st = let n = object_node (fields_of st.0) in
     goes_by c.args.self.now.levels s (after_member st.0 st.1) c.args.byte c.args.place st.2 c.requires.first _ (put n st.1) c.behind-in-125.result
     (c.in_ok-next-in-125.ensures.ok n st.1 (tree_of_object c.into_inner-members.result.members
     ∙ ap (λ o. object (members_of (pairs_of o.members.items))) c.into_inner-members.ensures ∙ ap (λ ms. object (members_of ms)) st.5) st.3 st.4)

@@ -4,7 +4,7 @@ use Rattle.json_text.specs.{Node.first_repeat_behind, Node.first_of, declared.st
 use Rattle.json_text.specs.Kept.{repeat_at, KeepsAll, repeat_of, read_at, FailsSo, keys_behind}
 use Rattle.json_text.specs.Reading.{in_key, value, next_key, colon, in_object, fields_of}
 use Rattle.json_text.proofs.KeptLemmas.{first_of-assoc, keeps_more, key_waits, key_repeats}
-use Rattle.json_text.proofs.StepLemmas.{colon_goes, colon_other, colon_skips, led}
+use Rattle.json_text.proofs.StepLemmas.{colon_other, colon_skips, led}
 use Rattle.json_text.proofs.TokenRuns.{string_takes, string_faults}
 use Rattle.json_text.proofs.reader.Reader.key.Goals as goal
 
@@ -13,9 +13,7 @@ returns-in-Err-clause-goes c ms outer kept r holds = string_faults c.args.self.n
     (in_key c.args.place.at ms outer) c.args.place c.in-Err.fault refl c.requires c.in-Err.ensures.err
 
 pub returns-then-not-starts_with-clause-goes : goal.returns-then-not-starts_with-clause-goes
-returns-then-not-starts_with-clause-goes c ms outer kept r holds =
-    let read = c.in-Ok.ensures.ok in
-    let after = colon ms c.args.place.at c.in-Ok.read.0 outer in
+returns-then-not-starts_with-clause-goes c ms outer kept r holds = let read = c.in-Ok.ensures.ok in let after = colon ms c.args.place.at c.in-Ok.read.0 outer in
     subst (FailsSo (read_at c.args.self.now.levels c.args.place (next_key ms outer))) (sym c.not_json.ensures)
     (string_takes c.args.self.now.levels c.args.place.at (next_key ms outer) (in_key c.args.place.at ms outer) c.args.place.rest.now c.in-Ok.read.0 read.0
     c.in-Ok.read.1.at c.in-Ok.read.1.rest.now c.requires refl read.1 read.2 read.3
@@ -24,13 +22,9 @@ returns-then-not-starts_with-clause-goes c ms outer kept r holds =
     c.without_space-there.ensures.no_space c.if-not-starts_with.ensures)
 
 pub returns-clause-goes : goal.returns-clause-goes
-returns-clause-goes c ms outer kept r holds =
-    let read = c.in-Ok.ensures.ok in
-    let same = ap (λ o. pairs_of o.members.items) c.deref_mut.ensures.value ∙ holds in
-    let place = c.args.place.at in
-    let key = c.in-Ok.read.0 in
-    let after = colon ms place key outer in
-    let next = value (in_object ms place key ∷ outer) in
+returns-clause-goes c ms outer kept r holds = let read = c.in-Ok.ensures.ok in
+    let same = ap (λ o. pairs_of o.members.items) c.deref_mut.ensures.value ∙ holds in let place = c.args.place.at in let key = c.in-Ok.read.0 in
+    let after = colon ms place key outer in let next = value (in_object ms place key ∷ outer) in
     let kept = subst (λ ks. KeepsAll (reverse ks) (in_object ms place key ∷ outer)) (sym c.in_ok-push.ensures.items)
     (keeps_more c.args.self.now.waiting.items (kept_object _) outer (in_object ms place key) kept (key_waits (pairs_of c.deref_mut.result.now.members.items)
     (pairs_of c.reserve.new.self.members.items) key c.in_ok-slot.slot c.in_ok-slot.is_repeated ms c.in_ok-slot.ensures.place same)) in
@@ -42,7 +36,7 @@ returns-clause-goes c ms outer kept r holds =
     (in_key place ms outer) c.args.place.rest.now key read.0 c.in-Ok.read.1.at c.in-Ok.read.1.rest.now c.requires refl read.1 read.2 read.3
     ∙ c.without_space-there.ensures.same c.args.self.now.levels after (colon_skips c.args.self.now.levels ms place key outer)
     ∙ led c.args.self.now.levels after next 58 c.without_space-there.result c.behind.result c.if-not-starts_with.ensures
-    (colon_goes c.args.self.now.levels c.without_space-there.result.at ms place key outer) c.behind.ensures.at c.behind.ensures.rest in
+    refl c.behind.ensures.at c.behind.ensures.rest in
     let shorter : length c.behind.result.rest.now < length c.args.place.rest.now =
     omega (arith, ap length c.behind.ensures.rest, length-drop 1 c.without_space-there.result.rest.now, c.without_space-there.ensures.later, read.4) in
     (next, (in_object ms place key ∷ outer, refl, kept, repeat), read_so, shorter)

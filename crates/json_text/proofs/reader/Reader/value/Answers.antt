@@ -6,18 +6,15 @@ use Rattle.json_text.proofs.reader.Reader.value.Goals.{in_default-via-then-byte-
 use Rattle.json_text.proofs.reader.Reader.value.Goals as goal
 
 pub word-requires : goal.word-requires
-word-requires c =
-    let begins = begins_word c.args.byte 110 117 (108 ∷ 108 ∷ []) null_node c.args.place.rest.now
+word-requires c = let begins = begins_word c.args.byte 110 117 (108 ∷ 108 ∷ []) null_node c.args.place.rest.now
     (λ L at outer. refl) c.requires.first c.in-110.is in (null_node, tree_of_null, refl, begins)
 
 pub word-requires-in-116 : goal.word-requires-in-116
-word-requires-in-116 c =
-    let begins = begins_word c.args.byte 116 114 (117 ∷ 101 ∷ []) (truth_node true) c.args.place.rest.now
+word-requires-in-116 c = let begins = begins_word c.args.byte 116 114 (117 ∷ 101 ∷ []) (truth_node true) c.args.place.rest.now
     (λ L at outer. refl) c.requires.first c.in-116.is in (truth_node true, tree_of_truth true, refl, begins)
 
 pub word-requires-in-102 : goal.word-requires-in-102
-word-requires-in-102 c =
-    let begins = begins_word c.args.byte 102 97 (108 ∷ 115 ∷ 101 ∷ []) (truth_node false) c.args.place.rest.now
+word-requires-in-102 c = let begins = begins_word c.args.byte 102 97 (108 ∷ 115 ∷ 101 ∷ []) (truth_node false) c.args.place.rest.now
     (λ L at outer. refl) c.requires.first c.in-102.is in (truth_node false, tree_of_truth false, refl, begins)
 
 pub returns-in_default-clause-goes : goal.returns-in_default-clause-goes
