@@ -71,15 +71,11 @@ module _ (size levels : ℕ) (r : Node) where
   at_byte bs f b c e h = subst (λ b. On bs (f b)) (sym e) h
 
   -- a value is whole: what waits for it goes on
-  put_follows : (n : Node) (outer : List Waiting) (bytes : List ℕ) → Done outer n bytes → Follows (put n outer) bytes
-  put_follows n [] bytes h = h
-  put_follows n (in_list ns ∷ outer) bytes h = h
-  put_follows n (in_object ms place key ∷ outer) bytes h = h
-
-  pub follows_put : (n : Node) (outer : List Waiting) (bytes : List ℕ) → Follows (put n outer) bytes → Done outer n bytes
-  follows_put n [] bytes h = h
-  follows_put n (in_list ns ∷ outer) bytes h = h
-  follows_put n (in_object ms place key ∷ outer) bytes h = h
+  pub put_same : (n : Node) (outer : List Waiting) (bytes : List ℕ)
+      → (Follows (put n outer) bytes → Done outer n bytes) × (Done outer n bytes → Follows (put n outer) bytes)
+  put_same n [] bytes = (λ h. h, λ h. h)
+  put_same n (in_list ns ∷ outer) bytes = (λ h. h, λ h. h)
+  put_same n (in_object ms place key ∷ outer) bytes = (λ h. h, λ h. h)
 
   -- what a comma leads to, where all is the whole list or object
   abbrev NextItem : (outer : List Waiting) → Node → Nodes × Future outer → Nodes → List ℕ → Type 0
@@ -129,7 +125,7 @@ module _ (size levels : ℕ) (r : Node) where
       on_if (is_space b) bs _ _ h (λ t (future, k). (future, inr (t, k))) (λ _ h.
       on_if (b == 44) bs _ _ h (λ t (n, future, k). let same = subst (λ all. NextItem outer n future all bs) (then_node ns n future.0) k in
       ((node n future.0, future.1), inl (eqb-true b 44 t, same))) (λ _ h.
-      on_if (b == 93) bs _ _ h (λ t h. let (future, k) = follows_put (list_node (nodes_of ns)) outer bs h in ((no_nodes, future), inl (eqb-true b 93 t, k)))
+      on_if (b == 93) bs _ _ h (λ t h. let (future, k) = (put_same (list_node (nodes_of ns)) outer bs).0 h in ((no_nodes, future), inl (eqb-true b 93 t, k)))
       (λ _ h. absurd h)))
 
   member_follows : (ms : List Member) (outer : List Waiting) (b : ℕ) (bs : List ℕ) → On bs (after_step (after_member ms outer) b)
@@ -139,7 +135,7 @@ module _ (size levels : ℕ) (r : Node) where
       on_if (b == 44) bs _ _ h (λ t (place, key, n, future, k).
       let same = subst (λ all. NextMember outer place key n future all bs) (then_field ms place key n future.0) k in
       ((field place key n future.0, future.1), inl (eqb-true b 44 t, same))) (λ _ h.
-      on_if (b == 125) bs _ _ h (λ t h. let (future, k) = follows_put (object_node (fields_of ms)) outer bs h in
+      on_if (b == 125) bs _ _ h (λ t h. let (future, k) = (put_same (object_node (fields_of ms)) outer bs).0 h in
       ((no_fields, future), inl (eqb-true b 125 t, k))) (λ _ h. absurd h)))
 
   whole_follows : (n : Node) (b : ℕ) (bs : List ℕ) → On bs (after_step (whole n) b) → Follows (whole n) (b ∷ bs)
@@ -157,10 +153,11 @@ module _ (size levels : ℕ) (r : Node) where
   key_follows ms outer at b bs s t h = let (inside, key, back, is, spelled, (n, future, k)) = characters_spelled (Colon size levels r ms at outer) bs h in
       (key, n, future, (s, (inside, back, ap (λ c. c ∷ bs) (eqb-true b 34 t) ∙ ap (λ t. 34 ∷ t) is, spelled, k)))
 
-  word_follows : (c : ℕ) (rest : List ℕ) (n : Node) (outer : List Waiting) (bs : List ℕ) → Follows (word_step c rest n outer) bs
-      → (future : Future outer) × Literal rest (Space (Waits outer future n)) bs
-  word_follows c [] n outer bs h = follows_put n outer bs h
-  word_follows c (d ∷ rest) n outer bs h = h
+  word_same : (c : ℕ) (rest : List ℕ) (n : Node) (outer : List Waiting) (bs : List ℕ)
+      → (Follows (word_step c rest n outer) bs → (future : Future outer) × Literal rest (Space (Waits outer future n)) bs)
+      × ((future : Future outer) → Literal rest (Space (Waits outer future n)) bs → Follows (word_step c rest n outer) bs)
+  word_same c [] n outer bs = ((put_same n outer bs).0, λ future h. (put_same n outer bs).1 (future, h))
+  word_same c (d ∷ rest) n outer bs = (λ h. h, λ future h. (future, h))
 
   digits_follow : (o : Option NumberPart) (part : NumberPart) (spelling : List ℕ) (outer : List Waiting) (b : ℕ) (bs : List ℕ)
       → number_step part b ≡ o → On bs (digits_step o part spelling outer b) → Follows (digits part spelling outer) (b ∷ bs)
@@ -168,14 +165,15 @@ module _ (size levels : ℕ) (r : Node) where
   digits_follow None part spelling outer b bs o h =
       on_if (may_end part) bs _ _ h (λ t h. inl (t, put_step_follows (number_node spelling) outer b bs h)) (λ _ h. absurd h)
 
-  filled : (hole : Hole) (text bs : List ℕ) → Follows (fill hole text) bs → Filled size levels r hole text bs
-  filled (in_value outer) text bs h = follows_put (text_node text) outer bs h
-  filled (in_key place ms outer) text bs h = h
+  fill_same : (hole : Hole) (text bs : List ℕ) → (Follows (fill hole text) bs → Filled size levels r hole text bs)
+      × (Filled size levels r hole text bs → Follows (fill hole text) bs)
+  fill_same (in_value outer) text bs = put_same (text_node text) outer bs
+  fill_same (in_key place ms outer) text bs = (λ h. h, λ h. h)
 
   string_follows : (hole : Hole) (text bs : List ℕ) (s : StringStep) → On bs (string_goes s (λ p t. string p t hole) (fill hole text))
       → StringOn s (λ p t. Characters p t (Filled size levels r hole) bs) (Filled size levels r hole text bs)
   string_follows hole text bs (goes_on p t) h = h
-  string_follows hole text bs ends h = filled hole text bs h
+  string_follows hole text bs ends h = (fill_same hole text bs).0 h
   string_follows hole text bs stops h = h
 
   pub follows_step : (state : State) (at b : ℕ) (bs : List ℕ) → at + suc (length bs) ≡ size → On bs (step levels at state b) → Follows state (b ∷ bs)
@@ -183,13 +181,13 @@ module _ (size levels : ℕ) (r : Node) where
       (λ _ h. let (n, future, k) = value_follows outer b bs h in (n, future, inl k))
   follows_step (first_item outer) at b bs s h =
       on_if (is_space b) bs _ _ h (λ t (ns, future, k). (ns, future, inr (t, k))) (λ _ h.
-      on_if (b == 93) bs _ _ h (λ t h. let (future, k) = follows_put (list_node no_nodes) outer bs h in (no_nodes, future, inl (eqb-true b 93 t, k))) (λ _ h.
+      on_if (b == 93) bs _ _ h (λ t h. let (future, k) = (put_same (list_node no_nodes) outer bs).0 h in (no_nodes, future, inl (eqb-true b 93 t, k))) (λ _ h.
       let (n, future, k) = value_follows (in_list [] ∷ outer) b bs h in (node n future.0, future.1, inl k)))
   follows_step (after_item ns outer) at b bs s h = item_follows ns outer b bs h
   follows_step (first_key outer) at b bs s h =
       on_if (is_space b) bs _ _ h (λ t (fs, future, k). (fs, future, inr (t, k))) (λ _ h.
       on_if (b == 34) bs _ _ h (λ t h. let (key, n, future, k) = key_follows [] outer at b bs s t h in (field at key n future.0, future.1, inl k)) (λ _ h.
-      on_if (b == 125) bs _ _ h (λ t h. let (future, k) = follows_put (object_node no_fields) outer bs h in (no_fields, future, inl (eqb-true b 125 t, k)))
+      on_if (b == 125) bs _ _ h (λ t h. let (future, k) = (put_same (object_node no_fields) outer bs).0 h in (no_fields, future, inl (eqb-true b 125 t, k)))
       (λ _ h. absurd h)))
   follows_step (next_key ms outer) at b bs s h =
       on_if (is_space b) bs _ _ h (λ t (place, key, n, future, k). (place, key, n, future, inr (t, k))) (λ _ h.
@@ -200,7 +198,7 @@ module _ (size levels : ℕ) (r : Node) where
   follows_step (after_member ms outer) at b bs s h = member_follows ms outer b bs h
   follows_step (whole n) at b bs s h = whole_follows n b bs h
   follows_step (word c rest n outer) at b bs s h =
-      on_if (b == c) bs _ _ h (λ t h. let (future, k) = word_follows c rest n outer bs h in (future, (eqb-true b c t, k))) (λ _ h. absurd h)
+      on_if (b == c) bs _ _ h (λ t h. let (future, k) = (word_same c rest n outer bs).0 h in (future, (eqb-true b c t, k))) (λ _ h. absurd h)
   follows_step (digits part spelling outer) at b bs s h = digits_follow (number_step part b) part spelling outer b bs refl h
   follows_step (string part text hole) at b bs s h = string_follows hole text bs (string_step part text b) h
 
@@ -258,7 +256,7 @@ module _ (size levels : ℕ) (r : Node) where
       → On bs (after_step (after_item ns outer) b)
   item_goes ns outer b bs (future, inr (t, k)) = yes _ _ _ _ t (future, k)
   item_goes ns outer b bs ((no_nodes, future), inl (e, k)) =
-      at_byte bs (after_step (after_item ns outer)) b 93 e (put_follows (list_node (nodes_of ns)) outer bs (future, k))
+      at_byte bs (after_step (after_item ns outer)) b 93 e ((put_same (list_node (nodes_of ns)) outer bs).1 (future, k))
   item_goes ns outer b bs ((node n xs, future), inl (e, k)) = at_byte bs (after_step (after_item ns outer)) b 44 e
       (n, (xs, future), subst (λ all. NextItem outer n (xs, future) all bs) (sym (then_node ns n xs)) k)
 
@@ -266,7 +264,7 @@ module _ (size levels : ℕ) (r : Node) where
       → On bs (after_step (after_member ms outer) b)
   member_goes ms outer b bs (future, inr (t, k)) = yes _ _ _ _ t (future, k)
   member_goes ms outer b bs ((no_fields, future), inl (e, k)) =
-      at_byte bs (after_step (after_member ms outer)) b 125 e (put_follows (object_node (fields_of ms)) outer bs (future, k))
+      at_byte bs (after_step (after_member ms outer)) b 125 e ((put_same (object_node (fields_of ms)) outer bs).1 (future, k))
   member_goes ms outer b bs ((field place key n xs, future), inl (e, k)) = at_byte bs (after_step (after_member ms outer)) b 44 e
       (place, key, n, (xs, future), subst (λ all. NextMember outer place key n (xs, future) all bs) (sym (then_field ms place key n xs)) k)
 
@@ -298,37 +296,28 @@ module _ (size levels : ℕ) (r : Node) where
       → On bs (digits_step (number_step part b) part spelling outer b)
   digits_go part spelling outer b bs (inl (m, (future, k))) =
       subst (λ o. On bs (digits_step o part spelling outer b)) (sym (no_digit part b (ends_number outer future (number_node spelling) b bs k)))
-      (yes _ _ _ _ m (ended_goes (number_node spelling) outer b bs (put_follows (number_node spelling) outer (b ∷ bs) (future, k))))
+      (yes _ _ _ _ m (ended_goes (number_node spelling) outer b bs ((put_same (number_node spelling) outer (b ∷ bs)).1 (future, k))))
   digits_go part spelling outer b bs (inr (p, e, k)) = subst (λ o. On bs (digits_step o part spelling outer b)) (sym e) k
-
-  fills : (hole : Hole) (text bs : List ℕ) → Filled size levels r hole text bs → Follows (fill hole text) bs
-  fills (in_value outer) text bs h = put_follows (text_node text) outer bs h
-  fills (in_key place ms outer) text bs h = h
 
   string_go : (hole : Hole) (text bs : List ℕ) (s : StringStep)
       → StringOn s (λ p t. Characters p t (Filled size levels r hole) bs) (Filled size levels r hole text bs)
       → On bs (string_goes s (λ p t. string p t hole) (fill hole text))
   string_go hole text bs (goes_on p t) h = h
-  string_go hole text bs ends h = fills hole text bs h
+  string_go hole text bs ends h = (fill_same hole text bs).1 h
   string_go hole text bs stops h = h
-
-  word_goes : (c : ℕ) (rest : List ℕ) (n : Node) (outer : List Waiting) (future : Future outer) (bs : List ℕ) → Literal rest (Space (Waits outer future n)) bs
-      → Follows (word_step c rest n outer) bs
-  word_goes c [] n outer future bs h = put_follows n outer bs (future, h)
-  word_goes c (d ∷ rest) n outer future bs h = (future, h)
 
   pub step_follows : (state : State) (at b : ℕ) (bs : List ℕ) → at + suc (length bs) ≡ size → Follows state (b ∷ bs) → On bs (step levels at state b)
   step_follows (value outer) at b bs s (n, future, inr (t, k)) = yes _ _ _ _ t (n, future, k)
   step_follows (value outer) at b bs s (n, future, inl k) = let (t, _, g) = value_goes n outer future b bs k in other _ _ _ _ t g
   step_follows (first_item outer) at b bs s (ns, future, inr (t, k)) = yes _ _ _ _ t (ns, future, k)
   step_follows (first_item outer) at b bs s (no_nodes, future, inl (e, k)) =
-      at_byte bs (step levels at (first_item outer)) b 93 e (put_follows (list_node no_nodes) outer bs (future, k))
+      at_byte bs (step levels at (first_item outer)) b 93 e ((put_same (list_node no_nodes) outer bs).1 (future, k))
   step_follows (first_item outer) at b bs s (node n xs, future, inl k) =
       let (t, u, g) = value_goes n (in_list [] ∷ outer) (xs, future) b bs k in other _ _ _ _ t (other _ _ _ _ u g)
   step_follows (after_item ns outer) at b bs s h = item_goes ns outer b bs h
   step_follows (first_key outer) at b bs s (fs, future, inr (t, k)) = yes _ _ _ _ t (fs, future, k)
   step_follows (first_key outer) at b bs s (no_fields, future, inl (e, k)) =
-      at_byte bs (step levels at (first_key outer)) b 125 e (put_follows (object_node no_fields) outer bs (future, k))
+      at_byte bs (step levels at (first_key outer)) b 125 e ((put_same (object_node no_fields) outer bs).1 (future, k))
   step_follows (first_key outer) at b bs s (field place key n xs, future, inl k) = let (e, g) = key_goes [] outer at place b key bs n (xs, future) s k in
       at_byte bs (step levels at (first_key outer)) b 34 e g
   step_follows (next_key ms outer) at b bs s (place, key, n, future, inr (t, k)) = yes _ _ _ _ t (place, key, n, future, k)
@@ -338,7 +327,7 @@ module _ (size levels : ℕ) (r : Node) where
   step_follows (colon ms place key outer) at b bs s (n, future, inl (e, k)) = at_byte bs (step levels at (colon ms place key outer)) b 58 e (n, future, k)
   step_follows (after_member ms outer) at b bs s h = member_goes ms outer b bs h
   step_follows (whole n) at b bs s h = whole_goes n b bs h
-  step_follows (word c rest n outer) at b bs s (future, (e, k)) = yes _ _ _ _ (eq-eqb b c e) (word_goes c rest n outer future bs k)
+  step_follows (word c rest n outer) at b bs s (future, (e, k)) = yes _ _ _ _ (eq-eqb b c e) ((word_same c rest n outer bs).1 future k)
   step_follows (digits part spelling outer) at b bs s h = digits_go part spelling outer b bs h
   step_follows (string part text hole) at b bs s h = string_go hole text bs (string_step part text b) h
 

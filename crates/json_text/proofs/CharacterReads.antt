@@ -28,36 +28,24 @@ within_to low up b t = grind (arith, nat_tests)
 apart : (a b : ℕ) → (a ≡ b → ⊥) → (a < b) ⊎ (b < a)
 apart a b h = grind arith
 
-front_224 : (b : ℕ) → b ≡ 224 → IsFront 160 31 1 (b ∷ [])
-front_224 b e = λ x i j y k l. long_3 b x y (omega arith) (omega arith) (omega arith) j k l (inl i) (inr (inl (omega arith)))
-
-front_237 : (b : ℕ) → b ≡ 237 → IsFront 128 31 1 (b ∷ [])
-front_237 b e = λ x i j y k l. long_3 b x y (omega arith) (omega arith) i (omega arith) k l (inr (omega arith)) (inl (omega arith))
-
-front_three : (b : ℕ) → 225 ≤ b → b ≤ 239 → (b ≡ 237 → ⊥) → IsFront 128 63 1 (b ∷ [])
-front_three b g h n = λ x i j y k l. long_3 b x y (omega arith) h i j k l (inr g) (inr (apart b 237 n))
-
-front_240 : (b : ℕ) → b ≡ 240 → IsFront 144 47 2 (b ∷ [])
-front_240 b e = λ x i j y k l z m n. long_4 b x y z (omega arith) (omega arith) (omega arith) j k l m n (inl i) (inr (omega arith))
-
-front_four : (b : ℕ) → 241 ≤ b → b ≤ 243 → IsFront 128 63 2 (b ∷ [])
-front_four b g h = λ x i j y k l z m n. long_4 b x y z (omega arith) (omega arith) i j k l m n (inr g) (inr (omega arith))
-
-front_244 : (b : ℕ) → b ≡ 244 → IsFront 128 15 2 (b ∷ [])
-front_244 b e = λ x i j y k l z m n. long_4 b x y z (omega arith) (omega arith) i (omega arith) k l m n (inr (omega arith)) (inl (omega arith))
-
 -- what an unescaped byte does
 pub unescaped_by : (P : StringStep → Type 0) (text : List ℕ) (b : ℕ) → (32 ≤ b → b ≤ 127 → P (goes_on between (text ++ b ∷ [])))
     → ((low width n : ℕ) → IsFront low width n (b ∷ []) → P (goes_on (tail low width n) (text ++ b ∷ []))) → P stops → P (unescaped_step text b)
 unescaped_by P text b f g h =
     cond_both (is_within 32 127 b) _ _ P (λ t. f (within_from 32 127 b t) (within_to 32 127 b t)) (λ _.
     cond_both (is_within 194 223 b) _ _ P (λ t. g 128 63 0 (λ x i j. long_2 b x (within_from 194 223 b t) (within_to 194 223 b t) i j)) (λ _.
-    cond_both (b == 224) _ _ P (λ t. g 160 31 1 (front_224 b (eqb-true b 224 t))) (λ _.
-    cond_both (b == 237) _ _ P (λ t. g 128 31 1 (front_237 b (eqb-true b 237 t))) (λ n.
-    cond_both (is_within 225 239 b) _ _ P (λ t. g 128 63 1 (front_three b (within_from 225 239 b t) (within_to 225 239 b t) (eqb-false b 237 n))) (λ _.
-    cond_both (b == 240) _ _ P (λ t. g 144 47 2 (front_240 b (eqb-true b 240 t))) (λ _.
-    cond_both (is_within 241 243 b) _ _ P (λ t. g 128 63 2 (front_four b (within_from 241 243 b t) (within_to 241 243 b t))) (λ _.
-    cond_both (b == 244) _ _ P (λ t. g 128 15 2 (front_244 b (eqb-true b 244 t))) (λ _. h))))))))
+    cond_both (b == 224) _ _ P (λ t. let e = eqb-true b 224 t in g 160 31 1 (λ x i j y k l.
+    long_3 b x y (omega arith) (omega arith) (omega arith) j k l (inl i) (inr (inl (omega arith))))) (λ _.
+    cond_both (b == 237) _ _ P (λ t. let e = eqb-true b 237 t in g 128 31 1 (λ x i j y k l.
+    long_3 b x y (omega arith) (omega arith) i (omega arith) k l (inr (omega arith)) (inl (omega arith)))) (λ n.
+    cond_both (is_within 225 239 b) _ _ P (λ t. let v = within_from 225 239 b t in let w = within_to 225 239 b t in g 128 63 1 (λ x i j y k l.
+    long_3 b x y (omega arith) w i j k l (inr v) (inr (apart b 237 (eqb-false b 237 n))))) (λ _.
+    cond_both (b == 240) _ _ P (λ t. let e = eqb-true b 240 t in g 144 47 2 (λ x i j y k l z m n.
+    long_4 b x y z (omega arith) (omega arith) (omega arith) j k l m n (inl i) (inr (omega arith)))) (λ _.
+    cond_both (is_within 241 243 b) _ _ P (λ t. let v = within_from 241 243 b t in let w = within_to 241 243 b t in g 128 63 2 (λ x i j y k l z m n.
+    long_4 b x y z (omega arith) (omega arith) i j k l m n (inr v) (inr (omega arith)))) (λ _.
+    cond_both (b == 244) _ _ P (λ t. let e = eqb-true b 244 t in g 128 15 2 (λ x i j y k l z m n.
+    long_4 b x y z (omega arith) (omega arith) i (omega arith) k l m n (inr (omega arith)) (inl (omega arith)))) (λ _. h))))))))
 
 -- a digit is less than 16
 pub hex_below : (b d : ℕ) → hex_digit_of b ≡ Some d → d < 16

@@ -4,7 +4,7 @@ use Rattle.std.proofs.{lemmas.Bool.cond-true, lemmas.Bool.cond_both, lemmas.Bool
 use Rattle.json_text.specs.Node.{Node, list_node, object_node, number_node, text_node, no_nodes, no_fields}
 use Rattle.json_text.specs.Characters.{hex_digit_of, pair_of}
 use Rattle.json_text.specs.Reading.{Member, Waiting, in_list, in_object, nodes_of, fields_of, State, value, first_item, after_item, first_key, next_key, colon, after_member, whole, word, digits, string, Hole, in_value, in_key, fill, StringPart, between, backslash, hex, high, high_backslash, tail, NumberPart, minus, zero_int, int, point, fraction, exponent, exponent_sign, exponent_digits, may_end, string_step, goes_on, ends, stops, StringStep, string_goes, put, step, digit_fits, unit_step, unit_after, hex_step, tail_after, is_within, read_from}
-use Rattle.json_text.proofs.{ReadingSteps.read_ok, ReadingSteps.read_nil, Following.Ended, ByteSteps.follows_put, NumberReads.digits_end}
+use Rattle.json_text.proofs.{WholeTexts.read_ok, WholeTexts.read_nil, Following.Ended, ByteSteps.put_same, NumberReads.digits_end}
 use Rattle.json_text.proofs.WholeTexts.{follows_read, read_follows}
 
 -- a digit that a code unit can go on with
@@ -40,7 +40,7 @@ module _ (levels : ℕ) where
   complete_number : (part : NumberPart) (spelling : List ℕ) (outer : List Waiting) → may_end part ≡ true → Completes (digits part spelling outer)
   complete_number part spelling outer m at = let (more, n, e) = complete_put (number_node spelling) outer at in let size = at + length more in
       let follows = digits_end part spelling (λ s. Ended size levels n outer (number_node s)) more m
-      (follows_put size levels n (number_node spelling) outer more (follows_read size levels n more (put (number_node spelling) outer) at refl e)) in
+      ((put_same size levels n (number_node spelling) outer more).0 (follows_read size levels n more (put (number_node spelling) outer) at refl e)) in
       (more, n, read_follows size levels n more (digits part spelling outer) at refl follows)
 
   complete_digits : (part : NumberPart) (spelling : List ℕ) (outer : List Waiting) → Completes (digits part spelling outer)

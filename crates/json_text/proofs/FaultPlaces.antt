@@ -1,5 +1,5 @@
 -- The byte machine stops where no text goes on: `read_fails`, `opens_too_many`, `opens_no_more`.
-use Rattle.json_text.proofs.{WholeTexts.read_spelled, WholeTexts.spelled_read, ReadingSteps.read_ok, ReadingSteps.read_err, ReadingSteps.read_nil}
+use Rattle.json_text.proofs.{WholeTexts.read_spelled, WholeTexts.spelled_read, WholeTexts.read_ok, WholeTexts.read_err, WholeTexts.read_nil}
 use Rattle.json_text.proofs.{Completions.completes, OneLevelMore.depth, OneLevelMore.Fares, OneLevelMore.fares}
 use Rattle.std.proofs.Common.{◌≡◌, ℕ, suc, ◌+◌, ◌-◌, ◌<◌, ◌≤◌, List, [], ◌∷◌, ◌++◌, length, take, Option, Some, None, Result, Ok, Err, refl, sym, ap, ◌∙◌, subst, arith, append_assoc, append-nil, length-append, add-zero, zero-add, take_at}
 use Rattle.json_text.specs.{Node.Node, Faults.FailsAt, Faults.OpensTooMany}
@@ -110,8 +110,7 @@ opens_too_many levels bytes f h w = let s = stopped levels bytes (value []) 0 f 
     at s (b ∷ bs) e t = deep s b bs e (subst (λ r. Fares levels r (step (suc levels) f.at s.state b)) (t ∙ ap Err w) (fares levels s.state f.at b s.shallow))
 
 pub opens_no_more : (levels : ℕ) (bytes : List ℕ) (f : Fault) → read_text levels bytes ≡ Err f → f.why ≡ unexpected → ¬ OpensTooMany levels bytes f.at
-opens_no_more levels bytes f h w (within, (more, n, text)) =
-    let s = stopped levels bytes (value []) 0 f (omega arith) h in at s s.rest refl s.stops
+opens_no_more levels bytes f h w (within, (more, n, text)) = let s = stopped levels bytes (value []) 0 f (omega arith) h in at s s.rest refl s.stops
   where
     at : (s : Stopped levels (value []) 0 f bytes) (rest : List ℕ) → s.rest ≡ rest → StopsAt levels s.state f rest → ⊥
     at s [] e t = omega (arith, within, s.place, ap length (s.joined ∙ ap (λ t. s.front ++ t) e ∙ append-nil s.front))

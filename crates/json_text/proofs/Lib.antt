@@ -12,7 +12,6 @@ pub mod Following
 pub mod NumberReads
 pub mod CharacterReads
 pub mod Productions
-pub mod ReadingSteps
 pub mod ByteSteps
 pub mod WholeTexts
 pub mod Completions

@@ -182,9 +182,6 @@ members_same (member_back place key {n = n} {t = t} {fs = fs} {ms = ms} b bs) be
     ∙ members_same bs (before ++ (key, t) ∷ []) v.3 (lack_one_more before key t ms (keys_behind_one (keys_of before) key t ms h) v.1)
     ∙ joined_one before key t ms
 
-leaf_back : (n : Node) (t : Tree) → value_of n ≡ t → first_repeat n ≡ None → levels_of n ≡ tree_levels t → Back n t
-leaf_back n t e f g = record { same = e; once = f; levels = g }
-
 -- with no white space around it
 unpadded : (P : ℕ → List ℕ → Type 0) (at : ℕ) (bytes : List ℕ) → P (at + 0) bytes → Padded P at bytes
 unpadded P at bytes h = ([], bytes, [], sym (append-nil bytes), tt, h, tt)
@@ -205,18 +202,16 @@ IsSpelled at bytes t = (n : Node) × SpellsValue at bytes n × Back n t
 
 mutual
   value_spelled : (t : Tree) (at : ℕ) → IsValue t → IsSpelled at (compact_text t) t
-  value_spelled null at v = (null_node, refl, leaf_back null_node null refl refl refl)
-  value_spelled (truth true) at v = (truth_node true, refl, leaf_back (truth_node true) (truth true) refl refl refl)
-  value_spelled (truth false) at v = (truth_node false, refl, leaf_back (truth_node false) (truth false) refl refl refl)
-  value_spelled (number spelling) at v = (number_node spelling, (refl, v), leaf_back (number_node spelling) (number spelling) refl refl refl)
-  value_spelled (text t) at v = (text_node t, quoted_spelled t v, leaf_back (text_node t) (text t) refl refl refl)
+  value_spelled null at v = (null_node, refl, record { same = refl; once = refl; levels = refl })
+  value_spelled (truth true) at v = (truth_node true, refl, record { same = refl; once = refl; levels = refl })
+  value_spelled (truth false) at v = (truth_node false, refl, record { same = refl; once = refl; levels = refl })
+  value_spelled (number spelling) at v = (number_node spelling, (refl, v), record { same = refl; once = refl; levels = refl })
+  value_spelled (text t) at v = (text_node t, quoted_spelled t v, record { same = refl; once = refl; levels = refl })
   value_spelled (list items) at v = let r = items_spelled items (at + 1) v in
       (list_node r.0, (items_text items, refl, r.1), record { same = ap list (items_same r.2); once = items_once r.2; levels = ap suc (items_same_levels r.2) })
-  value_spelled (object ms) at v = let r = members_spelled ms (at + 1) v in (
-    object_node r.0,
-    (members_text ms, refl, r.1),
-    record { same = ap object (members_same r.2 [] v tt); once = members_once r.2 [] v tt; levels = ap suc (members_same_levels r.2) },
-  )
+  value_spelled (object ms) at v = let r = members_spelled ms (at + 1) v in let back : Back (object_node r.0) (object ms) =
+      record { same = ap object (members_same r.2 [] v tt); once = members_once r.2 [] v tt; levels = ap suc (members_same_levels r.2) } in
+      (object_node r.0, (members_text ms, refl, r.1), back)
 
   items_spelled : (items : Items) (at : ℕ) → AreItems items → (ns : Nodes) × SpellsItems at (items_text items) ns × ItemsBack ns items
   items_spelled no_items at v = (no_nodes, tt, no_items_back)

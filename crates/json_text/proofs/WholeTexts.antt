@@ -1,9 +1,29 @@
--- The byte machine reads exactly the texts of the grammar: `read_spelled`, `spelled_read`.
-use Rattle.std.proofs.Common.{◌≡◌, ℕ, ◌+◌, ◌-◌, List, [], ◌∷◌, ◌++◌, length, Result, Ok, Err, refl, sym, ap, ◌∙◌, subst, arith, append-nil, zero-add}
+-- The byte machine reads exactly the texts of the grammar: `read_spelled`, `spelled_read`. One step of a reading at a time:
+-- `read_ok`, `read_err`, `read_nil`.
+use Rattle.std.proofs.Common.{◌≡◌, ℕ, ◌+◌, ◌-◌, List, [], ◌∷◌, ◌++◌, length, Option, Some, None, Result, Ok, Err, refl, sym, ap, ◌∙◌, subst, arith, append-nil, zero-add}
 use Rattle.json_text.specs.{Node.Node, Grammar.IsText}
 use Rattle.json_text.specs.Reading.{State, Stop, Fault, value, step, go_on, end_of, ended, read_from, read_text}
-use Rattle.json_text.proofs.{Following.Space, Following.Value, Following.After, Following.Following, Productions.text_reads, ReadingSteps.ended_ok}
+use Rattle.json_text.proofs.{Following.Space, Following.Value, Following.After, Following.Following, Productions.text_reads}
 use Rattle.json_text.proofs.ByteSteps.{On, follows_step, step_follows, follows_end, end_follows}
+
+-- one step of a reading
+pub read_nil : (levels at : ℕ) (state : State) → read_from levels at state [] ≡ ended at (end_of state)
+unfolding read_from
+read_nil levels at state = refl
+
+pub read_ok : (levels at : ℕ) (state next : State) (b : ℕ) (bs : List ℕ) → step levels at state b ≡ Ok next
+    → read_from levels at state (b ∷ bs) ≡ read_from levels (at + 1) next bs
+unfolding read_from
+read_ok levels at state next b bs e = ap (λ s. go_on at s (λ next. read_from levels (at + 1) next bs)) e
+
+pub read_err : (levels at : ℕ) (state : State) (why : Stop) (b : ℕ) (bs : List ℕ) → step levels at state b ≡ Err why
+    → read_from levels at state (b ∷ bs) ≡ Err (record { why = why; at = at })
+unfolding read_from
+read_err levels at state why b bs e = ap (λ s. go_on at s (λ next. read_from levels (at + 1) next bs)) e
+
+ended_ok : (at : ℕ) (o : Option Node) (r : Node) → ended at o ≡ Ok r → o ≡ Some r
+ended_ok at None r h = cc
+ended_ok at (Some n) r h = cc
 
 module _ (size levels : ℕ) (r : Node) where
   on_read : (bs : List ℕ) (s : Result State Stop) (at : ℕ) (f : State → Result Node Fault) → go_on at s f ≡ Ok r

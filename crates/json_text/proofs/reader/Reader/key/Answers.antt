@@ -36,7 +36,6 @@ returns-clause-goes c ms outer kept r holds = let read = c.in-Ok.ensures.ok in
     (in_key place ms outer) c.args.place.rest.now key read.0 c.in-Ok.read.1.at c.in-Ok.read.1.rest.now c.requires refl read.1 read.2 read.3
     ∙ c.without_space-there.ensures.same c.args.self.now.levels after (colon_skips c.args.self.now.levels ms place key outer)
     ∙ led c.args.self.now.levels after next 58 c.without_space-there.result c.behind.result c.if-not-starts_with.ensures
-    refl c.behind.ensures.at c.behind.ensures.rest in
-    let shorter : length c.behind.result.rest.now < length c.args.place.rest.now =
+    refl c.behind.ensures.at c.behind.ensures.rest in let shorter : length c.behind.result.rest.now < length c.args.place.rest.now =
     omega (arith, ap length c.behind.ensures.rest, length-drop 1 c.without_space-there.result.rest.now, c.without_space-there.ensures.later, read.4) in
     (next, (in_object ms place key ∷ outer, refl, kept, repeat), read_so, shorter)
