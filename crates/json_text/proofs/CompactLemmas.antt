@@ -36,25 +36,16 @@ members_left zero ms = members_text (members_of ms)
 members_left (suc i) ms = more_members_text (members_of ms)
 
 -- nothing is left after the last one
-items_left_none : (i : ℕ) → items_left i [] ≡ []
-items_left_none zero = refl
-items_left_none (suc i) = refl
+pub items_left_none : (i : ℕ) (ts : List Tree) → ts ≡ [] → items_left i ts ≡ []
+items_left_none zero ts e = ap (λ ts. items_text (items_of ts)) e
+items_left_none (suc i) ts e = ap (λ ts. more_items_text (items_of ts)) e
 
-members_left_none : (i : ℕ) → members_left i [] ≡ []
-members_left_none zero = refl
-members_left_none (suc i) = refl
+pub members_left_none : (i : ℕ) (ms : List (List ℕ × Tree)) → ms ≡ [] → members_left i ms ≡ []
+members_left_none zero ms e = ap (λ ms. members_text (members_of ms)) e
+members_left_none (suc i) ms e = ap (λ ms. more_members_text (members_of ms)) e
 
 -- the closing byte after what is inside
-closed : (old out inside : List ℕ) (front back : ℕ) → out ++ [] ≡ (old ++ front ∷ []) ++ inside → out ++ back ∷ [] ≡ old ++ front ∷ (inside ++ back ∷ [])
-closed old out inside front back whole = ap (λ t. t ++ back ∷ []) (sym (append-nil out) ∙ whole ∙ append_assoc old (front ∷ []) inside)
-    ∙ append_assoc old (front ∷ inside) (back ∷ [])
-
-pub items_closed : (old out inside : List ℕ) (ts : List Tree) (i : ℕ) (front back : ℕ) → ts ≡ [] → out ++ items_left i ts ≡ (old ++ front ∷ []) ++ inside
+pub closed : (old out inside left : List ℕ) (front back : ℕ) → left ≡ [] → out ++ left ≡ (old ++ front ∷ []) ++ inside
     → out ++ back ∷ [] ≡ old ++ front ∷ (inside ++ back ∷ [])
-items_closed old out inside ts i front back none whole =
-    closed old out inside front back (ap (λ t. out ++ t) (sym (ap (items_left i) none ∙ items_left_none i)) ∙ whole)
-
-pub members_closed : (old out inside : List ℕ) (ms : List (List ℕ × Tree)) (i : ℕ) (front back : ℕ) → ms ≡ []
-    → out ++ members_left i ms ≡ (old ++ front ∷ []) ++ inside → out ++ back ∷ [] ≡ old ++ front ∷ (inside ++ back ∷ [])
-members_closed old out inside ms i front back none whole =
-    closed old out inside front back (ap (λ t. out ++ t) (sym (ap (members_left i) none ∙ members_left_none i)) ∙ whole)
+closed old out inside left front back none whole = ap (λ t. t ++ back ∷ [])
+    (sym (ap (λ t. out ++ t) none ∙ append-nil out) ∙ whole ∙ append_assoc old (front ∷ []) inside) ∙ append_assoc old (front ∷ inside) (back ∷ [])

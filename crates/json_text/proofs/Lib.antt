@@ -14,8 +14,6 @@ pub mod CharacterReads
 pub mod Productions
 pub mod ByteSteps
 pub mod WholeTexts
-pub mod Completions
-pub mod OneLevelMore
 pub mod FaultPlaces
 pub mod NumberText
 pub mod StringScan

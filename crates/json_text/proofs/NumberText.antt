@@ -1,14 +1,10 @@
--- The bytes of a number are ASCII: `number_utf8`; how far a token reaches: `string_within`.
+-- The bytes of a number are ASCII: `number_utf8`.
 use Rattle.std.proofs.Common.{◌≡◌, ◌≤◌, ◌<◌, ℕ, zero, suc, ◌+◌, List, [], ◌∷◌, length, take, Bool, true, false, Option, Some, None, Result, Ok, Err, refl, sym, ap, ◌∙◌, subst, arith, cond}
 use Rattle.std.proofs.{lemmas.Bool.Decides.nat_tests, lemmas.Str.IsUtf8-append, lemmas.Str.IsUtf8-encode, lemmas.Str.IsUtf8-nil}
 use Rattle.json_text.proofs.{NumberReads.Accepts, Encoded.encode_1, Encoded.low_is_scalar}
 use Rattle.std.specs.Str.{IsUtf8}
 use Rattle.json_text.specs.Reading.{NumberPart, minus, zero_int, int, point, fraction, exponent, exponent_sign, exponent_digits, number_step, may_end, StringPart, StringStep, goes_on, ends, stops, string_step}
 use Rattle.json_text.specs.Scan.{scan_number, number_on, scan_string, string_on}
-
-abbrev failed : Result (List ℕ × ℕ) ℕ → ℕ
-failed (Ok x) = x.1
-failed (Err n) = n
 
 pub goes_ascii : (part : NumberPart) (b : ℕ) (p : NumberPart) → number_step part b ≡ Some p → b < 128
 goes_ascii minus b p h = grind (arith, nat_tests)
@@ -47,19 +43,3 @@ accepted (b ∷ bs) part m e h = accepted_on b bs part m e (number_step part b) 
 pub number_utf8 : (part : NumberPart) (n b : ℕ) (bs : List ℕ) → b < 128 → scan_number part 0 bs ≡ Ok n → IsUtf8 (take (1 + n) (b ∷ bs))
 number_utf8 part n b bs low h = let (k, e, a) = accepted bs part 0 n h in
     subst (λ k. IsUtf8 (take k (b ∷ bs))) (let f : suc k ≡ 1 + n = omega (arith, e) in f) (ascii_cons b (take k bs) low (accepted_utf8 part (take k bs) a))
-
--- a string's fault lies within the bytes
-on_within : (m e : ℕ) (text : List ℕ) (bs : List ℕ) (x : StringStep)
-    → ((p : StringPart) (u : List ℕ) → scan_string p u (m + 1) bs ≡ Err e → e ≤ (m + 1) + length bs)
-    → string_on x text m (λ p u. scan_string p u (m + 1) bs) ≡ Err e → e ≤ m + suc (length bs)
-on_within m e text bs (goes_on p u) ih h = omega (arith, ih p u h)
-on_within m e text bs ends ih h = cc
-on_within m e text bs stops ih h = let same : m ≡ e = ap failed h in omega (arith, same)
-
-within_from : (m e : ℕ) (part : StringPart) (text bs : List ℕ) → scan_string part text m bs ≡ Err e → e ≤ m + length bs
-unfolding scan_string
-within_from m e part text [] h = let same : m ≡ e = ap failed h in omega (arith, same)
-within_from m e part text (b ∷ bs) h = on_within m e text bs (string_step part text b) (λ p u g. within_from (m + 1) e p u bs g) h
-
-pub string_within : (e : ℕ) (part : StringPart) (text bs : List ℕ) → scan_string part text 0 bs ≡ Err e → e ≤ length bs
-string_within e part text bs h = omega (arith, within_from 0 e part text bs h)

@@ -30,9 +30,3 @@ deep_so L bs f at g is = let e : read_text L bs ≡ Err (record { why = too_deep
 
 pub same_fault : {A : Type 0} {f g : JsonFault} → ◌≡◌ {A = Result A JsonFault} (Err f) (Err g) → f ≡ g
 same_fault h = cc
-
-abbrev pub place_in : JsonFault → Option ℕ
-place_in (NotJson at) = None
-place_in (TooDeep at) = None
-place_in (KeyTwice at) = Some at
-place_in NoMemory = None

@@ -14,6 +14,7 @@ use std::alloc::Global;
 pub(crate) fn string(alloc: Global, bytes: &[u8]) -> Result<(Text, usize), TokenFault>
     ensures ok { IfOk result (λ r. scan_string between [] 0 bytes.now ≡ Ok (r.0, r.1)) }
     ensures within { IfOk result (λ r. r.1 ≤ length bytes.now) }
+    ensures ends { (n : ℕ) → result ≡ Err (TokenFault.Stop n) → n ≤ length bytes.now }
     ensures stop { (n : ℕ) → result ≡ Err (TokenFault.Stop n)
         → scan_string between [] 0 bytes.now ≡ Err n }
 {

@@ -2,7 +2,7 @@ use Rattle.std.proofs.Common.{◌++◌, ◌∷◌, [], take, drop, length, sym, 
 use Rattle.std.proofs.{Math.ListN.drop_of_length-le, lemmas.Result.on_ok_weaker}
 use Rattle.json_text.specs.{View.tree_of, View.trees_of, View.pairs_of, Tree.items_of, Tree.members_of}
 use Rattle.json_text.specs.Compact.{compact_text, items_text, members_text}
-use Rattle.json_text.proofs.CompactLemmas.{kept_behind, kept_further, items_closed, members_closed}
+use Rattle.json_text.proofs.CompactLemmas.{kept_behind, kept_further, items_left_none, members_left_none, closed}
 use Rattle.json_text.proofs.ViewLemmas.{tree_of_list, tree_of_object}
 use Rattle.json_text.proofs.compact.+push_value.Goals.{then-i-gt0+in_ok-extend-in-List-2, else-i-gt0, then-i-gt0-2+in_ok-extend-in-Obj-2, else-i-gt0-2}
 use Rattle.json_text.proofs.compact.+push_value.Goals as goal
@@ -32,17 +32,16 @@ returns-in_err-push_value-in-Obj-clause-kept t c = kept_further c.args.out.now c
 
 pub returns-after-items-clause-ok : goal.returns-after-items-clause-ok
 returns-after-items-clause-ok t c = on_ok_weaker c.extend-in-List-2.result
-    (λ e. e ∙ items_closed c.args.out.now c.items.out (items_text (items_of (trees_of c.deref-item-items.result.now)))
-    (trees_of (drop c.items.i c.deref-item-items.result.now)) c.items.i 91 93 (ap trees_of (drop_of_length-le c.deref-item-items.result.now c.items-test.false))
+    (λ e. e ∙ closed c.args.out.now c.items.out (items_text (items_of (trees_of c.deref-item-items.result.now))) _ 91 93
+    (items_left_none c.items.i _ (ap trees_of (drop_of_length-le c.deref-item-items.result.now c.items-test.false)))
     (c.items.invariant.whole ∙ ap (λ t. t ++ items_text (items_of (trees_of c.deref-item-items.result.now))) c.in_ok-extend-in-List.ensures.ok)
     ∙ ap (λ js. c.args.out.now ++ 91 ∷ (items_text (items_of (trees_of js)) ++ 93 ∷ [])) c.deref-item-items.ensures.value
     ∙ ap (λ t. c.args.out.now ++ compact_text t) (sym (ap tree_of c.in-List.is ∙ tree_of_list c.in-List.items))) c.extend-in-List-2.ensures.ok
 
 pub returns-after-members-clause-ok : goal.returns-after-members-clause-ok
 returns-after-members-clause-ok t c = on_ok_weaker c.extend-in-Obj-2.result
-    (λ e. e ∙ members_closed c.args.out.now c.members.out (members_text (members_of (pairs_of c.deref-key-items.result.now)))
-    (pairs_of (drop c.members.i c.deref-key-items.result.now)) c.members.i 123 125
-    (ap pairs_of (drop_of_length-le c.deref-key-items.result.now c.members-test.false))
+    (λ e. e ∙ closed c.args.out.now c.members.out (members_text (members_of (pairs_of c.deref-key-items.result.now))) _ 123 125
+    (members_left_none c.members.i _ (ap pairs_of (drop_of_length-le c.deref-key-items.result.now c.members-test.false)))
     (c.members.invariant.whole ∙ ap (λ t. t ++ members_text (members_of (pairs_of c.deref-key-items.result.now))) c.in_ok-extend-in-Obj.ensures.ok)
     ∙ ap (λ ms. c.args.out.now ++ 123 ∷ (members_text (members_of (pairs_of ms)) ++ 125 ∷ [])) c.deref-key-items.ensures.value
     ∙ ap (λ t. c.args.out.now ++ compact_text t) (sym (ap tree_of c.in-Obj.is ∙ tree_of_object c.in-Obj.members))) c.extend-in-Obj-2.ensures.ok

@@ -1,7 +1,7 @@
 use Rattle.std.proofs.Common.{◌≤◌, ◌∙◌, sym, ap, subst}
 use Rattle.json_text.specs.{Node.value_of, Node.first_repeat, Compact.IsValue, Compact.tree_levels}
 use Rattle.json_text.proofs.{WholeTexts.read_spelled, ValueLemmas.text_is_value, ValueLemmas.text_within}
-use Rattle.json_text.proofs.ReadLemmas.{is_only, repeat_or_memory, stands_so, deep_so, same_fault, place_in}
+use Rattle.json_text.proofs.ReadLemmas.{is_only, repeat_or_memory, stands_so, deep_so, same_fault}
 use Rattle.json_text.proofs.reading.read_once.Goals as goal
 
 pub returns-in-None-clause-found : goal.returns-in-None-clause-found
@@ -21,7 +21,7 @@ returns-in-Some-clause-only c m h = let r = c.in-Ok.ensures.ok in ap first_repea
 
 pub returns-in-Some-clause-key_twice : goal.returns-in-Some-clause-key_twice
 returns-in-Some-clause-key_twice c at is = let r = c.in-Ok.ensures.ok in
-    (r.0, read_spelled c.args.levels c.args.bytes.now r.0 r.1, sym r.3 ∙ c.in-Some.is ∙ ap place_in (same_fault is))
+    (r.0, read_spelled c.args.levels c.args.bytes.now r.0 r.1, (cc (r.3, c.in-Some.is, is)))
 
 pub returns-in-Err-clause-only : goal.returns-in-Err-clause-only
 returns-in-Err-clause-only c m h = repeat_or_memory c.args.levels c.args.bytes.now m c.in-Err.fault h c.in-Err.ensures.err
