@@ -2,13 +2,12 @@
 -- `step_follows` back. At the end of the bytes: `follows_end` and `end_follows`.
 use Rattle.std.proofs.Common.{◌≡◌, ℕ, suc, ◌+◌, ◌-◌, ◌<◌, true, false, List, [], ◌∷◌, ◌++◌, length, Option, Some, None, Result, Ok, Err, refl, sym, ap, ◌∙◌, subst, inl, inr, arith, eqb-true, ltb-true, lt-ltb, eq-eqb, ◌==◌, ◌||◌, Bool, cond, nat_lt, codes}
 use Rattle.std.proofs.{lemmas.Bool.cond-true, lemmas.Bool.cond-false, lemmas.Bool.or_left, lemmas.Bool.Decides.nat_tests}
-use Rattle.json_text.proofs.{NumberReads.choose, NumberReads.digits_spelled, NumberReads.digits_from}
 use Rattle.json_text.proofs.Following.{Byte, Space, Literal, Characters, StringOn, Future, Key, Value, Items, MoreItems, Members, MoreMembers, After, Ended, Colon, Filled, Following}
-use Rattle.json_text.proofs.NumberReads.{Accepts, Starts, with_minus, with_zero, with_digit, starts, minus_number, zero_number, int_number}
+use Rattle.json_text.proofs.NumberReads.{choose, digits_spelled, digits_from, Accepts, Starts, with_minus, with_zero, with_digit, starts, minus_number, zero_number, int_number}
 use Rattle.json_text.proofs.CharacterReads.{characters_spelled, characters_from}
-use Rattle.json_text.specs.{Number.IsNumber, Number.is_digit_above_zero, Grammar.is_space}
-use Rattle.json_text.specs.Node.{Node, null_node, truth_node, list_node, object_node, number_node, text_node, Nodes, no_nodes, node, Fields, no_fields, field}
 use Rattle.json_text.specs.Reading.{Stop, unexpected, too_deep, Member, Waiting, in_list, in_object, then_nodes, then_fields, nodes_of, fields_of, State, value, first_item, after_item, first_key, next_key, colon, after_member, whole, word, digits, string, Hole, in_value, in_key, fill, StringStep, goes_on, ends, stops, string_step, string_goes, between, NumberPart, number_step, may_end, minus, zero_int, int, point, fraction, exponent, exponent_sign, exponent_digits, put, opened, value_step, word_step, after_step, digits_step, step, end_of}
+use Rattle.json_text.specs.Node.{Node, null_node, truth_node, list_node, object_node, number_node, text_node, Nodes, no_nodes, node, Fields, no_fields, field}
+use Rattle.json_text.specs.{Number.IsNumber, Number.is_digit_above_zero, Grammar.is_space}
 
 heads : (b c : ℕ) (bs cs : List ℕ) → b ∷ bs ≡ c ∷ cs → (b ≡ c) × (bs ≡ cs)
 heads b c bs cs e = (cc, cc)

@@ -7,8 +7,7 @@ use Rattle.json_text.specs.Reading.{Member, Waiting, in_list, in_object, nodes_o
 use Rattle.json_text.specs.Node.{Node, list_node, object_node, number_node, text_node, no_nodes, no_fields, null_node, truth_node}
 use Rattle.json_text.specs.{Characters.hex_digit_of, Characters.pair_of, Faults.FailsAt, Faults.OpensTooMany, Number.is_digit_above_zero, Grammar.is_space}
 use Rattle.json_text.proofs.WholeTexts.{read_ok, read_nil, follows_read, read_follows, read_spelled, spelled_read, read_err}
-use Rattle.json_text.proofs.{NumberReads.digits_end, ByteSteps.put_same}
-use Rattle.json_text.proofs.Following.{Ended}
+use Rattle.json_text.proofs.{NumberReads.digits_end, ByteSteps.put_same, Following.Ended}
 
 -- a digit that a code unit can go on with
 fits : (lead : Option ℕ) (more n : ℕ) → (b d : ℕ) × (hex_digit_of b ≡ Some d) × (digit_fits lead more n d ≡ true)

@@ -1,12 +1,116 @@
--- What the reader keeps, as it goes on: `put_in_list`, `put_in_object`; a key and its place: `key_waits`.
-use Rattle.std.proofs.Common.{◌≡◌, ℕ, suc, ◌+◌, List, [], ◌∷◌, ◌++◌, length, map, reverse, Bool, true, false, Option, Some, None, refl, sym, ap, ◌∙◌, subst, arith, cond, if◌then◌else◌, ◌||◌, inl, inr}
-use Rattle.std.proofs.{lemmas.Bool.cases_Bool, lemmas.Slice.Eq.bytes_eq-Decides, lemmas.List.reverse-append, lemmas.List.map-append}
-use Rattle.std.specs.{Prelude.unwrap_or, List.list_any, Str.bytes_eq}
-use Rattle.json_text.specs.{Tree.Tree, Tree.null, View.tree_of, View.trees_of, View.pairs_of, Objects.with_value, Objects.slot_from, Objects.Reserves}
+-- The members of an object while it is read: `slot_from-push`, `with_value-set`, `HasHashes-push` and the others. What the reader keeps
+-- as it goes on: `put_in_list`, `put_in_object`; a key and its place: `key_waits`, `key_repeats`.
+use Rattle.std.proofs.Common.{◌≡◌, ◌<◌, ℕ, zero, suc, ◌+◌, List, [], ◌∷◌, ◌++◌, length, Bool, true, false, Some, None, refl, sym, ap, ◌∙◌, arith, cond, if◌then◌else◌, get_or, drop, inl, inr, ◌≢◌, ◌*◌, ◌%◌, ◌^◌, String, bit_or, map, reverse, Option, subst, ◌||◌}
+use Rattle.std.proofs.{lemmas.List.at_drop_more, lemmas.List.reverse-append, lemmas.List.map-append, lemmas.Bool.cases_eq, lemmas.Bool.cases_Bool}
+use Rattle.std.proofs.{lemmas.Nat.Bits.bit_at_set_same, lemmas.Nat.Bits.bit_at_set_other, lemmas.Slice.Eq.bytes_eq-Decides, Math.ListN.set}
+use Rattle.std.specs.{Prelude.unwrap_or, Prelude.IsOk, Prelude.is_ok, Prelude.Result, Prelude.Ok, Prelude.Err, Int.bit_at, Int.w128, BTreeMap.BTreeMap}
+use Rattle.std.specs.{Global.Global, List.list_any, Str.bytes_eq}
 use Rattle.json_text.specs.Node.{Node, value_of, values_of, members_after, with_member, first_of, first_repeat, first_repeat_in, first_repeat_behind}
 use Rattle.json_text.specs.Reading.{Member, Waiting, in_list, in_object, nodes_of, fields_of, after_item, after_member, put}
-use Rattle.json_text.specs.{Kept.keys_behind, Kept.repeat_at, Kept.repeat_of, Kept.Keeps, Kept.KeepsAll, Kept.HoldsMembers, declared.value.Json.Json}
-use Rattle.json_text.specs.{declared.state.Kept.Kept, declared.state.Kept.TheVariants.List as kept_list, declared.state.Kept.TheVariants.Object as kept_object}
+use Rattle.json_text.specs.{Objects.HasHashes, Objects.IsIndex, Objects.hash_of, Objects.slot_from, Objects.with_value, Objects.Reserves, Tree.null, Tree.Tree}
+use Rattle.json_text.specs.{declared.state.Kept.TheVariants.List as kept_list, declared.state.Kept.TheVariants.Object as kept_object, declared.value.Json.Json}
+use Rattle.json_text.specs.{Kept.keys_behind, Kept.repeat_at, Kept.repeat_of, Kept.Keeps, Kept.KeepsAll, Kept.HoldsMembers, declared.state.Kept.Kept}
+use Rattle.json_text.specs.{View.tree_of, View.pairs_of, View.trees_of, declared.value.Json.TheVariants.Null}
+use Rattle.json_text.proofs.ViewLemmas.{tree_of_null}
+
+-- a member gets a value: each key is where it was
+slot_from-set : (at : ℕ) (key : List ℕ) (v : Json) (slot : ℕ) (ms : List (List ℕ × Json)) (d : List ℕ × Json) → slot < length ms → d ≡ get_or ms slot d
+    → slot_from at key (set ms slot (d.0, v)) ≡ slot_from at key ms
+slot_from-set at key v slot [] d h e = absurd (omega (arith, h))
+slot_from-set at key v zero (m ∷ ms) d h e = ap (λ p. if bytes_eq key p.0 then Some at else slot_from (at + 1) key ms) e
+slot_from-set at key v (suc slot) (m ∷ ms) d h e =
+    ap (λ o. if bytes_eq key m.0 then Some at else o) (slot_from-set (at + 1) key v slot ms d (omega (arith, h)) e)
+
+pub with_value-set : (v : Json) (slot : ℕ) (ms : List (List ℕ × Json)) (d : List ℕ × Json) → slot < length ms → d ≡ get_or ms slot d
+    → pairs_of (set ms slot (d.0, v)) ≡ with_value slot (tree_of v) (pairs_of ms)
+with_value-set v slot [] d h e = absurd (omega (arith, h))
+with_value-set v zero (m ∷ ms) d h e = ap (λ p. (p.0, tree_of v) ∷ pairs_of ms) e
+with_value-set v (suc slot) (m ∷ ms) d h e = ap (λ rest. (m.0, tree_of m.1) ∷ rest) (with_value-set v slot ms d (omega (arith, h)) e)
+
+pub slot_from-pairs : (at : ℕ) (key : List ℕ) (ms : List (List ℕ × Json)) → slot_from at key (pairs_of ms) ≡ slot_from at key ms
+slot_from-pairs at key [] = refl
+slot_from-pairs at key (m ∷ ms) = ap (λ o. if bytes_eq key m.0 then Some at else o) (slot_from-pairs (at + 1) key ms)
+
+pub slot_from-below : {V : Type 0} (at slot : ℕ) (key : List ℕ) (ms : List (List ℕ × V)) → slot_from at key ms ≡ Some slot → slot < at + length ms
+slot_from-below at slot key [] h = cc
+slot_from-below at slot key (m ∷ ms) h =
+    elim (bytes_eq key m.0) as (λ b. cond b (Some at) (slot_from (at + 1) key ms) ≡ Some slot → slot < at + suc (length ms)) [
+      | true ↦ λ g. let e : at ≡ slot = ap (λ o. unwrap_or o 0) g in omega (arith, e)
+      | false ↦ λ g. omega (arith, slot_from-below (at + 1) slot key ms g)
+    ] h
+
+bytes_eq-comm : (a b : List ℕ) → bytes_eq a b ≡ bytes_eq b a
+bytes_eq-comm a b =
+    elim (cases_Bool (bytes_eq a b)) [
+      | inl same ↦ same ∙ sym ((bytes_eq-Decides b a).1 (sym ((bytes_eq-Decides a b).0 same)))
+      | inr other ↦ other ∙ sym (elim (cases_Bool (bytes_eq b a)) [
+        | inl back ↦ absurd (cc (((bytes_eq-Decides a b).1 (sym ((bytes_eq-Decides b a).0 back))), other))
+        | inr none ↦ none
+      ])
+    ]
+
+not_first : {V : Type 0} (at : ℕ) (k : List ℕ) (m : List ℕ × V) (ms : List (List ℕ × V)) → slot_from at k (m ∷ ms) ≡ None
+    → (bytes_eq k m.0 ≡ false) × (slot_from (at + 1) k ms ≡ None)
+not_first at k m ms = elim (bytes_eq k m.0) as (λ b. cond b (Some at) (slot_from (at + 1) k ms) ≡ None
+    → (b ≡ false) × (slot_from (at + 1) k ms ≡ None)) [ true ↦ λ h. cc | false ↦ λ h. (refl, h) ]
+
+-- a member with a new key at the end
+pub slot_from-push : {V : Type 0} (at : ℕ) (key k : List ℕ) (v : V) (ms : List (List ℕ × V)) → slot_from at k ms ≡ None
+    → slot_from at key (ms ++ (k, v) ∷ []) ≡ (if bytes_eq k key then Some (at + length ms) else slot_from at key ms)
+slot_from-push at key k v [] h = ap (λ b. if b then Some at else None) (bytes_eq-comm key k) ∙ ap (λ n. if bytes_eq k key then Some n else None) (omega arith)
+slot_from-push at key k v (m ∷ ms) h = let first = not_first at k m ms h in
+    ap (λ o. if bytes_eq key m.0 then Some at else o) (slot_from-push (at + 1) key k v ms first.1) ∙ elim (cases_Bool (bytes_eq k key)) [
+      | inl same ↦ ap (λ b. cond b (Some at) (cond (bytes_eq k key) (Some (at + 1 + length ms)) (slot_from (at + 1) key ms)))
+          (ap (λ x. bytes_eq x m.0) (sym ((bytes_eq-Decides k key).0 same)) ∙ first.0)
+          ∙ ap (λ b. cond b (Some (at + 1 + length ms)) (slot_from (at + 1) key ms)) same ∙ ap (λ n. Some n) (omega arith)
+          ∙ sym (ap (λ b. cond b (Some (at + suc (length ms))) (cond (bytes_eq key m.0) (Some at) (slot_from (at + 1) key ms))) same)
+      | inr other ↦ ap (λ b. cond (bytes_eq key m.0) (Some at) (cond b (Some (at + 1 + length ms)) (slot_from (at + 1) key ms))) other
+          ∙ sym (ap (λ b. cond b (Some (at + suc (length ms))) (cond (bytes_eq key m.0) (Some at) (slot_from (at + 1) key ms))) other)
+    ]
+
+-- the members from a place on begin with the member there
+pub slot_from-drop : (at : ℕ) (key : List ℕ) (n : ℕ) (ms : List (List ℕ × Json)) (d : List ℕ × Json) → n < length ms → d ≡ get_or ms n d
+    → (if bytes_eq d.0 key then Some at else slot_from (at + 1) key (drop (n + 1) ms)) ≡ slot_from at key (drop n ms)
+slot_from-drop at key n ms d h e = ap (λ b. cond b (Some at) (slot_from (at + 1) key (drop (n + 1) ms))) (bytes_eq-comm d.0 key ∙ ap (λ p. bytes_eq key p.0) e)
+    ∙ sym (at_drop_more (slot_from at key) ms n d h)
+
+pub pairs_of-push : (k : List ℕ) (ms : List (List ℕ × Json)) → pairs_of (ms ++ (k, Null) ∷ []) ≡ pairs_of ms ++ (k, null) ∷ []
+pairs_of-push k [] = ap (λ t. (k, t) ∷ []) tree_of_null
+pairs_of-push k (m ∷ ms) = ap (λ rest. (m.0, tree_of m.1) ∷ rest) (pairs_of-push k ms)
+
+-- a number with one bit more
+abbrev with_bit : ℕ → ℕ → ℕ
+with_bit n k = bit_or n (1 * 2 ^ k % 2 ^ 128)
+
+-- the key at the end has its hash's bit
+pub HasHashes-push : {V : Type 0} (hashes hash : ℕ) (k : List ℕ) (v : V) (ms : List (List ℕ × V)) → hash ≡ hash_of k → hash < 128 → slot_from 0 k ms ≡ None
+    → HasHashes hashes ms → HasHashes (with_bit hashes hash) (ms ++ (k, v) ∷ [])
+HasHashes-push hashes hash k v ms is small new has q unset =
+    elim (cases_eq (hash_of q) hash) [
+      | inl same ↦ absurd (omega (arith, sym (bit_at_set_same w128 hashes hash small) ∙ ap (λ h. bit_at (with_bit hashes hash) h) (sym same) ∙ unset))
+      | inr other ↦ slot_from-push 0 q k v ms new ∙ ap (λ b. cond b (Some (0 + length ms)) (slot_from 0 q ms)) (apart k q (λ e. other (e ∙ sym is)))
+          ∙ has q (sym (bit_at_set_other w128 hashes hash small (hash_of q) other) ∙ unset)
+    ]
+  where
+    apart : (a b : List ℕ) → hash_of b ≢ hash_of a → bytes_eq a b ≡ false
+    apart a b other = elim (cases_Bool (bytes_eq a b)) [
+      | inl same ↦ absurd (other (ap hash_of (sym ((bytes_eq-Decides a b).0 same))))
+      | inr differ ↦ differ
+    ]
+
+-- a member's value changes neither the hashes nor the map
+pub HasHashes-set : (hashes : ℕ) (v : Json) (slot : ℕ) (ms : List (List ℕ × Json)) (d : List ℕ × Json) → slot < length ms → d ≡ get_or ms slot d
+    → HasHashes hashes ms → HasHashes hashes (set ms slot (d.0, v))
+HasHashes-set hashes v slot ms d h e has q unset = slot_from-set 0 q v slot ms d h e ∙ has q unset
+
+pub IsIndex-set : (slots : BTreeMap (String Global) ℕ) (v : Json) (slot : ℕ) (ms : List (List ℕ × Json)) (d : List ℕ × Json) → slot < length ms
+    → d ≡ get_or ms slot d → IsIndex slots ms → IsIndex slots (set ms slot (d.0, v))
+IsIndex-set slots v slot ms d h e index made q = index made q ∙ sym (slot_from-set 0 q v slot ms d h e)
+
+-- what a list is after a push that has its room
+pub pushed : {A T E : Type 0} (r : Result T E) (more same new : List A) → IsOk r → new ≡ (if is_ok r then more else same) → new ≡ more
+pushed (Ok x) more same new h e = e
+pushed (Err x) more same new h e = cc
 
 pub first_of-assoc : (a b c : Option ℕ) → first_of (first_of a b) c ≡ first_of a (first_of b c)
 first_of-assoc None b c = refl
@@ -85,21 +189,14 @@ has-members_after key keys acc [] h = h
 has-members_after key keys acc (m ∷ ms) h = has-members_after key (m.key ∷ keys) (with_member m.key (value_of m.of) acc) ms
     (has-with_member key m.key (value_of m.of) acc ∙ ap (λ b. bytes_eq key m.key || b) h)
 
-none_has : {V : Type 0} (at : ℕ) (key : List ℕ) (ms : List (List ℕ × V)) → slot_from at key ms ≡ None → has key ms ≡ false
-none_has at key [] h = refl
-none_has at key (m ∷ ms) h =
-    elim (bytes_eq key m.0) as (λ b. cond b (Some at) (slot_from (at + 1) key ms) ≡ None → (b || has key ms) ≡ false) [
-      | true ↦ λ g. cc
-      | false ↦ λ g. none_has (at + 1) key ms g
-    ] h
+abbrev found : Option ℕ → Bool
+found None = false
+found (Some at) = true
 
-some_has : {V : Type 0} (at slot : ℕ) (key : List ℕ) (ms : List (List ℕ × V)) → slot_from at key ms ≡ Some slot → has key ms ≡ true
-some_has at slot key [] h = cc
-some_has at slot key (m ∷ ms) h =
-    elim (bytes_eq key m.0) as (λ b. cond b (Some at) (slot_from (at + 1) key ms) ≡ Some slot → (b || has key ms) ≡ true) [
-      | true ↦ λ g. refl
-      | false ↦ λ g. some_has (at + 1) slot key ms g
-    ] h
+has-found : {V : Type 0} (at : ℕ) (key : List ℕ) (ms : List (List ℕ × V)) → has key ms ≡ found (slot_from at key ms)
+has-found at key [] = refl
+has-found at key (m ∷ ms) = elim (bytes_eq key m.0) as (λ b. (b || has key ms) ≡ found (cond b (Some at) (slot_from (at + 1) key ms)))
+    [ true ↦ refl | false ↦ has-found (at + 1) key ms ]
 
 -- the member with the key gets its value at its place
 with_value-slot : (at slot : ℕ) (key : List ℕ) (t : Tree) (ms : List (List ℕ × Tree)) → slot_from at key ms ≡ Some slot
@@ -134,9 +231,9 @@ key_waits old new key slot false ms h is t =
 pub key_repeats : (old new : List (List ℕ × Tree)) (key : List ℕ) (slot place : ℕ) (there : Bool) (ms : List Member) → Reserves old new key slot there
     → old ≡ members_after [] (fields_of ms) → repeat_at (keys_behind [] ms) place key ≡ (if there then Some place else None)
 key_repeats old new key slot place true ms h is =
-    ap (λ b. cond b (Some place) None) (sym (has-members_after key [] [] ms refl) ∙ ap (has key) (sym is) ∙ some_has 0 slot key old h.1)
+    ap (λ b. cond b (Some place) None) (sym (has-members_after key [] [] ms refl) ∙ ap (has key) (sym is) ∙ has-found 0 key old ∙ ap found h.1)
 key_repeats old new key slot place false ms h is =
-    ap (λ b. cond b (Some place) None) (sym (has-members_after key [] [] ms refl) ∙ ap (has key) (sym is) ∙ none_has 0 key old h.1)
+    ap (λ b. cond b (Some place) None) (sym (has-members_after key [] [] ms refl) ∙ ap (has key) (sym is) ∙ has-found 0 key old ∙ ap found h.1)
 
 -- a whole value for the innermost of what waits, which is a list
 list_takes : (v : _) (w : Waiting) (rest : List Waiting) (pushed : List Json) (json : Json) (n : Node) (repeat : Option ℕ)

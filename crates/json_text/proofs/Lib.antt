@@ -15,12 +15,10 @@ pub mod Productions
 pub mod ByteSteps
 pub mod WholeTexts
 pub mod FaultPlaces
-pub mod NumberText
 pub mod StringScan
 pub mod TokenRuns
 pub mod StepLemmas
 pub mod ViewLemmas
-pub mod ObjectLemmas
 pub mod KeptLemmas
 pub mod ValueLemmas
 pub mod ReadLemmas

@@ -1,15 +1,14 @@
 -- The compact text of a value spells it: `compact_spelled`.
 use Rattle.std.proofs.Common.{◌≡◌, ◌≢◌, ℕ, suc, max, ◌+◌, ◌/◌, ◌%◌, ◌≤◌, ◌<◌, Bool, true, false, cond, ◌==◌, nat_lt, List, [], ◌∷◌, ◌++◌, length, flat_map, Some, None, refl, sym, ap, ◌∙◌, subst, arith, IsUtf8, encode_utf8, append_assoc, append-nil, ⊎_elim, eqb-true}
 use Rattle.std.proofs.lemmas.Bool.{and_parts, cond_both, cond-false, eqb-false, ltb-true, ltb-false, cases_lt}
-use Rattle.std.proofs.{lemmas.Grind.flat_map-append, lemmas.Slice.Eq.bytes_eq-Decides, lemmas.Bool.Decides.nat_tests}
-use Rattle.std.specs.{Char.IsScalar, Str.bytes_eq, Str.encode_utf8_all, Str.all_scalars, List.list_any}
-use Rattle.json_text.specs.Tree.{Tree, null, truth, number, text, list, object, Items, no_items, item, Members, no_members, member, items_of, members_of}
-use Rattle.json_text.specs.Characters.{SpellsCharacter, unescaped, escaped, unit, SpellsCharacters, none, more, SpellsString, IsHex, hex_digit_of}
+use Rattle.std.proofs.{lemmas.Slice.Eq.bytes_eq-Decides, lemmas.Bool.Decides.nat_tests, lemmas.Grind.flat_map-append}
+use Rattle.std.specs.{Str.bytes_eq, Str.encode_utf8_all, Str.all_scalars, Char.IsScalar, List.list_any}
 use Rattle.json_text.specs.Node.{Node, null_node, truth_node, number_node, text_node, list_node, object_node, Nodes, no_nodes, node, Fields, no_fields, field, with_member, value_of, values_of, members_after, levels_of, levels_of_nodes, levels_of_fields, first_of, first_repeat, first_repeat_in, first_repeat_behind}
-use Rattle.json_text.specs.Grammar.{SpellsValue, SpellsItems, SpellsMoreItems, SpellsMembers, SpellsMoreMembers, IsText, Padded, SpellsField}
 use Rattle.json_text.specs.Compact.{lower_hex, escape, quoted, compact_text, items_text, more_items_text, members_text, more_members_text, LacksKey, IsValue, AreItems, AreMembers, tree_levels, items_levels, members_levels}
-use Rattle.json_text.proofs.CharacterReads.{short_character}
-use Rattle.json_text.proofs.Encoded.{encode_1, encode_2, encode_3, encode_4, low_is_scalar}
+use Rattle.json_text.specs.Characters.{SpellsCharacter, unescaped, escaped, unit, SpellsCharacters, none, more, SpellsString, IsHex, hex_digit_of}
+use Rattle.json_text.specs.Tree.{Tree, null, truth, number, text, list, object, Items, no_items, item, Members, no_members, member, items_of, members_of}
+use Rattle.json_text.specs.Grammar.{SpellsValue, SpellsItems, SpellsMoreItems, SpellsMembers, SpellsMoreMembers, IsText, Padded, SpellsField}
+use Rattle.json_text.proofs.{Encoded.encode_1, Encoded.encode_2, Encoded.encode_3, Encoded.encode_4, Encoded.low_is_scalar, CharacterReads.short_character}
 
 -- strings
 digit_hex : (n : ℕ) → n < 10 → hex_digit_of (48 + n) ≡ Some n
@@ -56,14 +55,11 @@ all_high : (bs : List ℕ) → AreHigh bs → flat_map escape bs ≡ bs
 all_high [] h = refl
 all_high (b ∷ bs) h = rw (escape_high b h.0, all_high bs h.1)
 
-abbrev IsPlain : List ℕ → Type 0
-IsPlain bytes = flat_map escape bytes ≡ bytes
-
-long_plain : (c : ℕ) → 128 ≤ c → IsPlain (encode_utf8 c)
+long_plain : (c : ℕ) → 128 ≤ c → flat_map escape (encode_utf8 c) ≡ encode_utf8 c
 long_plain c h =
-    ⊎_elim (λ l. subst IsPlain (sym (encode_2 c h l)) (all_high (_ ∷ _ ∷ []) (omega arith, (omega arith, tt)))) (λ l.
-    ⊎_elim (λ u. subst IsPlain (sym (encode_3 c l u)) (all_high (_ ∷ _ ∷ _ ∷ []) (omega arith, (omega arith, (omega arith, tt)))))
-    (λ u. subst IsPlain (sym (encode_4 c u)) (all_high (_ ∷ _ ∷ _ ∷ _ ∷ []) (omega arith, (omega arith, (omega arith, (omega arith, tt))))))
+    ⊎_elim (λ l. subst (λ x. flat_map escape x ≡ x) (sym (encode_2 c h l)) (all_high (_ ∷ _ ∷ []) (omega arith, (omega arith, tt)))) (λ l.
+    ⊎_elim (λ u. subst (λ x. flat_map escape x ≡ x) (sym (encode_3 c l u)) (all_high (_ ∷ _ ∷ _ ∷ []) (omega arith, (omega arith, (omega arith, tt)))))
+    (λ u. subst (λ x. flat_map escape x ≡ x) (sym (encode_4 c u)) (all_high (_ ∷ _ ∷ _ ∷ _ ∷ []) (omega arith, (omega arith, (omega arith, (omega arith, tt))))))
     (cases_lt c 65536)) (cases_lt c 2048)
 
 long_spelled : (c : ℕ) → IsScalar c → 128 ≤ c → SpellsCharacter (flat_map escape (encode_utf8 c)) (encode_utf8 c)
@@ -109,16 +105,13 @@ items_once : {ns : Nodes} {items : Items} → ItemsBack ns items → first_repea
 items_once no_items_back = refl
 items_once (item_back {ns = ns} b bs) = ap (λ x. first_of x (first_repeat_in ns)) b.once ∙ items_once bs
 
-max_same : (a b c d : ℕ) → a ≡ c → b ≡ d → max a b ≡ max c d
-max_same a b c d e f = cc
-
 items_same_levels : {ns : Nodes} {items : Items} → ItemsBack ns items → levels_of_nodes ns ≡ items_levels items
 items_same_levels no_items_back = refl
-items_same_levels (item_back b bs) = max_same _ _ _ _ b.levels (items_same_levels bs)
+items_same_levels (item_back b bs) = cc (b.levels, items_same_levels bs)
 
 members_same_levels : {fs : Fields} {ms : Members} → MembersBack fs ms → levels_of_fields fs ≡ members_levels ms
 members_same_levels no_members_back = refl
-members_same_levels (member_back place key b bs) = max_same _ _ _ _ b.levels (members_same_levels bs)
+members_same_levels (member_back place key b bs) = cc (b.levels, members_same_levels bs)
 
 -- none of the keys is a member's
 abbrev LackKeys : List (List ℕ) → Members → Type 0

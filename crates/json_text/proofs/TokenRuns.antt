@@ -2,14 +2,13 @@
 -- `value_word` and where they stop. White space that the reader passes over: `behind_space`, `IsSpace-more`.
 use Rattle.std.proofs.Common.{◌≡◌, ℕ, suc, ◌+◌, List, [], ◌∷◌, ◌++◌, length, take, drop, true, false, Option, Some, None, Result, Ok, Err, refl, sym, ap, ◌∙◌, subst, arith, append_assoc, append-nil, Bool, ◌==◌, cond, ◌<◌, ◌≤◌}
 use Rattle.std.proofs.lemmas.List.{length-drop, take-append-drop, length-take-le}
-use Rattle.json_text.specs.{Node.Node, Node.number_node, Grammar.IsSpace, Grammar.is_space, declared.state.Place.Place, declared.state.Kept.Kept}
 use Rattle.json_text.specs.Reading.{Stop, NumberPart, number_step, may_end, StringPart, StringStep, goes_on, ends, stops, string_step, between, Waiting, in_list, in_object, State, string, Hole, fill, digits, word, word_step, digits_step, put, step, string_goes, go_on, read_from, Fault, unexpected, end_of, ended, after_step, value, too_deep}
-use Rattle.json_text.specs.Kept.{SkipsSpace, StartsWith, BeginsNumber, BeginsWord, KeepsAll, StringFault, FailsSo, read_at}
-use Rattle.json_text.specs.Scan.{scan_string, string_on, scan_number, number_on, number_end, scan_word}
-use Rattle.json_text.specs.declared.fault.JsonFault.{JsonFault}
 use Rattle.json_text.specs.declared.fault.JsonFault.TheVariants.{NotJson, TooDeep, KeyTwice, NoMemory}
+use Rattle.json_text.specs.Kept.{SkipsSpace, StartsWith, BeginsNumber, BeginsWord, KeepsAll, StringFault, FailsSo, read_at}
+use Rattle.json_text.specs.{Scan.scan_string, Scan.string_on, Scan.scan_number, Scan.number_on, Scan.number_end, Scan.scan_word, Node.Node, Node.number_node}
+use Rattle.json_text.specs.{declared.fault.JsonFault.JsonFault, Grammar.IsSpace, Grammar.is_space, declared.state.Place.Place, declared.state.Kept.Kept}
 use Rattle.std.specs.Str.{IsUtf8}
-use Rattle.json_text.proofs.NumberText.{number_utf8}
+use Rattle.json_text.proofs.NumberReads.{number_utf8}
 
 abbrev pub fault : ℕ → Result Node Fault
 fault at = Err (record { why = unexpected; at = at })

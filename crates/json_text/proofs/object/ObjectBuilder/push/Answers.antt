@@ -1,6 +1,6 @@
 use Rattle.std.proofs.Common.{◌≡◌, ◌∷◌, ◌++◌, [], ◌∙◌, ap, sym, subst, arith}
-use Rattle.json_text.specs.{Objects.HasHashes, Objects.IsIndex, View.pairs_of, declared.value.Json.TheVariants.Null}
-use Rattle.json_text.proofs.ObjectLemmas.{pushed, pairs_of-push, HasHashes-push}
+use Rattle.json_text.specs.{declared.value.Json.TheVariants.Null, Objects.HasHashes, Objects.IsIndex, View.pairs_of}
+use Rattle.json_text.proofs.KeptLemmas.{pushed, pairs_of-push, HasHashes-push}
 use Rattle.json_text.proofs.object.ObjectBuilder.push.Goals as goal
 
 pub invariant_of-self-2 : goal.invariant_of-self-2

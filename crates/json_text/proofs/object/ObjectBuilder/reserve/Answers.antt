@@ -1,6 +1,6 @@
 use Rattle.std.proofs.{Common.◌∙◌, Common.sym, Common.ap, Common.arith, Common.◌++◌, Common.◌∷◌, Common.[], Common.length, lemmas.List.length-map}
-use Rattle.json_text.specs.{Objects.slot_from, Tree.null, View.tree_of, View.pairs_of}
-use Rattle.json_text.proofs.ObjectLemmas.{slot_from-pairs, slot_from-below}
+use Rattle.json_text.specs.{View.tree_of, View.pairs_of, Objects.slot_from, Tree.null}
+use Rattle.json_text.proofs.KeptLemmas.{slot_from-pairs, slot_from-below}
 use Rattle.json_text.proofs.object.ObjectBuilder.reserve.Goals as goal
 
 pub returns-in-Some-clause-place : goal.returns-in-Some-clause-place

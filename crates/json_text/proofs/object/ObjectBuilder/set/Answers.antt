@@ -1,4 +1,4 @@
-use Rattle.json_text.proofs.ObjectLemmas.{HasHashes-set, IsIndex-set, with_value-set}
+use Rattle.json_text.proofs.KeptLemmas.{HasHashes-set, IsIndex-set, with_value-set}
 use Rattle.json_text.proofs.object.ObjectBuilder.set.Goals as goal
 
 pub invariant_of-self : goal.invariant_of-self

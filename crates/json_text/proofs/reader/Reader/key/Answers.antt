@@ -1,11 +1,10 @@
 use Rattle.std.proofs.Common.{length, ◌<◌, if◌then◌else◌, Some, None, reverse, ◌∙◌, ◌∷◌, [], refl, sym, ap, arith, subst}
 use Rattle.std.proofs.lemmas.List.{length-drop}
-use Rattle.json_text.specs.{Node.first_repeat_behind, Node.first_of, declared.state.Kept.TheVariants.Object as kept_object, View.pairs_of}
+use Rattle.json_text.specs.{Reading.in_key, Reading.value, Reading.next_key, Reading.colon, Reading.in_object, Reading.fields_of, View.pairs_of}
 use Rattle.json_text.specs.Kept.{repeat_at, KeepsAll, repeat_of, read_at, FailsSo, keys_behind}
-use Rattle.json_text.specs.Reading.{in_key, value, next_key, colon, in_object, fields_of}
+use Rattle.json_text.specs.{declared.state.Kept.TheVariants.Object as kept_object, Node.first_repeat_behind, Node.first_of}
 use Rattle.json_text.proofs.KeptLemmas.{first_of-assoc, keeps_more, key_waits, key_repeats}
-use Rattle.json_text.proofs.StepLemmas.{colon_other, colon_skips, led}
-use Rattle.json_text.proofs.TokenRuns.{string_takes, string_faults}
+use Rattle.json_text.proofs.{StepLemmas.colon_other, StepLemmas.colon_skips, StepLemmas.led, TokenRuns.string_takes, TokenRuns.string_faults}
 use Rattle.json_text.proofs.reader.Reader.key.Goals as goal
 
 pub returns-in-Err-clause-goes : goal.returns-in-Err-clause-goes

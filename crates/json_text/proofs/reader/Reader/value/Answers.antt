@@ -1,8 +1,7 @@
-use Rattle.std.proofs.Common.{refl, arith, subst, sym, inl, inr}
-use Rattle.std.proofs.Common.{true, false, Err, ◌∷◌, []}
-use Rattle.json_text.specs.{Kept.FailsSo, Reading.read_from, Reading.value, Reading.unexpected, Node.null_node, Node.truth_node}
-use Rattle.json_text.proofs.{ViewLemmas.tree_of_null, ViewLemmas.tree_of_truth, StepLemmas.begins_word, StepLemmas.value_other, TokenRuns.by_byte}
+use Rattle.std.proofs.Common.{refl, arith, subst, sym, inl, inr, true, false, Err, ◌∷◌, []}
+use Rattle.json_text.specs.{Reading.read_from, Reading.value, Reading.unexpected, Node.null_node, Node.truth_node, Kept.FailsSo}
 use Rattle.json_text.proofs.reader.Reader.value.Goals.{in_default-via-then-byte-lt48, in_default-via-else-byte-lt48+else-byte-lt58}
+use Rattle.json_text.proofs.{ViewLemmas.tree_of_null, ViewLemmas.tree_of_truth, StepLemmas.begins_word, StepLemmas.value_other, TokenRuns.by_byte}
 use Rattle.json_text.proofs.reader.Reader.value.Goals as goal
 
 pub word-requires : goal.word-requires
