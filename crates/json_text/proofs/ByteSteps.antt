@@ -137,11 +137,8 @@ module _ (size levels : ℕ) (r : Node) where
       on_if (b == 125) bs _ _ h (λ t h. let (future, k) = (put_same (object_node (fields_of ms)) outer bs).0 h in
       ((no_fields, future), inl (eqb-true b 125 t, k))) (λ _ h. absurd h)))
 
-  whole_follows : (n : Node) (b : ℕ) (bs : List ℕ) → On bs (after_step (whole n) b) → Follows (whole n) (b ∷ bs)
-  whole_follows n b bs h = on_if (is_space b) bs _ _ h (λ t (future, k). (future, inr (t, k))) (λ _ h. absurd h)
-
   put_step_follows : (n : Node) (outer : List Waiting) (b : ℕ) (bs : List ℕ) → On bs (after_step (put n outer) b) → Done outer n (b ∷ bs)
-  put_step_follows n [] b bs h = whole_follows n b bs h
+  put_step_follows n [] b bs h = on_if (is_space b) bs _ _ h (λ t (future, k). (future, inr (t, k))) (λ _ h. absurd h)
   put_step_follows n (in_list ns ∷ outer) b bs h = item_follows (ns ++ n ∷ []) outer b bs h
   put_step_follows n (in_object ms place key ∷ outer) b bs h = member_follows (ms ++ record { place = place; key = key; of = n } ∷ []) outer b bs h
 
@@ -195,7 +192,7 @@ module _ (size levels : ℕ) (r : Node) where
       on_if (is_space b) bs _ _ h (λ t (n, future, k). (n, future, inr (t, k))) (λ _ h.
       on_if (b == 58) bs _ _ h (λ t (n, future, k). (n, future, inl (eqb-true b 58 t, k))) (λ _ h. absurd h))
   follows_step (after_member ms outer) at b bs s h = member_follows ms outer b bs h
-  follows_step (whole n) at b bs s h = whole_follows n b bs h
+  follows_step (whole n) at b bs s h = on_if (is_space b) bs _ _ h (λ t (future, k). (future, inr (t, k))) (λ _ h. absurd h)
   follows_step (word c rest n outer) at b bs s h =
       on_if (b == c) bs _ _ h (λ t h. let (future, k) = (word_same c rest n outer bs).0 h in (future, (eqb-true b c t, k))) (λ _ h. absurd h)
   follows_step (digits part spelling outer) at b bs s h = digits_follow (number_step part b) part spelling outer b bs refl h

@@ -8,11 +8,9 @@ use Rattle.json_text.specs.Compact.{escape, items_text, more_items_text, members
 begins : (a b : List ℕ) → take (length a) b ≡ a → b ≡ a ++ drop (length a) b
 begins a b h = sym (take-append-drop (length a) b) ∙ ap (λ t. t ++ drop (length a) b) h
 
-keeps : (a b x : List ℕ) → b ≡ a ++ x → take (length a) b ≡ a
-keeps a b x h = ap (take (length a)) h ∙ take-append_seam a x
-
 pub kept_behind : (a b x c : List ℕ) → take (length a) b ≡ a → c ≡ b ++ x → take (length a) c ≡ a
-kept_behind a b x c h e = keeps a c (drop (length a) b ++ x) (e ∙ ap (λ t. t ++ x) (begins a b h) ∙ append_assoc a (drop (length a) b) x)
+kept_behind a b x c h e = ap (take (length a)) (e ∙ ap (λ t. t ++ x) (begins a b h) ∙ append_assoc a (drop (length a) b) x)
+    ∙ take-append_seam a (drop (length a) b ++ x)
 
 pub kept_further : (a b c : List ℕ) → take (length a) b ≡ a → take (length b) c ≡ b → take (length a) c ≡ a
 kept_further a b c h k = kept_behind a b (drop (length b) c) c h (begins b c k)

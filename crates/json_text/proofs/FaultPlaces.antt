@@ -1,13 +1,17 @@
--- Where the byte machine stops no text goes on: `read_fails`, `opens_too_many`, `opens_no_more`. Each state is on the way to some
--- text (`completes`), and a byte does the same where one level more is allowed, but for a bracket too many (`fares`).
+-- Where the byte machine stops no text goes on: each state is on the way to some text (`completes`), and a byte does the same where
+-- one level more is allowed, but for a bracket too many (`fares`). What the public calls say of it: `is_only`, `only_memory`,
+-- `stands_so`, `deep_so`.
 use Rattle.std.proofs.Common.{◌≡◌, ◌≢◌, ℕ, zero, suc, ◌+◌, ◌*◌, true, List, [], ◌∷◌, ◌++◌, length, Option, Some, None, Ok, refl, sym, ap, ◌∙◌, subst, inl, inr, arith, eq-eqb, encode_utf8, ◌-◌, ◌<◌, ◌≤◌, Bool, false, cond, ◌==◌, nat_lt, Result, Err, ◌⊎◌, ⊎_elim, ltb-true, lt-ltb, codes, take, append_assoc, append-nil, length-append, add-zero, zero-add, take_at}
 use Rattle.std.proofs.lemmas.Bool.{cond-true, cond_both, cases_eq, cond-false, eqb-false, cases_Bool}
 use Rattle.std.proofs.lemmas.Bool.Decides.{nat_tests}
 use Rattle.json_text.specs.Reading.{Member, Waiting, in_list, in_object, nodes_of, fields_of, State, value, first_item, after_item, first_key, next_key, colon, after_member, whole, word, digits, string, Hole, in_value, in_key, fill, StringPart, between, backslash, hex, high, high_backslash, tail, NumberPart, minus, zero_int, int, point, fraction, exponent, exponent_sign, exponent_digits, may_end, string_step, goes_on, ends, stops, StringStep, string_goes, put, step, digit_fits, unit_step, unit_after, hex_step, tail_after, is_within, read_from, Stop, unexpected, too_deep, number_step, opened, value_step, word_step, after_step, digits_step, escape_step, Fault, end_of, ended, read_text}
+use Rattle.json_text.specs.declared.fault.JsonFault.TheVariants.{NotJson, TooDeep, KeyTwice, NoMemory}
 use Rattle.json_text.specs.Node.{Node, list_node, object_node, number_node, text_node, no_nodes, no_fields, null_node, truth_node}
-use Rattle.json_text.specs.{Characters.hex_digit_of, Characters.pair_of, Faults.FailsAt, Faults.OpensTooMany, Number.is_digit_above_zero, Grammar.is_space}
+use Rattle.json_text.specs.{Characters.hex_digit_of, Characters.pair_of, Faults.FailsAt, Faults.OpensTooMany, declared.fault.JsonFault.JsonFault, Kept.FailsSo}
+use Rattle.json_text.specs.{Grammar.is_space, Grammar.IsText, Number.is_digit_above_zero, Once.IsRepeatOrMemory}
 use Rattle.json_text.proofs.WholeTexts.{read_ok, read_nil, follows_read, read_follows, read_spelled, spelled_read, read_err}
-use Rattle.json_text.proofs.{NumberReads.digits_end, ByteSteps.put_same, Following.Ended}
+use Rattle.json_text.proofs.{NumberReads.digits_end, ByteSteps.put_same}
+use Rattle.json_text.proofs.Following.{Ended}
 
 -- a digit that a code unit can go on with
 fits : (lead : Option ℕ) (more n : ℕ) → (b d : ℕ) × (hex_digit_of b ≡ Some d) × (digit_fits lead more n d ≡ true)
@@ -218,11 +222,8 @@ module _ (levels : ℕ) where
       fares_if (b == 44) _ _ _ _ (on (next_key ms outer) l) (
       fares_if (b == 125) _ _ _ _ (on_put (object_node (fields_of ms)) outer (omega arith)) no))
 
-  whole_fares : (n : Node) (b : ℕ) → Fares (after_step (whole n) b) (after_step (whole n) b)
-  whole_fares n b = fares_if (is_space b) _ _ _ _ (on (whole n) (omega arith)) no
-
   put_fares : (n : Node) (outer : List Waiting) (b : ℕ) → length outer ≤ levels → Fares (after_step (put n outer) b) (after_step (put n outer) b)
-  put_fares n [] b l = whole_fares n b
+  put_fares n [] b l = fares_if (is_space b) _ _ _ _ (on (whole n) (omega arith)) no
   put_fares n (in_list ns ∷ outer) b l = after_item_fares (ns ++ n ∷ []) outer b l
   put_fares n (in_object ms place key ∷ outer) b l = after_member_fares (ms ++ record { place = place; key = key; of = n } ∷ []) outer b l
 
@@ -263,7 +264,7 @@ module _ (levels : ℕ) where
       fares_if (is_space b) _ _ _ _ (on (colon ms place key outer) h) (
       fares_if (b == 58) _ _ _ _ (on (value (in_object ms place key ∷ outer)) h) no)
   fares (after_member ms outer) at b h = after_member_fares ms outer b h
-  fares (whole n) at b h = whole_fares n b
+  fares (whole n) at b h = fares_if (is_space b) _ _ _ _ (on (whole n) (omega arith)) no
   fares (word c rest n outer) at b h = fares_if (b == c) _ _ _ _ (word_fares c rest n outer h) no
   fares (digits part spelling outer) at b h = digits_fares (number_step part b) part spelling outer b h
   fares (string part text hole) at b h = string_fares (string_step part text b) text hole h
@@ -335,7 +336,7 @@ module _ (levels : ℕ) where
   bars f bytes s b bs more n e h = both (read_text levels (s.front ++ b ∷ more)) n (fault f.why f.at) h
       (s.same (b ∷ more) ∙ read_err levels f.at s.state f.why b more (subst (StopsAt s.state f) e s.stops))
 
-pub read_fails : (levels : ℕ) (bytes : List ℕ) (f : Fault) → read_text levels bytes ≡ Err f → FailsAt levels bytes f.at
+read_fails : (levels : ℕ) (bytes : List ℕ) (f : Fault) → read_text levels bytes ≡ Err f → FailsAt levels bytes f.at
 read_fails levels bytes f h = let s = stopped levels bytes (value []) 0 f (omega arith) h in
     let size : f.at ≡ length s.front = s.place ∙ zero-add (length s.front) in
     let front : take f.at bytes ≡ s.front = ap (λ t. take f.at t) s.joined ∙ take_at s.front s.rest f.at (sym size) in record {
@@ -358,7 +359,7 @@ next_byte levels bytes f s b bs e =
     let front = ap (take (suc f.at)) all ∙ take_at (s.front ++ b ∷ []) bs (suc f.at) (sym size) in
     (omega (arith, size, ap length all, length-append (s.front ++ b ∷ []) bs), front)
 
-pub opens_too_many : (levels : ℕ) (bytes : List ℕ) (f : Fault) → read_text levels bytes ≡ Err f → f.why ≡ too_deep → OpensTooMany levels bytes f.at
+opens_too_many : (levels : ℕ) (bytes : List ℕ) (f : Fault) → read_text levels bytes ≡ Err f → f.why ≡ too_deep → OpensTooMany levels bytes f.at
 opens_too_many levels bytes f h w = let s = stopped levels bytes (value []) 0 f (omega arith) h in at s s.rest refl s.stops
   where
     deep : (s : Stopped levels (value []) 0 f bytes) (b : ℕ) (bs : List ℕ) → s.rest ≡ b ∷ bs → Fares levels (Err too_deep) (step (suc levels) f.at s.state b)
@@ -372,7 +373,7 @@ opens_too_many levels bytes f h w = let s = stopped levels bytes (value []) 0 f 
     at s [] e t = absurd (let e : unexpected ≡ too_deep = sym t ∙ w in cc)
     at s (b ∷ bs) e t = deep s b bs e (subst (λ r. Fares levels r (step (suc levels) f.at s.state b)) (t ∙ ap Err w) (fares levels s.state f.at b s.shallow))
 
-pub opens_no_more : (levels : ℕ) (bytes : List ℕ) (f : Fault) → read_text levels bytes ≡ Err f → f.why ≡ unexpected → ¬ OpensTooMany levels bytes f.at
+opens_no_more : (levels : ℕ) (bytes : List ℕ) (f : Fault) → read_text levels bytes ≡ Err f → f.why ≡ unexpected → ¬ OpensTooMany levels bytes f.at
 opens_no_more levels bytes f h w (within, (more, n, text)) = let s = stopped levels bytes (value []) 0 f (omega arith) h in at s s.rest refl s.stops
   where
     at : (s : Stopped levels (value []) 0 f bytes) (rest : List ℕ) → s.rest ≡ rest → StopsAt levels s.state f rest → ⊥
@@ -383,3 +384,29 @@ opens_no_more levels bytes f h w (within, (more, n, text)) = let s = stopped lev
         (spelled_read (suc levels) (take (suc f.at) bytes ++ more) n text)
         (ap (λ t. read_text (suc levels) (t ++ more)) (next_byte levels bytes f s b bs e).1 ∙ ap (read_text (suc levels)) (append_assoc s.front (b ∷ []) more)
         ∙ s.deeper (b ∷ more) ∙ read_err (suc levels) f.at s.state unexpected b more o)
+
+-- a text has one node
+pub is_only : (L : ℕ) (bs : List ℕ) (n m : Node) → read_text L bs ≡ Ok n → IsText L bs m → n ≡ m
+is_only L bs n m e h = let same : Ok n ≡ Ok m = sym e ∙ spelled_read L bs m h in cc
+
+-- a text is refused for memory alone
+pub only_memory : (L : ℕ) (bs : List ℕ) (m : Node) (f : JsonFault) → IsText L bs m → FailsSo (read_text L bs) f → f ≡ NoMemory
+only_memory L bs m (NotJson at) h g = cc (spelled_read L bs m h, g)
+only_memory L bs m (TooDeep at) h g = cc (spelled_read L bs m h, g)
+only_memory L bs m (KeyTwice at) h g = absurd g
+only_memory L bs m NoMemory h g = refl
+
+pub repeat_or_memory : (L : ℕ) (bs : List ℕ) (m : Node) (f : JsonFault) → IsText L bs m → FailsSo (read_text L bs) f → IsRepeatOrMemory m f
+repeat_or_memory L bs m f h g = subst (IsRepeatOrMemory m) (sym (only_memory L bs m f h g)) tt
+
+-- the place of a byte that is not allowed
+pub stands_so : (L : ℕ) (bs : List ℕ) (f : JsonFault) (at : ℕ) → FailsSo (read_text L bs) f → f ≡ NotJson at → FailsAt L bs at × ¬ (OpensTooMany L bs at)
+stands_so L bs f at g is = let e : read_text L bs ≡ Err (record { why = unexpected; at = at }) = subst (FailsSo (read_text L bs)) is g in
+    (read_fails L bs (record { why = unexpected; at = at }) e, opens_no_more L bs (record { why = unexpected; at = at }) e refl)
+
+pub deep_so : (L : ℕ) (bs : List ℕ) (f : JsonFault) (at : ℕ) → FailsSo (read_text L bs) f → f ≡ TooDeep at → FailsAt L bs at × OpensTooMany L bs at
+deep_so L bs f at g is = let e : read_text L bs ≡ Err (record { why = too_deep; at = at }) = subst (FailsSo (read_text L bs)) is g in
+    (read_fails L bs (record { why = too_deep; at = at }) e, opens_too_many L bs (record { why = too_deep; at = at }) e refl)
+
+pub same_fault : {A : Type 0} {f g : JsonFault} → ◌≡◌ {A = Result A JsonFault} (Err f) (Err g) → f ≡ g
+same_fault h = cc

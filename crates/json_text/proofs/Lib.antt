@@ -21,7 +21,6 @@ pub mod StepLemmas
 pub mod ViewLemmas
 pub mod KeptLemmas
 pub mod ValueLemmas
-pub mod ReadLemmas
 pub mod OneValue
 pub mod CompactLemmas
 pub mod SpelledBack

@@ -59,8 +59,8 @@ long_plain : (c : ℕ) → 128 ≤ c → flat_map escape (encode_utf8 c) ≡ enc
 long_plain c h =
     ⊎_elim (λ l. subst (λ x. flat_map escape x ≡ x) (sym (encode_2 c h l)) (all_high (_ ∷ _ ∷ []) (omega arith, (omega arith, tt)))) (λ l.
     ⊎_elim (λ u. subst (λ x. flat_map escape x ≡ x) (sym (encode_3 c l u)) (all_high (_ ∷ _ ∷ _ ∷ []) (omega arith, (omega arith, (omega arith, tt)))))
-    (λ u. subst (λ x. flat_map escape x ≡ x) (sym (encode_4 c u)) (all_high (_ ∷ _ ∷ _ ∷ _ ∷ []) (omega arith, (omega arith, (omega arith, (omega arith, tt))))))
-    (cases_lt c 65536)) (cases_lt c 2048)
+    (λ u. subst (λ x. flat_map escape x ≡ x) (sym (encode_4 c u))
+    (all_high (_ ∷ _ ∷ _ ∷ _ ∷ []) (omega arith, (omega arith, (omega arith, (omega arith, tt)))))) (cases_lt c 65536)) (cases_lt c 2048)
 
 long_spelled : (c : ℕ) → IsScalar c → 128 ≤ c → SpellsCharacter (flat_map escape (encode_utf8 c)) (encode_utf8 c)
 long_spelled c s h = subst (λ x. SpellsCharacter x (encode_utf8 c)) (sym (long_plain c h)) (unescaped c s (omega arith) (λ e. omega arith) (λ e. omega arith))

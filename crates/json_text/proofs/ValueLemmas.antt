@@ -15,16 +15,14 @@ lacks_with k key t (m ∷ ms) apart h =
     cond_both (bytes_eq key m.0) ((m.0, t) ∷ ms) (m ∷ with_member key t ms) (λ x. LacksKey k (members_of x)) (λ _. (h.0, h.1))
     (λ _. (h.0, lacks_with k key t ms apart h.1))
 
-other_key : (key k : List ℕ) → bytes_eq key k ≡ false → k ≢ key
-other_key key k f e = both_ways (bytes_eq key k) f ((bytes_eq-Decides key k).1 (sym e))
-
 -- one member more, or another value of one
 with_member_are : (key : List ℕ) (t : Tree) (ms : List (List ℕ × Tree)) → IsUtf8 key → IsValue t → AreMembers (members_of ms)
     → AreMembers (members_of (with_member key t ms))
 with_member_are key t [] u v h = (u, tt, v, tt)
 with_member_are key t (m ∷ ms) u v h =
     cond_both (bytes_eq key m.0) ((m.0, t) ∷ ms) (m ∷ with_member key t ms) (λ x. AreMembers (members_of x)) (λ _. (h.0, h.1, v, h.3))
-    (λ f. (h.0, lacks_with m.0 key t ms (other_key key m.0 f) h.1, h.2, with_member_are key t ms u v h.3))
+    (λ f. let other = λ (e : m.0 ≡ key). both_ways (bytes_eq key m.0) f ((bytes_eq-Decides key m.0).1 (sym e)) in
+    (h.0, lacks_with m.0 key t ms other h.1, h.2, with_member_are key t ms u v h.3))
 
 mutual
   node_is_value : (n : Node) (at : ℕ) (bytes : List ℕ) → SpellsValue at bytes n → IsValue (value_of n)

@@ -1,7 +1,7 @@
 use Rattle.std.proofs.Common.{◌≤◌, ◌∙◌, sym, ap, subst}
-use Rattle.json_text.specs.{Node.value_of, Node.first_repeat, Compact.IsValue, Compact.tree_levels}
-use Rattle.json_text.proofs.{WholeTexts.read_spelled, ValueLemmas.text_is_value, ValueLemmas.text_within}
-use Rattle.json_text.proofs.ReadLemmas.{is_only, repeat_or_memory, stands_so, deep_so, same_fault}
+use Rattle.json_text.specs.{Compact.IsValue, Compact.tree_levels, Node.value_of, Node.first_repeat}
+use Rattle.json_text.proofs.FaultPlaces.{is_only, repeat_or_memory, stands_so, deep_so, same_fault}
+use Rattle.json_text.proofs.{ValueLemmas.text_is_value, ValueLemmas.text_within, WholeTexts.read_spelled}
 use Rattle.json_text.proofs.reading.read_once.Goals as goal
 
 pub returns-in-None-clause-found : goal.returns-in-None-clause-found
