@@ -8,7 +8,7 @@ use Rattle.json_text.specs.Reading.{Member, Waiting, in_list, in_object, nodes_o
 use Rattle.json_text.specs.declared.fault.JsonFault.TheVariants.{NotJson, TooDeep, KeyTwice, NoMemory}
 use Rattle.json_text.specs.Node.{Node, list_node, object_node, number_node, text_node, no_nodes, no_fields, null_node, truth_node}
 use Rattle.json_text.specs.{Characters.hex_digit_of, Characters.pair_of, Faults.FailsAt, Faults.OpensTooMany, declared.fault.JsonFault.JsonFault, Kept.FailsSo}
-use Rattle.json_text.specs.{Grammar.is_space, Grammar.IsText, Number.is_digit_above_zero, Once.IsRepeatOrMemory}
+use Rattle.json_text.specs.{Grammar.is_space, Grammar.IsText, Number.is_digit_above_zero}
 use Rattle.json_text.proofs.WholeTexts.{read_ok, read_nil, follows_read, read_follows, read_spelled, spelled_read, read_err}
 use Rattle.json_text.proofs.{NumberReads.digits_end, ByteSteps.put_same}
 use Rattle.json_text.proofs.Following.{Ended}
@@ -187,9 +187,6 @@ module _ (levels : ℕ) where
   on_put n (in_list ns ∷ outer) l = (refl, l)
   on_put n (in_object ms place key ∷ outer) l = (refl, l)
 
-  no : Fares (Err unexpected) (Err unexpected)
-  no = refl
-
   opened_fares : (outer : List Waiting) (s : State) → depth s ≡ suc (length outer) → length outer ≤ levels
       → Fares (opened levels outer s) (opened (suc levels) outer s)
   opened_fares outer s d l = let more : opened (suc levels) outer s ≡ Ok s = cond-true _ _ _ (lt-ltb (length outer) (suc levels) (omega arith)) in
@@ -206,31 +203,31 @@ module _ (levels : ℕ) where
       fares_if (is_digit_above_zero b) _ _ _ _ (on (digits int (b ∷ []) outer) l) (
       fares_if (b == 110) _ _ _ _ (on (word 117 (codes "ll") null_node outer) l) (
       fares_if (b == 116) _ _ _ _ (on (word 114 (codes "ue") (truth_node true) outer) l) (
-      fares_if (b == 102) _ _ _ _ (on (word 97 (codes "lse") (truth_node false) outer) l) no))))))))
+      fares_if (b == 102) _ _ _ _ (on (word 97 (codes "lse") (truth_node false) outer) l) refl))))))))
 
   after_item_fares : (ns : List Node) (outer : List Waiting) (b : ℕ) → suc (length outer) ≤ levels
       → Fares (after_step (after_item ns outer) b) (after_step (after_item ns outer) b)
   after_item_fares ns outer b l =
       fares_if (is_space b) _ _ _ _ (on (after_item ns outer) l) (
       fares_if (b == 44) _ _ _ _ (on (value (in_list ns ∷ outer)) l) (
-      fares_if (b == 93) _ _ _ _ (on_put (list_node (nodes_of ns)) outer (omega arith)) no))
+      fares_if (b == 93) _ _ _ _ (on_put (list_node (nodes_of ns)) outer (omega arith)) refl))
 
   after_member_fares : (ms : List Member) (outer : List Waiting) (b : ℕ) → suc (length outer) ≤ levels
       → Fares (after_step (after_member ms outer) b) (after_step (after_member ms outer) b)
   after_member_fares ms outer b l =
       fares_if (is_space b) _ _ _ _ (on (after_member ms outer) l) (
       fares_if (b == 44) _ _ _ _ (on (next_key ms outer) l) (
-      fares_if (b == 125) _ _ _ _ (on_put (object_node (fields_of ms)) outer (omega arith)) no))
+      fares_if (b == 125) _ _ _ _ (on_put (object_node (fields_of ms)) outer (omega arith)) refl))
 
   put_fares : (n : Node) (outer : List Waiting) (b : ℕ) → length outer ≤ levels → Fares (after_step (put n outer) b) (after_step (put n outer) b)
-  put_fares n [] b l = fares_if (is_space b) _ _ _ _ (on (whole n) (omega arith)) no
+  put_fares n [] b l = fares_if (is_space b) _ _ _ _ (on (whole n) (omega arith)) refl
   put_fares n (in_list ns ∷ outer) b l = after_item_fares (ns ++ n ∷ []) outer b l
   put_fares n (in_object ms place key ∷ outer) b l = after_member_fares (ms ++ record { place = place; key = key; of = n } ∷ []) outer b l
 
   digits_fares : (o : Option NumberPart) (part : NumberPart) (spelling : List ℕ) (outer : List Waiting) (b : ℕ) → length outer ≤ levels
       → Fares (digits_step o part spelling outer b) (digits_step o part spelling outer b)
   digits_fares (Some p) part spelling outer b l = on (digits p (spelling ++ b ∷ []) outer) l
-  digits_fares None part spelling outer b l = fares_if (may_end part) _ _ _ _ (put_fares (number_node spelling) outer b l) no
+  digits_fares None part spelling outer b l = fares_if (may_end part) _ _ _ _ (put_fares (number_node spelling) outer b l) refl
 
   word_fares : (c : ℕ) (rest : List ℕ) (n : Node) (outer : List Waiting) → length outer ≤ levels
       → Fares (Ok (word_step c rest n outer)) (Ok (word_step c rest n outer))
@@ -245,7 +242,7 @@ module _ (levels : ℕ) where
       → Fares (string_goes s (λ p t. string p t hole) (fill hole text)) (string_goes s (λ p t. string p t hole) (fill hole text))
   string_fares (goes_on p t) text hole l = on (string p t hole) l
   string_fares ends text hole l = filled_on hole text l
-  string_fares stops text hole l = no
+  string_fares stops text hole l = refl
 
   fares : (state : State) (at b : ℕ) → depth state ≤ levels → Fares (step levels at state b) (step (suc levels) at state b)
   fares (value outer) at b h = fares_if (is_space b) _ _ _ _ (on (value outer) h) (value_fares outer b h)
@@ -256,16 +253,16 @@ module _ (levels : ℕ) where
   fares (first_key outer) at b h =
       fares_if (is_space b) _ _ _ _ (on (first_key outer) h) (
       fares_if (b == 34) _ _ _ _ (on (string between [] (in_key at [] outer)) h) (
-      fares_if (b == 125) _ _ _ _ (on_put (object_node no_fields) outer (omega arith)) no))
+      fares_if (b == 125) _ _ _ _ (on_put (object_node no_fields) outer (omega arith)) refl))
   fares (next_key ms outer) at b h =
       fares_if (is_space b) _ _ _ _ (on (next_key ms outer) h) (
-      fares_if (b == 34) _ _ _ _ (on (string between [] (in_key at ms outer)) h) no)
+      fares_if (b == 34) _ _ _ _ (on (string between [] (in_key at ms outer)) h) refl)
   fares (colon ms place key outer) at b h =
       fares_if (is_space b) _ _ _ _ (on (colon ms place key outer) h) (
-      fares_if (b == 58) _ _ _ _ (on (value (in_object ms place key ∷ outer)) h) no)
+      fares_if (b == 58) _ _ _ _ (on (value (in_object ms place key ∷ outer)) h) refl)
   fares (after_member ms outer) at b h = after_member_fares ms outer b h
-  fares (whole n) at b h = fares_if (is_space b) _ _ _ _ (on (whole n) (omega arith)) no
-  fares (word c rest n outer) at b h = fares_if (b == c) _ _ _ _ (word_fares c rest n outer h) no
+  fares (whole n) at b h = fares_if (is_space b) _ _ _ _ (on (whole n) (omega arith)) refl
+  fares (word c rest n outer) at b h = fares_if (b == c) _ _ _ _ (word_fares c rest n outer h) refl
   fares (digits part spelling outer) at b h = digits_fares (number_step part b) part spelling outer b h
   fares (string part text hole) at b h = string_fares (string_step part text b) text hole h
 
@@ -395,9 +392,6 @@ only_memory L bs m (NotJson at) h g = cc (spelled_read L bs m h, g)
 only_memory L bs m (TooDeep at) h g = cc (spelled_read L bs m h, g)
 only_memory L bs m (KeyTwice at) h g = absurd g
 only_memory L bs m NoMemory h g = refl
-
-pub repeat_or_memory : (L : ℕ) (bs : List ℕ) (m : Node) (f : JsonFault) → IsText L bs m → FailsSo (read_text L bs) f → IsRepeatOrMemory m f
-repeat_or_memory L bs m f h g = subst (IsRepeatOrMemory m) (sym (only_memory L bs m f h g)) tt
 
 -- the place of a byte that is not allowed
 pub stands_so : (L : ℕ) (bs : List ℕ) (f : JsonFault) (at : ℕ) → FailsSo (read_text L bs) f → f ≡ NotJson at → FailsAt L bs at × ¬ (OpensTooMany L bs at)

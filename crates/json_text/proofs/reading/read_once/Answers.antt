@@ -1,6 +1,6 @@
 use Rattle.std.proofs.Common.{◌≤◌, ◌∙◌, sym, ap, subst}
-use Rattle.json_text.specs.{Compact.IsValue, Compact.tree_levels, Node.value_of, Node.first_repeat}
-use Rattle.json_text.proofs.FaultPlaces.{is_only, repeat_or_memory, stands_so, deep_so, same_fault}
+use Rattle.json_text.specs.{Compact.IsValue, Compact.tree_levels, Node.value_of, Node.first_repeat, Once.IsRepeatOrMemory}
+use Rattle.json_text.proofs.FaultPlaces.{is_only, only_memory, stands_so, deep_so, same_fault}
 use Rattle.json_text.proofs.{ValueLemmas.text_is_value, ValueLemmas.text_within, WholeTexts.read_spelled}
 use Rattle.json_text.proofs.reading.read_once.Goals as goal
 
@@ -24,7 +24,8 @@ returns-in-Some-clause-key_twice c at is = let r = c.in-Ok.ensures.ok in
     (r.0, read_spelled c.args.levels c.args.bytes.now r.0 r.1, (cc (r.3, c.in-Some.is, is)))
 
 pub returns-in-Err-clause-only : goal.returns-in-Err-clause-only
-returns-in-Err-clause-only c m h = repeat_or_memory c.args.levels c.args.bytes.now m c.in-Err.fault h c.in-Err.ensures.err
+returns-in-Err-clause-only c m h =
+    subst (IsRepeatOrMemory m) (sym (only_memory c.args.levels c.args.bytes.now m c.in-Err.fault h c.in-Err.ensures.err)) tt
 
 pub returns-in-Err-clause-not_json : goal.returns-in-Err-clause-not_json
 returns-in-Err-clause-not_json c at is = stands_so c.args.levels c.args.bytes.now c.in-Err.fault at c.in-Err.ensures.err (same_fault is)
