@@ -1,9 +1,9 @@
 -- A pattern holds on a view exactly when all parts of one of its alternatives do: `alternatives_decide`; there are as many as are counted: `counted`.
-use Rattle.std.proofs.Common.{◌≡◌, ◌↔◌, ℕ, suc, ◌+◌, ◌*◌, List, [], ◌∷◌, ◌++◌, length, map, ◌⊎◌, inl, inr, refl, sym, ap, ◌∙◌, subst, arith}
-use Rattle.std.specs.List.{Any, All, AllByRecursion, flat_map}
+use Rattle.std.proofs.Common.{◌≡◌, ◌↔◌, ℕ, suc, ◌+◌, ◌*◌, List, [], ◌∷◌, ◌++◌, length, map, ◌⊎◌, inl, inr, refl, ap, ◌∙◌, arith}
+use Rattle.std.specs.List.{All, AllByRecursion}
 use Rattle.json_text.specs.Tree.{Tree}
-use Rattle.pattern_meaning.specs.Pattern.{Test, Pattern, pattern, Fields, no_fields, field, Field, tests, below, Branches, no_branches, branch}
-use Rattle.pattern_meaning.specs.Holds.{TestHolds, HoldsOnView, FieldsHold, FieldHolds, BranchesHold, SomeHolds}
+use Rattle.pattern_meaning.specs.Pattern.{Pattern, pattern, Fields, no_fields, field, Field, tests, below, Branches, no_branches, branch}
+use Rattle.pattern_meaning.specs.Holds.{HoldsOnView, FieldsHold, FieldHolds, BranchesHold, SomeHolds}
 use Rattle.pattern_meaning.specs.Alternatives.{Part, paired, alternatives, of_fields, of_field, of_branches, of_some, PartHolds, AlternativeHolds}
 use Rattle.pattern_meaning.specs.Alternatives.{alternative_count, field_count, one_count, branch_count, sum_count}
 use Rattle.pattern_meaning.specs.Meets.{SomeMetOf}

@@ -1,5 +1,5 @@
 -- One of a list, by place and by recursion: `any_of`, `of_any`.
-use Rattle.std.proofs.Common.{◌≡◌, ℕ, zero, suc, ◌<◌, List, [], ◌∷◌, length, inl, inr, refl, sym, subst, arith}
+use Rattle.std.proofs.Common.{zero, suc, List, [], ◌∷◌, inl, inr, refl, sym, subst, arith}
 use Rattle.std.specs.List.{Any}
 use Rattle.pattern_meaning.specs.Meets.{SomeMetOf}
 

@@ -1,7 +1,7 @@
 -- The lists of frames, and patterns, one cell at a time.
-use Rattle.std.proofs.Common.{◌≡◌, ◌==◌, Bor, ℕ, suc, ◌-◌, ◌<◌, ◌≤◌, false, List, [], ◌∷◌, ◌++◌, length, get_or, take, drop, map, ap, sym, refl, ◌∙◌, arith}
+use Rattle.std.proofs.Common.{◌≡◌, ◌==◌, Bor, ℕ, suc, ◌+◌, ◌*◌, ◌-◌, ◌<◌, ◌≤◌, false, List, [], ◌∷◌, ◌++◌, length, get_or, take, drop, map, ap, sym, refl, ◌∙◌, arith}
 use Rattle.std.proofs.Math.Seq.{take-length}
-use Rattle.pattern_meaning.specs.Pattern.{Pattern, pattern, Field, no_fields, field, Branches, branch, branches_of}
+use Rattle.pattern_meaning.specs.Pattern.{Pattern, no_fields, field, Branches, branch, branches_of}
 use Rattle.pattern_meaning.specs.PatternView.{field_of, pattern_of, fields_view}
 use Rattle.pattern_meaning.specs.Meets.{Wants}
 use Rattle.pattern_meaning.specs.Frames.{need_of, wanted_step, wants_of, path_step, path_of}
@@ -9,7 +9,15 @@ use Rattle.pattern_meaning.specs.declared.frames.Need.{Need}
 use Rattle.pattern_meaning.specs.declared.frames.Wanted.{Wanted, fold-roll-Wanted}
 use Rattle.pattern_meaning.specs.declared.frames.Wanted.TheOpen.{Wanted-F}
 use Rattle.pattern_meaning.specs.declared.frames.Wanted.TheVariants.{End, More, rolls-End, rolls-More}
-use Rattle.pattern_meaning.specs.declared.frames.Path.{Path, fold-roll-Path}
+use Rattle.pattern_meaning.specs.Frames.{known_step, known_of, todo_step, todo_of, todo_weight_step, todo_weight}
+use Rattle.pattern_meaning.specs.Meets.{fields_paths, branches_paths, fields_weight, branches_weight}
+use Rattle.pattern_meaning.specs.declared.frames.Known.{fold-roll-Known}
+use Rattle.pattern_meaning.specs.declared.frames.Known.TheOpen.{Known-F}
+use Rattle.pattern_meaning.specs.declared.frames.Known.TheVariants as known
+use Rattle.pattern_meaning.specs.declared.frames.Todo.{fold-roll-Todo}
+use Rattle.pattern_meaning.specs.declared.frames.Todo.TheOpen.{Todo-F}
+use Rattle.pattern_meaning.specs.declared.frames.Todo.TheVariants as todo
+use Rattle.pattern_meaning.specs.declared.frames.Path.{fold-roll-Path}
 use Rattle.pattern_meaning.specs.declared.frames.Path.TheOpen.{Path-F}
 use Rattle.pattern_meaning.specs.declared.frames.Path.TheVariants as path
 use Rattle.pattern_meaning.specs.declared.pattern.Field.{Field as CodeField}
@@ -55,7 +63,7 @@ no_field [] h = refl
 no_field (f ∷ fs) h = absurd (omega (arith, h))
 
 -- the first element, whatever is returned if there is none
-first_same : {X : Type 0} (xs : List X) (x y : X) → 1 ≤ length xs → get_or xs 0 x ≡ get_or xs 0 y
+pub first_same : {X : Type 0} (xs : List X) (x y : X) → 1 ≤ length xs → get_or xs 0 x ≡ get_or xs 0 y
 first_same [] x y some = absurd (omega (arith, some))
 first_same (z ∷ zs) x y some = refl
 
@@ -67,3 +75,26 @@ first_wanted fs f g key n rest some is named needed =
     wants_more key n rest
     ∙ ap (λ k. (k, need_of n) ∷ wants_of rest.now) (named ∙ ap (λ x. x.0) (sym is))
     ∙ ap (λ x. (f.0, x) ∷ wants_of rest.now) (needed ∙ ap (λ x. field_of x.1) (first_same fs g f some ∙ sym is))
+
+pub known_end : known_of known.End ≡ []
+known_end = ap known_of (sym known.rolls-End) ∙ fold-roll-Known (List (List (List ℕ))) known_step Known-F.End
+
+pub known_more : (at : _) (rest : _) → known_of (known.More at rest) ≡ path_of at.now ∷ known_of rest.now
+known_more at rest = ap known_of (sym (known.rolls-More at rest)) ∙ fold-roll-Known (List (List (List ℕ))) known_step (Known-F.More at rest)
+
+pub todo_end : todo_of todo.End ≡ []
+todo_end = ap todo_of (sym todo.rolls-End) ∙ fold-roll-Todo (List (List (List ℕ))) todo_step Todo-F.End
+
+pub todo_fields : (fs : _) (at : _) (rest : _) → todo_of (todo.Fields fs at rest) ≡ fields_paths (fields_view fs.now) (path_of at.now) ++ todo_of rest.now
+todo_fields fs at rest = ap todo_of (sym (todo.rolls-Fields fs at rest)) ∙ fold-roll-Todo (List (List (List ℕ))) todo_step (Todo-F.Fields fs at rest)
+
+pub todo_branches : (bs : _) (at : _) (rest : _)
+    → todo_of (todo.Branches bs at rest) ≡ branches_paths (branches_of (map pattern_of bs.now)) (path_of at.now) ++ todo_of rest.now
+todo_branches bs at rest = ap todo_of (sym (todo.rolls-Branches bs at rest)) ∙ fold-roll-Todo (List (List (List ℕ))) todo_step (Todo-F.Branches bs at rest)
+
+pub fields_heavy : (fs : _) (at : _) (rest : _) → todo_weight (todo.Fields fs at rest) ≡ suc (2 * fields_weight (fields_view fs.now)) + todo_weight rest.now
+fields_heavy fs at rest = ap todo_weight (sym (todo.rolls-Fields fs at rest)) ∙ fold-roll-Todo ℕ todo_weight_step (Todo-F.Fields fs at rest)
+
+pub branches_heavy : (bs : _) (at : _) (rest : _)
+    → todo_weight (todo.Branches bs at rest) ≡ suc (3 * branches_weight (branches_of (map pattern_of bs.now))) + todo_weight rest.now
+branches_heavy bs at rest = ap todo_weight (sym (todo.rolls-Branches bs at rest)) ∙ fold-roll-Todo ℕ todo_weight_step (Todo-F.Branches bs at rest)

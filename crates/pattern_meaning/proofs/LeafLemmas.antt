@@ -1,8 +1,8 @@
 -- What a number's millionths decide: `within`.
-use Rattle.std.proofs.Common.{◌≡◌, ◌↔◌, ℕ, ℤ, Bool, List, Option, Some, None, IsTrue, sym, ap, ◌∙◌, subst, refl}
+use Rattle.std.proofs.Common.{◌≡◌, ◌↔◌, ℕ, ℤ, Bool, List, Option, Some, None, IsTrue, sym, subst, refl}
 use Rattle.std.specs.Prelude.{All, IsSomeAnd}
 use Rattle.numeric_keys.specs.Number.{IsMillionths}
-use Rattle.json_text.specs.Tree.{Tree, number}
+use Rattle.json_text.specs.Tree.{number}
 use Rattle.pattern_meaning.specs.declared.comparison.Comparison.{Comparison}
 use Rattle.pattern_meaning.specs.Pattern.{numeric}
 use Rattle.pattern_meaning.specs.Holds.{IsMet, Compares}

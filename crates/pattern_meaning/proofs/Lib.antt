@@ -2,11 +2,13 @@ pub mod LeafLemmas
 pub mod AnyLemmas
 pub mod ViewLemmas
 pub mod AbsentLemmas
+pub mod KnownLemmas
 pub mod PathLemmas
 pub mod WalkLemmas
 pub mod SizeLemmas
 pub mod PatternLemmas
 pub mod FrameLemmas
 pub mod MeaningLemmas
+pub mod GatherLemmas
 pub mod UnseenLemmas
 pub mod AlternativesLemmas

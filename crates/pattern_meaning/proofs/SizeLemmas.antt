@@ -1,9 +1,9 @@
 -- A value in a list or an object is a value, and smaller: `item_below`, `member_below`.
-use Rattle.std.proofs.Common.{◌≡◌, ℕ, zero, suc, ◌+◌, ◌<◌, ◌≤◌, Bool, true, false, cond, List, [], ◌∷◌, length, get_or, Option, Some, None, inl, inr}
-use Rattle.std.proofs.Common.{refl, sym, ap, ◌∙◌, subst, arith}
+use Rattle.std.proofs.Common.{◌≡◌, ℕ, zero, suc, ◌<◌, ◌≤◌, List, [], ◌∷◌, length, get_or, Some, None, inl, inr}
+use Rattle.std.proofs.Common.{sym, ap, ◌∙◌, subst, arith}
 use Rattle.std.specs.Str.{bytes_eq}
 use Rattle.std.proofs.lemmas.Bool.{cases_Bool, cond-true, cond-false}
-use Rattle.json_text.specs.Tree.{Tree, null, truth, number, text, list, object, Items, no_items, item, Members, no_members, member, items_of}
+use Rattle.json_text.specs.Tree.{Tree, null, truth, number, text, list, object, Members, no_members, member, items_of}
 use Rattle.json_text.specs.Compact.{IsValue, AreItems, AreMembers}
 use Rattle.json_text.specs.Access.{member_in}
 use Rattle.json_text.specs.View.{tree_of, trees_of}

@@ -1,13 +1,12 @@
 -- A member of the root that no field names, and no field of a branch of the root, does not matter: `other_text`.
-use Rattle.std.proofs.Common.{◌≡◌, ◌≢◌, ℕ, List, [], ◌∷◌, ◌++◌, Option, Some, None, inl, inr, refl, sym, ap, ◌∙◌, subst, cond}
-use Rattle.std.specs.List.{Any}
+use Rattle.std.proofs.Common.{◌≡◌, ◌≢◌, ℕ, List, [], ◌∷◌, ◌++◌, inl, inr, refl, sym, ap, ◌∙◌, subst, cond}
 use Rattle.std.specs.Str.{bytes_eq}
 use Rattle.std.proofs.lemmas.Bool.{cond-false}
 use Rattle.std.proofs.lemmas.List.{append_assoc, append-nil}
-use Rattle.json_text.specs.Tree.{Tree, text, object, Members, no_members, member, members_of}
+use Rattle.json_text.specs.Tree.{Tree, text, object, Members, member, members_of}
 use Rattle.pattern_meaning.specs.Pattern.{Test, Pattern, pattern, Fields, no_fields, field, Field, tests, below, Branches, no_branches, branch}
 use Rattle.pattern_meaning.specs.Pattern.{LacksField, LacksRoot, LackRoot}
-use Rattle.pattern_meaning.specs.View.{IsView, AreViews, leaf_at, leaf_in}
+use Rattle.pattern_meaning.specs.View.{AreViews, leaf_at, leaf_in}
 use Rattle.pattern_meaning.specs.Holds.{IsAbsent, TestHolds, HoldsOnView, FieldsHold, FieldHolds, BranchesHold, SomeHolds, PatternHolds}
 use Rattle.pattern_meaning.proofs.ViewLemmas.{differ}
 

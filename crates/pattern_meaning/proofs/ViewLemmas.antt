@@ -1,13 +1,13 @@
 -- Views of values that are no lists: each member's value has its own views (`member_seen`, `member_given`), and views that satisfy the members
 -- one by one make a view that satisfies them all (`node_joined`). Every value with a view has one: `view_there`, `views_there`.
-use Rattle.std.proofs.Common.{◌≡◌, ◌≢◌, ℕ, Bool, true, false, cond, ◌||◌, List, [], ◌∷◌, Option, Some, None, ◌⊎◌, inl, inr, refl, sym, ap, ◌∙◌, subst}
+use Rattle.std.proofs.Common.{◌≡◌, ◌≢◌, ℕ, Bool, true, false, ◌||◌, List, [], Option, Some, None, ◌⊎◌, inl, inr, refl, sym, ap, ◌∙◌, subst}
 use Rattle.std.proofs.Common.{unwrap_or}
 use Rattle.std.specs.Str.{bytes_eq}
 use Rattle.std.proofs.lemmas.Bool.{cases_Bool, cond-true, cond-false}
 use Rattle.std.proofs.lemmas.Slice.Eq.{bytes_eq-Decides}
 use Rattle.json_text.specs.Tree.{Tree, null, truth, number, text, list, object, Items, no_items, item, Members, no_members, member}
-use Rattle.json_text.specs.Compact.{IsValue, AreMembers, LacksKey}
-use Rattle.json_text.specs.Access.{member_in, member_of}
+use Rattle.json_text.specs.Compact.{AreMembers, LacksKey}
+use Rattle.json_text.specs.Access.{member_in}
 use Rattle.pattern_meaning.specs.View.{has_view, some_has_view, IsView, IsViewOfItem, AreViews, leaf_at}
 use Rattle.pattern_meaning.specs.Meets.{nothing, value_at, IsNoList, IsNode, with_view, seen_member, OnSome}
 

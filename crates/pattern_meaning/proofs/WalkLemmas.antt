@@ -1,6 +1,6 @@
 -- What each function of the walk returns, from what those that it calls return.
-use Rattle.std.proofs.Common.{◌≡◌, ◌≢◌, ◌↔◌, ℕ, ◌+◌, ◌<◌, ◌≤◌, Bool, true, false, not, ◌||◌, List, [], ◌∷◌, ◌++◌, length, drop, get_or, Option, Some, None}
-use Rattle.std.proofs.Common.{◌⊎◌, inl, inr, IsTrue, refl, sym, ap, ◌∙◌, subst}
+use Rattle.std.proofs.Common.{◌≡◌, ◌↔◌, ℕ, ◌+◌, ◌<◌, ◌≤◌, Bool, true, false, not, ◌||◌, List, [], ◌∷◌, ◌++◌, length, drop, get_or, Some, None}
+use Rattle.std.proofs.Common.{inl, inr, IsTrue, refl, sym, ap, ◌∙◌, subst}
 use Rattle.std.specs.Str.{bytes_eq}
 use Rattle.std.proofs.lemmas.Bool.{cases_Bool}
 use Rattle.std.proofs.lemmas.List.{at_drop_more, at_drop_all}
@@ -11,7 +11,7 @@ use Rattle.json_text.specs.declared.value.Json.{Json}
 use Rattle.pattern_meaning.specs.Pattern.{Test, Pattern, pattern, Fields, no_fields, field, Field, tests, below, Branches, branch}
 use Rattle.pattern_meaning.specs.View.{IsView, leaf_at}
 use Rattle.pattern_meaning.specs.Meets.{nothing, value_at, IsNoList, IsNode, seen_member, OnSome, SomeMetOf, TestMet}
-use Rattle.pattern_meaning.specs.Meets.{PatternMet, FieldsMet, FieldMet, BranchesMet, SomeMet, Wants, has_key, WithKeyMet, AllMet, EachKeyMet}
+use Rattle.pattern_meaning.specs.Meets.{FieldsMet, FieldMet, BranchesMet, SomeMet, Wants, has_key, WithKeyMet, AllMet, EachKeyMet}
 use Rattle.pattern_meaning.proofs.ViewLemmas.{or_parts, apart_keys, leaf_same, IsSeen, member_seen, member_given, node_view, node_joined}
 
 -- which paths `exists: false` holds of

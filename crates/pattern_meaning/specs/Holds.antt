@@ -1,11 +1,10 @@
 -- A pattern holds of a JSON value.
-use Rattle.std.specs.Prelude.{◌≡◌, ℕ, ℤ, ◌<ℤ◌, ◌≤ℤ◌, List, [], ◌∷◌, ◌++◌, ◌⊎◌, Option, Some, None, Any, All}
-use Rattle.json_text.specs.Tree.{Tree, null, truth, number, text, list, object}
+use Rattle.std.specs.Prelude.{◌≡◌, ℕ, ℤ, ◌<ℤ◌, ◌≤ℤ◌, List, [], ◌∷◌, ◌++◌, ◌⊎◌, Some, None, Any, All}
+use Rattle.json_text.specs.Tree.{Tree, number, text}
 use Rattle.leaf_match.specs.AsciiCase.{StartsCi, EndsCi, EqualCi}
 use Rattle.leaf_match.specs.Piece.{Fits}
 use Rattle.leaf_match.specs.Cidr as address
 use Rattle.numeric_keys.specs.Number.{IsMillionths}
-use Rattle.pattern_meaning.specs.declared.comparison.Comparison.{Comparison}
 use Rattle.pattern_meaning.specs.declared.comparison.Operator.{Operator}
 use Rattle.pattern_meaning.specs.declared.comparison.Operator.TheVariants.{Equal, Less, AtMost, Greater, AtLeast}
 use Rattle.pattern_meaning.specs.Pattern.{Test, same, prefix, prefix_ignoring_case, suffix, suffix_ignoring_case, equals_ignoring_case}

@@ -1,5 +1,5 @@
 -- For private clauses alone: whether a value has a view that satisfies what is wanted of it.
-use Rattle.std.specs.Prelude.{◌≡◌, ℕ, suc, ◌+◌, ◌*◌, Bool, true, false, ◌||◌, not, List, [], ◌∷◌, ◌++◌, ◌⊎◌, Option, Some, None, unwrap_or, if◌then◌else◌}
+use Rattle.std.specs.Prelude.{◌≡◌, ℕ, suc, ◌+◌, ◌*◌, Bool, true, false, ◌&&◌, ◌||◌, not, List, [], ◌∷◌, ◌++◌, ◌⊎◌, Option, Some, None, unwrap_or, if◌then◌else◌}
 use Rattle.std.specs.List.{list_any}
 use Rattle.std.specs.Str.{bytes_eq}
 use Rattle.json_text.specs.Tree.{Tree, null, truth, number, text, list, object, Items, no_items, item, Members, no_members, member}
@@ -7,7 +7,7 @@ use Rattle.json_text.specs.Access.{member_of}
 use Rattle.pattern_meaning.specs.Pattern.{Test, missing, Pattern, pattern, Fields, no_fields, field, Field, tests, below, Branches, no_branches, branch}
 use Rattle.json_text.specs.Compact.{IsValue}
 use Rattle.pattern_meaning.specs.View.{has_view, IsView, leaf_at}
-use Rattle.pattern_meaning.specs.Holds.{IsMet}
+use Rattle.pattern_meaning.specs.Holds.{IsMet, IsAbsent}
 
 -- a value without leaves, which also represents a missing member
 abbrev pub nothing : Tree
@@ -43,6 +43,48 @@ abbrev mutual
 -- no view of the event has a leaf at the path
 abbrev pub absent_in : Tree → List (List ℕ) → Bool
 absent_in event path = not (has_leaf path event)
+
+-- two paths have the same keys
+abbrev pub same_path : List (List ℕ) → List (List ℕ) → Bool
+same_path [] [] = true
+same_path [] (k ∷ b) = false
+same_path (k ∷ a) [] = false
+same_path (k ∷ a) (j ∷ b) = bytes_eq k j && same_path a b
+
+-- the path is one of the list
+abbrev pub known_in : List (List (List ℕ)) → List (List ℕ) → Bool
+known_in [] path = false
+known_in (k ∷ ks) path = same_path k path || known_in ks path
+
+-- `exists: false` is among the tests
+abbrev pub is_missing : Test → Bool
+is_missing missing = true
+is_missing _ = false
+
+abbrev pub has_missing : List Test → Bool
+has_missing ts = list_any is_missing ts
+
+-- the paths of the fields that have `exists: false`
+abbrev mutual
+  pub pattern_paths : Pattern → List (List ℕ) → List (List (List ℕ))
+  pattern_paths (pattern fs bs) at = fields_paths fs at ++ branches_paths bs at
+
+  pub fields_paths : Fields → List (List ℕ) → List (List (List ℕ))
+  fields_paths no_fields at = []
+  fields_paths (field key f fs) at = field_paths f (at ++ key ∷ []) ++ fields_paths fs at
+
+  pub field_paths : Field → List (List ℕ) → List (List (List ℕ))
+  field_paths (tests ts) at = if has_missing ts then at ∷ [] else []
+  field_paths (below p) at = pattern_paths p at
+
+  pub branches_paths : Branches → List (List ℕ) → List (List (List ℕ))
+  branches_paths no_branches at = []
+  branches_paths (branch p bs) at = pattern_paths p at ++ branches_paths bs at
+
+-- of the pattern's paths of `exists: false` each absent one is known, or still to be looked at
+abbrev pub IsCovered : Tree → Pattern → List (List (List ℕ)) → List (List (List ℕ)) → Type 0
+IsCovered event p known todo =
+    (path : List (List ℕ)) → known_in (pattern_paths p []) path ≡ true → IsAbsent event path → (known_in (known ++ todo) path ≡ true)
 
 -- a value that is no list, with distinct keys
 abbrev pub IsNoList : Tree → Type 0

@@ -1,5 +1,5 @@
 -- A pattern as contracts see it.
-use Rattle.std.specs.Prelude.{◌≢◌, ℕ, List, [], ◌∷◌, ◌++◌, map}
+use Rattle.std.specs.Prelude.{◌≢◌, ℕ, List, [], ◌∷◌}
 use Rattle.json_text.specs.Tree.{Tree}
 use Rattle.leaf_match.specs.Cidr.{Prefix}
 use Rattle.leaf_match.specs.declared.piece.Piece.{Piece}

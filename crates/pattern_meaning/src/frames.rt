@@ -1,6 +1,6 @@
 //! Lists whose cells are stack frames: a function makes a cell and passes a reference to it on, so they take no memory.
 use crate::pattern::{Field, LeafTests, Pattern};
-use json_text::Json;
+use json_text::{Json, Text};
 
 /// What is wanted of a value.
 #[derive(Clone, Copy)]
@@ -34,10 +34,36 @@ pub(crate) enum Route<'a> {
     Key { key: &'a str, rest: &'a Route<'a> },
 }
 
-/// A value of the event that is no list, or `None` for a missing member, and its path.
+/// Paths, each without a leaf in any view of the event.
+#[derive(Drop)]
+pub(crate) enum Known<'a> {
+    End,
+    More {
+        at: &'a Path<'a>,
+        rest: &'a Known<'a>,
+    },
+}
+
+/// Fields and branches that are still to be looked through, with their paths.
+#[derive(Drop)]
+pub(crate) enum Todo<'a> {
+    End,
+    Fields {
+        fields: &'a [(Text, Field)],
+        at: &'a Path<'a>,
+        rest: &'a Todo<'a>,
+    },
+    Branches {
+        branches: &'a [Pattern],
+        at: &'a Path<'a>,
+        rest: &'a Todo<'a>,
+    },
+}
+
+/// A value of the event that is no list, or `None` for a missing member, and its path; and the paths that are known to be absent.
 #[derive(Clone, Copy)]
 pub(crate) struct Site<'a> {
-    pub event: &'a Json,
+    pub known: &'a Known<'a>,
     pub value: Option<&'a Json>,
     pub at: &'a Path<'a>,
 }

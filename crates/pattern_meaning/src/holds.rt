@@ -9,9 +9,9 @@ ghost use Rattle.pattern_meaning.specs.Holds.{PatternHolds};
 ghost use Rattle.pattern_meaning.specs.Alternatives.{alternatives, alternative_count, AlternativeHolds};
 ghost use Rattle.pattern_meaning.specs.PatternView.{pattern_of};
 
-use crate::frames::{Need, Path, Wanted};
+use crate::absent::gathered;
+use crate::frames::{Known, Path, Todo};
 use crate::pattern::Pattern;
-use crate::walk::meets;
 use json_text::Json;
 
 /// Whether the pattern holds of the event's tree. It takes no memory.
@@ -19,12 +19,21 @@ pub fn plain_holds(pattern: &Pattern, event: &Json) -> bool
     requires value { IsValue (tree_of event.now) }
     ensures { IsTrue result ↔ PatternHolds (pattern_of pattern.now) (tree_of event.now) }
 {
-    let wanted = Wanted::More {
-        key: "",
-        need: Need::Pattern(pattern),
-        rest: &Wanted::End,
+    let branches = Todo::Branches {
+        branches: &pattern.branches,
+        at: &Path::Root,
+        rest: &Todo::End,
     };
-    meets(event, event, &Path::Root, "", &wanted)
+    gathered(
+        pattern,
+        event,
+        &Todo::Fields {
+            fields: &pattern.fields,
+            at: &Path::Root,
+            rest: &branches,
+        },
+        &Known::End,
+    )
 }
 
 /// A member of the root for which the pattern has no field does not matter.

@@ -8,11 +8,11 @@ ghost use Rattle.pattern_meaning.specs.PatternView.{test_of, field_of, pattern_o
 ghost use Rattle.pattern_meaning.specs.View as view;
 ghost use Rattle.pattern_meaning.specs.View.{leaf_at};
 ghost use Rattle.pattern_meaning.specs.Frames as frame;
-ghost use Rattle.pattern_meaning.specs.Frames.{path_of, wants_of, value_of};
+ghost use Rattle.pattern_meaning.specs.Frames.{path_of, wants_of, value_of, known_of};
 ghost use Rattle.pattern_meaning.specs.Meets as spec;
 
-use crate::absent::is_absent;
-use crate::frames::{Need, Path, Site, Wanted};
+use crate::absent::is_known;
+use crate::frames::{Known, Need, Path, Site, Wanted};
 use crate::leaf::is_met;
 use crate::pattern::{Field, LeafTest, LeafTests, Pattern};
 use json_text::{Json, Text};
@@ -20,7 +20,7 @@ use json_text::{Json, Text};
 /// Whether some view of the value satisfies what is wanted with the key.
 #[cycle(walk)]
 pub(crate) fn meets<'a, 'k>(
-    event: &'a Json,
+    known: &'a Known<'a>,
     value: &'a Json,
     at: &'a Path<'a>,
     key: &'k str,
@@ -28,12 +28,12 @@ pub(crate) fn meets<'a, 'k>(
 ) -> bool
     requires value { IsValue (tree_of value.now) }
     ensures { IsTrue result ↔ spec.OnSome (tree_of value.now)
-        (spec.WithKeyMet (spec.absent_in (tree_of event.now)) (path_of at.now) key.now (wants_of wanted.now)) }
+        (spec.WithKeyMet (spec.known_in (known_of known.now)) (path_of at.now) key.now (wants_of wanted.now)) }
 {
     match value {
         Json::List(items) => {
             for item in items {
-                if meets(event, item, &*at, key, &*wanted) {
+                if meets(&*known, item, &*at, key, &*wanted) {
                     return true;
                 }
             }
@@ -41,7 +41,7 @@ pub(crate) fn meets<'a, 'k>(
         }
         _ => chosen(
             Site {
-                event,
+                known: &*known,
                 value: Some(value),
                 at: &*at,
             },
@@ -62,8 +62,8 @@ fn chosen<'a, 'k>(
 ) -> bool
     requires value { spec.IsNode (value_of (option_copied site.value)) }
     ensures { IsTrue result ↔ spec.OnSome (value_of (option_copied site.entry.value)) (λ v.
-        spec.WithKeyMet (spec.absent_in (tree_of site.entry.event.now)) (path_of site.entry.at.now) key.now (wants_of wanted.now) v
-        × spec.AllMet (spec.absent_in (tree_of site.entry.event.now)) (path_of site.entry.at.now) (wants_of found.now) v) }
+        spec.WithKeyMet (spec.known_in (known_of site.entry.known.now)) (path_of site.entry.at.now) key.now (wants_of wanted.now) v
+        × spec.AllMet (spec.known_in (known_of site.entry.known.now)) (path_of site.entry.at.now) (wants_of found.now) v) }
 {
     match wanted {
         Wanted::End => members_meet(site, &*found, &*found),
@@ -103,10 +103,10 @@ fn opened<'a, 'k>(
 ) -> bool
     requires value { spec.IsNode (value_of (option_copied site.value)) }
     ensures { IsTrue result ↔ spec.OnSome (value_of (option_copied site.entry.value)) (λ v.
-        spec.FieldsMet (spec.absent_in (tree_of site.entry.event.now)) (path_of site.entry.at.now) (fields_view fields.now) v
-        × spec.BranchesMet (spec.absent_in (tree_of site.entry.event.now)) (path_of site.entry.at.now) (branches_of (map pattern_of branches.now)) v
-        × spec.WithKeyMet (spec.absent_in (tree_of site.entry.event.now)) (path_of site.entry.at.now) key.now (wants_of wanted.now) v
-        × spec.AllMet (spec.absent_in (tree_of site.entry.event.now)) (path_of site.entry.at.now) (wants_of found.now) v) }
+        spec.FieldsMet (spec.known_in (known_of site.entry.known.now)) (path_of site.entry.at.now) (fields_view fields.now) v
+        × spec.BranchesMet (spec.known_in (known_of site.entry.known.now)) (path_of site.entry.at.now) (branches_of (map pattern_of branches.now)) v
+        × spec.WithKeyMet (spec.known_in (known_of site.entry.known.now)) (path_of site.entry.at.now) key.now (wants_of wanted.now) v
+        × spec.AllMet (spec.known_in (known_of site.entry.known.now)) (path_of site.entry.at.now) (wants_of found.now) v) }
 {
     match fields {
         [(name, field), rest @ ..] => {
@@ -133,9 +133,9 @@ fn some_opened<'a, 'k>(
 ) -> bool
     requires value { spec.IsNode (value_of (option_copied site.value)) }
     ensures { IsTrue result ↔ spec.OnSome (value_of (option_copied site.entry.value)) (λ v.
-        spec.SomeMet (spec.absent_in (tree_of site.entry.event.now)) (path_of site.entry.at.now) (branches_of (map pattern_of branches.now)) v
-        × spec.WithKeyMet (spec.absent_in (tree_of site.entry.event.now)) (path_of site.entry.at.now) key.now (wants_of wanted.now) v
-        × spec.AllMet (spec.absent_in (tree_of site.entry.event.now)) (path_of site.entry.at.now) (wants_of found.now) v) }
+        spec.SomeMet (spec.known_in (known_of site.entry.known.now)) (path_of site.entry.at.now) (branches_of (map pattern_of branches.now)) v
+        × spec.WithKeyMet (spec.known_in (known_of site.entry.known.now)) (path_of site.entry.at.now) key.now (wants_of wanted.now) v
+        × spec.AllMet (spec.known_in (known_of site.entry.known.now)) (path_of site.entry.at.now) (wants_of found.now) v) }
 {
     match branches {
         [branch, rest @ ..] => {
@@ -156,7 +156,7 @@ fn some_opened<'a, 'k>(
 #[cycle(walk)]
 fn members_meet<'a>(site: Site<'a>, found: &'a Wanted<'a>, rest: &'a Wanted<'a>) -> bool
     requires value { spec.IsNode (value_of (option_copied site.value)) }
-    ensures { IsTrue result ↔ spec.EachKeyMet (spec.absent_in (tree_of site.entry.event.now)) (path_of site.entry.at.now)
+    ensures { IsTrue result ↔ spec.EachKeyMet (spec.known_in (known_of site.entry.known.now)) (path_of site.entry.at.now)
         (value_of (option_copied site.entry.value)) (wants_of found.now) (wants_of rest.now) }
 {
     match rest {
@@ -174,7 +174,7 @@ fn members_meet<'a>(site: Site<'a>, found: &'a Wanted<'a>, rest: &'a Wanted<'a>)
 fn member_meets<'a>(site: Site<'a>, key: &'a str, found: &'a Wanted<'a>) -> bool
     requires value { spec.IsNode (value_of (option_copied site.value)) }
     ensures { IsTrue result ↔ spec.OnSome (value_of (option_copied site.entry.value)) (λ v.
-        spec.WithKeyMet (spec.absent_in (tree_of site.entry.event.now)) (path_of site.entry.at.now ++ key.now ∷ []) key.now (wants_of found.now)
+        spec.WithKeyMet (spec.known_in (known_of site.entry.known.now)) (path_of site.entry.at.now ++ key.now ∷ []) key.now (wants_of found.now)
         (spec.value_at key.now v)) }
 {
     let at = Path::Key {
@@ -182,10 +182,10 @@ fn member_meets<'a>(site: Site<'a>, key: &'a str, found: &'a Wanted<'a>) -> bool
         up: site.at,
     };
     match member(site.value, key) {
-        Some(value) => meets(site.event, value, &at, key, &*found),
+        Some(value) => meets(site.known, value, &at, key, &*found),
         None => chosen(
             Site {
-                event: site.event,
+                known: site.known,
                 value: None,
                 at: &at,
             },
@@ -224,7 +224,7 @@ fn has_view(value: &Json) -> bool
 /// Whether one of the tests holds at the site.
 fn some_holds(tests: &LeafTests, site: Site<'_>) -> bool
     requires value { spec.IsNode (value_of (option_copied site.value)) }
-    ensures { IsTrue result ↔ spec.SomeMetOf (spec.TestMet (spec.absent_in (tree_of site.entry.event.now))
+    ensures { IsTrue result ↔ spec.SomeMetOf (spec.TestMet (spec.known_in (known_of site.entry.known.now))
         (path_of site.entry.at.now) (value_of (option_copied site.entry.value))) (map test_of tests.now.items) }
 {
     for test in tests {
@@ -238,11 +238,11 @@ fn some_holds(tests: &LeafTests, site: Site<'_>) -> bool
 /// Whether the test holds at the site.
 fn holds_at(test: &LeafTest, site: Site<'_>) -> bool
     requires value { spec.IsNode (value_of (option_copied site.value)) }
-    ensures { IsTrue result ↔ spec.TestMet (spec.absent_in (tree_of site.entry.event.now)) (path_of site.entry.at.now)
+    ensures { IsTrue result ↔ spec.TestMet (spec.known_in (known_of site.entry.known.now)) (path_of site.entry.at.now)
         (value_of (option_copied site.entry.value)) (test_of test.now) }
 {
     match test {
-        LeafTest::Missing => is_absent(site.event, site.at),
+        LeafTest::Missing => is_known(site.known, site.at),
         _ => match leaf(site.value) {
             Some(leaf) => is_met(test, leaf),
             None => false,

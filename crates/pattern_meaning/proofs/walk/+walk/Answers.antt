@@ -1,4 +1,4 @@
-use Rattle.std.proofs.Common.{◌≡◌, ◌↔◌, ◌∷◌, [], IsTrue, map, option_map, option_copied, ap, sym, ◌∙◌, subst, refl, arith}
+use Rattle.std.proofs.Common.{◌≡◌, ◌↔◌, ◌∷◌, [], IsTrue, map, option_copied, ap, sym, ◌∙◌, subst, refl, arith}
 use Rattle.json_text.specs.Tree.{list, items_of}
 use Rattle.json_text.specs.View.{tree_of, trees_of}
 use Rattle.json_text.proofs.ViewLemmas.{tree_of_list}
@@ -6,19 +6,19 @@ use Rattle.json_text.specs.Compact.{IsValue}
 use Rattle.pattern_meaning.specs.Pattern.{pattern, below, branch, branches_of}
 use Rattle.pattern_meaning.specs.declared.pattern.Pattern.{out-Pattern}
 use Rattle.pattern_meaning.specs.PatternView.{test_of, field_of, pattern_of, fields_view}
-use Rattle.pattern_meaning.specs.Frames.{need_of, path_of, wants_of, value_of}
-use Rattle.pattern_meaning.specs.Meets.{OnSome, WithKeyMet, AllMet, EachKeyMet, FieldsMet, BranchesMet, SomeMet, nothing, size_of, wants_weight, absent_in}
+use Rattle.pattern_meaning.specs.Frames.{need_of, path_of, wants_of, value_of, known_of}
+use Rattle.pattern_meaning.specs.Meets.{OnSome, WithKeyMet, AllMet, EachKeyMet, FieldsMet, BranchesMet, SomeMet, nothing, size_of, wants_weight, known_in}
 use Rattle.pattern_meaning.proofs.SizeLemmas.{item_below, member_below, some_size}
 use Rattle.pattern_meaning.proofs.PatternLemmas.{pattern_is}
 use Rattle.pattern_meaning.proofs.FrameLemmas.{wants_end, wants_more, path_key, rest_of, branches_first, fields_first, first_wanted, some_branch, no_field}
 use Rattle.pattern_meaning.specs.declared.frames.Path.TheVariants.{Key}
 use Rattle.pattern_meaning.proofs.WalkLemmas.{joined, later_met, tests_met, tests_failed, opened_met, member_met, member_missing, item_met}
-use Rattle.pattern_meaning.proofs.WalkLemmas.{item_passed, items_done, of_list, field_opened, branch_opened, some_first, some_later, equal, untrue}
+use Rattle.pattern_meaning.proofs.WalkLemmas.{item_passed, items_done, field_opened, branch_opened, some_first, some_later, equal, untrue}
 use Rattle.pattern_meaning.proofs.walk.+walk.Goals as goal
 
 pub chosen-returns-in-End : goal.chosen-returns-in-End
 chosen-returns-in-End t c =
-    let a = absent_in (tree_of c.args.site.event.now) in
+    let a = known_in (known_of c.args.site.known.now) in
     let at = path_of c.args.site.at.now in
     let value = value_of (option_copied c.args.site.value) in
     let found = wants_of c.args.found.now in
@@ -28,7 +28,7 @@ chosen-returns-in-End t c =
 
 pub chosen-returns-then-some_holds : goal.chosen-returns-then-some_holds
 chosen-returns-then-some_holds t c =
-    let a = absent_in (tree_of c.args.site.event.now) in
+    let a = known_in (known_of c.args.site.known.now) in
     let at = path_of c.args.site.at.now in
     let value = value_of (option_copied c.args.site.value) in
     let found = wants_of c.args.found.now in
@@ -42,7 +42,7 @@ chosen-returns-then-some_holds t c =
 
 pub chosen-returns-else-some_holds : goal.chosen-returns-else-some_holds
 chosen-returns-else-some_holds t c =
-    let a = absent_in (tree_of c.args.site.event.now) in
+    let a = known_in (known_of c.args.site.known.now) in
     let at = path_of c.args.site.at.now in
     let value = value_of (option_copied c.args.site.value) in
     let found = wants_of c.args.found.now in
@@ -56,7 +56,7 @@ chosen-returns-else-some_holds t c =
 
 pub chosen-returns-in-Pattern : goal.chosen-returns-in-Pattern
 chosen-returns-in-Pattern t c =
-    let a = absent_in (tree_of c.args.site.event.now) in
+    let a = known_in (known_of c.args.site.known.now) in
     let at = path_of c.args.site.at.now in
     let value = value_of (option_copied c.args.site.value) in
     let found = wants_of c.args.found.now in
@@ -81,7 +81,7 @@ meets-meets-requires t c =
 
 pub meets-returns-then-meets : goal.meets-returns-then-meets
 meets-returns-then-meets t c =
-    let holds = WithKeyMet (absent_in (tree_of c.args.event.now)) (path_of c.args.at.now) c.args.key.now (wants_of c.args.wanted.now) in
+    let holds = WithKeyMet (known_in (known_of c.args.known.now)) (path_of c.args.at.now) c.args.key.now (wants_of c.args.wanted.now) in
     let xs = c.deref-item-items.result.now in
     let e = ap tree_of c.in-List.is ∙ tree_of_list c.in-List.items ∙ ap (λ l. list (items_of (trees_of l))) (sym c.deref-item-items.ensures.value) in
     let met = item_met xs c.loop-item.item-index c.item-item.result holds c.loop-item-test.true c.item-item.is c.loop-item.invariant
@@ -90,13 +90,13 @@ meets-returns-then-meets t c =
 
 pub meets-loop-item-preserved : goal.meets-loop-item-preserved
 meets-loop-item-preserved t c =
-    let holds = WithKeyMet (absent_in (tree_of c.args.event.now)) (path_of c.args.at.now) c.args.key.now (wants_of c.args.wanted.now) in
+    let holds = WithKeyMet (known_in (known_of c.args.known.now)) (path_of c.args.at.now) c.args.key.now (wants_of c.args.wanted.now) in
     item_passed c.deref-item-items.result.now c.loop-item.item-index c.item-item.result holds c.loop-item-test.true c.item-item.is c.loop-item.invariant
     (λ h. untrue (c.meets.ensures.1 h) c.if-meets.false)
 
 pub meets-returns-after-loop-item : goal.meets-returns-after-loop-item
 meets-returns-after-loop-item t c =
-    let holds = WithKeyMet (absent_in (tree_of c.args.event.now)) (path_of c.args.at.now) c.args.key.now (wants_of c.args.wanted.now) in
+    let holds = WithKeyMet (known_in (known_of c.args.known.now)) (path_of c.args.at.now) c.args.key.now (wants_of c.args.wanted.now) in
     let xs = c.deref-item-items.result.now in
     let e = ap tree_of c.in-List.is ∙ tree_of_list c.in-List.items ∙ ap (λ l. list (items_of (trees_of l))) (sym c.deref-item-items.ensures.value) in
     let none = items_done xs c.loop-item.item-index holds c.loop-item-test.false c.loop-item.invariant in
@@ -114,7 +114,7 @@ member_meets-chosen-requires t c =
 
 pub member_meets-returns-in-Some : goal.member_meets-returns-in-Some
 member_meets-returns-in-Some t c =
-    let a = absent_in (tree_of c.args.site.event.now) in
+    let a = known_in (known_of c.args.site.known.now) in
     let at = path_of c.args.site.at.now in
     let value = value_of (option_copied c.args.site.value) in
     let found = wants_of c.args.found.now in
@@ -124,7 +124,7 @@ member_meets-returns-in-Some t c =
 
 pub member_meets-returns-in-None : goal.member_meets-returns-in-None
 member_meets-returns-in-None t c =
-    let a = absent_in (tree_of c.args.site.event.now) in
+    let a = known_in (known_of c.args.site.known.now) in
     let at = path_of c.args.site.at.now in
     let value = value_of (option_copied c.args.site.value) in
     let found = wants_of c.args.found.now in
@@ -136,7 +136,7 @@ member_meets-returns-in-None t c =
 
 pub members_meet-returns-in-More : goal.members_meet-returns-in-More
 members_meet-returns-in-More t c =
-    let a = absent_in (tree_of c.args.site.event.now) in
+    let a = known_in (known_of c.args.site.known.now) in
     let at = path_of c.args.site.at.now in
     let value = value_of (option_copied c.args.site.value) in
     let all = wants_of c.args.found.now in
@@ -147,7 +147,7 @@ members_meet-returns-in-More t c =
 
 pub some_opened-returns-then-opened : goal.some_opened-returns-then-opened
 some_opened-returns-then-opened t c =
-    let a = absent_in (tree_of c.args.site.event.now) in
+    let a = known_in (known_of c.args.site.known.now) in
     let at = path_of c.args.site.at.now in
     let value = value_of (option_copied c.args.site.value) in
     let found = wants_of c.args.found.now in
@@ -165,7 +165,7 @@ some_opened-returns-then-opened t c =
 
 pub some_opened-returns-else-opened : goal.some_opened-returns-else-opened
 some_opened-returns-else-opened t c =
-    let a = absent_in (tree_of c.args.site.event.now) in
+    let a = known_in (known_of c.args.site.known.now) in
     let at = path_of c.args.site.at.now in
     let value = value_of (option_copied c.args.site.value) in
     let found = wants_of c.args.found.now in
@@ -184,7 +184,7 @@ some_opened-returns-else-opened t c =
 
 pub opened-returns-in-empty-2 : goal.opened-returns-in-empty-2
 opened-returns-in-empty-2 t c =
-    let a = absent_in (tree_of c.args.site.event.now) in
+    let a = known_in (known_of c.args.site.known.now) in
     let at = path_of c.args.site.at.now in
     let value = value_of (option_copied c.args.site.value) in
     let found = wants_of c.args.found.now in
@@ -200,7 +200,7 @@ opened-returns-in-empty-2 t c =
 
 pub opened-returns-in-len1-up : goal.opened-returns-in-len1-up
 opened-returns-in-len1-up t c =
-    let a = absent_in (tree_of c.args.site.event.now) in
+    let a = known_in (known_of c.args.site.known.now) in
     let at = path_of c.args.site.at.now in
     let value = value_of (option_copied c.args.site.value) in
     let found = wants_of c.args.found.now in

@@ -1,10 +1,10 @@
-use Rattle.std.proofs.Common.{◌≡◌, ◌↔◌, List, [], map, drop, option_copied, ◌+◌, ◌*◌}
+use Rattle.std.proofs.Common.{◌↔◌, map, drop, option_copied, ◌+◌, ◌*◌}
 use Rattle.json_text.specs.Tree.{list, items_of}
 use Rattle.json_text.specs.View.{tree_of, trees_of}
 use Rattle.pattern_meaning.specs.Pattern.{branches_of}
 use Rattle.pattern_meaning.specs.PatternView.{pattern_of, fields_view}
-use Rattle.pattern_meaning.specs.Frames.{path_of, wants_of, value_of}
-use Rattle.pattern_meaning.specs.Meets.{OnSome, WithKeyMet, absent_in, size_of, wants_weight, fields_weight, branches_weight}
+use Rattle.pattern_meaning.specs.Frames.{path_of, wants_of, value_of, known_of}
+use Rattle.pattern_meaning.specs.Meets.{OnSome, WithKeyMet, known_in, size_of, wants_weight, fields_weight, branches_weight}
 use Rattle.pattern_meaning.proofs.walk.+walk.Given as goal
 
 -- the values and wishes that are left to look at
@@ -37,6 +37,6 @@ decreases-member_meets l = size_of (value_of (option_copied l.site.value)) + wan
 abbrev pub invariant-meets-loop-item : goal.invariant-meets-loop-item
 invariant-meets-loop-item l =
     OnSome (list (items_of (trees_of (drop l.item-index l.item-items))))
-    (WithKeyMet (absent_in (tree_of l.event)) (path_of l.at) l.key (wants_of l.wanted))
+    (WithKeyMet (known_in (known_of l.known)) (path_of l.at) l.key (wants_of l.wanted))
     ↔ OnSome (list (items_of (trees_of l.item-items)))
-    (WithKeyMet (absent_in (tree_of l.event)) (path_of l.at) l.key (wants_of l.wanted))
+    (WithKeyMet (known_in (known_of l.known)) (path_of l.at) l.key (wants_of l.wanted))
