@@ -1,6 +1,7 @@
 pub mod LeafLemmas
 pub mod AnyLemmas
 pub mod ViewLemmas
+pub mod NumberLemmas
 pub mod AbsentLemmas
 pub mod KnownLemmas
 pub mod PathLemmas

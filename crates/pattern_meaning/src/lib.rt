@@ -5,6 +5,7 @@ mod absent;
 mod comparison;
 mod frames;
 mod holds;
+mod laws;
 mod leaf;
 mod pattern;
 #[cfg(test)]
@@ -13,4 +14,5 @@ mod walk;
 
 pub use comparison::{Comparison, Operator};
 pub use holds::{alternatives_decide, plain_holds, unseen_member};
+pub use laws::one_number_grammar;
 pub use pattern::{Field, Fields, LeafTest, LeafTests, Pattern};
