@@ -43,7 +43,10 @@ fn build_members(alloc: Global, members: Members) -> Result<Pattern, PatternFaul
         let field = build_field(alloc, value)?;
         fields.push((key, field))?;
     }
-    Ok(Pattern { fields, branches: Vec::new(alloc) })
+    Ok(Pattern {
+        fields,
+        branches: Vec::new(alloc),
+    })
 }
 
 /// A list is read as tests, an object as a pattern.
