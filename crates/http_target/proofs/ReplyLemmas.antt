@@ -121,7 +121,7 @@ not_yet bytes rest last skipped so short none may =
       no_status bytes rest skipped so.are is (λ h r head reads fits. none h r (head.valid, reads)),
       skipped,
       rest,
-      record { skipped_are = so.are; last_is = so.last_is; bytes_are = is; may = may; short = short },
+      record { skipped_are = so.are; last_is = so.last_is; bytes_are = is; none = none; may = may; short = short },
     )
 
 -- a front of the rest and more that fits into the rest is a front of the rest

@@ -8,7 +8,8 @@ use Rattle.http_target.specs.declared.reply.Reply.TheVariants.{Whole, NotYet, Ne
 use Rattle.http_target.specs.declared.reply.Front.{Front}
 use Rattle.http_target.specs.declared.reply.Front.TheVariants as front
 
--- another head follows one with this code: 100, and 102 to 199 (RFC 9110, section 15.2). After 101 none of this protocol does.
+-- another head follows one with this code: 100, and 102 to 199 (RFC 9110, section 15.2). After 101
+-- the connection leaves HTTP, so no head follows.
 abbrev pub is_interim : ℕ → Bool
 is_interim code = code == 100 || (nat_le 102 code && nat_le code 199)
 
@@ -52,10 +53,11 @@ pub record IsAwaited (bytes : List ℕ) (last : Option ℕ) (skipped : List Resp
   pub skipped_are : All IsInterim skipped
   pub last_is : last ≡ last_code skipped
   pub bytes_are : bytes ≡ heads_bytes skipped ++ rest
+  pub none : HasNoResponse rest
   pub may : MayBecomeResponse rest
   pub short : length bytes < 16384
 
--- no final head is whole yet, and one may still come
+-- no final head is whole yet, and the bytes may still become a head of the grammar
 abbrev pub IsNotYet : List ℕ → Option ℕ → Type 0
 IsNotYet bytes last =
     ((code : ℕ) → ¬ (HasStatus bytes code)) × (skipped : List ResponseHead) × (rest : List ℕ) × IsAwaited bytes last skipped rest
