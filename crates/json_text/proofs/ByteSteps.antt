@@ -1,11 +1,17 @@
 -- One byte of a text, read in both directions: `follows_step` leads from what follows the byte to what follows with it, and
 -- `step_follows` back. At the end of the bytes: `follows_end` and `end_follows`.
-use Rattle.std.proofs.Common.{◌≡◌, ℕ, suc, ◌+◌, ◌-◌, ◌<◌, true, false, List, [], ◌∷◌, ◌++◌, length, Option, Some, None, Result, Ok, Err, refl, sym, ap, ◌∙◌, subst, inl, inr, arith, eqb-true, ltb-true, lt-ltb, eq-eqb, ◌==◌, ◌||◌, Bool, cond, nat_lt, codes}
+use Rattle.std.proofs.Common.{◌≡◌, ℕ, suc, ◌+◌, ◌-◌, ◌<◌, true, false, List, [], ◌∷◌, ◌++◌, length, Option, Some, None, Result, Ok, Err, refl, sym, ap, ◌∙◌}
+use Rattle.std.proofs.Common.{subst, inl, inr, arith, eqb-true, ltb-true, lt-ltb, eq-eqb, ◌==◌, ◌||◌, Bool, cond, nat_lt}
 use Rattle.std.proofs.{lemmas.Bool.cond-true, lemmas.Bool.cond-false, lemmas.Bool.or_left, lemmas.Bool.Decides.nat_tests}
-use Rattle.json_text.proofs.Following.{Byte, Space, Literal, Characters, StringOn, Future, Key, Value, Items, MoreItems, Members, MoreMembers, After, Ended, Colon, Filled, Following}
-use Rattle.json_text.proofs.NumberReads.{choose, digits_spelled, digits_from, Accepts, Starts, with_minus, with_zero, with_digit, starts, minus_number, zero_number, int_number}
+use Rattle.json_text.proofs.Following.{Byte, Space, Literal, Characters, StringOn, Future, Key, Value, Items, MoreItems, Members, MoreMembers, After, Ended}
+use Rattle.json_text.proofs.NumberReads.{choose, digits_spelled, digits_from, Accepts, Starts, with_minus, with_zero, with_digit, starts, minus_number}
+use Rattle.json_text.proofs.{Following.Colon, Following.Filled, Following.Following, NumberReads.zero_number, NumberReads.int_number}
 use Rattle.json_text.proofs.CharacterReads.{characters_spelled, characters_from}
-use Rattle.json_text.specs.Reading.{Stop, unexpected, too_deep, Member, Waiting, in_list, in_object, then_nodes, then_fields, nodes_of, fields_of, State, value, first_item, after_item, first_key, next_key, colon, after_member, whole, word, digits, string, Hole, in_value, in_key, fill, StringStep, goes_on, ends, stops, string_step, string_goes, between, NumberPart, number_step, may_end, minus, zero_int, int, point, fraction, exponent, exponent_sign, exponent_digits, put, opened, value_step, word_step, after_step, digits_step, step, end_of}
+use Rattle.json_text.specs.Reading.{Stop, Member, Waiting, in_list, in_object, then_nodes, then_fields, nodes_of, fields_of, State, value, first_item}
+use Rattle.json_text.specs.Reading.{after_item, first_key, next_key, colon, after_member, whole, word, digits, string, Hole, in_value, in_key, fill, StringStep}
+use Rattle.json_text.specs.Reading.{goes_on, ends, stops, string_step, string_goes, between, NumberPart, number_step, may_end, minus, zero_int, int, point}
+use Rattle.json_text.specs.Reading.{fraction, exponent, exponent_sign, exponent_digits, put, opened, value_step, word_step, after_step, digits_step, step}
+use Rattle.json_text.specs.Reading.{end_of}
 use Rattle.json_text.specs.Node.{Node, null_node, truth_node, list_node, object_node, number_node, text_node, Nodes, no_nodes, node, Fields, no_fields, field}
 use Rattle.json_text.specs.{Number.IsNumber, Number.is_digit_above_zero, Grammar.is_space}
 
@@ -107,8 +113,7 @@ module _ (size levels : ℕ) (r : Node) where
       (object_node fs, future, (levels - suc (length outer), omega arith, (e, i)))) (λ _ h. absurd h)
 
   value_follows : (outer : List Waiting) (b : ℕ) (bs : List ℕ) → On bs (value_step levels outer b) → ValueFollows outer (b ∷ bs)
-  value_follows outer b bs h =
-      on_if (b == 34) bs _ _ h (λ t k. string_value outer b bs (eqb-true b 34 t) k) (λ _ h.
+  value_follows outer b bs h = on_if (b == 34) bs _ _ h (λ t k. string_value outer b bs (eqb-true b 34 t) k) (λ _ h.
       on_if (b == 91) bs _ _ h (λ t k. list_value outer b bs (eqb-true b 91 t) k) (λ _ h.
       on_if (b == 123) bs _ _ h (λ t k. object_value outer b bs (eqb-true b 123 t) k) (λ _ h.
       on_if (b == 45) bs _ _ h (λ t k. number_value minus outer b 45 bs (eqb-true b 45 t) (λ a x. minus_number a x) k) (λ _ h.
@@ -120,8 +125,7 @@ module _ (size levels : ℕ) (r : Node) where
 
   item_follows : (ns : List Node) (outer : List Waiting) (b : ℕ) (bs : List ℕ) → On bs (after_step (after_item ns outer) b)
       → Follows (after_item ns outer) (b ∷ bs)
-  item_follows ns outer b bs h =
-      on_if (is_space b) bs _ _ h (λ t (future, k). (future, inr (t, k))) (λ _ h.
+  item_follows ns outer b bs h = on_if (is_space b) bs _ _ h (λ t (future, k). (future, inr (t, k))) (λ _ h.
       on_if (b == 44) bs _ _ h (λ t (n, future, k). let same = subst (λ all. NextItem outer n future all bs) (then_node ns n future.0) k in
       ((node n future.0, future.1), inl (eqb-true b 44 t, same))) (λ _ h.
       on_if (b == 93) bs _ _ h (λ t h. let (future, k) = (put_same (list_node (nodes_of ns)) outer bs).0 h in ((no_nodes, future), inl (eqb-true b 93 t, k)))
@@ -129,8 +133,7 @@ module _ (size levels : ℕ) (r : Node) where
 
   member_follows : (ms : List Member) (outer : List Waiting) (b : ℕ) (bs : List ℕ) → On bs (after_step (after_member ms outer) b)
       → Follows (after_member ms outer) (b ∷ bs)
-  member_follows ms outer b bs h =
-      on_if (is_space b) bs _ _ h (λ t (future, k). (future, inr (t, k))) (λ _ h.
+  member_follows ms outer b bs h = on_if (is_space b) bs _ _ h (λ t (future, k). (future, inr (t, k))) (λ _ h.
       on_if (b == 44) bs _ _ h (λ t (place, key, n, future, k).
       let same = subst (λ all. NextMember outer place key n future all bs) (then_field ms place key n future.0) k in
       ((field place key n future.0, future.1), inl (eqb-true b 44 t, same))) (λ _ h.
@@ -175,21 +178,17 @@ module _ (size levels : ℕ) (r : Node) where
   pub follows_step : (state : State) (at b : ℕ) (bs : List ℕ) → at + suc (length bs) ≡ size → On bs (step levels at state b) → Follows state (b ∷ bs)
   follows_step (value outer) at b bs s h = on_if (is_space b) bs _ _ h (λ t (n, future, k). (n, future, inr (t, k)))
       (λ _ h. let (n, future, k) = value_follows outer b bs h in (n, future, inl k))
-  follows_step (first_item outer) at b bs s h =
-      on_if (is_space b) bs _ _ h (λ t (ns, future, k). (ns, future, inr (t, k))) (λ _ h.
+  follows_step (first_item outer) at b bs s h = on_if (is_space b) bs _ _ h (λ t (ns, future, k). (ns, future, inr (t, k))) (λ _ h.
       on_if (b == 93) bs _ _ h (λ t h. let (future, k) = (put_same (list_node no_nodes) outer bs).0 h in (no_nodes, future, inl (eqb-true b 93 t, k))) (λ _ h.
       let (n, future, k) = value_follows (in_list [] ∷ outer) b bs h in (node n future.0, future.1, inl k)))
   follows_step (after_item ns outer) at b bs s h = item_follows ns outer b bs h
-  follows_step (first_key outer) at b bs s h =
-      on_if (is_space b) bs _ _ h (λ t (fs, future, k). (fs, future, inr (t, k))) (λ _ h.
+  follows_step (first_key outer) at b bs s h = on_if (is_space b) bs _ _ h (λ t (fs, future, k). (fs, future, inr (t, k))) (λ _ h.
       on_if (b == 34) bs _ _ h (λ t h. let (key, n, future, k) = key_follows [] outer at b bs s t h in (field at key n future.0, future.1, inl k)) (λ _ h.
       on_if (b == 125) bs _ _ h (λ t h. let (future, k) = (put_same (object_node no_fields) outer bs).0 h in (no_fields, future, inl (eqb-true b 125 t, k)))
       (λ _ h. absurd h)))
-  follows_step (next_key ms outer) at b bs s h =
-      on_if (is_space b) bs _ _ h (λ t (place, key, n, future, k). (place, key, n, future, inr (t, k))) (λ _ h.
+  follows_step (next_key ms outer) at b bs s h = on_if (is_space b) bs _ _ h (λ t (place, key, n, future, k). (place, key, n, future, inr (t, k))) (λ _ h.
       on_if (b == 34) bs _ _ h (λ t h. let (key, n, future, k) = key_follows ms outer at b bs s t h in (at, key, n, future, inl k)) (λ _ h. absurd h))
-  follows_step (colon ms place key outer) at b bs s h =
-      on_if (is_space b) bs _ _ h (λ t (n, future, k). (n, future, inr (t, k))) (λ _ h.
+  follows_step (colon ms place key outer) at b bs s h = on_if (is_space b) bs _ _ h (λ t (n, future, k). (n, future, inr (t, k))) (λ _ h.
       on_if (b == 58) bs _ _ h (λ t (n, future, k). (n, future, inl (eqb-true b 58 t, k))) (λ _ h. absurd h))
   follows_step (after_member ms outer) at b bs s h = member_follows ms outer b bs h
   follows_step (whole n) at b bs s h = on_if (is_space b) bs _ _ h (λ t (future, k). (future, inr (t, k))) (λ _ h. absurd h)

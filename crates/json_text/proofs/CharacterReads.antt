@@ -1,13 +1,15 @@
 -- The characters of a string, read in both directions: `characters_spelled` takes one character after another from the front of
 -- what may still come, and `characters_from` puts them back. What they represent is UTF-8: `characters_utf8`.
-use Rattle.std.proofs.Common.{◌≡◌, ◌≢◌, ℕ, zero, suc, ◌+◌, ◌-◌, ◌*◌, ◌/◌, ◌%◌, ◌<◌, ◌≤◌, Bool, true, false, ◌==◌, cond, List, [], ◌∷◌, ◌++◌, length, Option, Some, None, ◌⊎◌, inl, inr, ⊎_elim, refl, sym, ap, ◌∙◌, subst, arith, append_assoc, append-nil, eqb-true, IsUtf8, encode_utf8, length-append}
+use Rattle.std.proofs.Common.{◌≡◌, ◌≢◌, ℕ, zero, suc, ◌+◌, ◌*◌, ◌/◌, ◌%◌, ◌<◌, ◌≤◌, Bool, true, false, ◌==◌, cond, List, [], ◌∷◌, ◌++◌, length, Option}
+use Rattle.std.proofs.Common.{Some, None, ◌⊎◌, inl, inr, ⊎_elim, refl, sym, ap, ◌∙◌, subst, arith, append_assoc, append-nil, eqb-true, IsUtf8, encode_utf8}
 use Rattle.std.proofs.{Math.Utf8.scalar_cases, lemmas.Str.IsUtf8-append, lemmas.Str.IsUtf8-encode, lemmas.Str.IsUtf8-nil, lemmas.Bool.Decides.nat_tests}
 use Rattle.std.proofs.lemmas.Bool.{cond_both, cond-true, cond-false, eqb-false, cases_eq, cases_lt}
-use Rattle.std.specs.Char.{IsScalar}
-use Rattle.json_text.specs.Characters.{SpellsCharacter, unescaped, escaped, unit, pair, SpellsCharacters, none, more, escape_of, hex_digit_of, IsHex, IsHighSurrogate, IsLowSurrogate, pair_of}
-use Rattle.json_text.specs.Reading.{StringPart, between, backslash, hex, high, high_backslash, tail, StringStep, goes_on, stops, string_step, unescaped_step, is_within, tail_after, escape_step, digit_fits, unit_step, unit_after, hex_step}
-use Rattle.json_text.specs.Scan.{IsUnitSoFar}
-use Rattle.json_text.proofs.Following.{Characters, StringOn}
+use Rattle.std.{proofs.Common.length-append, specs.Char.IsScalar}
+use Rattle.json_text.specs.Characters.{SpellsCharacter, unescaped, escaped, unit, pair, SpellsCharacters, none, more, escape_of, hex_digit_of, IsHex}
+use Rattle.json_text.specs.Characters.{IsHighSurrogate, IsLowSurrogate, pair_of}
+use Rattle.json_text.specs.Reading.{StringPart, between, backslash, hex, high, high_backslash, tail, StringStep, goes_on, stops, string_step, unescaped_step}
+use Rattle.json_text.specs.Reading.{is_within, tail_after, escape_step, digit_fits, unit_step, unit_after, hex_step}
+use Rattle.json_text.{specs.Scan.IsUnitSoFar, proofs.Following.Characters, proofs.Following.StringOn}
 use Rattle.json_text.proofs.Encoded.{IsLong, long_2, long_3, long_4, encode_1, encode_2, encode_3, encode_4, low_is_scalar, high_is_scalar}
 
 -- n more bytes make the bytes a character
@@ -31,8 +33,7 @@ apart a b h = grind arith
 -- what an unescaped byte does
 pub unescaped_by : (P : StringStep → Type 0) (text : List ℕ) (b : ℕ) → (32 ≤ b → b ≤ 127 → P (goes_on between (text ++ b ∷ [])))
     → ((low width n : ℕ) → IsFront low width n (b ∷ []) → P (goes_on (tail low width n) (text ++ b ∷ []))) → P stops → P (unescaped_step text b)
-unescaped_by P text b f g h =
-    cond_both (is_within 32 127 b) _ _ P (λ t. f (within_from 32 127 b t) (within_to 32 127 b t)) (λ _.
+unescaped_by P text b f g h = cond_both (is_within 32 127 b) _ _ P (λ t. f (within_from 32 127 b t) (within_to 32 127 b t)) (λ _.
     cond_both (is_within 194 223 b) _ _ P (λ t. g 128 63 0 (λ x i j. long_2 b x (within_from 194 223 b t) (within_to 194 223 b t) i j)) (λ _.
     cond_both (b == 224) _ _ P (λ t. let e = eqb-true b 224 t in g 160 31 1 (λ x i j y k l.
     long_3 b x y (omega arith) (omega arith) (omega arith) j k l (inl i) (inr (inl (omega arith))))) (λ _.

@@ -1,5 +1,5 @@
--- A writer that keeps what is before it: `kept_further` and `kept_behind`; one turn of a quoted text: `quoted_turn`.
-use Rattle.std.proofs.Common.{◌≡◌, ℕ, List, [], ◌∷◌, ◌++◌, length, take, drop, flat_map, refl, sym, ap, ◌∙◌, append_assoc}
+-- A writer that keeps what is before it: `kept_further` and `kept_after`; one turn of a quoted text: `quoted_turn`.
+use Rattle.std.proofs.Common.{◌≡◌, ℕ, List, [], ◌∷◌, ◌++◌, length, take, drop, flat_map, sym, ap, ◌∙◌, append_assoc}
 use Rattle.std.proofs.{Math.Seq.take-append_seam, lemmas.List.take-append-drop, lemmas.List.append-nil, lemmas.Grind.flat_map-append, Common.zero, Common.suc}
 use Rattle.json_text.specs.{Tree.Tree, Tree.items_of, Tree.members_of}
 use Rattle.json_text.specs.Compact.{escape, items_text, more_items_text, members_text, more_members_text}
@@ -8,21 +8,21 @@ use Rattle.json_text.specs.Compact.{escape, items_text, more_items_text, members
 begins : (a b : List ℕ) → take (length a) b ≡ a → b ≡ a ++ drop (length a) b
 begins a b h = sym (take-append-drop (length a) b) ∙ ap (λ t. t ++ drop (length a) b) h
 
-pub kept_behind : (a b x c : List ℕ) → take (length a) b ≡ a → c ≡ b ++ x → take (length a) c ≡ a
-kept_behind a b x c h e = ap (take (length a)) (e ∙ ap (λ t. t ++ x) (begins a b h) ∙ append_assoc a (drop (length a) b) x)
+pub kept_after : (a b x c : List ℕ) → take (length a) b ≡ a → c ≡ b ++ x → take (length a) c ≡ a
+kept_after a b x c h e = ap (take (length a)) (e ∙ ap (λ t. t ++ x) (begins a b h) ∙ append_assoc a (drop (length a) b) x)
     ∙ take-append_seam a (drop (length a) b ++ x)
 
 pub kept_further : (a b c : List ℕ) → take (length a) b ≡ a → take (length b) c ≡ b → take (length a) c ≡ a
-kept_further a b c h k = kept_behind a b (drop (length b) c) c h (begins b c k)
+kept_further a b c h k = kept_after a b (drop (length b) c) c h (begins b c k)
 
 -- the plain bytes at the front, an escape, and what is left
-pub quoted_turn : (out rest behind : List ℕ) (n b : ℕ) (front : List ℕ) → front ≡ take n rest → flat_map escape (take n rest) ≡ take n rest
-    → drop n rest ≡ b ∷ behind → ((out ++ front) ++ escape b) ++ flat_map escape behind ≡ out ++ flat_map escape rest
-quoted_turn out rest behind n b front is plain cut = let split : flat_map escape rest ≡ take n rest ++ (escape b ++ flat_map escape behind) =
+pub quoted_turn : (out rest after : List ℕ) (n b : ℕ) (front : List ℕ) → front ≡ take n rest → flat_map escape (take n rest) ≡ take n rest
+    → drop n rest ≡ b ∷ after → ((out ++ front) ++ escape b) ++ flat_map escape after ≡ out ++ flat_map escape rest
+quoted_turn out rest after n b front is plain cut = let split : flat_map escape rest ≡ take n rest ++ (escape b ++ flat_map escape after) =
     ap (flat_map escape) (sym (take-append-drop n rest)) ∙ flat_map-append escape (take n rest) (drop n rest)
     ∙ ap (λ t. t ++ flat_map escape (drop n rest)) plain ∙ ap (λ t. take n rest ++ flat_map escape t) cut in
-    ap (λ t. ((out ++ t) ++ escape b) ++ flat_map escape behind) is ∙ append_assoc (out ++ take n rest) (escape b) (flat_map escape behind)
-    ∙ append_assoc out (take n rest) (escape b ++ flat_map escape behind) ∙ ap (λ t. out ++ t) (sym split)
+    ap (λ t. ((out ++ t) ++ escape b) ++ flat_map escape after) is ∙ append_assoc (out ++ take n rest) (escape b) (flat_map escape after)
+    ∙ append_assoc out (take n rest) (escape b ++ flat_map escape after) ∙ ap (λ t. out ++ t) (sym split)
 
 -- the text of the items from a place on: after the first one each has its comma
 abbrev pub items_left : ℕ → List Tree → List ℕ

@@ -1,10 +1,17 @@
 -- Where the byte machine stops no text goes on: each state is on the way to some text (`completes`), and a byte does the same where
 -- one level more is allowed, but for a bracket too many (`fares`). What the public calls say of it: `is_only`, `only_memory`,
 -- `stands_so`, `deep_so`.
-use Rattle.std.proofs.Common.{◌≡◌, ◌≢◌, ℕ, zero, suc, ◌+◌, ◌*◌, true, List, [], ◌∷◌, ◌++◌, length, Option, Some, None, Ok, refl, sym, ap, ◌∙◌, subst, inl, inr, arith, eq-eqb, encode_utf8, ◌-◌, ◌<◌, ◌≤◌, Bool, false, cond, ◌==◌, nat_lt, Result, Err, ◌⊎◌, ⊎_elim, ltb-true, lt-ltb, codes, take, append_assoc, append-nil, length-append, add-zero, zero-add, take_at}
-use Rattle.std.proofs.lemmas.Bool.{cond-true, cond_both, cases_eq, cond-false, eqb-false, cases_Bool}
+use Rattle.std.proofs.Common.{◌≡◌, ◌≢◌, ℕ, zero, suc, ◌+◌, ◌*◌, true, List, [], ◌∷◌, ◌++◌, length, Option, Some, None, Ok, refl, sym, ap, ◌∙◌, subst, inl, inr}
+use Rattle.std.proofs.Common.{arith, eq-eqb, encode_utf8, ◌-◌, ◌<◌, ◌≤◌, Bool, false, cond, ◌==◌, nat_lt, Result, Err, ltb-true, lt-ltb, codes, take}
+use Rattle.std.proofs.Common.{append_assoc, append-nil, length-append, add-zero, zero-add, take_at}
+use Rattle.std.proofs.lemmas.Bool.{cond-true, cond_both, cases_eq}
 use Rattle.std.proofs.lemmas.Bool.Decides.{nat_tests}
-use Rattle.json_text.specs.Reading.{Member, Waiting, in_list, in_object, nodes_of, fields_of, State, value, first_item, after_item, first_key, next_key, colon, after_member, whole, word, digits, string, Hole, in_value, in_key, fill, StringPart, between, backslash, hex, high, high_backslash, tail, NumberPart, minus, zero_int, int, point, fraction, exponent, exponent_sign, exponent_digits, may_end, string_step, goes_on, ends, stops, StringStep, string_goes, put, step, digit_fits, unit_step, unit_after, hex_step, tail_after, is_within, read_from, Stop, unexpected, too_deep, number_step, opened, value_step, word_step, after_step, digits_step, escape_step, Fault, end_of, ended, read_text}
+use Rattle.json_text.specs.Reading.{Member, Waiting, in_list, in_object, nodes_of, fields_of, State, value, first_item, after_item, first_key, next_key, colon}
+use Rattle.json_text.specs.Reading.{after_member, whole, word, digits, string, Hole, in_value, in_key, fill, StringPart, between, backslash, hex, high}
+use Rattle.json_text.specs.Reading.{high_backslash, tail, NumberPart, minus, zero_int, int, point, fraction, exponent, exponent_sign, exponent_digits, may_end}
+use Rattle.json_text.specs.Reading.{string_step, goes_on, ends, stops, StringStep, string_goes, put, step, digit_fits, unit_step, unit_after, hex_step}
+use Rattle.json_text.specs.Reading.{tail_after, is_within, read_from, Stop, unexpected, too_deep, number_step, opened, value_step, word_step, after_step}
+use Rattle.json_text.specs.Reading.{digits_step, Fault, end_of, ended, read_text}
 use Rattle.json_text.specs.declared.fault.JsonFault.TheVariants.{NotJson, TooDeep, KeyTwice, NoMemory}
 use Rattle.json_text.specs.Node.{Node, list_node, object_node, number_node, text_node, no_nodes, no_fields, null_node, truth_node}
 use Rattle.json_text.specs.{Characters.hex_digit_of, Characters.pair_of, Faults.FailsAt, Faults.OpensTooMany, declared.fault.JsonFault.JsonFault, Kept.FailsSo}
@@ -194,8 +201,7 @@ module _ (levels : ℕ) where
       (λ t. let h : length outer < levels = ltb-true (length outer) levels t in (more, omega arith)) (λ _. (s, more))
 
   value_fares : (outer : List Waiting) (b : ℕ) → length outer ≤ levels → Fares (value_step levels outer b) (value_step (suc levels) outer b)
-  value_fares outer b l =
-      fares_if (b == 34) _ _ _ _ (on (string between [] (in_value outer)) l) (
+  value_fares outer b l = fares_if (b == 34) _ _ _ _ (on (string between [] (in_value outer)) l) (
       fares_if (b == 91) _ _ _ _ (opened_fares outer (first_item outer) refl l) (
       fares_if (b == 123) _ _ _ _ (opened_fares outer (first_key outer) refl l) (
       fares_if (b == 45) _ _ _ _ (on (digits minus (b ∷ []) outer) l) (
@@ -207,15 +213,13 @@ module _ (levels : ℕ) where
 
   after_item_fares : (ns : List Node) (outer : List Waiting) (b : ℕ) → suc (length outer) ≤ levels
       → Fares (after_step (after_item ns outer) b) (after_step (after_item ns outer) b)
-  after_item_fares ns outer b l =
-      fares_if (is_space b) _ _ _ _ (on (after_item ns outer) l) (
+  after_item_fares ns outer b l = fares_if (is_space b) _ _ _ _ (on (after_item ns outer) l) (
       fares_if (b == 44) _ _ _ _ (on (value (in_list ns ∷ outer)) l) (
       fares_if (b == 93) _ _ _ _ (on_put (list_node (nodes_of ns)) outer (omega arith)) refl))
 
   after_member_fares : (ms : List Member) (outer : List Waiting) (b : ℕ) → suc (length outer) ≤ levels
       → Fares (after_step (after_member ms outer) b) (after_step (after_member ms outer) b)
-  after_member_fares ms outer b l =
-      fares_if (is_space b) _ _ _ _ (on (after_member ms outer) l) (
+  after_member_fares ms outer b l = fares_if (is_space b) _ _ _ _ (on (after_member ms outer) l) (
       fares_if (b == 44) _ _ _ _ (on (next_key ms outer) l) (
       fares_if (b == 125) _ _ _ _ (on_put (object_node (fields_of ms)) outer (omega arith)) refl))
 
@@ -246,19 +250,15 @@ module _ (levels : ℕ) where
 
   fares : (state : State) (at b : ℕ) → depth state ≤ levels → Fares (step levels at state b) (step (suc levels) at state b)
   fares (value outer) at b h = fares_if (is_space b) _ _ _ _ (on (value outer) h) (value_fares outer b h)
-  fares (first_item outer) at b h =
-      fares_if (is_space b) _ _ _ _ (on (first_item outer) h) (
+  fares (first_item outer) at b h = fares_if (is_space b) _ _ _ _ (on (first_item outer) h) (
       fares_if (b == 93) _ _ _ _ (on_put (list_node no_nodes) outer (omega arith)) (value_fares (in_list [] ∷ outer) b h))
   fares (after_item ns outer) at b h = after_item_fares ns outer b h
-  fares (first_key outer) at b h =
-      fares_if (is_space b) _ _ _ _ (on (first_key outer) h) (
+  fares (first_key outer) at b h = fares_if (is_space b) _ _ _ _ (on (first_key outer) h) (
       fares_if (b == 34) _ _ _ _ (on (string between [] (in_key at [] outer)) h) (
       fares_if (b == 125) _ _ _ _ (on_put (object_node no_fields) outer (omega arith)) refl))
-  fares (next_key ms outer) at b h =
-      fares_if (is_space b) _ _ _ _ (on (next_key ms outer) h) (
+  fares (next_key ms outer) at b h = fares_if (is_space b) _ _ _ _ (on (next_key ms outer) h) (
       fares_if (b == 34) _ _ _ _ (on (string between [] (in_key at ms outer)) h) refl)
-  fares (colon ms place key outer) at b h =
-      fares_if (is_space b) _ _ _ _ (on (colon ms place key outer) h) (
+  fares (colon ms place key outer) at b h = fares_if (is_space b) _ _ _ _ (on (colon ms place key outer) h) (
       fares_if (b == 58) _ _ _ _ (on (value (in_object ms place key ∷ outer)) h) refl)
   fares (after_member ms outer) at b h = after_member_fares ms outer b h
   fares (whole n) at b h = fares_if (is_space b) _ _ _ _ (on (whole n) (omega arith)) refl

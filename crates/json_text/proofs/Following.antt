@@ -2,7 +2,9 @@
 use Rattle.std.proofs.Common.{◌≡◌, ℕ, suc, ◌+◌, ◌-◌, true, false, List, [], ◌∷◌, ◌++◌, length, Some, ◌⊎◌, codes}
 use Rattle.json_text.specs.{Number.IsNumber, Characters.SpellsCharacters, Grammar.is_space}
 use Rattle.json_text.specs.Node.{Node, null_node, truth_node, list_node, object_node, number_node, text_node, Nodes, no_nodes, node, Fields, no_fields, field}
-use Rattle.json_text.specs.Reading.{Member, Waiting, in_list, in_object, then_nodes, then_fields, State, value, first_item, after_item, first_key, next_key, colon, after_member, whole, word, digits, string, Hole, in_value, in_key, StringPart, StringStep, goes_on, ends, stops, string_step, NumberPart, number_step, may_end}
+use Rattle.json_text.specs.Reading.{Member, Waiting, in_list, in_object, then_nodes, then_fields, State, value, first_item, after_item, first_key, next_key}
+use Rattle.json_text.specs.Reading.{colon, after_member, whole, word, digits, string, Hole, in_value, in_key, StringPart, StringStep, goes_on, ends, stops}
+use Rattle.json_text.specs.Reading.{string_step, NumberPart, number_step, may_end}
 
 -- one byte, and then K
 abbrev pub Byte : ℕ → (List ℕ → Type 0) → List ℕ → Type 0

@@ -1,15 +1,16 @@
 -- The members of an object while it is read: `slot_from-push`, `with_value-set`, `HasHashes-push` and the others. What the reader keeps
 -- as it goes on: `put_in_list`, `put_in_object`; a key and its place: `key_waits`, `key_repeats`.
-use Rattle.std.proofs.Common.{◌≡◌, ◌<◌, ℕ, zero, suc, ◌+◌, List, [], ◌∷◌, ◌++◌, length, Bool, true, false, Some, None, refl, sym, ap, ◌∙◌, arith, cond, if◌then◌else◌, get_or, drop, inl, inr, ◌≢◌, ◌*◌, ◌%◌, ◌^◌, String, bit_or, map, reverse, Option, subst, ◌||◌}
+use Rattle.std.proofs.Common.{◌≡◌, ◌<◌, ℕ, zero, suc, ◌+◌, List, [], ◌∷◌, ◌++◌, length, Bool, true, false, Some, None, refl, sym, ap, ◌∙◌, arith, cond}
+use Rattle.std.proofs.Common.{if◌then◌else◌, get_or, drop, inl, inr, ◌≢◌, ◌*◌, ◌%◌, ◌^◌, String, bit_or, map, reverse, Option, subst, ◌||◌}
 use Rattle.std.proofs.{lemmas.List.at_drop_more, lemmas.List.reverse-append, lemmas.List.map-append, lemmas.Bool.cases_eq, lemmas.Bool.cases_Bool}
 use Rattle.std.proofs.{lemmas.Nat.Bits.bit_at_set_same, lemmas.Nat.Bits.bit_at_set_other, lemmas.Slice.Eq.bytes_eq-Decides, Math.ListN.set}
 use Rattle.std.specs.{Prelude.unwrap_or, Prelude.IsOk, Prelude.is_ok, Prelude.Result, Prelude.Ok, Prelude.Err, Int.bit_at, Int.w128, BTreeMap.BTreeMap}
 use Rattle.std.specs.{Global.Global, List.list_any, Str.bytes_eq}
-use Rattle.json_text.specs.Node.{Node, value_of, values_of, members_after, with_member, first_of, first_repeat, first_repeat_in, first_repeat_behind}
+use Rattle.json_text.specs.Node.{Node, value_of, values_of, members_after, with_member, first_of, first_repeat, first_repeat_in, first_repeat_after}
 use Rattle.json_text.specs.Reading.{Member, Waiting, in_list, in_object, nodes_of, fields_of, after_item, after_member, put}
 use Rattle.json_text.specs.{Objects.HasHashes, Objects.IsIndex, Objects.hash_of, Objects.slot_from, Objects.with_value, Objects.Reserves, Tree.null, Tree.Tree}
 use Rattle.json_text.specs.{declared.state.Kept.TheVariants.List as kept_list, declared.state.Kept.TheVariants.Object as kept_object, declared.value.Json.Json}
-use Rattle.json_text.specs.{Kept.keys_behind, Kept.repeat_at, Kept.repeat_of, Kept.Keeps, Kept.KeepsAll, Kept.HoldsMembers, declared.state.Kept.Kept}
+use Rattle.json_text.specs.{Kept.keys_after, Kept.repeat_at, Kept.repeat_of, Kept.Keeps, Kept.KeepsAll, Kept.HoldsMembers, declared.state.Kept.Kept}
 use Rattle.json_text.specs.{View.tree_of, View.pairs_of, View.trees_of, declared.value.Json.TheVariants.Null}
 use Rattle.json_text.proofs.ViewLemmas.{tree_of_null}
 
@@ -40,14 +41,13 @@ slot_from-below at slot key (m ∷ ms) h =
     ] h
 
 bytes_eq-comm : (a b : List ℕ) → bytes_eq a b ≡ bytes_eq b a
-bytes_eq-comm a b =
-    elim (cases_Bool (bytes_eq a b)) [
-      | inl same ↦ same ∙ sym ((bytes_eq-Decides b a).1 (sym ((bytes_eq-Decides a b).0 same)))
-      | inr other ↦ other ∙ sym (elim (cases_Bool (bytes_eq b a)) [
-        | inl back ↦ absurd (cc (((bytes_eq-Decides a b).1 (sym ((bytes_eq-Decides b a).0 back))), other))
-        | inr none ↦ none
-      ])
-    ]
+bytes_eq-comm a b = elim (cases_Bool (bytes_eq a b)) [
+  | inl same ↦ same ∙ sym ((bytes_eq-Decides b a).1 (sym ((bytes_eq-Decides a b).0 same)))
+  | inr other ↦ other ∙ sym (elim (cases_Bool (bytes_eq b a)) [
+    | inl back ↦ absurd (cc (((bytes_eq-Decides a b).1 (sym ((bytes_eq-Decides b a).0 back))), other))
+    | inr none ↦ none
+  ])
+]
 
 not_first : {V : Type 0} (at : ℕ) (k : List ℕ) (m : List ℕ × V) (ms : List (List ℕ × V)) → slot_from at k (m ∷ ms) ≡ None
     → (bytes_eq k m.0 ≡ false) × (slot_from (at + 1) k ms ≡ None)
@@ -85,12 +85,11 @@ with_bit n k = bit_or n (1 * 2 ^ k % 2 ^ 128)
 -- the key at the end has its hash's bit
 pub HasHashes-push : {V : Type 0} (hashes hash : ℕ) (k : List ℕ) (v : V) (ms : List (List ℕ × V)) → hash ≡ hash_of k → hash < 128 → slot_from 0 k ms ≡ None
     → HasHashes hashes ms → HasHashes (with_bit hashes hash) (ms ++ (k, v) ∷ [])
-HasHashes-push hashes hash k v ms is small new has q unset =
-    elim (cases_eq (hash_of q) hash) [
-      | inl same ↦ absurd (omega (arith, sym (bit_at_set_same w128 hashes hash small) ∙ ap (λ h. bit_at (with_bit hashes hash) h) (sym same) ∙ unset))
-      | inr other ↦ slot_from-push 0 q k v ms new ∙ ap (λ b. cond b (Some (0 + length ms)) (slot_from 0 q ms)) (apart k q (λ e. other (e ∙ sym is)))
-          ∙ has q (sym (bit_at_set_other w128 hashes hash small (hash_of q) other) ∙ unset)
-    ]
+HasHashes-push hashes hash k v ms is small new has q unset = elim (cases_eq (hash_of q) hash) [
+  | inl same ↦ absurd (omega (arith, sym (bit_at_set_same w128 hashes hash small) ∙ ap (λ h. bit_at (with_bit hashes hash) h) (sym same) ∙ unset))
+  | inr other ↦ slot_from-push 0 q k v ms new ∙ ap (λ b. cond b (Some (0 + length ms)) (slot_from 0 q ms)) (apart k q (λ e. other (e ∙ sym is)))
+      ∙ has q (sym (bit_at_set_other w128 hashes hash small (hash_of q) other) ∙ unset)
+]
   where
     apart : (a b : List ℕ) → hash_of b ≢ hash_of a → bytes_eq a b ≡ false
     apart a b other = elim (cases_Bool (bytes_eq a b)) [
@@ -136,14 +135,14 @@ members_after-more : (acc : List (List ℕ × Tree)) (ms : List Member) (m : Mem
 members_after-more acc [] m = refl
 members_after-more acc (o ∷ ms) m = members_after-more (with_member o.key (value_of o.of) acc) ms m
 
-first_repeat_behind-more : (keys : List (List ℕ)) (ms : List Member) (m : Member)
-    → first_repeat_behind keys (fields_of (ms ++ m ∷ [])) ≡ first_of (first_repeat_behind keys (fields_of ms))
-    (first_of (repeat_at (keys_behind keys ms) m.place m.key) (first_repeat m.of))
-first_repeat_behind-more keys [] m = ap (first_of (repeat_at keys m.place m.key)) (first_of-none (first_repeat m.of))
-first_repeat_behind-more keys (o ∷ ms) m = let key = repeat_at keys o.place o.key in let inner = first_repeat o.of in
-    let rest = first_repeat_behind (o.key ∷ keys) (fields_of ms) in
-    let last = first_of (repeat_at (keys_behind (o.key ∷ keys) ms) m.place m.key) (first_repeat m.of) in
-    ap (λ r. first_of key (first_of inner r)) (first_repeat_behind-more (o.key ∷ keys) ms m) ∙ ap (first_of key) (sym (first_of-assoc inner rest last))
+first_repeat_after-more : (keys : List (List ℕ)) (ms : List Member) (m : Member)
+    → first_repeat_after keys (fields_of (ms ++ m ∷ [])) ≡ first_of (first_repeat_after keys (fields_of ms))
+    (first_of (repeat_at (keys_after keys ms) m.place m.key) (first_repeat m.of))
+first_repeat_after-more keys [] m = ap (first_of (repeat_at keys m.place m.key)) (first_of-none (first_repeat m.of))
+first_repeat_after-more keys (o ∷ ms) m = let key = repeat_at keys o.place o.key in let inner = first_repeat o.of in
+    let rest = first_repeat_after (o.key ∷ keys) (fields_of ms) in
+    let last = first_of (repeat_at (keys_after (o.key ∷ keys) ms) m.place m.key) (first_repeat m.of) in
+    ap (λ r. first_of key (first_of inner r)) (first_repeat_after-more (o.key ∷ keys) ms m) ∙ ap (first_of key) (sym (first_of-assoc inner rest last))
     ∙ sym (first_of-assoc key (first_of inner rest) last)
 
 -- what stays at the end of a reversed list
@@ -175,16 +174,15 @@ swap_or false false c = refl
 
 has-with_member : (key k : List ℕ) (t : Tree) (ms : List (List ℕ × Tree)) → has key (with_member k t ms) ≡ (bytes_eq key k || has key ms)
 has-with_member key k t [] = refl
-has-with_member key k t (m ∷ ms) =
-    elim (cases_Bool (bytes_eq k m.0)) [
-      | inl same ↦ ap (λ b. has key (cond b ((m.0, t) ∷ ms) (m ∷ with_member k t ms))) same
-          ∙ sym (twice (bytes_eq key k) (bytes_eq key m.0) (has key ms) (ap (bytes_eq key) ((bytes_eq-Decides k m.0).0 same)))
-      | inr other ↦ ap (λ b. has key (cond b ((m.0, t) ∷ ms) (m ∷ with_member k t ms))) other
-          ∙ ap (λ b. bytes_eq key m.0 || b) (has-with_member key k t ms) ∙ swap_or (bytes_eq key m.0) (bytes_eq key k) (has key ms)
-    ]
+has-with_member key k t (m ∷ ms) = elim (cases_Bool (bytes_eq k m.0)) [
+  | inl same ↦ ap (λ b. has key (cond b ((m.0, t) ∷ ms) (m ∷ with_member k t ms))) same
+      ∙ sym (twice (bytes_eq key k) (bytes_eq key m.0) (has key ms) (ap (bytes_eq key) ((bytes_eq-Decides k m.0).0 same)))
+  | inr other ↦ ap (λ b. has key (cond b ((m.0, t) ∷ ms) (m ∷ with_member k t ms))) other
+      ∙ ap (λ b. bytes_eq key m.0 || b) (has-with_member key k t ms) ∙ swap_or (bytes_eq key m.0) (bytes_eq key k) (has key ms)
+]
 
 has-members_after : (key : List ℕ) (keys : List (List ℕ)) (acc : List (List ℕ × Tree)) (ms : List Member)
-    → has key acc ≡ list_any (bytes_eq key) keys → has key (members_after acc (fields_of ms)) ≡ list_any (bytes_eq key) (keys_behind keys ms)
+    → has key acc ≡ list_any (bytes_eq key) keys → has key (members_after acc (fields_of ms)) ≡ list_any (bytes_eq key) (keys_after keys ms)
 has-members_after key keys acc [] h = h
 has-members_after key keys acc (m ∷ ms) h = has-members_after key (m.key ∷ keys) (with_member m.key (value_of m.of) acc) ms
     (has-with_member key m.key (value_of m.of) acc ∙ ap (λ b. bytes_eq key m.key || b) h)
@@ -202,8 +200,7 @@ has-found at key (m ∷ ms) = elim (bytes_eq key m.0) as (λ b. (b || has key ms
 with_value-slot : (at slot : ℕ) (key : List ℕ) (t : Tree) (ms : List (List ℕ × Tree)) → slot_from at key ms ≡ Some slot
     → (n : ℕ) × (slot ≡ at + n) × (with_value n t ms ≡ with_member key t ms)
 with_value-slot at slot key t [] h = cc
-with_value-slot at slot key t (m ∷ ms) h =
-    elim (bytes_eq key m.0) as (λ b. cond b (Some at) (slot_from (at + 1) key ms) ≡ Some slot
+with_value-slot at slot key t (m ∷ ms) h = elim (bytes_eq key m.0) as (λ b. cond b (Some at) (slot_from (at + 1) key ms) ≡ Some slot
     → (n : ℕ) × (slot ≡ at + n) × (with_value n t (m ∷ ms) ≡ cond b ((m.0, t) ∷ ms) (m ∷ with_member key t ms))) [
       | true ↦ λ g. (0, sym (ap (λ o. unwrap_or o 0) g) ∙ omega arith, refl)
       | false ↦ λ g. let r = with_value-slot (at + 1) slot key t ms g in (suc r.0, omega (arith, r.1), ap (λ rest. m ∷ rest) r.2)
@@ -213,8 +210,7 @@ with_value-slot at slot key t (m ∷ ms) h =
 with_value-end : (at : ℕ) (key : List ℕ) (t u : Tree) (ms : List (List ℕ × Tree)) → slot_from at key ms ≡ None
     → with_value (length ms) t (ms ++ (key, u) ∷ []) ≡ with_member key t ms
 with_value-end at key t u [] h = refl
-with_value-end at key t u (m ∷ ms) h =
-    elim (bytes_eq key m.0) as (λ b. cond b (Some at) (slot_from (at + 1) key ms) ≡ None
+with_value-end at key t u (m ∷ ms) h = elim (bytes_eq key m.0) as (λ b. cond b (Some at) (slot_from (at + 1) key ms) ≡ None
     → (m ∷ with_value (length ms) t (ms ++ (key, u) ∷ [])) ≡ cond b ((m.0, t) ∷ ms) (m ∷ with_member key t ms)) [
       | true ↦ λ g. cc
       | false ↦ λ g. ap (λ rest. m ∷ rest) (with_value-end (at + 1) key t u ms g)
@@ -229,7 +225,7 @@ key_waits old new key slot false ms h is t =
     ap (with_value slot t) h.0 ∙ ap (λ n. with_value n t (old ++ (key, null) ∷ [])) h.2 ∙ with_value-end 0 key t null old h.1 ∙ ap (with_member key t) is
 
 pub key_repeats : (old new : List (List ℕ × Tree)) (key : List ℕ) (slot place : ℕ) (there : Bool) (ms : List Member) → Reserves old new key slot there
-    → old ≡ members_after [] (fields_of ms) → repeat_at (keys_behind [] ms) place key ≡ (if there then Some place else None)
+    → old ≡ members_after [] (fields_of ms) → repeat_at (keys_after [] ms) place key ≡ (if there then Some place else None)
 key_repeats old new key slot place true ms h is =
     ap (λ b. cond b (Some place) None) (sym (has-members_after key [] [] ms refl) ∙ ap (has key) (sym is) ∙ has-found 0 key old ∙ ap found h.1)
 key_repeats old new key slot place false ms h is =
@@ -260,13 +256,13 @@ put_in_list ks all v pushed json n outer repeat last more is kept r =
 object_takes : (o : _) (w : Waiting) (rest : List Waiting) (set : List (List ℕ × Json)) (json : Json) (n : Node) (repeat : Option ℕ)
     → Keeps (kept_object o) w → pairs_of set ≡ with_value o.slot (tree_of json) (pairs_of o.object.value.members.items) → tree_of json ≡ value_of n
     → repeat ≡ first_of (repeat_of (w ∷ rest)) (first_repeat n)
-    → (x : List Member) × (put n (w ∷ rest) ≡ after_member x rest) × (repeat ≡ first_of (repeat_of rest) (first_repeat_behind [] (fields_of x)))
+    → (x : List Member) × (put n (w ∷ rest) ≡ after_member x rest) × (repeat ≡ first_of (repeat_of rest) (first_repeat_after [] (fields_of x)))
     × HoldsMembers set x
 object_takes o (in_list ns) rest set json n repeat k more is r = absurd k
 object_takes o (in_object ms place key) rest set json n repeat k more is r = let m : Member = record { place = place; key = key; of = n } in
-    let behind = first_repeat_behind [] (fields_of ms) in let twice = repeat_at (keys_behind [] ms) place key in
-    let again = r ∙ first_of-assoc (repeat_of rest) (first_of behind twice) (first_repeat n)
-    ∙ ap (first_of (repeat_of rest)) (first_of-assoc behind twice (first_repeat n) ∙ sym (first_repeat_behind-more [] ms m)) in
+    let after = first_repeat_after [] (fields_of ms) in let twice = repeat_at (keys_after [] ms) place key in
+    let again = r ∙ first_of-assoc (repeat_of rest) (first_of after twice) (first_repeat n)
+    ∙ ap (first_of (repeat_of rest)) (first_of-assoc after twice (first_repeat n) ∙ sym (first_repeat_after-more [] ms m)) in
     let trees = more ∙ k (tree_of json) ∙ ap (λ t. with_member key t (members_after [] (fields_of ms))) is ∙ sym (members_after-more [] ms m) in
     (ms ++ m ∷ [], refl, again, trees)
 
@@ -274,7 +270,7 @@ pub put_in_object : (ks all : List Kept) (o : _) (set : List (List ℕ × Json))
     → all ≡ ks ++ kept_object o ∷ [] → pairs_of set ≡ with_value o.slot (tree_of json) (pairs_of o.object.value.members.items) → tree_of json ≡ value_of n
     → KeepsAll (reverse all) outer → repeat ≡ first_of (repeat_of outer) (first_repeat n)
     → (x : List Member) × (x' : List Waiting) × (put n outer ≡ after_member x x') × KeepsAll (reverse ks) x'
-    × (repeat ≡ first_of (repeat_of x') (first_repeat_behind [] (fields_of x))) × HoldsMembers set x
+    × (repeat ≡ first_of (repeat_of x') (first_repeat_after [] (fields_of x))) × HoldsMembers set x
 put_in_object ks all o set json n outer repeat last more is kept r =
     let cut = keeps_last ks (kept_object o) outer (subst (λ xs. KeepsAll (reverse xs) outer) last kept) in
     let done = object_takes o cut.0 cut.1 set json n repeat cut.3 more is (r ∙ ap (λ p. first_of (repeat_of p) (first_repeat n)) cut.2) in

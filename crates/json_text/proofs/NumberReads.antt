@@ -1,11 +1,13 @@
 -- A number's machine reads exactly the spellings of numbers: `starts`, `minus_number`, `zero_number`, `int_number`. What may still
 -- come inside a number: `digits_spelled`, `digits_from`. Which way a test went: `choose`. A number is ASCII: `number_utf8`.
-use Rattle.std.proofs.Common.{◌≡◌, ℕ, true, false, ◌||◌, ◌==◌, List, [], ◌∷◌, ◌++◌, Option, Some, None, inl, inr, refl, sym, ap, ◌∙◌, subst, arith, eqb-true, eq-eqb, Bool, append_assoc, append-nil, cond, ◌≤◌, ◌<◌, zero, suc, ◌+◌, length, take, Result, Ok, Err}
+use Rattle.std.proofs.Common.{◌≡◌, ℕ, true, false, ◌||◌, ◌==◌, List, [], ◌∷◌, ◌++◌, Option, Some, None, inl, inr, refl, sym, ap, ◌∙◌, subst, arith, eqb-true}
+use Rattle.std.proofs.Common.{eq-eqb, Bool, append_assoc, append-nil, cond, ◌<◌, suc, ◌+◌, take, Result, Ok, Err}
 use Rattle.std.proofs.{lemmas.Str.IsUtf8-append, lemmas.Str.IsUtf8-encode, lemmas.Str.IsUtf8-nil, lemmas.Bool.Decides.nat_tests, lemmas.Bool.cond-true}
 use Rattle.std.specs.{Char.is_ascii_digit, Str.IsUtf8}
-use Rattle.json_text.specs.Reading.{NumberPart, number_step, may_end, digit_goes, exponent_goes, minus, zero_int, int, point, fraction, exponent, exponent_sign, exponent_digits, StringPart, StringStep, goes_on, ends, stops, string_step}
+use Rattle.json_text.specs.Reading.{NumberPart, number_step, may_end, digit_goes, exponent_goes, minus, zero_int, int, point, fraction, exponent, exponent_sign}
+use Rattle.json_text.specs.Reading.{exponent_digits}
 use Rattle.json_text.specs.Number.{IsNumber, is_digit_above_zero, AreDigits, IsDigits, IsInt, IsFraction, IsSignedDigits, IsExponent, IsMinus}
-use Rattle.json_text.specs.Scan.{scan_number, number_on, scan_string, string_on}
+use Rattle.json_text.specs.Scan.{scan_number, number_on}
 use Rattle.json_text.proofs.{Encoded.encode_1, Encoded.low_is_scalar, Following.Digits}
 
 -- which way a test went
@@ -51,14 +53,11 @@ with_exponent : (b : ℕ) (bs : List ℕ) → (b == 101) || (b == 69) ≡ true �
 with_exponent b bs t h = ([], b ∷ bs, refl, tt, (t, h))
 
 tail_step : (part p : NumberPart) (b : ℕ) (bs : List ℕ) → number_step part b ≡ Some p → Tail p bs → Tail part (b ∷ bs)
-tail_step minus p b bs e h =
-    choose (b == 48) _ _ _ (λ t e. (b ∷ [], bs, refl, inl (eqb-true b 48 t, refl), came zero_int p bs e h)) (λ f e.
+tail_step minus p b bs e h = choose (b == 48) _ _ _ (λ t e. (b ∷ [], bs, refl, inl (eqb-true b 48 t, refl), came zero_int p bs e h)) (λ f e.
     step_digit int p b bs e (λ t u. (b ∷ u.0, u.1, ap (λ x. b ∷ x) u.2, inr (rw (t, f), u.3), u.4)) h) e
-tail_step zero_int p b bs e h =
-    choose (b == 46) _ _ _ (λ t e. with_point b bs t (came point p bs e h)) (λ _ e.
+tail_step zero_int p b bs e h = choose (b == 46) _ _ _ (λ t e. with_point b bs t (came point p bs e h)) (λ _ e.
     step_exponent p b bs None e (λ t u. with_exponent b bs t u) (λ e. absurd (cc e)) h) e
-tail_step int p b bs e h =
-    choose (b == 46) _ _ _ (λ t e. ([], b ∷ bs, refl, tt, with_point b bs t (came point p bs e h))) (λ _ e.
+tail_step int p b bs e h = choose (b == 46) _ _ _ (λ t e. ([], b ∷ bs, refl, tt, with_point b bs t (came point p bs e h))) (λ _ e.
     step_exponent p b bs (digit_goes int b) e (λ t u. ([], b ∷ bs, refl, tt, with_exponent b bs t u)) (λ e.
     step_digit int p b bs e (λ t u. (b ∷ u.0, u.1, ap (λ x. b ∷ x) u.2, (t, u.3), u.4)) h) h) e
 tail_step point p b bs e h = step_digit fraction p b bs e (λ t u. (b ∷ u.0, u.1, ap (λ x. b ∷ x) u.2, (t, u.3), u.4)) h

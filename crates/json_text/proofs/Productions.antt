@@ -1,7 +1,9 @@
 -- Each production of the grammar, read in both directions: what `Value` and the others say by cases on the bytes is what the
 -- grammar says of a front of them. `value_spells` is for values; a list and an object are the same sequence of other elements.
-use Rattle.std.proofs.Common.{◌≡◌, ℕ, suc, ◌+◌, ◌-◌, ◌≤◌, max, true, false, List, [], ◌∷◌, ◌++◌, length, refl, sym, ap, ◌∙◌, subst, inl, inr, arith, append_assoc, length-append, codes}
-use Rattle.json_text.specs.Node.{Node, null_node, truth_node, list_node, object_node, number_node, text_node, Nodes, no_nodes, node, Fields, no_fields, field, levels_of, levels_of_nodes, levels_of_fields}
+use Rattle.std.proofs.Common.{◌≡◌, ℕ, suc, ◌+◌, ◌-◌, ◌≤◌, max, true, false, List, [], ◌∷◌, ◌++◌, length, refl, sym, ap, ◌∙◌, subst, inl, inr, arith}
+use Rattle.std.proofs.Common.{append_assoc, length-append, codes}
+use Rattle.json_text.specs.Node.{Node, null_node, truth_node, list_node, object_node, number_node, text_node, Nodes, no_nodes, node, Fields, no_fields, field}
+use Rattle.json_text.specs.Node.{levels_of, levels_of_nodes, levels_of_fields}
 use Rattle.json_text.specs.Grammar.{IsSpace, Padded, SpellsField, SpellsValue, SpellsItems, SpellsMoreItems, SpellsMembers, SpellsMoreMembers}
 use Rattle.json_text.proofs.Following.{Byte, Space, Literal, Key, Value, Items, MoreItems, Members, MoreMembers}
 
@@ -43,11 +45,11 @@ literal_from [] K back h = h
 literal_from (c ∷ cs) K back h = (refl, literal_from cs K back h)
 
 module _ (size : ℕ) where
-  behind : (at : ℕ) (bytes front back : List ℕ) → at + length bytes ≡ size → bytes ≡ front ++ back → (at + length front) + length back ≡ size
-  behind at bytes front back e j = omega (arith, e, ap length j, length-append front back)
+  place_after : (at : ℕ) (bytes front back : List ℕ) → at + length bytes ≡ size → bytes ≡ front ++ back → (at + length front) + length back ≡ size
+  place_after at bytes front back e j = omega (arith, e, ap length j, length-append front back)
 
-  behind_byte : (at c : ℕ) (bytes back : List ℕ) → at + length bytes ≡ size → bytes ≡ c ∷ back → (at + 1) + length back ≡ size
-  behind_byte at c bytes back e j = omega (arith, e, ap length j)
+  after_byte : (at c : ℕ) (bytes back : List ℕ) → at + length bytes ≡ size → bytes ≡ c ∷ back → (at + 1) + length back ≡ size
+  after_byte at c bytes back e j = omega (arith, e, ap length j)
 
   -- X, and then K, is V of a front with W, and then K
   pub record Reads (X : (List ℕ → Type 0) → List ℕ → Type 0) (V : ℕ → List ℕ → Type 0) (W : Type 0) : Type 1 where
@@ -67,24 +69,24 @@ module _ (size : ℕ) where
   -- white space on both sides
   padded : (X : (List ℕ → Type 0) → List ℕ → Type 0) (V : ℕ → List ℕ → Type 0) (W : Type 0) → Reads X V W → Reads (λ K. Space (X (Space K))) (Padded V) W
   padded X V W x = reads (λ at K bytes e h. let s = space_front (X (Space K)) bytes h in
-      let v = x.to (at + length s.front) (Space K) s.back (behind at bytes s.front s.back e s.joined) s.second in let t = space_front K v.back v.second in
+      let v = x.to (at + length s.front) (Space K) s.back (place_after at bytes s.front s.back e s.joined) s.second in let t = space_front K v.back v.second in
       parted (s.front ++ (v.front ++ t.front)) t.back (padded_joined bytes s.front s.back v.front v.back t.front t.back s.joined v.joined t.joined)
       ((s.front, v.front, t.front, refl, s.first, v.first.0, t.first), v.first.1) t.second) (λ at K front back e (before, inside, after, is, s, v, t) w k.
       let all : front ++ back ≡ before ++ (inside ++ (after ++ back)) = ap (λ x. x ++ back) is ∙ simp append_assoc in
       subst (Space (X (Space K))) (sym all) (space_from (X (Space K)) before (inside ++ (after ++ back)) s
-      (x.from (at + length before) (Space K) inside (after ++ back) (behind at (front ++ back) before (inside ++ (after ++ back)) e all) v w
+      (x.from (at + length before) (Space K) inside (after ++ back) (place_after at (front ++ back) before (inside ++ (after ++ back)) e all) v w
       (space_from K after back t k))))
 
   -- a byte on both sides
   enclosed : (X : (List ℕ → Type 0) → List ℕ → Type 0) (V : ℕ → List ℕ → Type 0) (W : Type 0) (a c : ℕ) → Reads X V W
       → Reads (λ K. Byte a (X (Byte c K))) (λ at front. (inside : List ℕ) × (front ≡ a ∷ (inside ++ c ∷ [])) × V (at + 1) inside) W
   enclosed X V W a c x = reads (λ at K bytes e h. let b = byte_back a (X (Byte c K)) bytes h in
-      let v = x.to (at + 1) (Byte c K) b.0 (behind_byte at a bytes b.0 e b.1) b.2 in let d = byte_back c K v.back v.second in
+      let v = x.to (at + 1) (Byte c K) b.0 (after_byte at a bytes b.0 e b.1) b.2 in let d = byte_back c K v.back v.second in
       parted (a ∷ (v.front ++ c ∷ [])) d.0 (b.1 ∙ ap (λ t. a ∷ t) (v.joined ∙ ap (λ t. v.front ++ t) d.1 ∙ sym (append_assoc v.front (c ∷ []) d.0)))
       ((v.front, refl, v.first.0), v.first.1) d.2) (λ at K front back e (inside, is, v) w k.
       let all : front ++ back ≡ a ∷ (inside ++ (c ∷ back)) = ap (λ x. x ++ back) is ∙ ap (λ t. a ∷ t) (append_assoc inside (c ∷ []) back) in
       subst (Byte a (X (Byte c K))) (sym all)
-      (refl, x.from (at + 1) (Byte c K) inside (c ∷ back) (behind_byte at a (front ++ back) (inside ++ (c ∷ back)) e all) v w (refl, k)))
+      (refl, x.from (at + 1) (Byte c K) inside (c ∷ back) (after_byte at a (front ++ back) (inside ++ (c ∷ back)) e all) v w (refl, k)))
 
   field_at : (at : ℕ) (bytes before name gap back : List ℕ) → at + length bytes ≡ size → bytes ≡ before ++ (name ++ (gap ++ 58 ∷ back))
       → (at + length before + length name + length gap + 1) + length back ≡ size
@@ -99,7 +101,7 @@ module _ (size : ℕ) where
         → Front (λ front. SpellsField V at front place key × W) K bytes
     member_to at K bytes e h = let s = space_front (Key size place key (Space (Byte 58 (X K)))) bytes h in let (inside, rest, is, spelled, k) = s.second.1 in
         let name = 34 ∷ (inside ++ 34 ∷ []) in let g = space_front (Byte 58 (X K)) rest k in let c = byte_back 58 (X K) g.back g.second in
-        let here : place ≡ at + length s.front = omega (arith, behind at bytes s.front s.back e s.joined, s.second.0) in
+        let here : place ≡ at + length s.front = omega (arith, place_after at bytes s.front s.back e s.joined, s.second.0) in
         let all : bytes ≡ s.front ++ (name ++ (g.front ++ 58 ∷ c.0)) =
         s.joined ∙ ap (λ t. s.front ++ t) (is ∙ ap (λ t. 34 ∷ (inside ++ 34 ∷ t)) (g.joined ∙ ap (λ t. g.front ++ t) c.1)) ∙ simp append_assoc in
         let v = x.to (at + length s.front + length name + length g.front + 1) K c.0 (field_at at bytes s.front name g.front c.0 e all) c.2 in
@@ -113,7 +115,7 @@ module _ (size : ℕ) where
         let same : name ++ left ≡ 34 ∷ (inside ++ 34 ∷ left) = ap (λ n. n ++ left) quoted ∙ ap (λ t. 34 ∷ t) (append_assoc inside (34 ∷ []) left) in
         let there = field_at at (front ++ back) before name gap (rest ++ back) e all in
         let value = space_from (Byte 58 (X K)) gap (58 ∷ (rest ++ back)) t (refl, x.from _ K rest back there v w k) in
-        let sum : place + length (name ++ left) ≡ size = omega (arith, here, behind at (front ++ back) before (name ++ left) e all) in
+        let sum : place + length (name ++ left) ≡ size = omega (arith, here, place_after at (front ++ back) before (name ++ left) e all) in
         subst (Member K) (sym all) (space_from (Key size place key (Space (Byte 58 (X K)))) before (name ++ left) s (sum, (inside, left, same, spelled, value)))
 
     member : Reads Member (λ at front. SpellsField V at front place key) W
@@ -126,22 +128,22 @@ module _ (size : ℕ) where
   sequence : (X Y : (List ℕ → Type 0) → List ℕ → Type 0) (V U : ℕ → List ℕ → Type 0) (W Z : Type 0) → Reads X V W → Reads Y U Z
       → Reads (λ K. X (Y K)) (Pair V U) (W × Z)
   sequence X Y V U W Z x y = reads (λ at K bytes e h. let v = x.to at (Y K) bytes e h in
-      let u = y.to (at + length v.front) K v.back (behind at bytes v.front v.back e v.joined) v.second in
+      let u = y.to (at + length v.front) K v.back (place_after at bytes v.front v.back e v.joined) v.second in
       parted (v.front ++ u.front) u.back (v.joined ∙ ap (λ t. v.front ++ t) u.joined ∙ sym (append_assoc v.front u.front u.back))
       ((v.front, u.front, refl, v.first.0, u.first.0), (v.first.1, u.first.1)) u.second) (λ at K front back e (first, rest, is, v, u) w k.
       let all : front ++ back ≡ first ++ (rest ++ back) = ap (λ x. x ++ back) is ∙ append_assoc first rest back in
       subst (X (Y K)) (sym all) (x.from at (Y K) first (rest ++ back) (sym (ap (λ t. at + length t) all) ∙ e) v w.0
-      (y.from (at + length first) K rest back (behind at (front ++ back) first (rest ++ back) e all) u w.1 k)))
+      (y.from (at + length first) K rest back (place_after at (front ++ back) first (rest ++ back) e all) u w.1 k)))
 
   -- the same after a comma
   more : (X : (List ℕ → Type 0) → List ℕ → Type 0) (V U : ℕ → List ℕ → Type 0) (W : Type 0) → Reads X (Pair V U) W
       → Reads (λ K. Byte 44 (X K)) (λ at front. (first rest : List ℕ) × (front ≡ 44 ∷ (first ++ rest)) × V (at + 1) first × U (at + 1 + length first) rest) W
-  more X V U W x = reads (λ at K bytes e h. let b = byte_back 44 (X K) bytes h in let v = x.to (at + 1) K b.0 (behind_byte at 44 bytes b.0 e b.1) b.2 in
+  more X V U W x = reads (λ at K bytes e h. let b = byte_back 44 (X K) bytes h in let v = x.to (at + 1) K b.0 (after_byte at 44 bytes b.0 e b.1) b.2 in
       let (first, rest, is, p, q) = v.first.0 in
       parted (44 ∷ v.front) v.back (b.1 ∙ ap (λ t. 44 ∷ t) v.joined) ((first, rest, ap (λ t. 44 ∷ t) is, p, q), v.first.1) v.second)
       (λ at K front back e (first, rest, is, v, u) w k. let all : front ++ back ≡ 44 ∷ ((first ++ rest) ++ back) = ap (λ x. x ++ back) is in
       subst (Byte 44 (X K)) (sym all)
-      (refl, x.from (at + 1) K (first ++ rest) back (behind_byte at 44 (front ++ back) ((first ++ rest) ++ back) e all) (first, rest, refl, v, u) w k))
+      (refl, x.from (at + 1) K (first ++ rest) back (after_byte at 44 (front ++ back) ((first ++ rest) ++ back) e all) (first, rest, refl, v, u) w k))
 
   -- the levels of the parts are those of the whole
   levels_so : (X : (List ℕ → Type 0) → List ℕ → Type 0) (V : ℕ → List ℕ → Type 0) (W Z : Type 0) → (W → Z) → (Z → W) → Reads X V W → Reads X V Z

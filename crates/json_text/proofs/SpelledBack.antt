@@ -1,10 +1,14 @@
 -- The compact text of a value spells it: `compact_spelled`.
-use Rattle.std.proofs.Common.{◌≡◌, ◌≢◌, ℕ, suc, max, ◌+◌, ◌/◌, ◌%◌, ◌≤◌, ◌<◌, Bool, true, false, cond, ◌==◌, nat_lt, List, [], ◌∷◌, ◌++◌, length, flat_map, Some, None, refl, sym, ap, ◌∙◌, subst, arith, IsUtf8, encode_utf8, append_assoc, append-nil, ⊎_elim, eqb-true}
+use Rattle.std.proofs.Common.{◌≡◌, ◌≢◌, ℕ, suc, ◌+◌, ◌/◌, ◌%◌, ◌≤◌, ◌<◌, Bool, true, false, cond, ◌==◌, nat_lt, List, [], ◌∷◌, ◌++◌, length, flat_map, Some}
+use Rattle.std.proofs.Common.{None, refl, sym, ap, ◌∙◌, subst, arith, IsUtf8, encode_utf8, append_assoc, append-nil, ⊎_elim, eqb-true}
 use Rattle.std.proofs.lemmas.Bool.{and_parts, cond_both, cond-false, eqb-false, ltb-true, ltb-false, cases_lt}
 use Rattle.std.proofs.{lemmas.Slice.Eq.bytes_eq-Decides, lemmas.Bool.Decides.nat_tests, lemmas.Grind.flat_map-append}
 use Rattle.std.specs.{Str.bytes_eq, Str.encode_utf8_all, Str.all_scalars, Char.IsScalar, List.list_any}
-use Rattle.json_text.specs.Node.{Node, null_node, truth_node, number_node, text_node, list_node, object_node, Nodes, no_nodes, node, Fields, no_fields, field, with_member, value_of, values_of, members_after, levels_of, levels_of_nodes, levels_of_fields, first_of, first_repeat, first_repeat_in, first_repeat_behind}
-use Rattle.json_text.specs.Compact.{lower_hex, escape, quoted, compact_text, items_text, more_items_text, members_text, more_members_text, LacksKey, IsValue, AreItems, AreMembers, tree_levels, items_levels, members_levels}
+use Rattle.json_text.specs.Node.{Node, null_node, truth_node, number_node, text_node, list_node, object_node, Nodes, no_nodes, node, Fields, no_fields, field}
+use Rattle.json_text.specs.Node.{with_member, value_of, values_of, members_after, levels_of, levels_of_nodes, levels_of_fields, first_of, first_repeat}
+use Rattle.json_text.specs.Node.{first_repeat_in, first_repeat_after}
+use Rattle.json_text.specs.Compact.{lower_hex, escape, quoted, compact_text, items_text, more_items_text, members_text, more_members_text, LacksKey, IsValue}
+use Rattle.json_text.specs.Compact.{AreItems, AreMembers, tree_levels, items_levels, members_levels}
 use Rattle.json_text.specs.Characters.{SpellsCharacter, unescaped, escaped, unit, SpellsCharacters, none, more, SpellsString, IsHex, hex_digit_of}
 use Rattle.json_text.specs.Tree.{Tree, null, truth, number, text, list, object, Items, no_items, item, Members, no_members, member, items_of, members_of}
 use Rattle.json_text.specs.Grammar.{SpellsValue, SpellsItems, SpellsMoreItems, SpellsMembers, SpellsMoreMembers, IsText, Padded, SpellsField}
@@ -30,8 +34,7 @@ two_characters b d c e p = subst (λ x. SpellsCharacter (92 ∷ b ∷ []) (x ∷
 
 -- what a byte below 128 is written as spells it
 escape_spelled : (c : ℕ) → c < 128 → SpellsCharacter (escape c) (c ∷ [])
-escape_spelled c h =
-    cond_both (c == 34) _ _ (λ e. SpellsCharacter e (c ∷ [])) (λ t. two_characters 34 34 c (eqb-true c 34 t) (escaped 34 34 refl)) (λ q.
+escape_spelled c h = cond_both (c == 34) _ _ (λ e. SpellsCharacter e (c ∷ [])) (λ t. two_characters 34 34 c (eqb-true c 34 t) (escaped 34 34 refl)) (λ q.
     cond_both (c == 92) _ _ (λ e. SpellsCharacter e (c ∷ [])) (λ t. two_characters 92 92 c (eqb-true c 92 t) (escaped 92 92 refl)) (λ s.
     cond_both (c == 8) _ _ (λ e. SpellsCharacter e (c ∷ [])) (λ t. two_characters 98 8 c (eqb-true c 8 t) (escaped 98 8 refl)) (λ _.
     cond_both (c == 12) _ _ (λ e. SpellsCharacter e (c ∷ [])) (λ t. two_characters 102 12 c (eqb-true c 12 t) (escaped 102 12 refl)) (λ _.
@@ -56,8 +59,7 @@ all_high [] h = refl
 all_high (b ∷ bs) h = rw (escape_high b h.0, all_high bs h.1)
 
 long_plain : (c : ℕ) → 128 ≤ c → flat_map escape (encode_utf8 c) ≡ encode_utf8 c
-long_plain c h =
-    ⊎_elim (λ l. subst (λ x. flat_map escape x ≡ x) (sym (encode_2 c h l)) (all_high (_ ∷ _ ∷ []) (omega arith, (omega arith, tt)))) (λ l.
+long_plain c h = ⊎_elim (λ l. subst (λ x. flat_map escape x ≡ x) (sym (encode_2 c h l)) (all_high (_ ∷ _ ∷ []) (omega arith, (omega arith, tt)))) (λ l.
     ⊎_elim (λ u. subst (λ x. flat_map escape x ≡ x) (sym (encode_3 c l u)) (all_high (_ ∷ _ ∷ _ ∷ []) (omega arith, (omega arith, (omega arith, tt)))))
     (λ u. subst (λ x. flat_map escape x ≡ x) (sym (encode_4 c u))
     (all_high (_ ∷ _ ∷ _ ∷ _ ∷ []) (omega arith, (omega arith, (omega arith, (omega arith, tt)))))) (cases_lt c 65536)) (cases_lt c 2048)
@@ -118,9 +120,9 @@ abbrev LackKeys : List (List ℕ) → Members → Type 0
 LackKeys [] ms = Unit {0}
 LackKeys (k ∷ ks) ms = LacksKey k ms × LackKeys ks ms
 
-keys_behind_one : (ks : List (List ℕ)) (key : List ℕ) (t : Tree) (ms : Members) → LackKeys ks (member key t ms) → LackKeys ks ms
-keys_behind_one [] key t ms h = tt
-keys_behind_one (k ∷ ks) key t ms h = (h.0.1, keys_behind_one ks key t ms h.1)
+keys_after_one : (ks : List (List ℕ)) (key : List ℕ) (t : Tree) (ms : Members) → LackKeys ks (member key t ms) → LackKeys ks ms
+keys_after_one [] key t ms h = tt
+keys_after_one (k ∷ ks) key t ms h = (h.0.1, keys_after_one ks key t ms h.1)
 
 bool_false : (b : Bool) → (b ≡ true → ⊥) → b ≡ false
 bool_false true h = absurd (h refl)
@@ -133,11 +135,11 @@ not_among : (ks : List (List ℕ)) (key : List ℕ) (t : Tree) (ms : Members) �
 not_among [] key t ms h = refl
 not_among (k ∷ ks) key t ms h = rw (keys_differ key k h.0.0, not_among ks key t ms h.1)
 
-members_once : {fs : Fields} {ms : Members} → MembersBack fs ms → (ks : List (List ℕ)) → AreMembers ms → LackKeys ks ms → first_repeat_behind ks fs ≡ None
+members_once : {fs : Fields} {ms : Members} → MembersBack fs ms → (ks : List (List ℕ)) → AreMembers ms → LackKeys ks ms → first_repeat_after ks fs ≡ None
 members_once no_members_back ks v h = refl
 members_once (member_back place key {n = n} {t = t} {fs = fs} {ms = ms} b bs) ks v h =
-    ap (λ x. first_of (cond x (Some place) None) (first_of (first_repeat n) (first_repeat_behind (key ∷ ks) fs))) (not_among ks key t ms h)
-    ∙ ap (λ x. first_of x (first_repeat_behind (key ∷ ks) fs)) b.once ∙ members_once bs (key ∷ ks) v.3 (v.1, keys_behind_one ks key t ms h)
+    ap (λ x. first_of (cond x (Some place) None) (first_of (first_repeat n) (first_repeat_after (key ∷ ks) fs))) (not_among ks key t ms h)
+    ∙ ap (λ x. first_of x (first_repeat_after (key ∷ ks) fs)) b.once ∙ members_once bs (key ∷ ks) v.3 (v.1, keys_after_one ks key t ms h)
 
 -- members after others
 abbrev joined : List (List ℕ × Tree) → Members → Members
@@ -172,7 +174,7 @@ members_same : {fs : Fields} {ms : Members} → MembersBack fs ms → (before : 
 members_same no_members_back before v h = joined_none before
 members_same (member_back place key {n = n} {t = t} {fs = fs} {ms = ms} b bs) before v h =
     ap (λ x. members_of (members_after x fs)) (at_end before key t (value_of n) ms h ∙ ap (λ x. before ++ (key, x) ∷ []) b.same)
-    ∙ members_same bs (before ++ (key, t) ∷ []) v.3 (lack_one_more before key t ms (keys_behind_one (keys_of before) key t ms h) v.1)
+    ∙ members_same bs (before ++ (key, t) ∷ []) v.3 (lack_one_more before key t ms (keys_after_one (keys_of before) key t ms h) v.1)
     ∙ joined_one before key t ms
 
 -- with no white space around it

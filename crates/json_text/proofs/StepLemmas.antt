@@ -1,12 +1,14 @@
 -- One byte that is no white space, at each place between tokens: `begins_word`, `opened_goes`, and a lemma for the bytes that stop
 -- each state. Turns seen from another state: `goes_same`, `goes_by`, `led`, `barred`.
-use Rattle.json_text.specs.Reading.{word, Member, Waiting, in_list, in_object, State, value, first_item, after_item, first_key, next_key, colon, after_member, whole, step, value_step, go_on, read_from, too_deep, unexpected, opened, ended, end_of, Fault}
+use Rattle.json_text.specs.Reading.{word, Member, Waiting, in_list, in_object, State, value, first_item, after_item, first_key, next_key, colon, after_member}
+use Rattle.json_text.specs.Reading.{whole, step, value_step, go_on, read_from, too_deep, unexpected, opened, ended, end_of, Fault}
 use Rattle.json_text.specs.{Node.Node, Grammar.is_space, declared.value.Json.Json, declared.state.Kept.Kept, declared.state.Next.Next}
 use Rattle.json_text.specs.Kept.{StartsWith, StartsWithNoSpace, BeginsWord, SkipsSpace, KeepsAll, Opens, IsState, repeat_of, FailsSo, Goes, read_at}
 use Rattle.json_text.specs.declared.state.Next.TheVariants.{Value, FirstItem, AfterItem, FirstKey, NextKey, AfterMember, End}
 use Rattle.json_text.specs.{declared.state.Place.Place, declared.fault.JsonFault.JsonFault}
 use Rattle.json_text.specs.declared.fault.JsonFault.TheVariants.{NotJson, TooDeep, KeyTwice, NoMemory}
-use Rattle.std.proofs.Common.{Result, ◌≡◌, ◌≢◌, ◌≤◌, ◌<◌, ℕ, ◌+◌, List, [], ◌∷◌, length, drop, reverse, false, Option, Ok, Err, refl, sym, ap, ◌∙◌, arith, cond, ◌==◌, ◌⊎◌, subst}
+use Rattle.std.proofs.Common.{Result, ◌≡◌, ◌≢◌, ◌≤◌, ◌<◌, ℕ, ◌+◌, List, [], ◌∷◌, length, drop, reverse, false, Option, Ok, Err, refl, sym, ap, ◌∙◌, arith, cond}
+use Rattle.std.proofs.Common.{◌==◌, ◌⊎◌, subst}
 use Rattle.std.proofs.{lemmas.Bool.Decides.nat_tests, lemmas.List.length-reverse}
 use Rattle.json_text.proofs.TokenRuns.{fault, by_byte, deep, keeps_length}
 
@@ -78,9 +80,9 @@ colon_skips L ms place key outer at b h =
     ap (λ v. cond v (Ok (colon ms place key outer)) (cond (b == 58) (Ok (value (in_object ms place key ∷ outer))) (Err unexpected))) h
 
 -- one byte less is left
-less : (byte : ℕ) (rest behind : List ℕ) → StartsWith byte rest → behind ≡ drop 1 rest → length behind < length rest
-less byte [] behind h is = absurd h
-less byte (b ∷ bs) behind h is = let e : length behind ≡ length bs = ap length is in omega (arith, e)
+less : (byte : ℕ) (rest after : List ℕ) → StartsWith byte rest → after ≡ drop 1 rest → length after < length rest
+less byte [] after h is = absurd h
+less byte (b ∷ bs) after h is = let e : length after ≡ length bs = ap length is in omega (arith, e)
 
 kept_waits : (ks : List Kept) (outer : List Waiting) → KeepsAll (reverse ks) outer → length outer ≡ length ks
 kept_waits ks outer h = keeps_length (reverse ks) outer h ∙ length-reverse ks
@@ -108,13 +110,13 @@ pub opened_too_deep : (next : Next) (L at : ℕ) (ks : List Kept) (outer : List 
 opened_too_deep next L at ks outer rest h k m = let b = bracket next rest h in by_byte L at (value outer) b.byte rest (Err too_deep) b.starts
     (b.opens L at outer ∙ opens_none L outer (b.state outer) (omega (arith, m, kept_waits ks outer k)))
 
-pub opened_goes : (next : Next) (L at : ℕ) (ks : List Kept) (repeat : Option ℕ) (outer : List Waiting) (rest : List ℕ) (there : ℕ) (behind : List ℕ)
-    → Opens next rest → KeepsAll (reverse ks) outer → repeat ≡ repeat_of outer → length ks < L → there ≡ at + 1 → behind ≡ drop 1 rest
-    → (x : State) × IsState next ks repeat x × (read_from L at (value outer) rest ≡ read_from L there x behind) × (length behind < length rest)
-opened_goes next L at ks repeat outer rest there behind h k r m place is = let b = bracket next rest h in let s = b.state outer in
+pub opened_goes : (next : Next) (L at : ℕ) (ks : List Kept) (repeat : Option ℕ) (outer : List Waiting) (rest : List ℕ) (there : ℕ) (after : List ℕ)
+    → Opens next rest → KeepsAll (reverse ks) outer → repeat ≡ repeat_of outer → length ks < L → there ≡ at + 1 → after ≡ drop 1 rest
+    → (x : State) × IsState next ks repeat x × (read_from L at (value outer) rest ≡ read_from L there x after) × (length after < length rest)
+opened_goes next L at ks repeat outer rest there after h k r m place is = let b = bracket next rest h in let s = b.state outer in
     let read = by_byte L at (value outer) b.byte rest (Ok s) b.starts (b.opens L at outer ∙ opens_level L outer s (omega (arith, m, kept_waits ks outer k)))
     ∙ ap (λ p. read_from L p s (drop 1 rest)) (sym place) ∙ ap (read_from L there s) (sym is) in
-    (s, b.is ks repeat outer k r, read, less b.byte rest behind b.starts is)
+    (s, b.is ks repeat outer k r, read, less b.byte rest after b.starts is)
 
 -- the bytes end before the text does
 pub unfinished : (next : Next) (ks : List Kept) (repeat : Option ℕ) (s : State) (L at : ℕ) → IsState next ks repeat s → ((json : Json) → next ≡ End json → ⊥)

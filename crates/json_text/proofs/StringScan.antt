@@ -1,13 +1,15 @@
 -- What `scan_string` does, a byte or a part at a time; its text is UTF-8: `scan_utf8`. A code unit of four hexadecimal digits:
 -- `place_goes`, `place_no_digit`, `place_no_fit`, `place_empty`.
-use Rattle.std.proofs.Common.{◌≡◌, ℕ, zero, suc, ◌+◌, ◌-◌, ◌^◌, ◌<◌, ◌≤◌, Bool, true, false, List, [], ◌∷◌, ◌++◌, length, take, drop, get_or, cond, ◌≢◌, Some, None, Result, Ok, Err, refl, sym, ap, ◌∙◌, subst, arith, append_assoc, append-nil, one-add, IsUtf8, length-drop, length-take, ne_eqb, eq-eqb, encode_utf8, ◌*◌, Option, ◌==◌}
-use Rattle.std.proofs.{lemmas.Grind.get_or_after_one, lemmas.List.drop-drop, lemmas.List.drop_all, lemmas.List.drop_more, lemmas.List.take_all}
+use Rattle.std.proofs.Common.{◌≡◌, ℕ, zero, suc, ◌+◌, ◌-◌, ◌^◌, ◌<◌, ◌≤◌, Bool, true, false, List, [], ◌∷◌, ◌++◌, length, take, drop, get_or, cond, ◌≢◌, Some}
+use Rattle.std.proofs.Common.{None, Result, Ok, Err, refl, sym, ap, ◌∙◌, subst, arith, append_assoc, one-add, IsUtf8, length-drop, length-take, ne_eqb}
+use Rattle.std.proofs.{lemmas.List.drop-drop, lemmas.List.drop_more, lemmas.List.take_all}
 use Rattle.std.proofs.{lemmas.Bool.cond-true, lemmas.Bool.Decides.nat_tests, Math.ListN.drop_of_length-le}
-use Rattle.std.specs.Result.{result_unwrap_or}
+use Rattle.std.{specs.Result.result_unwrap_or, proofs.Common.encode_utf8, proofs.Common.◌*◌, proofs.Common.Option}
 use Rattle.json_text.specs.{declared.fault.TokenFault.TokenFault, declared.fault.TokenFault.TheVariants.Stop, declared.fault.TokenFault.TheVariants.NoMemory}
-use Rattle.json_text.specs.Characters.{escape_of, hex_digit_of}
-use Rattle.json_text.specs.Reading.{StringPart, between, backslash, hex, high, high_backslash, tail, StringStep, goes_on, ends, stops, string_step, tail_after, is_within, unescaped_step, escape_step, digit_fits, unit_step, unit_after, hex_step}
-use Rattle.json_text.specs.Scan.{scan_string, string_on, Passes, Scanned, Taken, HasRoom, behind_of, first_step, IsUnit, unit_left, IsUnitSoFar, GoesToUnit, StopsAt}
+use Rattle.json_text.specs.Characters.{hex_digit_of}
+use Rattle.json_text.specs.Reading.{StringPart, between, hex, high, tail, StringStep, goes_on, ends, stops, string_step, is_within, unescaped_step}
+use Rattle.json_text.specs.Reading.{digit_fits, unit_step, unit_after, hex_step}
+use Rattle.json_text.specs.Scan.{scan_string, string_on, Passes, Scanned, Taken, HasRoom, after_of, IsUnit, unit_left, IsUnitSoFar, GoesToUnit, StopsAt}
 use Rattle.json_text.proofs.Following.{Characters, StringOn}
 use Rattle.json_text.proofs.CharacterReads.{characters_spelled, characters_utf8, hex_below, so_far_more}
 
@@ -16,12 +18,12 @@ rest_is : (n : ℕ) (xs : List ℕ) → take (length xs - n) (drop n xs) ≡ dro
 rest_is n xs = take_all (length xs - n) (drop n xs) (omega (arith, length-drop n xs))
 
 -- bytes that are passed over, and what is after them
-pub scanned_behind : (part mid other : StringPart) (text t new xs rest : List ℕ) (n : ℕ) (r whole : Result ℕ TokenFault) → whole ≡ behind_of n r
+pub scanned_after : (part mid other : StringPart) (text t new xs rest : List ℕ) (n : ℕ) (r whole : Result ℕ TokenFault) → whole ≡ after_of n r
     → rest ≡ take (length xs - n) (drop n xs) → Passes part text xs mid t n → Scanned mid t rest other new r → Scanned part text xs other new whole
-scanned_behind part mid other text t new xs rest n r whole e f p s =
+scanned_after part mid other text t new xs rest n r whole e f p s =
     subst (Scanned part text xs other new) (sym e) (on r (subst (λ l. Scanned mid t l other new r) (f ∙ rest_is n xs) s))
   where
-    on : (r : Result ℕ TokenFault) → Scanned mid t (drop n xs) other new r → Scanned part text xs other new (behind_of n r)
+    on : (r : Result ℕ TokenFault) → Scanned mid t (drop n xs) other new r → Scanned part text xs other new (after_of n r)
     on (Ok m) s = let same = λ (base : ℕ). p.1 base ∙ s.1 (base + n) ∙ ap (scan_string other new ((base + n) + m)) (drop-drop m n xs)
         ∙ ap (λ k. scan_string other new k (drop (n + m) xs)) (omega arith) in (omega (arith, p.0, s.0, length-drop n xs), same)
     on (Err (Stop m)) s = (omega (arith, p.0, s.0, length-drop n xs), λ base. p.1 base ∙ s.1 (base + n) ∙ ap Err (omega arith))
@@ -47,19 +49,19 @@ pub first_goes : (text : List ℕ) (b : ℕ) (s : StringStep) → b ≢ 34 → b
 first_goes text b s h i e = rw (ne_eqb b 34 h, ne_eqb b 92 i) e
 
 -- one byte that is not escaped
-pub taken_behind : (part mid : StringPart) (xs rest : List ℕ) (r whole : Result ℕ TokenFault) → 1 ≤ length xs
-    → ((text : List ℕ) → string_step part text (get_or xs 0 0) ≡ goes_on mid (text ++ get_or xs 0 0 ∷ [])) → whole ≡ behind_of 1 r
+pub taken_after : (part mid : StringPart) (xs rest : List ℕ) (r whole : Result ℕ TokenFault) → 1 ≤ length xs
+    → ((text : List ℕ) → string_step part text (get_or xs 0 0) ≡ goes_on mid (text ++ get_or xs 0 0 ∷ [])) → whole ≡ after_of 1 r
     → rest ≡ take (length xs - 1) (drop 1 xs) → Taken mid rest r → Taken part xs whole
 unfolding scan_string
-taken_behind part mid [] rest r whole h step e f s text = absurd (omega (arith, h))
-taken_behind part mid (b ∷ bs) rest r whole h step e f s text =
-    scanned_behind part mid between text (text ++ b ∷ []) (text ++ take (result_unwrap_or whole 0) (b ∷ bs)) (b ∷ bs) rest 1 r whole e f
+taken_after part mid [] rest r whole h step e f s text = absurd (omega (arith, h))
+taken_after part mid (b ∷ bs) rest r whole h step e f s text =
+    scanned_after part mid between text (text ++ b ∷ []) (text ++ take (result_unwrap_or whole 0) (b ∷ bs)) (b ∷ bs) rest 1 r whole e f
     (h, λ base. one base) (on r e (s (text ++ b ∷ [])))
   where
     one : (base : ℕ) → scan_string part text base (b ∷ bs) ≡ scan_string mid (text ++ b ∷ []) (base + 1) bs
     one base = ap (λ s. string_on s text base (λ q u. scan_string q u (base + 1) bs)) (step text)
 
-    on : (r : Result ℕ TokenFault) → whole ≡ behind_of 1 r → Scanned mid (text ++ b ∷ []) rest between ((text ++ b ∷ []) ++ take (result_unwrap_or r 0) rest) r
+    on : (r : Result ℕ TokenFault) → whole ≡ after_of 1 r → Scanned mid (text ++ b ∷ []) rest between ((text ++ b ∷ []) ++ take (result_unwrap_or r 0) rest) r
         → Scanned mid (text ++ b ∷ []) rest between (text ++ take (result_unwrap_or whole 0) (b ∷ bs)) r
     on (Ok n) e s = subst (λ t. Scanned mid (text ++ b ∷ []) rest between t (Ok n)) (append_assoc text (b ∷ []) (take n rest)
         ∙ ap (λ l. text ++ b ∷ take n l) (f ∙ rest_is 1 (b ∷ bs)) ∙ ap (λ k. text ++ take k (b ∷ bs)) (sym (one-add n))

@@ -1,8 +1,11 @@
 -- A byte at the front: `by_byte`. A token by itself, and the same token at the front of a text: `string_takes`, `value_number`,
--- `value_word` and where they stop. White space that the reader passes over: `behind_space`, `IsSpace-more`.
-use Rattle.std.proofs.Common.{◌≡◌, ℕ, suc, ◌+◌, List, [], ◌∷◌, ◌++◌, length, take, drop, true, false, Option, Some, None, Result, Ok, Err, refl, sym, ap, ◌∙◌, subst, arith, append_assoc, append-nil, Bool, ◌==◌, cond, ◌<◌, ◌≤◌}
+-- `value_word` and where they stop. White space that the reader passes over: `after_space`, `IsSpace-more`.
+use Rattle.std.proofs.Common.{◌≡◌, ℕ, suc, ◌+◌, List, [], ◌∷◌, ◌++◌, length, take, drop, true, false, Option, Some, None, Result, Ok, Err, refl, sym, ap, ◌∙◌}
+use Rattle.std.proofs.Common.{subst, arith, append_assoc, append-nil, Bool, ◌==◌, cond, ◌<◌, ◌≤◌}
 use Rattle.std.proofs.lemmas.List.{length-drop, take-append-drop, length-take-le}
-use Rattle.json_text.specs.Reading.{Stop, NumberPart, number_step, may_end, StringPart, StringStep, goes_on, ends, stops, string_step, between, Waiting, in_list, in_object, State, string, Hole, fill, digits, word, word_step, digits_step, put, step, string_goes, go_on, read_from, Fault, unexpected, end_of, ended, after_step, value, too_deep}
+use Rattle.json_text.specs.Reading.{Stop, NumberPart, number_step, may_end, StringPart, StringStep, goes_on, ends, stops, string_step, between, Waiting}
+use Rattle.json_text.specs.Reading.{in_list, in_object, State, string, Hole, fill, digits, word, word_step, digits_step, put, step, string_goes, go_on}
+use Rattle.json_text.specs.Reading.{read_from, Fault, unexpected, end_of, ended, after_step, value, too_deep}
 use Rattle.json_text.specs.declared.fault.JsonFault.TheVariants.{NotJson, TooDeep, KeyTwice, NoMemory}
 use Rattle.json_text.specs.Kept.{SkipsSpace, StartsWith, BeginsNumber, BeginsWord, KeepsAll, StringFault, FailsSo, read_at}
 use Rattle.json_text.specs.{Scan.scan_string, Scan.string_on, Scan.scan_number, Scan.number_on, Scan.number_end, Scan.scan_word, Node.Node, Node.number_node}
@@ -38,9 +41,9 @@ stops_here at m read h = (0, omega arith, h ∙ ap fault (omega arith))
 module _ {A : Type 0} (L at : ℕ) (s t : State) (byte : ℕ) (rest : List ℕ) (count : A → ℕ) (state : A → ℕ → State) (r : Result A ℕ)
     (h : StartsWith byte rest) (goes : step L at s byte ≡ Ok t)
     (agrees : Agrees L (at + 1) 0 (drop 1 rest) count state (read_from L (at + 1) t (drop 1 rest)) r) where
-  takes : (x : A) (there : ℕ) (behind : List ℕ) → r ≡ Ok x → there ≡ at + 1 + count x → behind ≡ drop (count x) (drop 1 rest)
-      → read_from L at s rest ≡ read_from L there (state x (count x)) behind
-  takes x there behind scan place is =
+  takes : (x : A) (there : ℕ) (after : List ℕ) → r ≡ Ok x → there ≡ at + 1 + count x → after ≡ drop (count x) (drop 1 rest)
+      → read_from L at s rest ≡ read_from L there (state x (count x)) after
+  takes x there after scan place is =
       let (k, f, g) = subst (Agrees L (at + 1) 0 (drop 1 rest) count state (read_from L (at + 1) t (drop 1 rest))) scan agrees in
       by_byte L at s byte rest (Ok t) h goes ∙ g ∙ ap (λ k. read_from L (at + 1 + k) (state x k) (drop k (drop 1 rest))) (omega (arith, f))
       ∙ ap (λ k. read_from L k (state x (count x)) (drop (count x) (drop 1 rest))) (sym place) ∙ ap (read_from L there (state x (count x))) (sym is)
@@ -100,8 +103,7 @@ module _ (L : ℕ) (outer : List Waiting) where
       (number_on o part m (λ p. scan_number p (m + 1) bs))
   number_by at m part spelling b bs (Some p) f = later L at m b bs _ _ _ _ (scan_number p (m + 1) bs)
       (λ _ n. ap (λ s. put (number_node s) outer) (append_assoc spelling (b ∷ []) (take n bs))) (f p)
-  number_by at m part spelling b bs None f =
-      elim (may_end part) as (λ v. Agrees L at m (b ∷ bs) (λ e. e) (Spelled spelling (b ∷ bs))
+  number_by at m part spelling b bs None f = elim (may_end part) as (λ v. Agrees L at m (b ∷ bs) (λ e. e) (Spelled spelling (b ∷ bs))
       (go_on at (cond v (after_step (put (number_node spelling) outer) b) (Err unexpected)) (λ s. read_from L (at + 1) s bs)) (cond v (Ok m) (Err m)))
       [ true ↦ ends_here at m spelling (b ∷ bs) _ (whole_read at spelling b bs outer) | false ↦ stops_here at m _ refl ]
 
@@ -148,8 +150,7 @@ module _ (L : ℕ) (outer : List Waiting) (n : Node) where
   unfolding scan_word read_from
   word_agrees [] bs at m = (0, omega arith, ap (λ k. read_from L k (put n outer) bs) (omega arith))
   word_agrees (c ∷ cs) [] at m = stops_here at m _ refl
-  word_agrees (c ∷ cs) (b ∷ bs) at m =
-      elim (b == c) as (λ v. Agrees L at m (b ∷ bs) (λ e. e) (λ _ _. put n outer)
+  word_agrees (c ∷ cs) (b ∷ bs) at m = elim (b == c) as (λ v. Agrees L at m (b ∷ bs) (λ e. e) (λ _ _. put n outer)
       (go_on at (cond v (Ok (word_step c cs n outer)) (Err unexpected)) (λ s. read_from L (at + 1) s bs)) (cond v (scan_word cs (m + 1) bs) (Err m))) [
         | true ↦ later L at m b bs _ _ _ _ (scan_word cs (m + 1) bs) (λ _ _. refl)
             (subst (λ s. Agrees L (at + 1) (m + 1) bs (λ e. e) (λ _ _. put n outer) (read_from L (at + 1) s bs) (scan_word cs (m + 1) bs))
@@ -162,21 +163,21 @@ deep at = Err (record { why = too_deep; at = at })
 
 module _ (L at : ℕ) where
   -- a string, at the places where one may begin
-  pub string_takes : (s : State) (hole : Hole) (rest t : List ℕ) (n there : ℕ) (behind : List ℕ) → StartsWith 34 rest
-      → step L at s 34 ≡ Ok (string between [] hole) → scan_string between [] 0 (drop 1 rest) ≡ Ok (t, n) → there ≡ at + 1 + n → behind ≡ drop n (drop 1 rest)
-      → read_from L at s rest ≡ read_from L there (fill hole t) behind
-  string_takes s hole rest t n there behind h e = takes L at s (string between [] hole) 34 rest (λ x. x.1) (λ x _. fill hole x.0) _ h e
-      (string_agrees L hole (drop 1 rest) (at + 1) 0 between []) (t, n) there behind
+  pub string_takes : (s : State) (hole : Hole) (rest t : List ℕ) (n there : ℕ) (after : List ℕ) → StartsWith 34 rest
+      → step L at s 34 ≡ Ok (string between [] hole) → scan_string between [] 0 (drop 1 rest) ≡ Ok (t, n) → there ≡ at + 1 + n → after ≡ drop n (drop 1 rest)
+      → read_from L at s rest ≡ read_from L there (fill hole t) after
+  string_takes s hole rest t n there after h e = takes L at s (string between [] hole) 34 rest (λ x. x.1) (λ x _. fill hole x.0) _ h e
+      (string_agrees L hole (drop 1 rest) (at + 1) 0 between []) (t, n) there after
 
   -- a number
-  pub value_number : (outer : List Waiting) (part : NumberPart) (rest : List ℕ) (n there : ℕ) (behind : List ℕ) → BeginsNumber part rest
-      → scan_number part 0 (drop 1 rest) ≡ Ok n → there ≡ at + 1 + n → behind ≡ drop n (drop 1 rest)
-      → (read_from L at (value outer) rest ≡ read_from L there (put (number_node (take (1 + n) rest)) outer) behind) × (length behind < length rest)
-  value_number outer part [] n there behind h scan place is = absurd h
-  value_number outer part (b ∷ bs) n there behind h scan place is =
+  pub value_number : (outer : List Waiting) (part : NumberPart) (rest : List ℕ) (n there : ℕ) (after : List ℕ) → BeginsNumber part rest
+      → scan_number part 0 (drop 1 rest) ≡ Ok n → there ≡ at + 1 + n → after ≡ drop n (drop 1 rest)
+      → (read_from L at (value outer) rest ≡ read_from L there (put (number_node (take (1 + n) rest)) outer) after) × (length after < length rest)
+  value_number outer part [] n there after h scan place is = absurd h
+  value_number outer part (b ∷ bs) n there after h scan place is =
       let read = takes L at (value outer) (digits part (b ∷ []) outer) b (b ∷ bs) (λ e. e) (Spelled L outer (b ∷ []) bs) _ refl (h.1 L at outer)
-      (number_agrees L outer bs (at + 1) 0 part (b ∷ [])) n there behind scan place is
-      ∙ ap (λ k. read_from L there (put (number_node (take k (b ∷ bs))) outer) behind) (let e : suc n ≡ 1 + n = omega arith in e) in
+      (number_agrees L outer bs (at + 1) 0 part (b ∷ [])) n there after scan place is
+      ∙ ap (λ k. read_from L there (put (number_node (take k (b ∷ bs))) outer) after) (let e : suc n ≡ 1 + n = omega arith in e) in
       (read, omega (arith, ap length is, length-drop n bs))
 
   pub value_number_stops : (outer : List Waiting) (part : NumberPart) (rest : List ℕ) (n there : ℕ) → BeginsNumber part rest
@@ -187,14 +188,14 @@ module _ (L at : ℕ) where
       (h.1 L at outer) (number_agrees L outer bs (at + 1) 0 part (b ∷ [])) n there
 
   -- a word
-  pub value_word : (outer : List Waiting) (w : List ℕ) (n : Node) (rest : List ℕ) (len there : ℕ) (behind : List ℕ) → BeginsWord w n rest
-      → scan_word w 0 (drop 1 rest) ≡ Ok len → there ≡ at + 1 + len → behind ≡ drop len (drop 1 rest)
-      → (read_from L at (value outer) rest ≡ read_from L there (put n outer) behind) × (length behind < length rest)
-  value_word outer [] n rest len there behind h scan place is = absurd h
-  value_word outer (c ∷ cs) n [] len there behind h scan place is = absurd h
-  value_word outer (c ∷ cs) n (b ∷ bs) len there behind h scan place is =
+  pub value_word : (outer : List Waiting) (w : List ℕ) (n : Node) (rest : List ℕ) (len there : ℕ) (after : List ℕ) → BeginsWord w n rest
+      → scan_word w 0 (drop 1 rest) ≡ Ok len → there ≡ at + 1 + len → after ≡ drop len (drop 1 rest)
+      → (read_from L at (value outer) rest ≡ read_from L there (put n outer) after) × (length after < length rest)
+  value_word outer [] n rest len there after h scan place is = absurd h
+  value_word outer (c ∷ cs) n [] len there after h scan place is = absurd h
+  value_word outer (c ∷ cs) n (b ∷ bs) len there after h scan place is =
       let read = takes L at (value outer) (word c cs n outer) b (b ∷ bs) (λ e. e) (λ _ _. put n outer) _ refl (h L at outer)
-      (word_agrees L outer n (c ∷ cs) bs (at + 1) 0) len there behind scan place is in (read, omega (arith, ap length is, length-drop len bs))
+      (word_agrees L outer n (c ∷ cs) bs (at + 1) 0) len there after scan place is in (read, omega (arith, ap length is, length-drop len bs))
 
   pub value_word_stops : (outer : List Waiting) (w : List ℕ) (n : Node) (rest : List ℕ) (len there : ℕ) → BeginsWord w n rest
       → scan_word w 0 (drop 1 rest) ≡ Err len → there ≡ at + 1 + len → read_from L at (value outer) rest ≡ fault there
@@ -229,9 +230,9 @@ IsSpace-more [] b h g = (g, tt)
 IsSpace-more (c ∷ cs) b h g = (h.0, IsSpace-more cs b h.1 g)
 
 -- a place after white space
-pub behind_space : (L : ℕ) (s : State) → SkipsSpace L s → (at n : ℕ) (rest : List ℕ) (there : ℕ) (behind : List ℕ) → n ≤ length rest → IsSpace (take n rest)
-    → behind ≡ drop n rest → there ≡ at + n → read_from L at s rest ≡ read_from L there s behind
-behind_space L s skips at n rest there behind h space is place =
+pub after_space : (L : ℕ) (s : State) → SkipsSpace L s → (at n : ℕ) (rest : List ℕ) (there : ℕ) (after : List ℕ) → n ≤ length rest → IsSpace (take n rest)
+    → after ≡ drop n rest → there ≡ at + n → read_from L at s rest ≡ read_from L there s after
+after_space L s skips at n rest there after h space is place =
     ap (read_from L at s) (sym (take-append-drop n rest)) ∙ space_runs L s skips at (take n rest) (drop n rest) space
     ∙ ap (λ k. read_from L (at + k) s (drop n rest)) (length-take-le n rest h)
     ∙ ap (λ k. read_from L k s (drop n rest)) (sym place) ∙ ap (read_from L there s) (sym is)

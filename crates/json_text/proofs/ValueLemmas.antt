@@ -1,9 +1,10 @@
 -- What a spelled text represents is a value: `text_is_value`; its levels are no more than the text's: `text_within`.
-use Rattle.std.proofs.Common.{◌≡◌, ◌≢◌, ℕ, suc, max, ◌+◌, ◌≤◌, true, false, List, [], ◌∷◌, length, sym, arith, IsUtf8}
+use Rattle.std.proofs.Common.{◌≡◌, ◌≢◌, ℕ, max, ◌+◌, ◌≤◌, true, false, List, [], ◌∷◌, length, sym, arith, IsUtf8}
 use Rattle.std.proofs.{lemmas.Bool.cond_both, lemmas.Bool.both_ways, lemmas.Slice.Eq.bytes_eq-Decides}
 use Rattle.std.specs.Str.{bytes_eq}
-use Rattle.json_text.specs.{Tree.Tree, Tree.items_of, Tree.members_of, Characters.SpellsString}
-use Rattle.json_text.specs.Node.{Node, null_node, truth_node, number_node, text_node, list_node, object_node, Nodes, no_nodes, node, Fields, no_fields, field, with_member, value_of, values_of, members_after, levels_of, levels_of_nodes, levels_of_fields}
+use Rattle.json_text.specs.{Tree.Tree, Tree.items_of, Tree.members_of}
+use Rattle.json_text.specs.Node.{Node, null_node, truth_node, number_node, text_node, list_node, object_node, Nodes, no_nodes, node, Fields, no_fields, field}
+use Rattle.json_text.specs.Node.{with_member, value_of, values_of, members_after, levels_of, levels_of_nodes, levels_of_fields}
 use Rattle.json_text.specs.Grammar.{SpellsValue, SpellsItems, SpellsMoreItems, SpellsMembers, SpellsMoreMembers, IsText}
 use Rattle.json_text.specs.Compact.{LacksKey, IsValue, AreItems, AreMembers, tree_levels, items_levels, members_levels}
 use Rattle.json_text.proofs.CharacterReads.{characters_utf8}
@@ -11,8 +12,7 @@ use Rattle.json_text.proofs.CharacterReads.{characters_utf8}
 -- another key is lacking as before
 lacks_with : (k key : List ℕ) (t : Tree) (ms : List (List ℕ × Tree)) → k ≢ key → LacksKey k (members_of ms) → LacksKey k (members_of (with_member key t ms))
 lacks_with k key t [] apart h = (apart, tt)
-lacks_with k key t (m ∷ ms) apart h =
-    cond_both (bytes_eq key m.0) ((m.0, t) ∷ ms) (m ∷ with_member key t ms) (λ x. LacksKey k (members_of x)) (λ _. (h.0, h.1))
+lacks_with k key t (m ∷ ms) apart h = cond_both (bytes_eq key m.0) ((m.0, t) ∷ ms) (m ∷ with_member key t ms) (λ x. LacksKey k (members_of x)) (λ _. (h.0, h.1))
     (λ _. (h.0, lacks_with k key t ms apart h.1))
 
 -- one member more, or another value of one
@@ -60,8 +60,7 @@ text_is_value levels bytes n h = let s = h.spelled in node_is_value n (0 + lengt
 with_member_levels : (key : List ℕ) (t : Tree) (ms : List (List ℕ × Tree))
     → members_levels (members_of (with_member key t ms)) ≤ max (members_levels (members_of ms)) (tree_levels t)
 with_member_levels key t [] = omega arith
-with_member_levels key t (m ∷ ms) =
-    cond_both (bytes_eq key m.0) ((m.0, t) ∷ ms) (m ∷ with_member key t ms)
+with_member_levels key t (m ∷ ms) = cond_both (bytes_eq key m.0) ((m.0, t) ∷ ms) (m ∷ with_member key t ms)
     (λ x. members_levels (members_of x) ≤ max (members_levels (members_of (m ∷ ms))) (tree_levels t)) (λ _. omega arith)
     (λ _. let h : members_levels (members_of (with_member key t ms)) ≤ max (members_levels (members_of ms)) (tree_levels t) = with_member_levels key t ms in
     omega arith)

@@ -2,7 +2,8 @@
 use Rattle.std.proofs.Common.{◌≡◌, ℕ, Bool, List, ap, sym, ◌∙◌}
 use Rattle.json_text.specs.{Tree.Tree, Tree.null, Tree.truth, Tree.number, Tree.text, Tree.list, Tree.object, Tree.items_of, Tree.members_of}
 use Rattle.json_text.specs.{View.tree_of, View.view_step, View.trees_of, View.pairs_of, declared.value.Json.fold-roll-Json, declared.value.Json.TheOpen.Json-F}
-use Rattle.json_text.specs.declared.value.Json.TheVariants.{Null, Truth, Num, Str, List as list_value, Obj, rolls-Null, rolls-Truth, rolls-Num, rolls-Str, rolls-List, rolls-Obj}
+use Rattle.json_text.specs.declared.value.Json.TheVariants.{Null, Truth, Num, Str, List as list_value, Obj, rolls-Null, rolls-Truth, rolls-Num, rolls-Str}
+use Rattle.json_text.specs.declared.value.Json.TheVariants.{rolls-List, rolls-Obj}
 
 pub tree_of_list : (v : _) → tree_of (list_value v) ≡ list (items_of (trees_of v.items))
 tree_of_list v = ap tree_of (sym (rolls-List v)) ∙ fold-roll-Json Tree view_step (Json-F.List v)

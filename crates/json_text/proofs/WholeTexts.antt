@@ -1,6 +1,7 @@
 -- The byte machine reads exactly the texts of the grammar: `read_spelled`, `spelled_read`. One step of a reading at a time:
 -- `read_ok`, `read_err`, `read_nil`.
-use Rattle.std.proofs.Common.{◌≡◌, ℕ, ◌+◌, ◌-◌, List, [], ◌∷◌, ◌++◌, length, Option, Some, None, Result, Ok, Err, refl, sym, ap, ◌∙◌, subst, arith, append-nil, zero-add}
+use Rattle.std.proofs.Common.{◌≡◌, ℕ, ◌+◌, ◌-◌, List, [], ◌∷◌, ◌++◌, length, Option, Some, None, Result, Ok, Err, refl, sym, ap, ◌∙◌, subst, arith, append-nil}
+use Rattle.std.proofs.Common.{zero-add}
 use Rattle.json_text.specs.{Node.Node, Grammar.IsText}
 use Rattle.json_text.specs.Reading.{State, Stop, Fault, value, step, go_on, end_of, ended, read_from, read_text}
 use Rattle.json_text.proofs.{Following.Space, Following.Value, Following.After, Following.Following, Productions.text_reads}

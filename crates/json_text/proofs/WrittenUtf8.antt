@@ -1,12 +1,12 @@
 -- The compact text of a value is UTF-8: `compact_utf8`.
-use Rattle.std.proofs.Common.{◌≡◌, ℕ, ◌/◌, ◌%◌, ◌<◌, Bool, true, false, if◌then◌else◌, ◌==◌, nat_lt, List, [], ◌∷◌, Some, refl, sym, subst, arith, append-nil, flat_map, codes, ltb-true}
-use Rattle.std.proofs.{lemmas.Str.IsUtf8-append, lemmas.Str.IsUtf8-encode, lemmas.Str.IsUtf8-nil, lemmas.Bool.and_parts, lemmas.Bool.cases_lt}
-use Rattle.std.proofs.{lemmas.Bool.Decides.nat_tests, lemmas.Grind.flat_map-append}
-use Rattle.std.specs.{Prelude.encode_utf8, Prelude.encode_utf8_all, Str.IsUtf8, Str.all_scalars, Char.IsScalar, List.list_all}
+use Rattle.std.proofs.Common.{◌≡◌, ℕ, ◌<◌, true, false, nat_lt, List, [], ◌∷◌, Some, refl, sym, subst, arith, codes, ltb-true}
+use Rattle.std.proofs.{lemmas.Str.IsUtf8-append, lemmas.Str.IsUtf8-encode, lemmas.Str.IsUtf8-nil, lemmas.Bool.and_parts}
+use Rattle.std.proofs.{lemmas.Bool.Decides.nat_tests}
+use Rattle.std.specs.{Str.IsUtf8, List.list_all}
 use Rattle.json_text.specs.Characters.{SpellsCharacter, unescaped, escaped, unit, pair, SpellsCharacters, none, more, IsHex, hex_digit_of, escape_of}
-use Rattle.json_text.specs.Compact.{lower_hex, escape, quoted, compact_text, items_text, more_items_text, members_text, more_members_text, IsValue, AreItems, AreMembers}
+use Rattle.json_text.specs.Compact.{quoted, compact_text, items_text, more_items_text, members_text, more_members_text, IsValue, AreItems, AreMembers}
 use Rattle.json_text.specs.Tree.{Tree, null, truth, number, text, list, object, Items, no_items, item, Members, no_members, member}
-use Rattle.json_text.specs.Reading.{NumberPart, minus, zero_int, int}
+use Rattle.json_text.specs.Reading.{minus, zero_int, int}
 use Rattle.json_text.proofs.NumberReads.{Starts, with_minus, with_zero, with_digit, starts, ascii_cons, accepted_utf8}
 use Rattle.json_text.proofs.SpelledBack.{quoted_spelled}
 

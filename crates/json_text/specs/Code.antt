@@ -91,15 +91,15 @@ mutual
   members_back no_members (suc steps) rest h = refl
   members_back (member key t inside) zero rest h = absurd (omega arith)
   members_back (member key t inside) (suc steps) rest h =
-      let behind = tree_numbers t ++ members_numbers inside in
+      let after = tree_numbers t ++ members_numbers inside in
       let long = length-append (tree_numbers t) (members_numbers inside) in
-      let longer = length-append key behind in
+      let longer = length-append key after in
       let first = tree_back t steps (members_numbers inside ++ rest) (omega (arith, long, longer)) in
       let others = members_back inside steps rest (omega (arith, long, longer)) in
       rw (
-        append_assoc key behind rest,
-        take_at key (behind ++ rest) (length key) refl,
-        drop_at key (behind ++ rest) (length key) refl,
+        append_assoc key after rest,
+        take_at key (after ++ rest) (length key) refl,
+        drop_at key (after ++ rest) (length key) refl,
         append_assoc (tree_numbers t) (members_numbers inside) rest,
         first,
         others,

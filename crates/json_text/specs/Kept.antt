@@ -4,7 +4,7 @@ use Rattle.std.specs.List.{list_any}
 use Rattle.std.specs.Str.{bytes_eq}
 use Rattle.json_text.specs.Tree.{Tree}
 use Rattle.json_text.specs.View.{tree_of, trees_of, pairs_of}
-use Rattle.json_text.specs.Node.{Node, value_of, members_after, with_member, first_of, first_repeat, first_repeat_in, first_repeat_behind}
+use Rattle.json_text.specs.Node.{Node, value_of, members_after, with_member, first_of, first_repeat, first_repeat_in, first_repeat_after}
 use Rattle.json_text.specs.Objects.{with_value}
 use Rattle.json_text.specs.Grammar.{is_space}
 use Rattle.json_text.specs.Reading.{Member, Waiting, in_list, in_object, nodes_of, fields_of, State, value, first_item, after_item, first_key, next_key, after_member, whole, Fault, unexpected, too_deep, read_from, step, digits, word, NumberPart, between}
@@ -19,9 +19,9 @@ use Rattle.json_text.specs.declared.state.Next.{Next}
 use Rattle.json_text.specs.declared.state.Next.TheVariants.{Value, FirstItem, AfterItem, FirstKey, NextKey, AfterMember, End}
 
 -- the keys of members after other keys, the last one first
-abbrev pub keys_behind : List (List ℕ) → List Member → List (List ℕ)
-keys_behind keys [] = keys
-keys_behind keys (m ∷ ms) = keys_behind (m.key ∷ keys) ms
+abbrev pub keys_after : List (List ℕ) → List Member → List (List ℕ)
+keys_after keys [] = keys
+keys_after keys (m ∷ ms) = keys_after (m.key ∷ keys) ms
 
 -- the place of a key that members before it have too
 abbrev pub repeat_at : List (List ℕ) → ℕ → List ℕ → Option ℕ
@@ -30,7 +30,7 @@ repeat_at keys place key = if list_any (bytes_eq key) keys then Some place else 
 -- the first repeated key of what waits, the outermost of it first in the text
 abbrev pub repeat_in : Waiting → Option ℕ
 repeat_in (in_list ns) = first_repeat_in (nodes_of ns)
-repeat_in (in_object ms place key) = first_of (first_repeat_behind [] (fields_of ms)) (repeat_at (keys_behind [] ms) place key)
+repeat_in (in_object ms place key) = first_of (first_repeat_after [] (fields_of ms)) (repeat_at (keys_after [] ms) place key)
 
 abbrev pub repeat_of : List Waiting → Option ℕ
 repeat_of [] = None
@@ -63,9 +63,9 @@ IsState (AfterItem items) waiting repeat s = (ns : List Node) × (outer : List W
     × (repeat ≡ first_of (repeat_of outer) (first_repeat_in (nodes_of ns))) × (trees_of items.items ≡ map value_of ns)
 IsState FirstKey waiting repeat s = (outer : List Waiting) × (s ≡ first_key outer) × KeepsAll (reverse waiting) outer × (repeat ≡ repeat_of outer)
 IsState (NextKey object) waiting repeat s = (ms : List Member) × (outer : List Waiting) × (s ≡ next_key ms outer) × KeepsAll (reverse waiting) outer
-    × (repeat ≡ first_of (repeat_of outer) (first_repeat_behind [] (fields_of ms))) × HoldsMembers object.value.members.items ms
+    × (repeat ≡ first_of (repeat_of outer) (first_repeat_after [] (fields_of ms))) × HoldsMembers object.value.members.items ms
 IsState (AfterMember object) waiting repeat s = (ms : List Member) × (outer : List Waiting) × (s ≡ after_member ms outer) × KeepsAll (reverse waiting) outer
-    × (repeat ≡ first_of (repeat_of outer) (first_repeat_behind [] (fields_of ms))) × HoldsMembers object.value.members.items ms
+    × (repeat ≡ first_of (repeat_of outer) (first_repeat_after [] (fields_of ms))) × HoldsMembers object.value.members.items ms
 IsState (End json) waiting repeat s = (n : Node) × (s ≡ whole n) × (tree_of json ≡ value_of n) × (repeat ≡ first_repeat n)
 
 -- Bytes give this fault.

@@ -75,14 +75,14 @@ abbrev mutual
   first_repeat (number_node spelling) = None
   first_repeat (text_node t) = None
   first_repeat (list_node ns) = first_repeat_in ns
-  first_repeat (object_node fs) = first_repeat_behind [] fs
+  first_repeat (object_node fs) = first_repeat_after [] fs
 
   pub first_repeat_in : Nodes → Option ℕ
   first_repeat_in no_nodes = None
   first_repeat_in (node n ns) = first_of (first_repeat n) (first_repeat_in ns)
 
   -- of members with members of these keys before them
-  pub first_repeat_behind : List (List ℕ) → Fields → Option ℕ
-  first_repeat_behind keys no_fields = None
-  first_repeat_behind keys (field place key n fs) =
-      first_of (if list_any (bytes_eq key) keys then Some place else None) (first_of (first_repeat n) (first_repeat_behind (key ∷ keys) fs))
+  pub first_repeat_after : List (List ℕ) → Fields → Option ℕ
+  first_repeat_after keys no_fields = None
+  first_repeat_after keys (field place key n fs) =
+      first_of (if list_any (bytes_eq key) keys then Some place else None) (first_of (first_repeat n) (first_repeat_after (key ∷ keys) fs))

@@ -1,6 +1,6 @@
 -- For private clauses alone: what is known of a text after each byte of it, as the reader keeps it. That this reads exactly
 -- the texts of `Grammar` is proved in proofs/.
-use Rattle.std.specs.Prelude.{ℕ, zero, suc, ◌+◌, ◌-◌, ◌*◌, Bool, true, false, not, ◌&&◌, ◌||◌, ◌==◌, nat_lt, nat_le, List, [], ◌∷◌, ◌++◌, length, if◌then◌else◌, Option, Some, None, Result, Ok, Err, codes, encode_utf8}
+use Rattle.std.specs.Prelude.{ℕ, zero, suc, ◌+◌, ◌*◌, Bool, true, false, not, ◌&&◌, ◌||◌, ◌==◌, nat_lt, nat_le, List, [], ◌∷◌, ◌++◌, length, if◌then◌else◌, Option, Some, None, Result, Ok, Err, codes, encode_utf8}
 use Rattle.std.specs.Char.{is_ascii_digit}
 use Rattle.json_text.specs.Number.{is_digit_above_zero}
 use Rattle.json_text.specs.Characters.{escape_of, hex_digit_of, pair_of}

@@ -49,10 +49,10 @@ abbrev pub Taken : StringPart → List ℕ → Result ℕ TokenFault → Type 0
 Taken part bytes result = (text : List ℕ) → Scanned part text bytes between (text ++ take (result_unwrap_or result 0) bytes) result
 
 -- the same with more bytes before it
-abbrev pub behind_of : ℕ → Result ℕ TokenFault → Result ℕ TokenFault
-behind_of count (Ok n) = Ok (count + n)
-behind_of count (Err (Stop n)) = Err (Stop (count + n))
-behind_of count (Err NoMemory) = Err NoMemory
+abbrev pub after_of : ℕ → Result ℕ TokenFault → Result ℕ TokenFault
+after_of count (Ok n) = Ok (count + n)
+after_of count (Err (Stop n)) = Err (Stop (count + n))
+after_of count (Err NoMemory) = Err NoMemory
 
 abbrev pub HasRoom : ℕ → Result ℕ TokenFault → Type 0
 HasRoom count (Ok n) = count + n < 2 ^ 64

@@ -70,9 +70,9 @@ fn push_quoted(text: &[u8], out: &mut Bytes) -> Result<(), NoMemory>
         let (plain, escaped) = rest.split_at(plain_len(rest));
         out.extend(plain)?;
         rest = escaped;
-        if let Some((byte, behind)) = escaped.split_first() {
+        if let Some((byte, after)) = escaped.split_first() {
             push_escape(*byte, out)?;
-            rest = behind;
+            rest = after;
         }
     }
     out.extend(b"\"")

@@ -28,7 +28,7 @@ impl Part {
     }
 
     /// The part that the byte belongs to, if the number can continue with it.
-    fn behind(self, byte: u8) -> Option<Part>
+    fn after(self, byte: u8) -> Option<Part>
         ensures { option_map part_of result ≡ number_step (part_of self) byte }
     {
         match (self, byte) {
@@ -61,7 +61,7 @@ pub(crate) fn number_len(first: Part, bytes: &[u8]) -> Result<usize, usize>
 {
     let mut part = first;
     for (n, byte) in bytes.iter().enumerate() {
-        match part.behind(*byte) {
+        match part.after(*byte) {
             Some(next) => part = next,
             None => return part.end(n),
         }

@@ -1,7 +1,7 @@
 //! One pass over a text, with a stack of the lists and objects that are not closed.
 ghost use Rattle.std.specs.Prelude.{◌≡◌, ◌≤◌, ◌<◌, ◌+◌, ◌^◌, ℕ, List, [], ◌∷◌, Option, Some, None, Ok, Err, Result, IfOk, IfErr, OnOk, MatchOption, MatchBool, false, if◌then◌else◌, length, drop, take, reverse, vec_len};
 ghost use Rattle.json_text.specs.View.{tree_of, trees_of};
-ghost use Rattle.json_text.specs.Node.{Node, value_of, first_of, first_repeat, first_repeat_behind};
+ghost use Rattle.json_text.specs.Node.{Node, value_of, first_of, first_repeat, first_repeat_after};
 ghost use Rattle.json_text.specs.Grammar.{is_space, IsSpace};
 ghost use Rattle.json_text.specs.Reading.{State, Waiting, Member, read_text, value, first_item, first_key, next_key, put, between, fields_of};
 ghost use Rattle.json_text.specs.Scan.{scan_string};
@@ -81,7 +81,7 @@ impl<'a> Place<'a> {
         self.first() == Some(byte)
     }
 
-    fn behind(self, len: usize) -> Place<'a>
+    fn after(self, len: usize) -> Place<'a>
         requires { len ≤ length self.rest.now }
         ensures rest { result.rest.now ≡ drop len self.entry.rest.now }
         ensures at { result.at ≡ self.entry.at + len }
@@ -99,7 +99,7 @@ impl<'a> Place<'a> {
         ensures no_space { StartsWithNoSpace result.rest.now }
         ensures later { length result.rest.now ≤ length self.entry.rest.now }
     {
-        self.behind(space_len(self.rest))
+        self.after(space_len(self.rest))
     }
 
     fn not_json(self) -> JsonFault
@@ -157,7 +157,7 @@ impl Reader {
         if self.waiting.len() >= self.levels {
             return Err(JsonFault::TooDeep { at: place.at });
         }
-        Ok((next, place.behind(1)))
+        Ok((next, place.after(1)))
     }
 
     fn first_item<'a>(&mut self, byte: u8, place: Place<'a>) -> Gone<'a>
@@ -168,7 +168,7 @@ impl Reader {
     {
         if byte == b']' {
             let next = self.put(Json::List(Vec::new(self.alloc)))?;
-            return Ok((next, place.behind(1)));
+            return Ok((next, place.after(1)));
         }
         self.waiting.push(Kept::List(Vec::new(self.alloc)))?;
         self.value(byte, place)
@@ -185,11 +185,11 @@ impl Reader {
         match byte {
             b',' => {
                 self.waiting.push(Kept::List(items))?;
-                Ok((Next::Value, place.behind(1)))
+                Ok((Next::Value, place.after(1)))
             }
             b']' => {
                 let next = self.put(Json::List(items))?;
-                Ok((next, place.behind(1)))
+                Ok((next, place.after(1)))
             }
             _ => Err(place.not_json()),
         }
@@ -208,7 +208,7 @@ impl Reader {
             }
             b'}' => {
                 let next = self.put(Json::Obj(Vec::new(self.alloc)))?;
-                Ok((next, place.behind(1)))
+                Ok((next, place.after(1)))
             }
             _ => Err(place.not_json()),
         }
@@ -233,16 +233,16 @@ impl Reader {
         requires { StartsWith 34 place.rest.now }
         ensures goes { (ms : List Member) (outer : List Waiting)
             → KeepsAll (reverse self.old.waiting.items) outer
-            → self.old.repeat ≡ first_of (repeat_of outer) (first_repeat_behind [] (fields_of ms))
+            → self.old.repeat ≡ first_of (repeat_of outer) (first_repeat_after [] (fields_of ms))
             → HoldsMembers object.value.members.items ms
             → Goes self.old.levels (next_key ms outer) place.entry result self.new.waiting.items self.new.repeat }
         ensures levels { self.new.levels ≡ self.old.levels }
     {
-        let (key, behind) = match text(self.alloc, place) {
+        let (key, after) = match text(self.alloc, place) {
             Ok(read) => read,
             Err(fault) => return Err(fault),
         };
-        let there = behind.without_space();
+        let there = after.without_space();
         if !there.starts_with(b':') {
             return Err(there.not_json());
         }
@@ -250,7 +250,7 @@ impl Reader {
         self.repeat = first_repeat_of(self.repeat, is_repeated, place.at);
         self.waiting
             .push(Kept::Object(KeptObject { object, slot }))?;
-        Ok((Next::Value, there.behind(1)))
+        Ok((Next::Value, there.after(1)))
     }
 
     fn after_member<'a>(&mut self, object: Open, byte: u8, place: Place<'a>) -> Gone<'a>
@@ -262,11 +262,11 @@ impl Reader {
         ensures levels { self.new.levels ≡ self.old.levels }
     {
         match byte {
-            b',' => Ok((Next::NextKey(object), place.behind(1))),
+            b',' => Ok((Next::NextKey(object), place.after(1))),
             b'}' => {
                 let ObjectBuilder { members, .. } = Box::into_inner(object);
                 let next = self.put(Json::Obj(members))?;
-                Ok((next, place.behind(1)))
+                Ok((next, place.after(1)))
             }
             _ => Err(place.not_json()),
         }
@@ -313,12 +313,12 @@ impl Reader {
         ensures goes { GoesOn value self.old.levels place.entry result self.old.waiting.items self.old.repeat self.new.waiting.items self.new.repeat }
         ensures levels { self.new.levels ≡ self.old.levels }
     {
-        let inside = place.behind(1);
+        let inside = place.after(1);
         match number_len(first, inside.rest) {
             Ok(len) => {
                 let spelling = Text::from_utf8(self.alloc, &place.rest[..1 + len])?;
                 let next = self.put(Json::Num(spelling))?;
-                Ok((next, inside.behind(len)))
+                Ok((next, inside.after(len)))
             }
             Err(n) => Err(JsonFault::NotJson { at: inside.at + n }),
         }
@@ -330,11 +330,11 @@ impl Reader {
         ensures goes { GoesOn value self.old.levels place.entry result self.old.waiting.items self.old.repeat self.new.waiting.items self.new.repeat }
         ensures levels { self.new.levels ≡ self.old.levels }
     {
-        let inside = place.behind(1);
+        let inside = place.after(1);
         match word_len(inside.rest, word) {
             Ok(len) => {
                 let next = self.put(json)?;
-                Ok((next, inside.behind(len)))
+                Ok((next, inside.after(len)))
             }
             Err(n) => Err(JsonFault::NotJson { at: inside.at + n }),
         }
@@ -351,9 +351,9 @@ fn text<'a>(alloc: Global, place: Place<'a>) -> Result<(Text, Place<'a>), JsonFa
         × (length r.1.rest.now < length place.entry.rest.now)) }
     ensures err { IfErr result (StringFault place.entry) }
 {
-    let inside = place.behind(1);
+    let inside = place.after(1);
     match string(alloc, inside.rest) {
-        Ok((text, len)) => Ok((text, inside.behind(len))),
+        Ok((text, len)) => Ok((text, inside.after(len))),
         Err(TokenFault::Stop(n)) => Err(JsonFault::NotJson { at: inside.at + n }),
         Err(TokenFault::NoMemory) => Err(JsonFault::NoMemory),
     }

@@ -3,7 +3,7 @@ ghost use Rattle.std.specs.Prelude.{◌≡◌, ◌≤◌, ◌<◌, ◌-◌, ◌+
 ghost use Rattle.std.specs.Char.{IsScalar};
 ghost use Rattle.json_text.specs.Characters.{escape_of, hex_digit_of};
 ghost use Rattle.json_text.specs.Reading.{digit_fits, between, backslash, hex, high, tail, is_within, unescaped_step};
-ghost use Rattle.json_text.specs.Scan.{scan_string, Passes, Scanned, Taken, HasRoom, IsUnit, IsUnitSoFar, GoesToUnit, StopsAt, first_step, behind_of};
+ghost use Rattle.json_text.specs.Scan.{scan_string, Passes, Scanned, Taken, HasRoom, IsUnit, IsUnitSoFar, GoesToUnit, StopsAt, first_step, after_of};
 
 use super::Text;
 use super::fault::TokenFault;
@@ -21,7 +21,7 @@ pub(crate) fn string(alloc: Global, bytes: &[u8]) -> Result<(Text, usize), Token
     let mut text = Vec::new(alloc);
     let mut at = 0;
     while at < bytes.len() && bytes[at] != b'"' {
-        at = behind(at, push_characters(&mut text, &bytes[at..]))?;
+        at = after(at, push_characters(&mut text, &bytes[at..]))?;
     }
     if at == bytes.len() {
         return Err(TokenFault::Stop(at));
@@ -45,7 +45,7 @@ fn push_characters(text: &mut Vec<u8>, bytes: &[u8]) -> Result<usize, TokenFault
         return Ok(plain);
     }
     if bytes[0] == b'\\' {
-        return behind(1, push_escaped(text, &bytes[1..]));
+        return after(1, push_escaped(text, &bytes[1..]));
     }
     let len = character_len(bytes)?;
     text.extend_from_slice(&bytes[..len])?;
@@ -78,7 +78,7 @@ fn push_escaped(text: &mut Vec<u8>, bytes: &[u8]) -> Result<usize, TokenFault>
     ensures { Scanned backslash text.old.items bytes.now between text.new.items result }
 {
     match bytes {
-        [b'u', digits @ ..] => behind(1, push_unicode(text, digits)),
+        [b'u', digits @ ..] => after(1, push_unicode(text, digits)),
         [byte, ..] => match unescaped(*byte) {
             Some(character) => match text.push(character) {
                 Ok(()) => Ok(1),
@@ -91,9 +91,9 @@ fn push_escaped(text: &mut Vec<u8>, bytes: &[u8]) -> Result<usize, TokenFault>
 }
 
 /// The same result with `count` more bytes before it.
-fn behind(count: usize, taken: Result<usize, TokenFault>) -> Result<usize, TokenFault>
+fn after(count: usize, taken: Result<usize, TokenFault>) -> Result<usize, TokenFault>
     requires { HasRoom count taken }
-    ensures { result ≡ behind_of count taken }
+    ensures { result ≡ after_of count taken }
 {
     match taken {
         Ok(n) => Ok(count + n),
@@ -124,7 +124,7 @@ fn push_unicode(text: &mut Vec<u8>, digits: &[u8]) -> Result<usize, TokenFault>
 {
     let unit = code_unit(digits, None)?;
     if (0xD800..=0xDBFF).contains(&unit) {
-        return behind(4, push_pair(text, unit, &digits[4..]));
+        return after(4, push_pair(text, unit, &digits[4..]));
     }
     push_character(text, unit)?;
     Ok(4)
@@ -137,7 +137,7 @@ fn push_pair(text: &mut Vec<u8>, lead: u32, bytes: &[u8]) -> Result<usize, Token
     ensures { Scanned (high lead) text.old.items bytes.now between text.new.items result }
 {
     match bytes {
-        [b'\\', b'u', digits @ ..] => behind(2, push_low(text, lead, digits)),
+        [b'\\', b'u', digits @ ..] => after(2, push_low(text, lead, digits)),
         [b'\\', ..] => Err(TokenFault::Stop(1)),
         _ => Err(TokenFault::Stop(0)),
     }
@@ -233,7 +233,7 @@ fn character_len(bytes: &[u8]) -> Result<usize, TokenFault>
     match bytes[0] {
         b' '..=0x7F => Ok(1),
         first => match tail_of(first) {
-            Some((low, up, more)) => behind(1, tail_len(&bytes[1..], low, up, more)),
+            Some((low, up, more)) => after(1, tail_len(&bytes[1..], low, up, more)),
             None => Err(TokenFault::Stop(0)),
         },
     }
@@ -266,7 +266,7 @@ fn tail_len(bytes: &[u8], low: u8, up: u8, more: usize) -> Result<usize, TokenFa
     match bytes {
         [byte, rest @ ..] if low <= *byte && *byte <= up => match more {
             0 => Ok(1),
-            _ => behind(1, tail_len(rest, 0x80, 0xBF, more - 1)),
+            _ => after(1, tail_len(rest, 0x80, 0xBF, more - 1)),
         },
         _ => Err(TokenFault::Stop(0)),
     }

@@ -12,9 +12,9 @@ use Rattle.leaf_match.specs.Place.{Takes, IsPieceAt}
 use Rattle.leaf_match.proofs.PieceLemmas.{Greedy, greedy_start, greedy_run, greedy_piece, greedy_back, greedy_stuck, greedy_over}
 
 -- what is left after the last run
-abbrev pub left_behind : List Piece → List ℕ → Option Place → Option (List Piece × List ℕ)
-left_behind ps text None = None
-left_behind ps text (Some run) = Some (drop run.piece ps, drop run.byte text)
+abbrev pub left_after : List Piece → List ℕ → Option Place → Option (List Piece × List ℕ)
+left_after ps text None = None
+left_after ps text (Some run) = Some (drop run.piece ps, drop run.byte text)
 
 -- the end of what the last run takes, or 0
 abbrev pub run_end : Option Place → ℕ
@@ -30,7 +30,7 @@ pub record Progress (ps : List Piece) (text : List ℕ) (place : Place) (back : 
   pub byte_in : place.byte ≤ length text
   pub piece_in : place.piece ≤ length ps
   pub back_in : IsBack ps place back
-  pub greedy : Greedy ps text (drop place.piece ps) (drop place.byte text) (left_behind ps text back)
+  pub greedy : Greedy ps text (drop place.piece ps) (drop place.byte text) (left_after ps text back)
 
 -- each end of the last run meets each piece once
 abbrev pub effort : List Piece → List ℕ → Place → Option Place → ℕ
@@ -46,8 +46,8 @@ Progress-run ps text place back here p = record {
   byte_in = p.byte_in;
   piece_in = omega (arith, here.1);
   back_in = (omega arith, omega (arith, here.1));
-  greedy = greedy_run ps text (drop (place.piece + 1) ps) (drop place.byte text) (left_behind ps text back)
-      (subst (λ qs. Greedy ps text qs (drop place.byte text) (left_behind ps text back)) here.2 p.greedy);
+  greedy = greedy_run ps text (drop (place.piece + 1) ps) (drop place.byte text) (left_after ps text back)
+      (subst (λ qs. Greedy ps text qs (drop place.byte text) (left_after ps text back)) here.2 p.greedy);
 }
 
 Takes-past : (piece : Piece) (text : List ℕ) (at next : ℕ) → at ≤ length text → next ≤ length text → Takes piece (drop at text) (drop next text) → at ≤ next
@@ -67,9 +67,9 @@ Progress-taken ps text place back piece byte ne here within t p = record {
   byte_in = within;
   piece_in = omega (arith, here.1);
   back_in = IsBack-past ps place (place.piece + 1) byte back (Takes-past piece text place.byte byte p.byte_in within t) p.back_in;
-  greedy = greedy_piece ps text piece (drop (place.piece + 1) ps) t.0 (drop byte text) (left_behind ps text back) ne t.1
-      (subst (λ s. Greedy ps text (piece ∷ drop (place.piece + 1) ps) s (left_behind ps text back)) t.2
-      (subst (λ qs. Greedy ps text qs (drop place.byte text) (left_behind ps text back)) here.2 p.greedy));
+  greedy = greedy_piece ps text piece (drop (place.piece + 1) ps) t.0 (drop byte text) (left_after ps text back) ne t.1
+      (subst (λ s. Greedy ps text (piece ∷ drop (place.piece + 1) ps) s (left_after ps text back)) t.2
+      (subst (λ qs. Greedy ps text qs (drop place.byte text) (left_after ps text back)) here.2 p.greedy));
 }
 
 -- a byte is left after the last run's end

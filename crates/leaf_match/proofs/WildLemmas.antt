@@ -61,28 +61,28 @@ not_empty [] e = absurd (false≢true e)
 not_empty (x ∷ xs) e = λ h. cc
 
 -- one more piece after pieces that begin with no letter, or after no pieces if this one is no letter
-pub literal_front-behind : (rest : List Piece) (piece : Piece) → rest ≢ [] → literal_front rest ≡ [] → literal_front (rest ++ piece ∷ []) ≡ []
-literal_front-behind [] piece ne e = absurd (ne refl)
-literal_front-behind (Letter byte ∷ rest) piece ne e = cc
-literal_front-behind (Run ∷ rest) piece ne e = refl
-literal_front-behind (OneCharacter ∷ rest) piece ne e = refl
+pub literal_front-after : (rest : List Piece) (piece : Piece) → rest ≢ [] → literal_front rest ≡ [] → literal_front (rest ++ piece ∷ []) ≡ []
+literal_front-after [] piece ne e = absurd (ne refl)
+literal_front-after (Letter byte ∷ rest) piece ne e = cc
+literal_front-after (Run ∷ rest) piece ne e = refl
+literal_front-after (OneCharacter ∷ rest) piece ne e = refl
 
 pub literal_front-no_letter : (rest : List Piece) (piece : Piece) → ((byte : ℕ) → piece ≢ Letter byte)
     → literal_front rest ≡ [] → literal_front (rest ++ piece ∷ []) ≡ []
 literal_front-no_letter [] (Letter byte) other e = absurd (other byte refl)
 literal_front-no_letter [] Run other e = refl
 literal_front-no_letter [] OneCharacter other e = refl
-literal_front-no_letter (p ∷ rest) piece other e = literal_front-behind (p ∷ rest) piece (λ h. cc) e
+literal_front-no_letter (p ∷ rest) piece other e = literal_front-after (p ∷ rest) piece (λ h. cc) e
 
 -- What spells the text spells the rest of it, after the pieces that were read.
 pub record Reads (text unread : List ℕ) (done : List Piece) : Type 0 where
   pub goes_on : (pieces : List Piece) → Spells text pieces → (more : List Piece) × (pieces ≡ done ++ more) × Spells unread more
 
 -- what spells the rest of a text after its first piece
-Spells-behind : (p : Piece) (s r : List ℕ) (pieces : List Piece) → BeginsWith p s r → Spells s pieces
+Spells-after : (p : Piece) (s r : List ℕ) (pieces : List Piece) → BeginsWith p s r → Spells s pieces
     → (more : List Piece) × (pieces ≡ p ∷ more) × Spells r more
-Spells-behind p s r [] b h = absurd (omega (arith, shorter p s r b, ap length h))
-Spells-behind p s r (q ∷ more) b h =
+Spells-after p s r [] b h = absurd (omega (arith, shorter p s r b, ap length h))
+Spells-after p s r (q ∷ more) b h =
     let e = same_piece p q s r h.0 b h.1 in
     (more, ap (λ x. x ∷ more) (sym e.0), subst (λ x. Spells x more) (sym e.1) h.2)
 
@@ -91,7 +91,7 @@ pub Reads-more : (text unread rest : List ℕ) (done : List Piece) (p : Piece) �
 Reads-more text unread rest done p b g = record {
   goes_on = λ pieces h.
       let left = g.goes_on pieces h in
-      let next = Spells-behind p unread rest left.0 b left.2 in
+      let next = Spells-after p unread rest left.0 b left.2 in
       (next.0, left.1 ∙ ap (λ x. done ++ x) next.1 ∙ sym (append_assoc done (p ∷ []) next.0), next.2);
 }
 
@@ -111,8 +111,8 @@ pub Reads-all : (text unread : List ℕ) (done : List Piece) → ((p : Piece) (r
 Reads-all text unread done none w g = subst (Spells text) (Reads-only text unread done none g w.0 w.1) w.1
 
 -- what is left is a wildcard if the text is one
-pub IsWildcard-behind : (p : Piece) (s r : List ℕ) → BeginsWith p s r → IsWildcard s → IsWildcard r
-IsWildcard-behind p s r b w = let next = Spells-behind p s r w.0 b w.1 in (next.0, next.2)
+pub IsWildcard-after : (p : Piece) (s r : List ℕ) → BeginsWith p s r → IsWildcard s → IsWildcard r
+IsWildcard-after p s r b w = let next = Spells-after p s r w.0 b w.1 in (next.0, next.2)
 
 pub IsWildcard-before : (p : Piece) (s r : List ℕ) → BeginsWith p s r → IsWildcard r → IsWildcard s
 IsWildcard-before p s r b w = (p ∷ w.0, (r, b, w.1))

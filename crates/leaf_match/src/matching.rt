@@ -87,24 +87,24 @@ fn step_at<P: Pattern>(pattern: &P, text: &str, place: Place) -> Step
     if matches!(piece, Piece::Run) {
         return Step::RunBegins;
     }
-    match behind(piece, text, place.byte) {
+    match after(piece, text, place.byte) {
         Some(byte) => Step::Taken(byte),
         None => Step::Stuck,
     }
 }
 
-fn behind(piece: Piece, text: &str, at: usize) -> Option<usize>
+fn after(piece: Piece, text: &str, at: usize) -> Option<usize>
     requires { at ≤ length text.now }
     ensures { IsBehind piece text.now at result }
 {
     match piece {
-        Piece::Letter(letter) => behind_letter(letter, text, at),
+        Piece::Letter(letter) => after_letter(letter, text, at),
         Piece::Run => Some(at),
-        Piece::OneCharacter => behind_character(text, at),
+        Piece::OneCharacter => after_character(text, at),
     }
 }
 
-fn behind_letter(letter: u8, text: &str, at: usize) -> Option<usize>
+fn after_letter(letter: u8, text: &str, at: usize) -> Option<usize>
     requires { at ≤ length text.now }
     ensures { IsBehind (Piece.Letter letter) text.now at result }
 {
@@ -114,7 +114,7 @@ fn behind_letter(letter: u8, text: &str, at: usize) -> Option<usize>
     }
 }
 
-fn behind_character(text: &str, at: usize) -> Option<usize>
+fn after_character(text: &str, at: usize) -> Option<usize>
     requires { at ≤ length text.now }
     ensures { IsBehind Piece.OneCharacter text.now at result }
 {

@@ -1,31 +1,31 @@
-use Rattle.std.proofs.Common.{◌++◌, ◌∷◌, [], take, drop, length, sym, ap, ◌∙◌}
+use Rattle.std.proofs.Common.{◌++◌, ◌∷◌, [], take, length, sym, ap, ◌∙◌}
 use Rattle.std.proofs.{Math.ListN.drop_of_length-le, lemmas.Result.on_ok_weaker}
 use Rattle.json_text.specs.{View.tree_of, View.trees_of, View.pairs_of, Tree.items_of, Tree.members_of}
 use Rattle.json_text.specs.Compact.{compact_text, items_text, members_text}
-use Rattle.json_text.proofs.CompactLemmas.{kept_behind, kept_further, items_left_none, members_left_none, closed}
+use Rattle.json_text.proofs.CompactLemmas.{kept_after, kept_further, items_left_none, members_left_none, closed}
 use Rattle.json_text.proofs.ViewLemmas.{tree_of_list, tree_of_object}
 use Rattle.json_text.proofs.compact.+push_value.Goals.{then-i-gt0+in_ok-extend-in-List-2, else-i-gt0, then-i-gt0-2+in_ok-extend-in-Obj-2, else-i-gt0-2}
 use Rattle.json_text.proofs.compact.+push_value.Goals as goal
 
 pub returns-in_err-push_value-in-List-clause-kept : goal.returns-in_err-push_value-in-List-clause-kept
 returns-in_err-push_value-in-List-clause-kept t c = kept_further c.args.out.now c.if-i-gt0.out c.push_value.new.out (elim c.if-i-gt0.branch [
-  | then-i-gt0+in_ok-extend-in-List-2 w ↦ kept_behind c.args.out.now c.items.out _ c.if-i-gt0.out c.items.invariant.kept
+  | then-i-gt0+in_ok-extend-in-List-2 w ↦ kept_after c.args.out.now c.items.out _ c.if-i-gt0.out c.items.invariant.kept
       (w.out-is ∙ w.in_ok-extend-in-List-2.ensures.ok)
   | else-i-gt0 w ↦ ap (take (length c.args.out.now)) w.out-is ∙ c.items.invariant.kept
 ]) c.push_value.ensures.kept
 
 pub returns-in_err-push_quoted-in-Obj-clause-kept : goal.returns-in_err-push_quoted-in-Obj-clause-kept
 returns-in_err-push_quoted-in-Obj-clause-kept t c = kept_further c.args.out.now c.if-i-gt0-2.out c.push_quoted-in-members.new.out (elim c.if-i-gt0-2.branch [
-  | then-i-gt0-2+in_ok-extend-in-Obj-2 w ↦ kept_behind c.args.out.now c.members.out _ c.if-i-gt0-2.out c.members.invariant.kept
+  | then-i-gt0-2+in_ok-extend-in-Obj-2 w ↦ kept_after c.args.out.now c.members.out _ c.if-i-gt0-2.out c.members.invariant.kept
       (w.out-is ∙ w.in_ok-extend-in-Obj-2.ensures.ok)
   | else-i-gt0-2 w ↦ ap (take (length c.args.out.now)) w.out-is ∙ c.members.invariant.kept
 ]) c.push_quoted-in-members.ensures.kept
 
 pub returns-in_err-push_value-in-Obj-clause-kept : goal.returns-in_err-push_value-in-Obj-clause-kept
 returns-in_err-push_value-in-Obj-clause-kept t c = kept_further c.args.out.now c.extend-in-members.new.self c.push_value-in-members.new.out
-    (kept_behind c.args.out.now c.push_quoted-in-members.new.out _ c.extend-in-members.new.self
+    (kept_after c.args.out.now c.push_quoted-in-members.new.out _ c.extend-in-members.new.self
     (kept_further c.args.out.now c.if-i-gt0-2.out c.push_quoted-in-members.new.out (elim c.if-i-gt0-2.branch [
-      | then-i-gt0-2+in_ok-extend-in-Obj-2 w ↦ kept_behind c.args.out.now c.members.out _ c.if-i-gt0-2.out c.members.invariant.kept
+      | then-i-gt0-2+in_ok-extend-in-Obj-2 w ↦ kept_after c.args.out.now c.members.out _ c.if-i-gt0-2.out c.members.invariant.kept
           (w.out-is ∙ w.in_ok-extend-in-Obj-2.ensures.ok)
       | else-i-gt0-2 w ↦ ap (take (length c.args.out.now)) w.out-is ∙ c.members.invariant.kept
     ]) c.push_quoted-in-members.ensures.kept) c.in_ok-extend-in-Obj-3.ensures.ok) c.push_value-in-members.ensures.kept

@@ -1,5 +1,4 @@
-use Rattle.json_text.specs.View.{tree_of}
-use Rattle.json_text.proofs.SpelledBack.{compact_spelled}
+use Rattle.json_text.{specs.View.tree_of, proofs.SpelledBack.compact_spelled}
 use Rattle.json_text.proofs.compact.write.Goals as goal
 
 pub returns-then-is_err-clause-spells : goal.returns-then-is_err-clause-spells

@@ -1,8 +1,6 @@
 use Rattle.std.proofs.{Common.◌∙◌, Common.ap, Common.sym, Common.cond, Common.Some, Common.length, Common.zero-add, lemmas.Result.on_ok_weaker}
-use Rattle.std.proofs.lemmas.Bool.{false≢true}
-use Rattle.std.specs.Str.{bytes_eq}
-use Rattle.json_text.specs.Objects.{slot_from}
-use Rattle.json_text.proofs.KeptLemmas.{slot_from-push}
+use Rattle.std.{proofs.lemmas.Bool.false≢true, specs.Str.bytes_eq}
+use Rattle.json_text.{specs.Objects.slot_from, proofs.KeptLemmas.slot_from-push}
 use Rattle.json_text.proofs.object.index_next.Goals as goal
 
 pub returns-clause-ok : goal.returns-clause-ok

@@ -1,7 +1,6 @@
 use Rattle.std.proofs.Common.{◌≡◌, ◌-◌, ◌+◌, ◌∙◌, ap, sym, cond, drop, Some, arith}
 use Rattle.std.specs.Str.{bytes_eq}
-use Rattle.json_text.specs.Objects.{slot_from}
-use Rattle.json_text.proofs.KeptLemmas.{slot_from-drop}
+use Rattle.json_text.{specs.Objects.slot_from, proofs.KeptLemmas.slot_from-drop}
 use Rattle.json_text.proofs.object.index_of.Goals as goal
 
 pub loop-n-preserved : goal.loop-n-preserved

@@ -1,6 +1,5 @@
 use Rattle.std.proofs.{Common.◌∙◌, Common.subst, Common.take, Common.sym, Common.get_or, lemmas.List.take_more}
-use Rattle.json_text.specs.Grammar.{IsSpace}
-use Rattle.json_text.proofs.TokenRuns.{IsSpace-more}
+use Rattle.json_text.{specs.Grammar.IsSpace, proofs.TokenRuns.IsSpace-more}
 use Rattle.json_text.proofs.reader.space_len.Goals as goal
 
 pub loop-n-preserved : goal.loop-n-preserved

@@ -24,8 +24,7 @@ returns-in-Some-clause-key_twice c at is = let r = c.in-Ok.ensures.ok in
     (r.0, read_spelled c.args.levels c.args.bytes.now r.0 r.1, (cc (r.3, c.in-Some.is, is)))
 
 pub returns-in-Err-clause-only : goal.returns-in-Err-clause-only
-returns-in-Err-clause-only c m h =
-    subst (IsRepeatOrMemory m) (sym (only_memory c.args.levels c.args.bytes.now m c.in-Err.fault h c.in-Err.ensures.err)) tt
+returns-in-Err-clause-only c m h = subst (IsRepeatOrMemory m) (sym (only_memory c.args.levels c.args.bytes.now m c.in-Err.fault h c.in-Err.ensures.err)) tt
 
 pub returns-in-Err-clause-not_json : goal.returns-in-Err-clause-not_json
 returns-in-Err-clause-not_json c at is = stands_so c.args.levels c.args.bytes.now c.in-Err.fault at c.in-Err.ensures.err (same_fault is)

@@ -1,7 +1,7 @@
 use Rattle.std.proofs.Common.{◌++◌, ◌≤◌, [], rules, refl, length, arith, sym, subst, List, ℕ, length-take}
 use Rattle.std.proofs.lemmas.Result.{err_from_is_err_and}
 use Rattle.json_text.specs.{Reading.between, Reading.backslash, Scan.scan_string, Scan.Passes}
-use Rattle.json_text.proofs.StringScan.{scanned_behind, stopped}
+use Rattle.json_text.proofs.StringScan.{scanned_after, stopped}
 use Rattle.json_text.proofs.string.push_characters.Goals as goal
 
 pub slice_bounds-extend_from_slice-end : goal.slice_bounds-extend_from_slice-end
@@ -14,8 +14,8 @@ returns-then-plain-gt0-clause-scanned c = subst (λ (t : List ℕ). Passes betwe
 
 pub returns-then-bytes-eq92-clause-scanned : goal.returns-then-bytes-eq92-clause-scanned
 unfolding scan_string
-returns-then-bytes-eq92-clause-scanned c = scanned_behind between backslash between c.args.text.now.items c.args.text.now.items c.push_escaped.new.text.items
-    c.args.bytes.now _ 1 c.push_escaped.result c.behind.result c.behind.ensures refl (search rules) c.push_escaped.ensures
+returns-then-bytes-eq92-clause-scanned c = scanned_after between backslash between c.args.text.now.items c.args.text.now.items c.push_escaped.new.text.items
+    c.args.bytes.now _ 1 c.push_escaped.result c.after.result c.after.ensures refl (search rules) c.push_escaped.ensures
 
 pub returns-in_err-len-clause-scanned : goal.returns-in_err-len-clause-scanned
 returns-in_err-len-clause-scanned c = let p = err_from_is_err_and c.from_residual-in_err-len.result c.from_residual-in_err-len.ensures.1 in

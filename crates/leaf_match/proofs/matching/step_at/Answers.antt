@@ -23,8 +23,8 @@ returns-then-matches g c =
     IsPieceAt-from_get (g.P.Pattern.pieces c.args.pattern.now) c.args.place.piece Run (c.in-Some.ensures.small refl)
     (sym c.in-Some.ensures.piece ∙ ap Some is_run)
 
-pub returns-in-Some-behind : goal.returns-in-Some-behind
-returns-in-Some-behind g c =
+pub returns-in-Some-after : goal.returns-in-Some-after
+returns-in-Some-after g c =
     let no_run : c.in-Some.piece ≢ Run = elim c.match-matches.branch [
       | in-Run w ↦ absurd (false≢true (sym c.if-matches.false ∙ w.matches-is))
       | in_default-matches w ↦ w.in_default-matches.not-Run
@@ -33,8 +33,8 @@ returns-in-Some-behind g c =
       no_run,
       IsPieceAt-from_get (g.P.Pattern.pieces c.args.pattern.now) c.args.place.piece
           c.in-Some.piece (c.in-Some.ensures.small refl) (sym c.in-Some.ensures.piece),
-      c.in-Some-behind.ensures.0,
-      c.in-Some-behind.ensures.1,
+      c.in-Some-after.ensures.0,
+      c.in-Some-after.ensures.1,
     )
 
 pub returns-in-None : goal.returns-in-None

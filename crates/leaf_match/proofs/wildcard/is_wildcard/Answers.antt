@@ -1,6 +1,6 @@
 use Rattle.std.proofs.Common.{◌≢◌, []}
 use Rattle.std.proofs.lemmas.Bool.{false≢true}
-use Rattle.leaf_match.proofs.WildLemmas.{not_empty, IsWildcard-behind, IsWildcard-before, not_IsWildcard}
+use Rattle.leaf_match.proofs.WildLemmas.{not_empty, IsWildcard-after, IsWildcard-before, not_IsWildcard}
 use Rattle.leaf_match.proofs.wildcard.is_wildcard.Goals as goal
 
 pub returns-in_default : goal.returns-in_default
@@ -13,6 +13,6 @@ pub loop-unread-preserved : goal.loop-unread-preserved
 loop-unread-preserved c =
     let unread = c.loop-unread.unread.now in
     record {
-      goes = λ w. IsWildcard-behind c.in-Some._piece unread c.in-Some.rest.now c.in-Some.ensures (c.loop-unread.invariant.goes w);
+      goes = λ w. IsWildcard-after c.in-Some._piece unread c.in-Some.rest.now c.in-Some.ensures (c.loop-unread.invariant.goes w);
       comes = λ w. c.loop-unread.invariant.comes (IsWildcard-before c.in-Some._piece unread c.in-Some.rest.now c.in-Some.ensures w);
     }

@@ -8,9 +8,9 @@ use Rattle.json_text.proofs.reader.Reader.first_item.Goals as goal
 pub returns-then-byte-eq93-clause-goes : goal.returns-then-byte-eq93-clause-goes
 returns-then-byte-eq93-clause-goes c outer kept r =
     goes_by c.args.self.now.levels (first_item outer) (first_item outer) c.args.byte c.args.place refl c.requires.first _ (put (list_node no_nodes) outer)
-    c.behind.result (c.in_ok-next.ensures.ok (list_node no_nodes) outer (tree_of_list c.new.result
+    c.after.result (c.in_ok-next.ensures.ok (list_node no_nodes) outer (tree_of_list c.new.result
     ∙ ap (λ js. list (items_of (trees_of js))) c.new.ensures.items) kept (r ∙ sym (first_of-none (repeat_of outer))))
-    (ap (step c.args.self.now.levels c.args.place.at (first_item outer)) c.if-byte-eq93.true) c.behind.ensures.at c.behind.ensures.rest
+    (ap (step c.args.self.now.levels c.args.place.at (first_item outer)) c.if-byte-eq93.true) c.after.ensures.at c.after.ensures.rest
 
 pub returns-clause-goes : goal.returns-clause-goes
 returns-clause-goes c outer kept r = goes_same c.args.self.now.levels (first_item outer)

@@ -16,10 +16,10 @@ returns-in_ok-object-in-34-clause-goes c outer kept r =
 
 pub returns-in_ok-next-in-125-clause-goes : goal.returns-in_ok-next-in-125-clause-goes
 returns-in_ok-next-in-125-clause-goes c outer kept r = let n = object_node no_fields in
-    goes_by c.args.self.now.levels (first_key outer) (first_key outer) c.args.byte c.args.place refl c.requires.first _ (put n outer) c.behind.result
+    goes_by c.args.self.now.levels (first_key outer) (first_key outer) c.args.byte c.args.place refl c.requires.first _ (put n outer) c.after.result
     (c.in_ok-next-in-125.ensures.ok n outer (tree_of_object c.new-in-125.result ∙ ap (λ ms. object (members_of (pairs_of ms))) c.new-in-125.ensures.items) kept
     (r ∙ sym (first_of-none (repeat_of outer)))) (ap (step c.args.self.now.levels c.args.place.at (first_key outer)) c.in-125.is)
-    c.behind.ensures.at c.behind.ensures.rest
+    c.after.ensures.at c.after.ensures.rest
 
 pub returns-in_default-clause-goes : goal.returns-in_default-clause-goes
 returns-in_default-clause-goes c outer kept r =

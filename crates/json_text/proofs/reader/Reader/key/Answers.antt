@@ -1,8 +1,8 @@
 use Rattle.std.proofs.Common.{length, ◌<◌, if◌then◌else◌, Some, None, reverse, ◌∙◌, ◌∷◌, [], refl, sym, ap, arith, subst}
 use Rattle.std.proofs.lemmas.List.{length-drop}
 use Rattle.json_text.specs.{Reading.in_key, Reading.value, Reading.next_key, Reading.colon, Reading.in_object, Reading.fields_of, View.pairs_of}
-use Rattle.json_text.specs.Kept.{repeat_at, KeepsAll, repeat_of, read_at, FailsSo, keys_behind}
-use Rattle.json_text.specs.{declared.state.Kept.TheVariants.Object as kept_object, Node.first_repeat_behind, Node.first_of}
+use Rattle.json_text.specs.Kept.{repeat_at, KeepsAll, repeat_of, read_at, FailsSo, keys_after}
+use Rattle.json_text.specs.{declared.state.Kept.TheVariants.Object as kept_object, Node.first_repeat_after, Node.first_of}
 use Rattle.json_text.proofs.KeptLemmas.{first_of-assoc, keeps_more, key_waits, key_repeats}
 use Rattle.json_text.proofs.{StepLemmas.colon_other, StepLemmas.colon_skips, StepLemmas.led, TokenRuns.string_takes, TokenRuns.string_faults}
 use Rattle.json_text.proofs.reader.Reader.key.Goals as goal
@@ -28,13 +28,13 @@ returns-clause-goes c ms outer kept r holds = let read = c.in-Ok.ensures.ok in
     (keeps_more c.args.self.now.waiting.items (kept_object _) outer (in_object ms place key) kept (key_waits (pairs_of c.deref_mut.result.now.members.items)
     (pairs_of c.reserve.new.self.members.items) key c.in_ok-slot.slot c.in_ok-slot.is_repeated ms c.in_ok-slot.ensures.place same)) in
     let repeat = c.first_repeat_of-self.ensures ∙ ap (λ o. first_of o (if c.in_ok-slot.is_repeated then Some place else None)) r
-    ∙ ap (first_of (first_of (repeat_of outer) (first_repeat_behind [] (fields_of ms)))) (sym (key_repeats (pairs_of c.deref_mut.result.now.members.items)
+    ∙ ap (first_of (first_of (repeat_of outer) (first_repeat_after [] (fields_of ms)))) (sym (key_repeats (pairs_of c.deref_mut.result.now.members.items)
     (pairs_of c.reserve.new.self.members.items) key c.in_ok-slot.slot place c.in_ok-slot.is_repeated ms c.in_ok-slot.ensures.place same))
-    ∙ first_of-assoc (repeat_of outer) (first_repeat_behind [] (fields_of ms)) (repeat_at (keys_behind [] ms) place key) in
+    ∙ first_of-assoc (repeat_of outer) (first_repeat_after [] (fields_of ms)) (repeat_at (keys_after [] ms) place key) in
     let read_so = string_takes c.args.self.now.levels place (next_key ms outer)
     (in_key place ms outer) c.args.place.rest.now key read.0 c.in-Ok.read.1.at c.in-Ok.read.1.rest.now c.requires refl read.1 read.2 read.3
     ∙ c.without_space-there.ensures.same c.args.self.now.levels after (colon_skips c.args.self.now.levels ms place key outer)
-    ∙ led c.args.self.now.levels after next 58 c.without_space-there.result c.behind.result c.if-not-starts_with.ensures
-    refl c.behind.ensures.at c.behind.ensures.rest in let shorter : length c.behind.result.rest.now < length c.args.place.rest.now =
-    omega (arith, ap length c.behind.ensures.rest, length-drop 1 c.without_space-there.result.rest.now, c.without_space-there.ensures.later, read.4) in
+    ∙ led c.args.self.now.levels after next 58 c.without_space-there.result c.after.result c.if-not-starts_with.ensures
+    refl c.after.ensures.at c.after.ensures.rest in let shorter : length c.after.result.rest.now < length c.args.place.rest.now =
+    omega (arith, ap length c.after.ensures.rest, length-drop 1 c.without_space-there.result.rest.now, c.without_space-there.ensures.later, read.4) in
     (next, (in_object ms place key ∷ outer, refl, kept, repeat), read_so, shorter)

@@ -10,4 +10,4 @@ returns-then-len-self c outer kept r =
 pub returns : goal.returns
 returns c outer kept r =
     opened_goes c.args.next c.args.self.now.levels c.args.place.at c.args.self.now.waiting.items c.args.self.now.repeat outer c.args.place.rest.now
-    c.behind.result.at c.behind.result.rest.now c.requires kept r (omega (arith, c.args.self.now.waiting.ok.0)) c.behind.ensures.at c.behind.ensures.rest
+    c.after.result.at c.after.result.rest.now c.requires kept r (omega (arith, c.args.self.now.waiting.ok.0)) c.after.ensures.at c.after.ensures.rest

@@ -4,7 +4,7 @@ use Rattle.std.proofs.lemmas.Str.{IsCharBoundary-end}
 use Rattle.std.specs.Str.{IsCharBoundary}
 use Rattle.std.proofs.lemmas.List.{length-drop}
 use Rattle.leaf_match.proofs.PlaceLemmas.{slice_range-to_end, no_character_inside, no_character_in_none, IsBehind-character}
-use Rattle.leaf_match.proofs.matching.behind_character.Goals as goal
+use Rattle.leaf_match.proofs.matching.after_character.Goals as goal
 
 pub returns-in_err-rest : goal.returns-in_err-rest
 returns-in_err-rest c =
