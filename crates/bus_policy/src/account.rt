@@ -33,13 +33,13 @@ pub(crate) fn account_of_root(word: &str) -> Option<&str>
         ((account : List ℕ) → ¬ (word.now ≡ root_arn account))
         (λ account. word.now ≡ root_arn account.now) }
 {
-    match behind(word, ROOT_FRONT) {
+    match after(word, ROOT_FRONT) {
         Some(rest) => before(rest, ROOT_END),
         None => None,
     }
 }
 
-fn behind<'a>(text: &'a str, front: &str) -> Option<&'a str>
+fn after<'a>(text: &'a str, front: &str) -> Option<&'a str>
     ensures { MatchOption result
         ((rest : List ℕ) → ¬ (text.now ≡ front.now ++ rest))
         (λ rest. text.now ≡ front.now ++ rest.now) }
