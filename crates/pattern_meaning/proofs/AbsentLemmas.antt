@@ -121,7 +121,7 @@ mutual
   member_leaf no_members k path h = cc
   member_leaf (member other t ms) k path h = first_leaf k other path t ms (leaf_found t path) (member_leaf ms k path) h
 
-is_false : (b : Bool) → not b ≡ true → b ≡ false
+pub is_false : (b : Bool) → not b ≡ true → b ≡ false
 is_false true h = cc
 is_false false h = refl
 

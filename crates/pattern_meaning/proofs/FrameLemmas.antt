@@ -39,7 +39,7 @@ path_key key up = ap path_of (sym (path.rolls-Key key up)) ∙ fold-roll-Path (L
 abbrev pub rest_of : {X : Type 0} → List X → List X
 rest_of xs = take (length xs - 1) (drop 1 xs)
 
-first_and_rest : {X : Type 0} (xs : List X) (x : X) → 1 ≤ length xs → x ≡ get_or xs 0 x → xs ≡ x ∷ rest_of xs
+pub first_and_rest : {X : Type 0} (xs : List X) (x : X) → 1 ≤ length xs → x ≡ get_or xs 0 x → xs ≡ x ∷ rest_of xs
 first_and_rest [] x some is = absurd (omega (arith, some))
 first_and_rest (y ∷ ys) x some is =
     let e : suc (length ys) - 1 ≡ length ys = omega arith in

@@ -13,3 +13,4 @@ pub mod MeaningLemmas
 pub mod GatherLemmas
 pub mod UnseenLemmas
 pub mod AlternativesLemmas
+pub mod QuickLemmas

@@ -66,7 +66,7 @@ pub later_met : (a : Absent) (at : List (List ℕ)) (t : Tree) (all ws : Wants) 
     → IsTrue b ↔ EachKeyMet a at t all ws → IsTrue b ↔ EachKeyMet a at t all ((k, f) ∷ ws)
 later_met a at t all ws k f b there each = (λ h. (key_found a at t all ws k there (each.0 h), each.0 h), λ r. each.1 r.1)
 
-same_tests : (a : Absent) (at : List (List ℕ)) (t v : Tree) (ts : List Test) → leaf_at [] v ≡ leaf_at [] t
+pub same_tests : (a : Absent) (at : List (List ℕ)) (t v : Tree) (ts : List Test) → leaf_at [] v ≡ leaf_at [] t
     → SomeMetOf (TestMet a at v) ts → SomeMetOf (TestMet a at t) ts
 same_tests a at t v [] e h = h
 same_tests a at t v (x ∷ ts) e h = elim h [

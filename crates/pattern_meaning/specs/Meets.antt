@@ -1,5 +1,5 @@
 -- For private clauses alone: whether a value has a view that satisfies what is wanted of it.
-use Rattle.std.specs.Prelude.{◌≡◌, ℕ, suc, ◌+◌, ◌*◌, Bool, true, false, ◌&&◌, ◌||◌, not, List, [], ◌∷◌, ◌++◌, ◌⊎◌, Option, Some, None, unwrap_or, if◌then◌else◌}
+use Rattle.std.specs.Prelude.{◌≡◌, ◌↔◌, ℕ, suc, ◌+◌, ◌*◌, Bool, IsTrue, true, false, ◌&&◌, ◌||◌, not, List, [], ◌∷◌, ◌++◌, ◌⊎◌, Option, Some, None, unwrap_or, if◌then◌else◌}
 use Rattle.std.specs.List.{list_any}
 use Rattle.std.specs.Str.{bytes_eq}
 use Rattle.json_text.specs.Tree.{Tree, null, truth, number, text, list, object, Items, no_items, item, Members, no_members, member}
@@ -158,6 +158,14 @@ AllMet absent at (w ∷ ws) v = FieldMet absent (at ++ w.0 ∷ []) w.1 (value_at
 -- some view of the value satisfies
 abbrev pub OnSome : Tree → (Tree → Type 0) → Type 0
 OnSome t holds = (v : Tree) × IsView t v × holds v
+
+-- an answer is right whichever paths are absent, and wherever the value is
+abbrev pub Decides : Bool → ((List (List ℕ) → Bool) → List (List ℕ) → Type 0) → Type 0
+Decides met fact = (absent : List (List ℕ) → Bool) (at : List (List ℕ)) → IsTrue met ↔ fact absent at
+
+-- the value is its only view
+abbrev pub HasOneView : Tree → Type 0
+HasOneView t = (v : Tree) → IsView t v → v ≡ t
 
 -- for each key of the second list, the fields of the first with this key are met on some view
 abbrev pub EachKeyMet : (List (List ℕ) → Bool) → List (List ℕ) → Tree → Wants → Wants → Type 0

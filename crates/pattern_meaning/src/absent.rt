@@ -126,7 +126,7 @@ fn has_missing(tests: &LeafTests) -> bool
     tests.iter().any(|test| is_missing(test))
 }
 
-fn is_missing(test: &LeafTest) -> bool
+pub(crate) fn is_missing(test: &LeafTest) -> bool
     ensures { result ≡ spec.is_missing (test_of test.now) }
 {
     matches!(test, LeafTest::Missing)

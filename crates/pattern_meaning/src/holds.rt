@@ -12,10 +12,22 @@ ghost use Rattle.pattern_meaning.specs.PatternView.{pattern_of};
 use crate::absent::gathered;
 use crate::frames::{Known, Path, Todo};
 use crate::pattern::Pattern;
+use crate::quick::quickly_meets;
 use json_text::Json;
 
 /// Whether the pattern holds of the event's tree. It takes no memory.
 pub fn plain_holds(pattern: &Pattern, event: &Json) -> bool
+    requires value { IsValue (tree_of event.now) }
+    ensures { IsTrue result ↔ PatternHolds (pattern_of pattern.now) (tree_of event.now) }
+{
+    match quickly_meets(pattern, event) {
+        Some(met) => met,
+        None => walk_holds(pattern, event),
+    }
+}
+
+/// The same by the walk, which decides every pattern.
+fn walk_holds(pattern: &Pattern, event: &Json) -> bool
     requires value { IsValue (tree_of event.now) }
     ensures { IsTrue result ↔ PatternHolds (pattern_of pattern.now) (tree_of event.now) }
 {

@@ -62,7 +62,8 @@ fn is_met_by_some(tests: &[LeafTest], leaf: &Json) -> bool
 }
 
 /// Whether two scalars are the same.
-fn is_same(scalar: &Json, leaf: &Json) -> bool
+#[inline(always)]
+pub(crate) fn is_same(scalar: &Json, leaf: &Json) -> bool
     requires leaf { leaf_at [] (tree_of leaf.now) ≡ Some (tree_of leaf.now) }
     ensures { IsTrue result ↔ IsSame (tree_of scalar.now) (tree_of leaf.now) }
 {

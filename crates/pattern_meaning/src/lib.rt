@@ -8,6 +8,7 @@ mod holds;
 mod laws;
 mod leaf;
 mod pattern;
+mod quick;
 #[cfg(test)]
 mod tests;
 mod walk;

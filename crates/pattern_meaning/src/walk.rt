@@ -2,7 +2,9 @@
 //! what is wanted of one member is wanted of it at once.
 ghost use Rattle.std.specs.Prelude.{◌≡◌, ◌↔◌, ◌∷◌, [], ◌++◌, IsTrue, map, option_map, option_copied};
 ghost use Rattle.json_text.specs.Compact.{IsValue};
-ghost use Rattle.json_text.specs.View.{tree_of};
+ghost use Rattle.json_text.specs.Access.{member_in, member_of};
+ghost use Rattle.json_text.specs.Tree.{items_of, members_of};
+ghost use Rattle.json_text.specs.View.{tree_of, trees_of, pairs_of};
 ghost use Rattle.pattern_meaning.specs.Pattern.{branches_of};
 ghost use Rattle.pattern_meaning.specs.PatternView.{test_of, field_of, pattern_of, fields_view};
 ghost use Rattle.pattern_meaning.specs.View as view;
@@ -197,28 +199,60 @@ fn member_meets<'a>(site: Site<'a>, key: &'a str, found: &'a Wanted<'a>) -> bool
 }
 
 /// The value of a member that has a view.
-fn member<'a>(value: Option<&'a Json>, key: &str) -> Option<&'a Json>
+#[inline(always)]
+pub(crate) fn member<'a>(value: Option<&'a Json>, key: &str) -> Option<&'a Json>
     ensures { option_map tree_of (option_copied result) ≡ spec.seen_member key.now (value_of (option_copied value.entry)) }
 {
-    let inside = value?.member(key)?;
+    let inside = inside_object(value?, key)?;
     if has_view(inside) { Some(inside) } else { None }
 }
 
+/// The same as `Json::member`, but inlined: patterns take most of their time here.
+#[inline(always)]
+fn inside_object<'a>(value: &'a Json, key: &str) -> Option<&'a Json>
+    ensures { option_map tree_of (option_copied result) ≡ member_of key.now (tree_of value.now) }
+{
+    match value {
+        Json::Obj(members) => first_member(members, key),
+        Json::Null | Json::Truth(_) | Json::Num(_) | Json::Str(_) | Json::List(_) => None,
+    }
+}
+
+#[inline(always)]
+fn first_member<'a>(members: &'a [(Text, Json)], key: &str) -> Option<&'a Json>
+    ensures { option_map tree_of (option_copied result) ≡ member_in key.now (members_of (pairs_of members.now)) }
+{
+    for (name, value) in members {
+        if name.as_str() == key {
+            return Some(value);
+        }
+    }
+    None
+}
+
 /// A value has a view unless it is a list none of whose members has one.
+#[cycle(view)]
+#[inline(always)]
 fn has_view(value: &Json) -> bool
     ensures { result ≡ view.has_view (tree_of value.now) }
 {
     match value {
-        Json::List(items) => {
-            for item in items {
-                if has_view(item) {
-                    return true;
-                }
-            }
-            false
-        }
+        Json::List(items) => some_has_view(items),
         _ => true,
     }
+}
+
+#[cycle(view)]
+#[inline(never)]
+fn some_has_view(items: &[Json]) -> bool
+    ensures { result ≡ view.some_has_view (items_of (trees_of items.now)) }
+{
+    for item in items {
+        if has_view(item) {
+            return true;
+        }
+    }
+    false
 }
 
 /// Whether one of the tests holds at the site.
@@ -251,7 +285,7 @@ fn holds_at(test: &LeafTest, site: Site<'_>) -> bool
 }
 
 /// The value, if it is a scalar.
-fn leaf<'a>(value: Option<&'a Json>) -> Option<&'a Json>
+pub(crate) fn leaf<'a>(value: Option<&'a Json>) -> Option<&'a Json>
     ensures { option_map tree_of (option_copied result) ≡ leaf_at [] (value_of (option_copied value.entry)) }
 {
     match value? {
