@@ -1,2 +1,13 @@
+pub mod CheckLemmas
+pub mod PassLemmas
+pub mod MadeLemmas
+pub mod OneLeafLemmas
+pub mod OneLemmas
+pub mod SoundLemmas
+pub mod LoopLemmas
+pub mod ExcludedLemmas
+pub mod RefusalLemmas
+pub mod NumericLemmas
+pub mod CountLemmas
 pub mod BuildLemmas
 pub mod ReadLemmas

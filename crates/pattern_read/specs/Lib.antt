@@ -1,3 +1,7 @@
-pub mod Text
+pub mod Kind
 pub mod Test
-pub mod Fault
+pub mod Value
+pub mod Check
+pub mod Refusal
+pub mod Text
+pub mod Reading

@@ -1,11 +1,20 @@
-//! A text is read to the pattern that it is, and to no other.
+//! A text is read to the pattern that it is, and to no other, or refused with its first fault.
 #![tactic(auto)]
 
 mod building;
+mod counting;
+mod excluded;
 mod fault;
+mod kind;
+mod laws;
+mod leaf;
+mod numeric;
+mod pattern_text;
 mod reading;
 #[cfg(test)]
 mod tests;
 
-pub use fault::PatternFault;
+pub use fault::{PatternFault, Why};
+pub use laws::faults_decide;
+pub use pattern_text::PatternText;
 pub use reading::read_pattern;
