@@ -34,7 +34,7 @@ at_place NotAuthorized = refl
 same_place : (f g : EntryFault) → place_of f ≡ place_of g → f ≡ g
 same_place f g e = sym (at_place f) ∙ ap fault_at e ∙ at_place g
 
-first_once : (e : Entry) (f g : EntryFault) → IsFirstFault e f → IsFirstFault e g → f ≡ g
+pub first_once : (e : Entry) (f g : EntryFault) → IsFirstFault e f → IsFirstFault e g → f ≡ g
 first_once e f g p q =
     let no_less : ¬ (place_of f < place_of g) = λ less. q.first f less p.there in
     let no_more : ¬ (place_of g < place_of f) = λ more. p.first g more q.there in

@@ -12,3 +12,4 @@ pub mod MadeLemmas
 pub mod SpelledLemmas
 pub mod PartLemmas
 pub mod WrittenLemmas
+pub mod UnnumberedLemmas

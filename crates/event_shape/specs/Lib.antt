@@ -5,4 +5,5 @@ pub mod Id
 pub mod Entry
 pub mod Fault
 pub mod Event
+pub mod Unnumbered
 pub mod Parts

@@ -1,13 +1,28 @@
--- For private clauses only: the members of an event's text, taken apart.
-use Rattle.std.specs.Prelude.{◌≡◌, ◌≤◌, ℕ, List, ◌∷◌, map}
+-- For private clauses only: the members of an event's text, put together and taken apart.
+use Rattle.std.specs.Prelude.{◌≡◌, ◌≤◌, ℕ, List, [], ◌∷◌, map, codes}
 use Rattle.std.specs.Str.{IsUtf8}
 use Rattle.json_text.specs.Tree.{Tree, text, list, items_of}
 use Rattle.json_text.specs.View.{tree_of, trees_of, pairs_of}
 use Rattle.json_text.specs.Compact.{IsValue, AreItems, tree_levels}
 use Rattle.json_text.specs.declared.value.Json.{Json}
 use Rattle.event_shape.specs.declared.parts.Parts.{Parts}
+use Rattle.event_shape.specs.declared.front.Front.{Front}
+use Rattle.event_shape.specs.Names.{region}
 use Rattle.event_shape.specs.Id.{event_id}
 use Rattle.event_shape.specs.Event.{Event}
+
+-- the members before the detail
+abbrev pub front_members : Front → List (List ℕ × Tree)
+front_members f =
+    (codes "version", text (codes "0"))
+    ∷ (codes "id", text f.id)
+    ∷ (codes "detail-type", text f.detail_type)
+    ∷ (codes "source", text f.source)
+    ∷ (codes "account", text f.account)
+    ∷ (codes "time", text f.time)
+    ∷ (codes "region", text region)
+    ∷ (codes "resources", list (items_of (trees_of f.resources.items)))
+    ∷ []
 
 -- the values of members, without their keys
 abbrev pub values_in : List (List ℕ × Json) → List Tree

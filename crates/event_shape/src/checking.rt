@@ -12,7 +12,7 @@ ghost use Rattle.event_shape.specs.declared.entry.EntryFault.{EntryFault};
 use crate::entry::{CheckFault, EntryFault, EventEntry};
 use crate::names::{DEFAULT_BUS, after_prefix, bus_of};
 use crate::time::read_time;
-use json_text::{Json, JsonFault, Text, read};
+use json_text::{Json, JsonFault, NoMemory, Text, read};
 use std::alloc::Global;
 use std::marker::Model;
 
@@ -30,7 +30,7 @@ pub struct Checked {
     pub(crate) resources: Vec<Text>,
     pub(crate) time: Option<u64>,
     pub(crate) detail: Json,
-    bus: Text,
+    pub(crate) bus: Text,
 }
 
 impl Model for Checked {
@@ -71,31 +71,23 @@ impl Checked {
 
 /// The members of the entry as they were read, if it has no fault; else its first fault, in the order of `EntryFault`. The
 /// faults up to `Bus` are found without memory. Does not check that the bus exists or that its policy allows the entry.
-/// After an `Err` the entry is dropped.
-pub fn check(alloc: Global, entry: EventEntry) -> Result<Checked, CheckFault>
-    ensures checked { IfOk result (λ c. IsCheckedOf (entry_of entry) c) }
-    ensures fault { (f : EntryFault) → result ≡ Err (CheckFault.Entry f) → IsFirstFault (entry_of entry) f }
-    ensures before_memory { (f : EntryFault) → place_of f ≤ 5 → IsFirstFault (entry_of entry) f
+/// The texts are copied; the detail is read, and its text is not copied.
+pub fn check(alloc: Global, entry: &EventEntry) -> Result<Checked, CheckFault>
+    ensures checked { IfOk result (λ c. IsCheckedOf (entry_of entry.now) c) }
+    ensures fault { (f : EntryFault) → result ≡ Err (CheckFault.Entry f) → IsFirstFault (entry_of entry.now) f }
+    ensures before_memory { (f : EntryFault) → place_of f ≤ 5 → IsFirstFault (entry_of entry.now) f
         → result ≡ Err (CheckFault.Entry f) }
 {
-    let EventEntry {
-        time,
-        source,
-        resources,
-        detail_type,
-        detail,
-        bus,
-    } = entry;
-    let source = given(source, EntryFault::Source)?;
-    let detail_type = given(detail_type, EntryFault::DetailType)?;
-    let detail = spelled(detail)?;
-    let time = moment_given(time)?;
-    let bus = bus_given(alloc, bus)?;
+    let source = given(&entry.source, EntryFault::Source)?;
+    let detail_type = given(&entry.detail_type, EntryFault::DetailType)?;
+    let detail = spelled(&entry.detail)?;
+    let time = moment_given(&entry.time)?;
+    let bus = bus_given(alloc, &entry.bus)?;
     let detail = detail_given(alloc, detail)?;
-    if is_reserved(&source) {
+    if is_reserved(source) {
         return Err(CheckFault::Entry(EntryFault::NotAuthorized));
     }
-    know_utf8(&resources);
+    let (source, detail_type, resources) = copies(alloc, source, detail_type, &entry.resources)?;
     Ok(Checked {
         source,
         detail_type,
@@ -107,10 +99,10 @@ pub fn check(alloc: Global, entry: EventEntry) -> Result<Checked, CheckFault>
 }
 
 /// The text, if it is given and not empty.
-fn given(text: Option<Text>, fault: EntryFault) -> Result<Text, EntryFault>
+fn given(text: &Option<Text>, fault: EntryFault) -> Result<&Text, EntryFault>
     ensures { MatchResult result
-        (λ t. (text ≡ Some t) × (t ≢ []) × IsUtf8 t)
-        (λ e. LacksText text × (e ≡ fault)) }
+        (λ t. (text.now ≡ Some t.now) × (t.now ≢ []) × IsUtf8 t.now)
+        (λ e. LacksText text.now × (e ≡ fault)) }
 {
     match text {
         Some(text) => {
@@ -124,8 +116,8 @@ fn given(text: Option<Text>, fault: EntryFault) -> Result<Text, EntryFault>
     }
 }
 
-fn spelled(detail: Option<Text>) -> Result<Text, EntryFault>
-    ensures { MatchResult result (λ t. detail ≡ Some t) (λ e. (detail ≡ None) × (e ≡ EntryFault.Detail)) }
+fn spelled(detail: &Option<Text>) -> Result<&Text, EntryFault>
+    ensures { MatchResult result (λ t. detail.now ≡ Some t.now) (λ e. (detail.now ≡ None) × (e ≡ EntryFault.Detail)) }
 {
     match detail {
         Some(text) => Ok(text),
@@ -133,13 +125,13 @@ fn spelled(detail: Option<Text>) -> Result<Text, EntryFault>
     }
 }
 
-fn moment_given(time: Option<Json>) -> Result<Option<u64>, EntryFault>
+fn moment_given(time: &Option<Json>) -> Result<Option<u64>, EntryFault>
     ensures { MatchResult result
-        (λ m. IsTimeOf (option_map tree_of time) m)
-        (λ e. IsNoTime (option_map tree_of time) × (e ≡ EntryFault.Time)) }
+        (λ m. IsTimeOf (option_map tree_of time.now) m)
+        (λ e. IsNoTime (option_map tree_of time.now) × (e ≡ EntryFault.Time)) }
 {
     match time {
-        Some(json) => match read_time(&json) {
+        Some(json) => match read_time(json) {
             Some(moment) => Ok(Some(moment)),
             None => Err(EntryFault::Time),
         },
@@ -147,9 +139,9 @@ fn moment_given(time: Option<Json>) -> Result<Option<u64>, EntryFault>
     }
 }
 
-fn bus_given(alloc: Global, bus: Option<Text>) -> Result<Text, CheckFault>
-    ensures given { MatchResult result (λ name. IsBusOf bus name) (λ e. IsMemoryOr e EntryFault.Bus (IsNoBus bus)) }
-    ensures before_memory { IsNoBus bus → result ≡ Err (CheckFault.Entry EntryFault.Bus) }
+fn bus_given(alloc: Global, bus: &Option<Text>) -> Result<Text, CheckFault>
+    ensures given { MatchResult result (λ name. IsBusOf bus.now name) (λ e. IsMemoryOr e EntryFault.Bus (IsNoBus bus.now)) }
+    ensures before_memory { IsNoBus bus.now → result ≡ Err (CheckFault.Entry EntryFault.Bus) }
 {
     match bus {
         Some(text) => match bus_of(text.as_str()) {
@@ -161,10 +153,10 @@ fn bus_given(alloc: Global, bus: Option<Text>) -> Result<Text, CheckFault>
 }
 
 /// The object that the detail's text spells.
-fn detail_given(alloc: Global, detail: Text) -> Result<Json, CheckFault>
+fn detail_given(alloc: Global, detail: &Text) -> Result<Json, CheckFault>
     ensures { MatchResult result
-        (λ json. IsDetail detail (tree_of json) × ((tree : Tree) → IsDetail detail tree → tree ≡ tree_of json))
-        (λ e. IsMemoryOr e EntryFault.Malformed (IsNoDetail (Some detail))) }
+        (λ json. IsDetail detail.now (tree_of json) × ((tree : Tree) → IsDetail detail.now tree → tree ≡ tree_of json))
+        (λ e. IsMemoryOr e EntryFault.Malformed (IsNoDetail (Some detail.now))) }
 {
     match read(alloc, detail.as_str().as_bytes(), DETAIL_LEVELS) {
         Ok(json) => {
@@ -188,12 +180,30 @@ pub(crate) fn is_reserved(source: &Text) -> bool
     }
 }
 
-/// Makes it known to the caller's contract that each text is UTF-8. The type `Text` keeps this of every text, but a contract
-/// learns it only when the code reads the text.
-fn know_utf8(texts: &[Text])
-    ensures { All IsUtf8 texts.now }
+/// Copies of the texts that an event takes over from its entry.
+fn copies(
+    alloc: Global,
+    source: &Text,
+    detail_type: &Text,
+    resources: &[Text],
+) -> Result<(Text, Text, Vec<Text>), NoMemory>
+    ensures source { IfOk result (λ c. c.0 ≡ source.now) }
+    ensures detail_type { IfOk result (λ c. c.1 ≡ detail_type.now) }
+    ensures resources { IfOk result (λ c. c.2.items ≡ resources.now) }
+    ensures utf8 { IfOk result (λ c. All IsUtf8 c.2.items) }
 {
+    let copies = copies_of(alloc, resources)?;
+    let source = source.copy(alloc)?;
+    Ok((source, detail_type.copy(alloc)?, copies))
+}
+
+fn copies_of(alloc: Global, texts: &[Text]) -> Result<Vec<Text>, NoMemory>
+    ensures same { IfOk result (λ copies. copies.items ≡ texts.now) }
+    ensures utf8 { IfOk result (λ copies. All IsUtf8 copies.items) }
+{
+    let mut copies = Vec::with_capacity(alloc, texts.len())?;
     for text in texts {
-        let _bytes = text.as_str();
+        copies.push(Text::from_str(alloc, text.as_str())?)?;
     }
+    Ok(copies)
 }

@@ -9,8 +9,8 @@ ghost use Rattle.event_time.specs.Time.{IsIso};
 ghost use Rattle.event_shape.specs.Event.{IsEventText};
 
 use crate::checking::Checked;
+use crate::front::{Front, members_of};
 use crate::id::event_id;
-use crate::names::REGION;
 use crate::reading::{event_of, if_written_as, none_unless_memory};
 use crate::time::iso;
 use crate::writing::{push_replay, text_items, text_of_bytes, write_open};
@@ -78,6 +78,23 @@ impl Event {
         ensures made { IfOk result (λ e. IsMade checked number time account.now e) }
         ensures event { IfOk result (λ e. IsEvent e) }
     {
+        let (event, _bus) = Event::with_bus(alloc, checked, number, time, account)?;
+        Ok(event)
+    }
+
+    /// The event of the entry, and the name of the entry's bus.
+    pub(crate) fn with_bus(
+        alloc: Global,
+        checked: Checked,
+        number: u64,
+        time: u64,
+        account: &str,
+    ) -> Result<(Event, Text), NoMemory>
+        requires { IsMoment time }
+        ensures made { IfOk result (λ p. IsMade checked number time account.now p.0) }
+        ensures event { IfOk result (λ p. IsEvent p.0) }
+        ensures bus { IfOk result (λ p. p.1 ≡ checked.bus) }
+    {
         let moment = checked.time.unwrap_or(time);
         let account = Text::from_str(alloc, account)?;
         let time = iso(alloc, moment)?;
@@ -86,9 +103,10 @@ impl Event {
             detail_type,
             resources,
             detail,
+            bus,
             ..
         } = checked;
-        Ok(Event {
+        let event = Event {
             number,
             detail_type,
             source,
@@ -97,7 +115,8 @@ impl Event {
             time,
             resources,
             detail,
-        })
+        };
+        Ok((event, bus))
     }
 
     /// The event whose text the bytes are, without a replay's name. `None` if they are no event's text.
@@ -172,22 +191,48 @@ impl Event {
         ensures event { IsEvent self.now }
     {
         let id = event_id(alloc, self.number)?;
-        let mut members = Vec::with_capacity(alloc, 10)?;
-        push_text(alloc, &mut members, "version", "0")?;
-        push_text(alloc, &mut members, "id", id.as_str())?;
-        push_text(
-            alloc,
-            &mut members,
-            "detail-type",
-            self.detail_type.as_str(),
-        )?;
-        push_text(alloc, &mut members, "source", self.source.as_str())?;
-        push_text(alloc, &mut members, "account", self.account.as_str())?;
-        push_text(alloc, &mut members, "time", self.time.as_str())?;
-        push_text(alloc, &mut members, "region", REGION)?;
+        let detail_type = self.detail_type.copy(alloc)?;
+        let source = self.source.copy(alloc)?;
+        let account = self.account.copy(alloc)?;
+        let time = self.time.copy(alloc)?;
         let resources = text_items(alloc, &self.resources)?;
-        push_member(alloc, &mut members, "resources", Json::List(resources))?;
-        Ok(members)
+        let front = Front {
+            id,
+            detail_type,
+            source,
+            account,
+            time,
+            resources,
+        };
+        members_of(alloc, front)
+    }
+
+    /// The event as a JSON object. The detail and the texts but the resources are moved into the object.
+    pub(crate) fn into_tree(self, alloc: Global) -> Result<Json, NoMemory>
+        ensures tree { IfOk result (λ json. tree_of json ≡ event_tree self None) }
+        ensures value { IfOk result (λ json. IsValue (tree_of json)) }
+    {
+        let id = event_id(alloc, self.number)?;
+        let resources = text_items(alloc, &self.resources)?;
+        let Event {
+            detail_type,
+            source,
+            account,
+            time,
+            detail,
+            ..
+        } = self;
+        let front = Front {
+            id,
+            detail_type,
+            source,
+            account,
+            time,
+            resources,
+        };
+        let mut members = members_of(alloc, front)?;
+        push_member(alloc, &mut members, "detail", detail)?;
+        Ok(Json::Obj(members))
     }
 
     /// The moment of the member `time`.

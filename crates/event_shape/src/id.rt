@@ -1,5 +1,5 @@
 //! Ids of events.
-ghost use Rattle.std.specs.Prelude.{◌≡◌, ◌<◌, ◌+◌, ◌^◌, ℕ, Some, IfOk, IfSome};
+ghost use Rattle.std.specs.Prelude.{◌≡◌, ◌<◌, ◌+◌, ◌^◌, ◌++◌, ℕ, Some, IfOk, IfSome, OnOk, string_bytes};
 ghost use Rattle.event_shape.specs.Id as spec;
 
 use json_text::{NoMemory, Text};
@@ -13,9 +13,19 @@ const ID_BASE: u128 = 0x0000_0000_0000_8000_8000_0000_0000_0000;
 pub fn event_id(alloc: Global, number: u64) -> Result<Text, NoMemory>
     ensures { IfOk result (λ id. id ≡ spec.event_id number) }
 {
+    let mut id = String::new(alloc);
+    push_id(number, &mut id)?;
+    Ok(Text::from(id))
+}
+
+/// Adds the id at the end.
+pub(crate) fn push_id(number: u64, out: &mut String) -> Result<(), NoMemory>
+    ensures { OnOk result (string_bytes out.new ≡ string_bytes out.old ++ spec.event_id number) }
+{
     let id = Uuid::from_u128(ID_BASE + number as u128);
     let mut buffer = Uuid::encode_buffer();
-    Text::from_str(alloc, id.hyphenated().encode_lower(&mut buffer))
+    out.push_str(id.hyphenated().encode_lower(&mut buffer))?;
+    Ok(())
 }
 
 /// The number of the event with this id. For other texts it may return some number, too.

@@ -5,12 +5,14 @@ mod checking;
 mod digits;
 mod entry;
 mod event;
+mod front;
 mod id;
 mod laws;
 mod names;
 mod parts;
 mod reading;
 mod time;
+mod unnumbered;
 mod writing;
 
 pub use checking::{Checked, check};
@@ -24,6 +26,7 @@ pub use names::{
     is_target_id, queue_arn, queue_name_in, queue_of, replay_arn, rule_arn,
 };
 pub use time::{iso, read_time};
+pub use unnumbered::Unnumbered;
 
 #[cfg(test)]
 mod tests;

@@ -1,8 +1,9 @@
+//! Each table has one function that compares a row and one that returns the first row that differs.
 use crate::{
-    CheckFault, EntryFault, Event, EventEntry, OWNER, REGION, archive_arn, bus_arn, bus_of, check,
-    event_id, is_account, is_archive_name, is_bus_arn, is_bus_name, is_queue_arn, is_queue_name,
-    is_replay_name, is_rule_name, is_target_id, iso, queue_arn, queue_name_in, queue_of, read_time,
-    replay_arn, rule_arn, size,
+    CheckFault, Checked, EntryFault, Event, EventEntry, OWNER, REGION, Unnumbered, archive_arn,
+    bus_arn, bus_of, check, event_id, is_account, is_archive_name, is_bus_arn, is_bus_name,
+    is_queue_arn, is_queue_name, is_replay_name, is_rule_name, is_target_id, iso, queue_arn,
+    queue_name_in, queue_of, read_time, replay_arn, rule_arn, size,
 };
 use json_text::{Json, LAST_MOMENT, Text};
 use std::alloc::Global;
@@ -36,116 +37,308 @@ const NUMBERS: [(&str, Option<u64>); 16] = [
     ("1.", None),
 ];
 
+/// The moment of a time that is a text or a number.
+fn moment_of(alloc: Global, time: &str, is_text: bool) -> Result<Option<u64>, Fail> {
+    let time = Text::from_str(alloc, time)?;
+    let json = if is_text {
+        Json::Str(time)
+    } else {
+        Json::Num(time)
+    };
+    Ok(read_time(&json))
+}
+
+fn is_moment(found: Option<u64>, moment: &Option<u64>) -> bool {
+    match found {
+        Some(found) => match moment {
+            Some(moment) => found == *moment,
+            None => false,
+        },
+        None => moment.is_none(),
+    }
+}
+
+/// The first time whose moment differs from its row.
+fn time_read_otherwise(
+    alloc: Global,
+    rows: &[(&'static str, Option<u64>)],
+    is_text: bool,
+) -> Result<Option<&'static str>, Fail> {
+    for (time, moment) in rows {
+        if !is_moment(moment_of(alloc, time, is_text)?, moment) {
+            return Ok(Some(time));
+        }
+    }
+    Ok(None)
+}
+
 #[test]
 fn a_time_gives_its_moment_or_none(rt: HostRuntime) -> Result<(), Fail> {
-    for (time, moment) in TEXTS {
-        let json = Json::Str(Text::from_str(rt.alloc(), time)?);
-        assert_eq!(rt; read_time(&json), moment, "{time}");
-    }
-    for (time, moment) in NUMBERS {
-        let json = Json::Num(Text::from_str(rt.alloc(), time)?);
-        assert_eq!(rt; read_time(&json), moment, "{time}");
-    }
+    assert_eq!(rt; time_read_otherwise(rt.alloc(), &TEXTS, true)?, None);
+    assert_eq!(rt; time_read_otherwise(rt.alloc(), &NUMBERS, false)?, None);
     assert_eq!(rt; read_time(&Json::Truth(true)), None);
+    Ok(())
+}
+
+#[test]
+fn the_last_moment_has_its_text(rt: HostRuntime) -> Result<(), Fail> {
     let text = iso(rt.alloc(), LAST_MOMENT)?;
     assert!(rt; text.as_str() == "9892-03-08T12:26:40Z");
     Ok(())
 }
 
+const QUEUE: &str = "arn:aws:sqs:us-east-1:111122223333:q";
+
+const DOTTED: &str = "arn:aws:sqs:us-east-1:111122223333:q.r";
+
+const BUS: &str = "arn:aws:events:us-east-1:111122223333:event-bus/b";
+
+fn is_queues(alloc: Global, name: &str, arn: &str) -> Result<bool, Fail> {
+    Ok(queue_arn(alloc, name)?.as_str() == arn)
+}
+
+fn is_rules(alloc: Global, bus: &str, name: &str, arn: &str) -> Result<bool, Fail> {
+    Ok(rule_arn(alloc, bus, name)?.as_str() == arn)
+}
+
+fn is_buses(alloc: Global, name: &str, arn: &str) -> Result<bool, Fail> {
+    Ok(bus_arn(alloc, name)?.as_str() == arn)
+}
+
+fn is_archives(alloc: Global, name: &str, arn: &str) -> Result<bool, Fail> {
+    Ok(archive_arn(alloc, name)?.as_str() == arn)
+}
+
+fn is_replays(alloc: Global, name: &str, arn: &str) -> Result<bool, Fail> {
+    Ok(replay_arn(alloc, name)?.as_str() == arn)
+}
+
 #[test]
-fn names_arns_and_ids_are_as_they_are_spelled(rt: HostRuntime) -> Result<(), Fail> {
+fn arns_are_as_they_are_spelled(rt: HostRuntime) -> Result<(), Fail> {
     let alloc = rt.alloc();
-    let queue = queue_arn(alloc, "q")?;
-    assert_eq!(rt; queue.as_str(), "arn:aws:sqs:us-east-1:111122223333:q");
-    assert_eq!(rt; queue_of(queue.as_str()), Some("q"));
-    let dotted = "arn:aws:sqs:us-east-1:111122223333:q.r";
-    assert_eq!(rt; queue_of(dotted), None);
-    assert_eq!(rt; queue_name_in(dotted), Some("q.r"));
-    assert_eq!(rt; queue_name_in("arn:aws:sqs:us-east-1:111122223334:q"), None);
-    let rule = rule_arn(alloc, "default", "r")?;
-    assert_eq!(rt;
-        rule.as_str(),
-        "arn:aws:events:us-east-1:111122223333:rule/r"
+    assert!(rt; is_queues(alloc, "q", QUEUE)?);
+    assert!(rt;
+        is_rules(
+            alloc,
+            "default",
+            "r",
+            "arn:aws:events:us-east-1:111122223333:rule/r"
+        )?
     );
-    let rule = rule_arn(alloc, "b", "r")?;
-    assert_eq!(rt;
-        rule.as_str(),
-        "arn:aws:events:us-east-1:111122223333:rule/b/r"
+    assert!(rt;
+        is_rules(
+            alloc,
+            "b",
+            "r",
+            "arn:aws:events:us-east-1:111122223333:rule/b/r"
+        )?
     );
-    let arn = "arn:aws:events:us-east-1:111122223333:event-bus/b";
-    assert_eq!(rt; bus_of(arn), Some("b"));
-    assert_eq!(rt; bus_of("b"), Some("b"));
-    assert_eq!(rt; bus_of("a/b"), None);
-    assert_eq!(rt; bus_of(""), None);
-    assert!(rt; is_queue_arn(queue.as_str(), "q"));
-    assert!(rt; !is_queue_arn(queue.as_str(), "qq"));
-    let bus = bus_arn(alloc, "b")?;
-    assert_eq!(rt; bus.as_str(), arn);
-    assert!(rt; is_bus_arn(arn, "b"));
-    assert!(rt; !is_bus_arn("arn:aws:events:us-east-1:111122223333:archive/b", "b"));
-    let archive = archive_arn(alloc, "a")?;
-    assert_eq!(rt;
-        archive.as_str(),
-        "arn:aws:events:us-east-1:111122223333:archive/a"
+    assert!(rt; is_buses(alloc, "b", BUS)?);
+    assert!(rt;
+        is_archives(
+            alloc,
+            "a",
+            "arn:aws:events:us-east-1:111122223333:archive/a"
+        )?
     );
-    let replay = replay_arn(alloc, "p")?;
-    assert_eq!(rt;
-        replay.as_str(),
-        "arn:aws:events:us-east-1:111122223333:replay/p"
-    );
-    let id = event_id(alloc, 1)?;
-    assert_eq!(rt; id.as_str(), "00000000-0000-8000-8000-000000000001");
-    let id = event_id(alloc, 0xAB)?;
-    assert_eq!(rt; id.as_str(), "00000000-0000-8000-8000-0000000000ab");
-    let id = event_id(alloc, 1 << 62)?;
-    assert_eq!(rt; id.as_str(), "00000000-0000-8000-c000-000000000000");
-    let id = event_id(alloc, u64::MAX)?;
-    assert_eq!(rt; id.as_str(), "00000000-0000-8001-7fff-ffffffffffff");
+    assert!(rt; is_replays(alloc, "p", "arn:aws:events:us-east-1:111122223333:replay/p")?);
+    Ok(())
+}
+
+const ARCHIVE: &str = "arn:aws:events:us-east-1:111122223333:archive/b";
+
+/// A text, the name of the queue whose ARN it is, and the text in the place of that name.
+const QUEUES: [(&str, Option<&str>, Option<&str>); 3] = [
+    (QUEUE, Some("q"), Some("q")),
+    (DOTTED, None, Some("q.r")),
+    ("arn:aws:sqs:us-east-1:111122223334:q", None, None),
+];
+
+/// A bus's name or ARN, and its name.
+const BUSES: [(&str, Option<&str>); 4] = [
+    (BUS, Some("b")),
+    ("b", Some("b")),
+    ("a/b", None),
+    ("", None),
+];
+
+fn is_found(found: Option<&str>, want: &Option<&str>) -> bool {
+    match found {
+        Some(found) => match want {
+            Some(want) => found == *want,
+            None => false,
+        },
+        None => want.is_none(),
+    }
+}
+
+/// The first text of which another queue is found.
+fn queue_found_otherwise() -> Option<&'static str> {
+    for (text, queue, name) in QUEUES.iter() {
+        if !is_found(queue_of(text), queue) || !is_found(queue_name_in(text), name) {
+            return Some(text);
+        }
+    }
+    None
+}
+
+/// The first text of which another bus is found.
+fn bus_found_otherwise() -> Option<&'static str> {
+    for (text, bus) in BUSES.iter() {
+        if !is_found(bus_of(text), bus) {
+            return Some(text);
+        }
+    }
+    None
+}
+
+#[test]
+fn an_arn_shows_its_name(rt: HostRuntime) {
+    assert_eq!(rt; queue_found_otherwise(), None);
+    assert_eq!(rt; bus_found_otherwise(), None);
+    assert!(rt; is_queue_arn(QUEUE, "q") && !is_queue_arn(QUEUE, "qq"));
+    assert!(rt; is_bus_arn(BUS, "b") && !is_bus_arn(ARCHIVE, "b"));
+}
+
+/// A number and the id of the event with this number.
+const EVENT_IDS: [(u64, &str); 4] = [
+    (1, "00000000-0000-8000-8000-000000000001"),
+    (0xAB, "00000000-0000-8000-8000-0000000000ab"),
+    (1 << 62, "00000000-0000-8000-c000-000000000000"),
+    (u64::MAX, "00000000-0000-8001-7fff-ffffffffffff"),
+];
+
+fn is_events(alloc: Global, number: u64, id: &str) -> Result<bool, Fail> {
+    Ok(event_id(alloc, number)?.as_str() == id)
+}
+
+/// The first id that differs from its row.
+fn id_made_otherwise(alloc: Global) -> Result<Option<&'static str>, Fail> {
+    for (number, id) in EVENT_IDS.iter() {
+        if !is_events(alloc, *number, id)? {
+            return Ok(Some(id));
+        }
+    }
+    Ok(None)
+}
+
+#[test]
+fn ids_are_as_they_are_spelled(rt: HostRuntime) -> Result<(), Fail> {
+    assert_eq!(rt; id_made_otherwise(rt.alloc())?, None);
     Ok(())
 }
 
 /// A number of letters; whether they are the name of a bus, of a rule (or target or replay), of an archive and of a queue.
-const LENGTHS: [(usize, [bool; 4]); 9] = [
-    (0, [false, false, false, false]),
-    (1, [true, true, true, true]),
-    (48, [true, true, true, true]),
-    (49, [true, true, false, true]),
-    (64, [true, true, false, true]),
-    (65, [true, false, false, true]),
-    (80, [true, false, false, true]),
-    (81, [true, false, false, false]),
-    (257, [false, false, false, false]),
+const LENGTHS: [(usize, bool, bool, bool, bool); 9] = [
+    (0, false, false, false, false),
+    (1, true, true, true, true),
+    (48, true, true, true, true),
+    (49, true, true, false, true),
+    (64, true, true, false, true),
+    (65, true, false, false, true),
+    (80, true, false, false, true),
+    (81, true, false, false, false),
+    (257, false, false, false, false),
 ];
 
-#[test]
-fn a_name_has_its_length_and_its_letters(rt: HostRuntime) -> Result<(), Fail> {
-    for (count, [bus, short, archive, queue]) in LENGTHS {
-        let name = letters_of(rt.alloc(), count)?;
-        let name = name.as_str();
-        assert_eq!(rt; is_bus_name(name), bus, "{count}");
-        assert_eq!(rt; is_rule_name(name), short, "{count}");
-        assert_eq!(rt; is_target_id(name), short, "{count}");
-        assert_eq!(rt; is_replay_name(name), short, "{count}");
-        assert_eq!(rt; is_archive_name(name), archive, "{count}");
-        assert_eq!(rt; is_queue_name(name), queue, "{count}");
+fn is_bus_named(name: &str, bus: bool, archive: bool, queue: bool) -> bool {
+    is_bus_name(name) == bus && is_archive_name(name) == archive && is_queue_name(name) == queue
+}
+
+fn is_rule_named(name: &str, short: bool) -> bool {
+    is_rule_name(name) == short && is_target_id(name) == short && is_replay_name(name) == short
+}
+
+/// The first number of letters whose name differs from its row.
+fn named_otherwise(alloc: Global) -> Result<Option<usize>, Fail> {
+    for (count, bus, short, archive, queue) in LENGTHS.iter() {
+        let name = letters_of(alloc, *count)?;
+        if !is_bus_named(name.as_str(), *bus, *archive, *queue)
+            || !is_rule_named(name.as_str(), *short)
+        {
+            return Ok(Some(*count));
+        }
     }
-    assert!(rt; is_rule_name("a.B-0_") && is_queue_name("aB-0_"));
-    assert!(rt; !is_rule_name("a/b") && !is_rule_name("é") && !is_queue_name("q.r"));
-    assert_eq!(rt; OWNER, "111122223333");
-    assert_eq!(rt; REGION, "us-east-1");
-    assert!(rt; is_account(OWNER) && !is_account("11112222333") && !is_account("11112222333a"));
+    Ok(None)
+}
+
+#[test]
+fn a_name_has_its_length(rt: HostRuntime) -> Result<(), Fail> {
+    assert_eq!(rt; named_otherwise(rt.alloc())?, None);
     Ok(())
 }
 
-fn entry(alloc: Global, source: &str, detail_type: &str, detail: &str) -> Result<EventEntry, Fail> {
+/// A text, and whether it is the name of a rule and of a queue.
+const LETTERS: [(&str, bool, bool); 5] = [
+    ("a.B-0_", true, false),
+    ("aB-0_", true, true),
+    ("a/b", false, false),
+    ("é", false, false),
+    ("q.r", true, false),
+];
+
+/// The first text that is named otherwise.
+fn lettered_otherwise() -> Option<&'static str> {
+    for (text, rule, queue) in LETTERS.iter() {
+        if is_rule_name(text) != *rule || is_queue_name(text) != *queue {
+            return Some(text);
+        }
+    }
+    None
+}
+
+/// A text, and whether it is an account.
+const ACCOUNTS: [(&str, bool); 3] = [
+    ("111122223333", true),
+    ("11112222333", false),
+    ("11112222333a", false),
+];
+
+/// The first text that differs from its row.
+fn account_otherwise() -> Option<&'static str> {
+    for (text, account) in ACCOUNTS.iter() {
+        if is_account(text) != *account {
+            return Some(text);
+        }
+    }
+    None
+}
+
+#[test]
+fn a_name_has_its_letters(rt: HostRuntime) {
+    assert_eq!(rt; lettered_otherwise(), None);
+    assert_eq!(rt; account_otherwise(), None);
+    assert!(rt; OWNER == "111122223333" && REGION == "us-east-1");
+}
+
+fn text_of(alloc: Global, text: Option<&str>) -> Result<Option<Text>, Fail> {
+    match text {
+        Some(text) => Ok(Some(Text::from_str(alloc, text)?)),
+        None => Ok(None),
+    }
+}
+
+/// The entry; its time is `null`, which is no time, if `is_timed`.
+fn entry_with(
+    alloc: Global,
+    source: &str,
+    detail_type: &str,
+    detail: Option<&str>,
+    bus: Option<&str>,
+    is_timed: bool,
+) -> Result<EventEntry, Fail> {
     Ok(EventEntry {
-        time: None,
-        source: Some(Text::from_str(alloc, source)?),
+        time: if is_timed { Some(Json::Null) } else { None },
+        source: text_of(alloc, Some(source))?,
         resources: Vec::new(alloc),
-        detail_type: Some(Text::from_str(alloc, detail_type)?),
-        detail: Some(Text::from_str(alloc, detail)?),
-        bus: None,
+        detail_type: text_of(alloc, Some(detail_type))?,
+        detail: text_of(alloc, detail)?,
+        bus: text_of(alloc, bus)?,
     })
+}
+
+fn entry(alloc: Global, source: &str, detail_type: &str, detail: &str) -> Result<EventEntry, Fail> {
+    entry_with(alloc, source, detail_type, Some(detail), None, false)
 }
 
 /// Source, detail type and detail, and the fault that is reported.
@@ -161,67 +354,135 @@ const FAULTS: [(&str, &str, &str, Option<EntryFault>); 9] = [
     ("a", "b", "{\"total\":12.50}", None),
 ];
 
+/// Whether the entry's first fault is this one; for `None`, whether it has none.
+fn has_fault(alloc: Global, entry: &EventEntry, fault: Option<EntryFault>) -> Result<bool, Fail> {
+    match check(alloc, entry) {
+        Err(found) => match found {
+            CheckFault::Entry(found) => Ok(Some(found) == fault),
+            CheckFault::NoMemory => Err(Fail::from("out of memory")),
+        },
+        Ok(_) => Ok(fault.is_none()),
+    }
+}
+
+fn has_row_fault(
+    alloc: Global,
+    source: &str,
+    detail_type: &str,
+    detail: &str,
+    fault: Option<EntryFault>,
+) -> Result<bool, Fail> {
+    let entry = entry(alloc, source, detail_type, detail)?;
+    has_fault(alloc, &entry, fault)
+}
+
+/// The index of the first entry whose fault differs from its row.
+fn checked_otherwise(alloc: Global) -> Result<Option<usize>, Fail> {
+    for (place, (source, detail_type, detail, fault)) in FAULTS.iter().enumerate() {
+        if !has_row_fault(alloc, source, detail_type, detail, *fault)? {
+            return Ok(Some(place));
+        }
+    }
+    Ok(None)
+}
+
 #[test]
 fn the_first_fault_is_reported(rt: HostRuntime) -> Result<(), Fail> {
-    let alloc = rt.alloc();
-    for (source, detail_type, detail, fault) in FAULTS {
-        let found = fault_of(alloc, entry(alloc, source, detail_type, detail)?)?;
-        assert_eq!(rt; found, fault, "{source} {detail_type} {detail}");
-    }
-    let mut faulty = entry(alloc, "aws.x", "b", "[1]")?;
-    faulty.bus = Some(Text::from_str(alloc, "a/b")?);
-    assert_eq!(rt; fault_of(alloc, faulty)?, Some(EntryFault::Bus));
-    let mut faulty = entry(alloc, "aws.x", "b", "[1]")?;
-    faulty.bus = Some(Text::from_str(alloc, "a/b")?);
-    faulty.time = Some(Json::Null);
-    assert_eq!(rt; fault_of(alloc, faulty)?, Some(EntryFault::Time));
-    let mut faulty = entry(alloc, "aws.x", "b", "[1]")?;
-    faulty.time = Some(Json::Null);
-    faulty.detail = None;
-    assert_eq!(rt; fault_of(alloc, faulty)?, Some(EntryFault::Detail));
+    assert_eq!(rt; checked_otherwise(rt.alloc())?, None);
     Ok(())
 }
 
-fn fault_of(alloc: Global, entry: EventEntry) -> Result<Option<EntryFault>, Fail> {
-    match check(alloc, entry) {
-        Err(CheckFault::Entry(fault)) => Ok(Some(fault)),
-        Err(CheckFault::NoMemory) => Err(Fail::from("out of memory")),
-        Ok(_) => Ok(None),
+/// Whether an entry with a faulty source has this fault.
+fn has_first_fault(
+    alloc: Global,
+    detail: Option<&str>,
+    bus: Option<&str>,
+    is_timed: bool,
+    fault: EntryFault,
+) -> Result<bool, Fail> {
+    let faulty = entry_with(alloc, "aws.x", "b", detail, bus, is_timed)?;
+    has_fault(alloc, &faulty, Some(fault))
+}
+
+/// A detail, a bus, whether there is a faulty time, and the fault.
+const ORDER: [(Option<&str>, Option<&str>, bool, EntryFault); 3] = [
+    (Some("[1]"), Some("a/b"), false, EntryFault::Bus),
+    (Some("[1]"), Some("a/b"), true, EntryFault::Time),
+    (None, None, true, EntryFault::Detail),
+];
+
+/// The index of the first entry whose fault differs from its row.
+fn ordered_otherwise(alloc: Global) -> Result<Option<usize>, Fail> {
+    for (place, (detail, bus, is_timed, fault)) in ORDER.iter().enumerate() {
+        if !has_first_fault(alloc, *detail, *bus, *is_timed, *fault)? {
+            return Ok(Some(place));
+        }
     }
+    Ok(None)
+}
+
+#[test]
+fn faults_have_their_order(rt: HostRuntime) -> Result<(), Fail> {
+    assert_eq!(rt; ordered_otherwise(rt.alloc())?, None);
+    Ok(())
 }
 
 #[test]
 fn an_event_has_its_exact_text(rt: HostRuntime) -> Result<(), Fail> {
-    let event = first_event(rt.alloc())?;
-    let text = event.text(rt.alloc(), None)?;
-    assert_eq!(rt; text.as_str(), FIRST);
+    assert!(rt; first_text(rt.alloc(), 1, None)?.as_str() == FIRST);
     Ok(())
 }
 
+/// The end of its text as a replay named `nightly` sends it.
+const REPLAYED: &str = "\"detail\":{\"total\":12.50},\"replay-name\":\"nightly\"}";
+
 #[test]
 fn a_replayed_event_ends_in_the_replays_name(rt: HostRuntime) -> Result<(), Fail> {
-    let event = first_event(rt.alloc())?;
-    let replayed = event.text(rt.alloc(), Some("nightly"))?;
-    assert!(rt;
-        replayed.as_str().ends_with("\"detail\":{\"total\":12.50},\"replay-name\":\"nightly\"}")
-    );
+    let replayed = first_text(rt.alloc(), 1, Some("nightly"))?;
+    assert!(rt; replayed.as_str().ends_with(REPLAYED));
     assert!(rt; !is_read(rt.alloc(), replayed.as_str())?);
     Ok(())
 }
 
-fn first_event(alloc: Global) -> Result<Event, Fail> {
-    let checked = check(
-        alloc,
-        entry(alloc, "shop.orders", "Order", "{\"total\":12.50}")?,
-    )?;
-    Ok(Event::make(alloc, checked, 1, 1_700_000_000, "111122223333")?)
+/// The detail of the first run's event.
+const TOTAL: &str = "{\"total\":12.50}";
+
+fn first_entry(alloc: Global) -> Result<EventEntry, Fail> {
+    entry(alloc, "shop.orders", "Order", TOTAL)
+}
+
+fn checked(alloc: Global, entry: &EventEntry) -> Result<Checked, Fail> {
+    Ok(check(alloc, entry)?)
+}
+
+fn event_of(alloc: Global, entry: &EventEntry, number: u64) -> Result<Event, Fail> {
+    let checked = checked(alloc, entry)?;
+    Ok(Event::make(alloc, checked, number, 1_700_000_000, OWNER)?)
+}
+
+fn first_event(alloc: Global, number: u64) -> Result<Event, Fail> {
+    event_of(alloc, &first_entry(alloc)?, number)
+}
+
+fn first_text(alloc: Global, number: u64, replay: Option<&str>) -> Result<Text, Fail> {
+    let event = first_event(alloc, number)?;
+    Ok(event.text(alloc, replay)?)
 }
 
 #[test]
-fn an_event_has_its_moment_and_an_entry_its_bus(rt: HostRuntime) -> Result<(), Fail> {
-    assert_eq!(rt; first_event(rt.alloc())?.moment(), 1_700_000_000);
-    let checked = check(rt.alloc(), entry(rt.alloc(), "a", "b", "{}")?)?;
-    assert_eq!(rt; checked.bus(), "default");
+fn an_event_has_its_moment(rt: HostRuntime) -> Result<(), Fail> {
+    assert!(rt; first_event(rt.alloc(), 1)?.moment() == 1_700_000_000);
+    Ok(())
+}
+
+fn has_default_bus(alloc: Global, entry: &EventEntry) -> Result<bool, Fail> {
+    Ok(checked(alloc, entry)?.bus() == "default")
+}
+
+#[test]
+fn an_entry_has_its_bus(rt: HostRuntime) -> Result<(), Fail> {
+    let entry = entry(rt.alloc(), "a", "b", "{}")?;
+    assert!(rt; has_default_bus(rt.alloc(), &entry)?);
     Ok(())
 }
 
@@ -259,19 +520,39 @@ const CHANGES: [(&str, &str, bool); 22] = [
     ("12.50", "12.", false),
 ];
 
+/// Whether the text with this part replaced is an event's.
+fn is_changed_read(alloc: Global, part: &str, other: &str) -> Result<bool, Fail> {
+    let text = FIRST.replacen(alloc, part, other, 1)?;
+    is_read(alloc, text.as_str())
+}
+
+/// The first replacement whose text is read otherwise than its row says.
+fn change_read_otherwise(alloc: Global) -> Result<Option<&'static str>, Fail> {
+    for (part, other, read) in CHANGES.iter() {
+        if is_changed_read(alloc, part, other)? != *read {
+            return Ok(Some(other));
+        }
+    }
+    Ok(None)
+}
+
 #[test]
 fn an_event_is_read_from_its_text_alone(rt: HostRuntime) -> Result<(), Fail> {
-    let alloc = rt.alloc();
-    assert!(rt; is_read(alloc, FIRST)?);
-    for (part, other, read) in CHANGES {
-        let text = FIRST.replacen(alloc, part, other, 1)?;
-        assert_eq!(rt; is_read(alloc, text.as_str())?, read, "{text}");
-    }
-    for (levels, read) in [(99, true), (100, false)] {
-        let detail = nested(alloc, levels)?;
-        let text = FIRST.replacen(alloc, "{\"total\":12.50}", detail.as_str(), 1)?;
-        assert_eq!(rt; is_read(alloc, text.as_str())?, read, "{levels}");
-    }
+    assert!(rt; is_read(rt.alloc(), FIRST)?);
+    assert_eq!(rt; change_read_otherwise(rt.alloc())?, None);
+    Ok(())
+}
+
+/// Whether the text with a detail of this number of levels is an event's.
+fn is_nested_read(alloc: Global, levels: usize) -> Result<bool, Fail> {
+    let detail = nested(alloc, levels)?;
+    is_changed_read(alloc, TOTAL, detail.as_str())
+}
+
+#[test]
+fn an_event_of_100_levels_is_read(rt: HostRuntime) -> Result<(), Fail> {
+    assert!(rt; is_nested_read(rt.alloc(), 99)?);
+    assert!(rt; !is_nested_read(rt.alloc(), 100)?);
     Ok(())
 }
 
@@ -283,6 +564,67 @@ fn is_read(alloc: Global, text: &str) -> Result<bool, Fail> {
         }
         None => Ok(false),
     }
+}
+
+/// A number, and the id of the event with this number.
+const IDS: [(u64, &str); 3] = [
+    (1, "00000000-0000-8000-8000-000000000001"),
+    (255, "00000000-0000-8000-8000-0000000000ff"),
+    (1 << 48, "00000000-0000-8000-8001-000000000000"),
+];
+
+/// The first id that differs from its row.
+fn numbered_otherwise(alloc: Global) -> Result<Option<&'static str>, Fail> {
+    for (number, id) in IDS.iter() {
+        if !has_its_id(alloc, *number, id)? {
+            return Ok(Some(id));
+        }
+    }
+    Ok(None)
+}
+
+#[test]
+fn an_event_gets_its_number_last(rt: HostRuntime) -> Result<(), Fail> {
+    assert_eq!(rt; numbered_otherwise(rt.alloc())?, None);
+    Ok(())
+}
+
+/// Whether the text of the event with this number has this id, if the number is known when the event is made, and if not.
+fn has_its_id(alloc: Global, number: u64, id: &str) -> Result<bool, Fail> {
+    let want = FIRST.replacen(alloc, FIRST_ID, id, 1)?;
+    let made = first_text(alloc, number, None)?;
+    let numbered = numbered_text(alloc, number)?;
+    Ok(made.as_str() == want.as_str() && numbered.as_str() == want.as_str())
+}
+
+const FIRST_ID: &str = "00000000-0000-8000-8000-000000000001";
+
+fn open_event(alloc: Global, entry: &EventEntry) -> Result<Unnumbered, Fail> {
+    let checked = checked(alloc, entry)?;
+    Ok(Unnumbered::make(alloc, checked, 1_700_000_000, OWNER)?)
+}
+
+fn first_open(alloc: Global) -> Result<Unnumbered, Fail> {
+    open_event(alloc, &first_entry(alloc)?)
+}
+
+fn numbered_text(alloc: Global, number: u64) -> Result<Text, Fail> {
+    let event = first_open(alloc)?;
+    Ok(event.numbered(alloc, number)?)
+}
+
+#[test]
+fn an_event_without_a_number_has_its_members(rt: HostRuntime) -> Result<(), Fail> {
+    let event = first_open(rt.alloc())?;
+    assert!(rt; has_first_members(&event));
+    Ok(())
+}
+
+fn has_first_members(event: &Unnumbered) -> bool {
+    event.bus() == "default"
+        && event.source() == "shop.orders"
+        && event.detail_type() == "Order"
+        && event.moment() == 1_700_000_000
 }
 
 fn letters_of(alloc: Global, count: usize) -> Result<String, Fail> {
@@ -305,36 +647,49 @@ fn nested(alloc: Global, levels: usize) -> Result<String, Fail> {
     Ok(text)
 }
 
-#[test]
-fn a_detail_has_at_most_99_levels(rt: HostRuntime) -> Result<(), Fail> {
-    let alloc = rt.alloc();
-    let detail = nested(alloc, 99)?;
-    check(alloc, entry(alloc, "a", "b", detail.as_str())?)?;
-    let detail = nested(alloc, 100)?;
-    let found = fault_of(alloc, entry(alloc, "a", "b", detail.as_str())?)?;
-    assert_eq!(rt; found, Some(EntryFault::Malformed));
-    Ok(())
+/// Whether an entry with a detail of this number of levels has this fault.
+fn has_nested_fault(alloc: Global, levels: usize, fault: Option<EntryFault>) -> Result<bool, Fail> {
+    let detail = nested(alloc, levels)?;
+    has_row_fault(alloc, "a", "b", detail.as_str(), fault)
 }
 
 #[test]
+fn a_detail_has_at_most_99_levels(rt: HostRuntime) -> Result<(), Fail> {
+    assert!(rt; has_nested_fault(rt.alloc(), 99, None)?);
+    assert!(rt; has_nested_fault(rt.alloc(), 100, Some(EntryFault::Malformed))?);
+    Ok(())
+}
+
+fn has_entry_size(
+    alloc: Global,
+    bus: Option<&str>,
+    is_timed: bool,
+    sum: u64,
+) -> Result<bool, Fail> {
+    let entry = entry_with(alloc, "a", "b", Some("{}"), bus, is_timed)?;
+    Ok(size(&entry) == sum)
+}
+
+// A time counts 14 bytes, and a bus none.
+#[test]
 fn a_size_is_the_sum_of_its_bytes(rt: HostRuntime) -> Result<(), Fail> {
     let alloc = rt.alloc();
-    let mut entry = entry(alloc, "a", "b", "{}")?;
-    assert_eq!(rt; size(&entry), 4);
-    entry.time = Some(Json::Null);
-    assert_eq!(rt; size(&entry), 18);
-    entry.bus = Some(Text::from_str(alloc, "shop")?);
-    assert_eq!(rt; size(&entry), 18);
+    assert!(rt; has_entry_size(alloc, None, false, 4)?);
+    assert!(rt; has_entry_size(alloc, None, true, 18)?);
+    assert!(rt; has_entry_size(alloc, Some("shop"), true, 18)?);
     Ok(())
+}
+
+/// Whether an entry with this number of letters has this size and no fault.
+fn has_size(alloc: Global, letters: usize, sum: u64) -> Result<bool, Fail> {
+    let long = long_entry(alloc, letters)?;
+    Ok(size(&long) == sum && has_fault(alloc, &long, None)?)
 }
 
 #[test]
 fn a_long_entry_is_measured(rt: HostRuntime) -> Result<(), Fail> {
-    for (letters, sum) in [(262_134, 262_144), (262_135, 262_145)] {
-        let long = long_entry(rt.alloc(), letters)?;
-        assert_eq!(rt; size(&long), sum);
-        assert_eq!(rt; fault_of(rt.alloc(), long)?, None);
-    }
+    assert!(rt; has_size(rt.alloc(), 262_134, 262_144)?);
+    assert!(rt; has_size(rt.alloc(), 262_135, 262_145)?);
     Ok(())
 }
 

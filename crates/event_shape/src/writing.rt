@@ -1,13 +1,13 @@
 //! The pieces of an event's tree and of its text.
-ghost use Rattle.std.specs.Prelude.{◌≡◌, ◌++◌, ◌∷◌, map, Some, IfOk, OnOk};
+ghost use Rattle.std.specs.Prelude.{◌≡◌, ◌++◌, ◌∷◌, [], map, Some, IfOk, OnOk};
 ghost use Rattle.std.specs.Option.{option_copied};
 ghost use Rattle.std.specs.Str.{IsUtf8};
 ghost use Rattle.json_text.specs.Tree.{text, members_of};
-ghost use Rattle.json_text.specs.View.{trees_of, pairs_of};
-ghost use Rattle.json_text.specs.Compact.{members_text, more_members_text};
+ghost use Rattle.json_text.specs.View.{tree_of, trees_of, pairs_of};
+ghost use Rattle.json_text.specs.Compact.{compact_text, members_text, more_members_text, IsValue};
 ghost use Rattle.event_shape.specs.Event.{IsUtf8IfGiven, replay_member};
 
-use json_text::{Bytes, Items, Json, Members, NoMemory, Text, write};
+use json_text::{Bytes, Items, Json, Members, NoMemory, Text, push_member, write};
 use std::alloc::Global;
 
 pub(crate) fn text_of_bytes(alloc: Global, bytes: &Bytes) -> Result<Text, NoMemory>
@@ -18,6 +18,28 @@ pub(crate) fn text_of_bytes(alloc: Global, bytes: &Bytes) -> Result<Text, NoMemo
         Ok(text) => Text::from_str(alloc, text),
         Err(_) => unreachable!(),
     }
+}
+
+/// The value's compact text.
+pub(crate) fn text_of_value(alloc: Global, json: &Json) -> Result<Text, NoMemory>
+    requires { IsValue (tree_of json.now) }
+    ensures { IfOk result (λ t. t ≡ compact_text (tree_of json.now)) }
+{
+    let mut out = Bytes::new(alloc);
+    write(json, &mut out)?;
+    text_of_bytes(alloc, &out)
+}
+
+/// Adds a member whose value is the string of this text, without a copy of it.
+pub(crate) fn push_own(
+    alloc: Global,
+    members: &mut Members,
+    key: &str,
+    value: Text,
+) -> Result<(), NoMemory>
+    ensures { OnOk result (pairs_of members.new.items ≡ pairs_of members.old.items ++ (key.now, text value) ∷ []) }
+{
+    push_member(alloc, members, key, Json::Str(value))
 }
 
 /// Writes the object of these members without its last byte.

@@ -2,7 +2,7 @@ use Rattle.std.proofs.Common.{subst}
 use Rattle.json_text.specs.View.{tree_of}
 use Rattle.event_shape.specs.Event.{Checked, Event, IsMade}
 use Rattle.event_shape.proofs.MakeLemmas.{moment_fits, made_at, event_at}
-use Rattle.event_shape.proofs.event.Event.make.Goals as goal
+use Rattle.event_shape.proofs.event.Event.with_bus.Goals as goal
 
 pub iso-requires : goal.iso-requires
 iso-requires c =
@@ -16,8 +16,8 @@ iso-requires c =
     } in
     rw c.unwrap_or-moment.ensures (moment_fits seen c.args.time c.checked.invariant c.requires)
 
-pub invariant_of-result : goal.invariant_of-result
-invariant_of-result c =
+pub invariant_of-event : goal.invariant_of-event
+invariant_of-event c =
     let seen : Checked = record {
       source = c.checked.inside.source;
       detail_type = c.checked.inside.detail_type;

@@ -1,6 +1,0 @@
-use Rattle.std.proofs.Common.{All, take}
-use Rattle.std.specs.Str.{IsUtf8}
-use Rattle.event_shape.proofs.checking.know_utf8.Given as goal
-
-abbrev pub invariant-loop-text : goal.invariant-loop-text
-invariant-loop-text l = All IsUtf8 (take l.text-index l.texts)

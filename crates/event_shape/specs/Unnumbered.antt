@@ -1,0 +1,35 @@
+-- An event that has no number yet.
+use Rattle.std.specs.Prelude.{◌≡◌, ℕ, List, [], ◌∷◌, ◌++◌, None, drop, codes}
+use Rattle.std.specs.Prelude.{refl}
+use Rattle.std.specs.Coded.{Coded, code_by, coded×}
+use Rattle.json_text.specs.Tree.{Tree, members_of}
+use Rattle.json_text.specs.Compact.{compact_text, more_members_text}
+use Rattle.event_shape.specs.Event.{Event, text_code, event_code, event_members, event_tree, IsEventAt}
+
+-- the name of the bus, and the event; its number is open, which the number 0 represents
+pub record Unnumbered : Type 0 where
+  pub bus : List ℕ
+  pub event : Event
+
+-- for proofs: unequal values have unequal codes
+abbrev pub unnumbered_code : Coded Unnumbered
+unnumbered_code = code_by (List ℕ × Event) (coded× text_code event_code) (λ u. (u.bus, u.event)) (λ (b, e). record { bus = b; event = e }) (λ _. refl)
+
+-- the event with this number
+abbrev pub with_number : ℕ → Event → Event
+with_number number e = record e { number = number }
+
+-- for private clauses: an event whose time is the text of this moment and whose number is open, and its tree and text
+pub record IsOpenAt (moment : ℕ) (e : Event) (t : Tree) (bytes : List ℕ) : Type 0 where
+  pub event : IsEventAt moment e
+  pub number : e.number ≡ 0
+  pub tree : t ≡ event_tree e None
+  pub text : bytes ≡ compact_text (event_tree e None)
+
+-- for private clauses: the first bytes of the text of an event with number 0, its id included
+abbrev pub zero_front : List ℕ
+zero_front = codes "{\"version\":\"0\",\"id\":\"00000000-0000-8000-8000-000000000000"
+
+-- for private clauses: the text after the id, which does not depend on the number
+abbrev pub text_after_id : Event → List ℕ
+text_after_id e = 34 ∷ (more_members_text (members_of (drop 2 (event_members e))) ++ 125 ∷ [])
