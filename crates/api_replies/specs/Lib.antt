@@ -1,3 +1,5 @@
+pub mod Name
+pub mod Cause
 pub mod Reply
 pub mod View
 pub mod Written

@@ -1,6 +1,9 @@
 -- Replies: a status and a JSON value. Texts and statuses of refusals are this project's own.
 use Rattle.std.specs.Prelude.{ℕ, List, [], ◌∷◌, codes, decimal}
 use Rattle.json_text.specs.Tree.{Tree, number, text, object, members_of}
+use Rattle.api_replies.specs.Cause.{type_of, message_of}
+use Rattle.api_replies.specs.declared.cause.Cause.{Cause}
+use Rattle.api_replies.specs.declared.cause.Cause.TheVariants as cause
 
 -- a reply: its HTTP status, and its body
 pub record Reply : Type 0 where
@@ -18,17 +21,13 @@ refusal status kind message = record {
   body = object (members_of ((codes "__type", text kind) ∷ (codes "message", text message) ∷ []));
 }
 
--- the operation is unknown
-abbrev pub unknown_operation : Reply
-unknown_operation = refusal 400 (codes "UnknownOperationException") (codes "Unknown operation.")
-
--- the request uses a feature that is not built yet
-abbrev pub not_built : Reply
-not_built = refusal 400 (codes "NotBuilt") (codes "Not built yet.")
+-- the reply to a request that is refused for this cause
+abbrev pub refused : Cause → Reply
+refused c = refusal 400 (type_of c) (message_of c)
 
 -- the number limit is reached
 abbrev pub limit_reply : Reply
-limit_reply = refusal 400 (codes "LimitExceededException") (codes "Number limit 281474976710656 reached.")
+limit_reply = refused cause.NumberLimit
 
 -- out of memory
 abbrev pub no_memory : Reply
@@ -60,7 +59,7 @@ pub record Counts : Type 0 where
   pub delivered : ℕ
   pub dropped : ℕ
 
--- the reply to a DeliverDue; dead-letter queues are not built yet, so `DeadLettered` is 0
+-- the reply to a DeliverDue; there are no dead-letter queues, so `DeadLettered` is 0
 abbrev pub counted : Counts → Reply
 counted n = served (
     (codes "Attempts", number (decimal n.attempts))

@@ -1,40 +1,146 @@
 use crate::{
-    CountsReply, Reply, bad_head_reply, head_too_large_reply, length_required_reply, limit_reply,
-    no_memory_reply, not_built, not_post_head, not_post_reply, too_large_reply, unknown_operation,
-    write_reply,
+    Cause, CountsReply, Kind, Member, Reply, bad_head_reply, head_too_large_reply,
+    length_required_reply, limit_reply, no_memory_reply, not_post_head, not_post_reply,
+    push_failure, refused_reply, too_large_reply, write_reply,
 };
-use json_text::{Bytes, Json, Text, write};
+use json_text::{Bytes, Json, Members, Text, write};
 use std::alloc::Global;
 use std::test::Fail;
 
-fn written(alloc: Global, reply: Reply) -> Result<Bytes, Fail> {
+fn written(alloc: Global, body: &Json) -> Result<Bytes, Fail> {
     let mut out = Bytes::new(alloc);
-    write(&reply.body, &mut out)?;
+    write(body, &mut out)?;
     Ok(out)
+}
+
+/// The members of an entry that failed for this cause.
+fn failure(alloc: Global, cause: &Cause) -> Result<Bytes, Fail> {
+    let mut members: Members = Vec::new(alloc);
+    push_failure(alloc, &mut members, cause)?;
+    written(alloc, &Json::Obj(members))
 }
 
 #[test]
 fn each_refusal_has_its_status_and_its_text(rt: HostRuntime) -> Result<(), Fail> {
     let alloc = rt.alloc();
+    let name = Text::from_str(alloc, "r.1")?;
+    let queue = Text::from_str(alloc, "q")?;
+    let bus = Text::from_str(alloc, "b")?;
+    let why = Text::from_str(alloc, "BadOr")?;
+    let path = Text::from_str(alloc, "$or")?;
     let rows = [
         (
-            not_built(alloc)?,
-            "{\"__type\":\"NotBuilt\",\"message\":\"Not built yet.\"}",
-        ),
-        (
-            unknown_operation(alloc)?,
+            Cause::UnknownOperation,
             "{\"__type\":\"UnknownOperationException\",\"message\":\"Unknown operation.\"}",
         ),
         (
-            limit_reply(alloc)?,
+            Cause::NoObject,
+            "{\"__type\":\"SerializationException\",\"message\":\"The body is not a JSON object.\"}",
+        ),
+        (
+            Cause::Required(Member::Event),
+            "{\"__type\":\"ValidationException\",\"message\":\"Member Event is required.\"}",
+        ),
+        (
+            Cause::NotValid(Member::ScheduleExpression),
+            "{\"__type\":\"ValidationException\",\"message\":\"Member ScheduleExpression is not valid.\"}",
+        ),
+        (
+            Cause::NotAPattern { why, path },
+            "{\"__type\":\"InvalidEventPatternException\",\"message\":\"Event pattern is not valid. Reason: BadOr at $or\"}",
+        ),
+        (
+            Cause::TooLargeTogether,
+            "{\"__type\":\"ValidationException\",\"message\":\"The request is over 262144 bytes.\"}",
+        ),
+        (
+            Cause::NotFound {
+                kind: Kind::EventBus,
+                name: bus,
+            },
+            "{\"__type\":\"ResourceNotFoundException\",\"message\":\"Event bus b does not exist.\"}",
+        ),
+        (
+            Cause::NotFound {
+                kind: Kind::Rule,
+                name,
+            },
+            "{\"__type\":\"ResourceNotFoundException\",\"message\":\"Rule r.1 does not exist.\"}",
+        ),
+        (
+            Cause::Exists {
+                kind: Kind::Queue,
+                name: queue,
+            },
+            "{\"__type\":\"ResourceAlreadyExistsException\",\"message\":\"Queue q already exists.\"}",
+        ),
+        (
+            Cause::NumberLimit,
             "{\"__type\":\"LimitExceededException\",\"message\":\"Number limit 281474976710656 reached.\"}",
         ),
     ];
-    for (reply, body) in rows {
+    for (cause, body) in rows {
+        let reply = refused_reply(alloc, &cause)?;
         assert_eq!(rt; reply.status, 400);
-        let out = written(alloc, reply)?;
-        assert_eq!(rt; out.as_slice(), body.as_bytes());
+        let out = written(alloc, &reply.body)?;
+        assert_eq!(rt; out.as_slice(), body.as_bytes(), "{cause:?}");
     }
+    Ok(())
+}
+
+#[test]
+fn each_kind_has_its_limit(rt: HostRuntime) -> Result<(), Fail> {
+    let alloc = rt.alloc();
+    let rows = [
+        (Kind::EventBus, "Event bus limit 100 reached."),
+        (Kind::Rule, "Rule limit 300 reached."),
+        (Kind::Target, "Target limit 5 reached."),
+        (Kind::Queue, "Queue limit 1000 reached."),
+    ];
+    for (kind, text) in rows {
+        let message = Cause::LimitReached(kind).message(alloc)?;
+        assert_eq!(rt; message.as_str(), text);
+    }
+    Ok(())
+}
+
+#[test]
+fn each_cause_of_a_failed_item_has_its_members(rt: HostRuntime) -> Result<(), Fail> {
+    let alloc = rt.alloc();
+    let rows = [
+        (
+            Cause::Parameter(Member::EventBusName),
+            "{\"ErrorCode\":\"InvalidArgument\",\"ErrorMessage\":\"Parameter EventBusName is not valid.\"}",
+        ),
+        (
+            Cause::MalformedDetail,
+            "{\"ErrorCode\":\"MalformedDetail\",\"ErrorMessage\":\"Detail is malformed.\"}",
+        ),
+        (
+            Cause::NotAuthorized,
+            "{\"ErrorCode\":\"NotAuthorizedForSourceException\",\"ErrorMessage\":\"Not authorized for the source.\"}",
+        ),
+        (
+            Cause::LimitReached(Kind::Target),
+            "{\"ErrorCode\":\"LimitExceededException\",\"ErrorMessage\":\"Target limit 5 reached.\"}",
+        ),
+    ];
+    for (cause, body) in rows {
+        let out = failure(alloc, &cause)?;
+        assert_eq!(rt; out.as_slice(), body.as_bytes(), "{cause:?}");
+    }
+    Ok(())
+}
+
+#[test]
+fn the_number_limit_is_refused(rt: HostRuntime) -> Result<(), Fail> {
+    let alloc = rt.alloc();
+    let reply = limit_reply(alloc)?;
+    assert_eq!(rt; reply.status, 400);
+    let out = written(alloc, &reply.body)?;
+    let body =
+        "{\"__type\":\"LimitExceededException\",\"message\":\"Number limit 281474976710656 reached.\"}";
+    assert_eq!(rt; out.as_slice(), body.as_bytes());
     Ok(())
 }
 

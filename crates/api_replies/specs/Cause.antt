@@ -1,0 +1,43 @@
+-- Why a request, an entry of a PutEvents or a target of a PutTargets is refused, and what reports it. Types are those of the public API
+-- where it has one for the cause; messages and the use of each type are this project's own.
+use Rattle.std.specs.Prelude.{ℕ, List, [], ◌∷◌, ◌++◌, codes, decimal}
+use Rattle.json_text.specs.Tree.{Tree, text}
+use Rattle.api_replies.specs.Name.{kind_word, kind_limit, member_name}
+use Rattle.api_replies.specs.declared.cause.Cause.{Cause}
+use Rattle.api_replies.specs.declared.cause.Cause.TheVariants as cause
+
+-- the type of the error: `__type` of a refusal, `ErrorCode` of a failed entry or target
+abbrev pub type_of : Cause → List ℕ
+type_of cause.UnknownOperation = codes "UnknownOperationException"
+type_of cause.NoObject = codes "SerializationException"
+type_of (cause.Required member) = codes "ValidationException"
+type_of (cause.NotValid member) = codes "ValidationException"
+type_of (cause.NotAPattern why path) = codes "InvalidEventPatternException"
+type_of cause.TooLargeTogether = codes "ValidationException"
+type_of (cause.NotFound kind name) = codes "ResourceNotFoundException"
+type_of (cause.Exists kind name) = codes "ResourceAlreadyExistsException"
+type_of (cause.LimitReached kind) = codes "LimitExceededException"
+type_of cause.NumberLimit = codes "LimitExceededException"
+type_of (cause.Parameter member) = codes "InvalidArgument"
+type_of cause.MalformedDetail = codes "MalformedDetail"
+type_of cause.NotAuthorized = codes "NotAuthorizedForSourceException"
+
+-- the message: `message` of a refusal, `ErrorMessage` of a failed entry or target
+abbrev pub message_of : Cause → List ℕ
+message_of cause.UnknownOperation = codes "Unknown operation."
+message_of cause.NoObject = codes "The body is not a JSON object."
+message_of (cause.Required member) = codes "Member " ++ (member_name member ++ codes " is required.")
+message_of (cause.NotValid member) = codes "Member " ++ (member_name member ++ codes " is not valid.")
+message_of (cause.NotAPattern why path) = codes "Event pattern is not valid. Reason: " ++ (why ++ (codes " at " ++ path))
+message_of cause.TooLargeTogether = codes "The request is over 262144 bytes."
+message_of (cause.NotFound kind name) = kind_word kind ++ (codes " " ++ (name ++ codes " does not exist."))
+message_of (cause.Exists kind name) = kind_word kind ++ (codes " " ++ (name ++ codes " already exists."))
+message_of (cause.LimitReached kind) = kind_word kind ++ (codes " limit " ++ (decimal (kind_limit kind) ++ codes " reached."))
+message_of cause.NumberLimit = codes "Number limit 281474976710656 reached."
+message_of (cause.Parameter member) = codes "Parameter " ++ (member_name member ++ codes " is not valid.")
+message_of cause.MalformedDetail = codes "Detail is malformed."
+message_of cause.NotAuthorized = codes "Not authorized for the source."
+
+-- the members of a failed entry or target that say why it failed
+abbrev pub failed_members : Cause → List (List ℕ × Tree)
+failed_members c = (codes "ErrorCode", text (type_of c)) ∷ (codes "ErrorMessage", text (message_of c)) ∷ []

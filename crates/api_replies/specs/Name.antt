@@ -1,0 +1,47 @@
+-- The words of refusals: kinds of things, and members of requests.
+use Rattle.std.specs.Prelude.{ℕ, List, codes}
+use Rattle.api_replies.specs.declared.kind.Kind.{Kind}
+use Rattle.api_replies.specs.declared.kind.Kind.TheVariants as kind
+use Rattle.api_replies.specs.declared.member.Member.{Member}
+use Rattle.api_replies.specs.declared.member.Member.TheVariants as member
+
+-- the kind's word, as a message begins with it (this project's own)
+abbrev pub kind_word : Kind → List ℕ
+kind_word kind.EventBus = codes "Event bus"
+kind_word kind.Rule = codes "Rule"
+kind_word kind.Target = codes "Target"
+kind_word kind.Queue = codes "Queue"
+
+-- how many there may be: event buses, rules of a bus, targets of a rule, queues
+abbrev pub kind_limit : Kind → ℕ
+kind_limit kind.EventBus = 100
+kind_limit kind.Rule = 300
+kind_limit kind.Target = 5
+kind_limit kind.Queue = 1000
+
+-- the member's name, as requests spell it
+abbrev pub member_name : Member → List ℕ
+member_name member.Arn = codes "Arn"
+member_name member.Budget = codes "Budget"
+member_name member.DeadLetterConfig = codes "DeadLetterConfig"
+member_name member.Detail = codes "Detail"
+member_name member.DetailType = codes "DetailType"
+member_name member.Entries = codes "Entries"
+member_name member.Event = codes "Event"
+member_name member.EventBusName = codes "EventBusName"
+member_name member.EventPattern = codes "EventPattern"
+member_name member.Id = codes "Id"
+member_name member.Input = codes "Input"
+member_name member.InputPath = codes "InputPath"
+member_name member.InputTransformer = codes "InputTransformer"
+member_name member.Limit = codes "Limit"
+member_name member.Name = codes "Name"
+member_name member.QueueName = codes "QueueName"
+member_name member.Resources = codes "Resources"
+member_name member.RetryPolicy = codes "RetryPolicy"
+member_name member.Rule = codes "Rule"
+member_name member.ScheduleExpression = codes "ScheduleExpression"
+member_name member.Source = codes "Source"
+member_name member.State = codes "State"
+member_name member.Targets = codes "Targets"
+member_name member.Time = codes "Time"
