@@ -1,5 +1,5 @@
 // A listener as a trait.
-ghost use Rattle.std.specs.Prelude.{◌≡◌, ℕ};
+ghost use Rattle.std.specs.Prelude.{◌≡◌, ℕ, List, [], ◌∷◌, Option};
 
 use router_disk::{Sink, Source};
 
@@ -18,14 +18,34 @@ pub enum Knock<I, O> {
     NoMemory,
 }
 
-/// A listener for connections. Which connections come, and what becomes of them, is not specified yet.
+/// A connection that `done` ended.
+#[derive(Drop)]
+pub struct Ended<I, O> {
+    pub input: I,
+    pub output: O,
+    /// Whether out of memory ended it.
+    pub cut: bool,
+}
+
+/// A listener for connections. It shows the connections to come, those that it gave and those that it ended.
 pub trait Door: Send {
     ghost use Rattle.router_disk.specs.Faults.{CountsFaults};
     ghost use Rattle.bus_host.specs.Knock.{knock_outcome};
+    ghost use Rattle.bus_host.specs.declared.door.Ended.{Ended};
+    ghost use Rattle.bus_host.specs.Doors.{Lengthened, HasNone, Shortened, given_by};
 
     type In: Source;
 
     type Out: Sink;
+
+    /// The connections that are still to come, in order, as they will be given. `None` if they are not known.
+    ghost ahead: { Self → Option (List (Self.In × Self.Out)) };
+
+    /// The connections given so far, in order, as they were given. `None` if they are not known.
+    ghost given: { Self → Option (List (Self.In × Self.Out)) };
+
+    /// The connections that ended so far, in order, as they were then. `None` if they are not known.
+    ghost ended: { Self → Option (List (Ended Self.In Self.Out)) };
 
     /// The number of calls of `next` that have failed.
     ghost faults: { Self → ℕ };
@@ -36,9 +56,16 @@ pub trait Door: Send {
 
     /// The next connection, or why there is none.
     fn next(&mut self) -> Knock<Self::In, Self::Out>
-        ensures count { CountsFaults (faults self.old) (faults self.new) (knock_outcome result) };
+        ensures count { CountsFaults (faults self.old) (faults self.new) (knock_outcome result) }
+        ensures ahead { Shortened (ahead self.old) (ahead self.new) (given_by result) }
+        ensures given { Lengthened (given self.old) (given self.new) (given_by result) }
+        ensures ended { ended self.new ≡ ended self.old }
+        ensures closed { result ≡ Knock.Closed → HasNone (ahead self.old) };
 
     /// Ends a connection that `next` gave. `cut` is true if out of memory ended it. The call needs no memory.
     fn done(&mut self, input: Self::In, output: Self::Out, cut: bool)
-        ensures { faults self.new ≡ faults self.old };
+        ensures faults { faults self.new ≡ faults self.old }
+        ensures ahead { ahead self.new ≡ ahead self.old }
+        ensures given { given self.new ≡ given self.old }
+        ensures ended { Lengthened (ended self.old) (ended self.new) (record { input = input; output = output; cut = cut } ∷ []) };
 }

@@ -121,11 +121,18 @@ impl Link for NoLink {
 }
 
 impl Door for NoDoor {
+    ghost use Rattle.std.specs.Prelude.{Some, None, []};
     ghost use Rattle.bus_host.specs.Knock.{knock_outcome};
 
     type In = MemSource;
 
     type Out = MemSink;
+
+    ghost ahead = { λ d. Some [] };
+
+    ghost given = { λ d. Some [] };
+
+    ghost ended = { λ d. None };
 
     ghost faults = { λ d. d.faults };
 

@@ -1,3 +1,6 @@
+mod mem_door;
+mod tcp_door;
+
 use crate::{Door, Host, HostFault, HttpLink, Knock, NoDisk, NoDoor, NoHost, NoLink};
 use router_disk::{Disk, Failed, Link, LinkFault};
 use std::io::{Read, Write};

@@ -18,6 +18,12 @@ pub trait Source: Send {
     fn faults(&self) -> u64
         ensures { result ≡ faults self.now };
 
+    /// Says that the next read begins between messages. A source may use it to choose when the input ends.
+    fn rests(&mut self)
+        ensures left { left self.new ≡ left self.old }
+        ensures faults { faults self.new ≡ faults self.old }
+    {}
+
     /// Reads bytes into the front of `buf`, and returns how many. 0 for a `buf` with room is the end: no byte is left.
     /// An `Err` consumes nothing. Bytes of `buf` after those that were read may have changed, at an `Err` all of them.
     fn read(&mut self, buf: &mut [u8]) -> Result<usize, Failed>

@@ -56,6 +56,10 @@ impl<S: Source> Source for Failing<S> {
         self.faults
     }
 
+    fn rests(&mut self) {
+        self.inner.rests();
+    }
+
     fn read(&mut self, buf: &mut [u8]) -> Result<usize, Failed>
         ensures within { ReadsAtMost result buf.new }
         ensures bytes { ReadConsumes (S.left self.old.inner) (S.left self.new.inner) result buf.new }

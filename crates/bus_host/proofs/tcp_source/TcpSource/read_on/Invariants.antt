@@ -1,0 +1,6 @@
+use Rattle.std.proofs.Common.{◌≡◌}
+use Rattle.bus_host.proofs.tcp_source.TcpSource.read_on.Given as goal
+
+-- waiting for bytes is no fault
+abbrev pub invariant-loop : goal.invariant-loop
+invariant-loop g l = l.self.faults ≡ l.initial.self.faults

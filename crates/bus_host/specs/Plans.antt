@@ -1,0 +1,12 @@
+-- What a door in memory plans and remembers.
+use Rattle.std.specs.Prelude.{List, [], ◌∷◌, map}
+use Rattle.bus_host.specs.declared.mem_door.Plan.{Plan}
+use Rattle.bus_host.specs.declared.mem_door.Plan.TheVariants.{Conn, Quiet, Failed, NoMemory}
+
+-- the connections among these plans, in order
+abbrev pub connections_of : {I O : Type 0} → List (Plan I O) → List (I × O)
+connections_of [] = []
+connections_of (Conn input output ∷ plans) = (input, output) ∷ connections_of plans
+connections_of (Quiet ∷ plans) = connections_of plans
+connections_of (Failed ∷ plans) = connections_of plans
+connections_of (NoMemory ∷ plans) = connections_of plans

@@ -1,0 +1,41 @@
+// When a connection ends without its client's doing.
+ghost use Rattle.std.specs.Prelude.{◌↔◌, IsTrue};
+ghost use Rattle.bus_host.specs.Ending.{IsOver};
+
+use std::time::Duration;
+
+/// How many milliseconds a connection may be without a byte and a reply.
+const IDLE: u64 = 20_000;
+
+/// How many milliseconds a message may take from its first byte on.
+const MESSAGE: u64 = 60_000;
+
+/// How many milliseconds a connection may be idle between messages while another client waits.
+const SPARED: u64 = 250;
+
+/// How long a connection has waited for its client.
+#[derive(Clone, Copy, Debug)]
+pub struct Waited {
+    /// The time since the last byte or the last reply, whichever came later.
+    pub idle: Duration,
+    /// The time since the first byte of the unfinished message. `None` between messages.
+    pub message: Option<Duration>,
+}
+
+impl Waited {
+    /// Whether the connection is over: after 20 s without a byte and a reply, 60 s after the first byte of an
+    /// unfinished message, and between messages after 0.25 s if another client waits for a connection.
+    pub fn is_over(self, another_waits: bool) -> bool
+        ensures { IsTrue result ↔ IsOver self.idle self.message another_waits }
+    {
+        match self.message {
+            None => {
+                self.idle >= Duration::from_millis(IDLE)
+                    || another_waits && self.idle >= Duration::from_millis(SPARED)
+            }
+            Some(since) => {
+                self.idle >= Duration::from_millis(IDLE) || since >= Duration::from_millis(MESSAGE)
+            }
+        }
+    }
+}

@@ -1,0 +1,94 @@
+// The sink of a connection over TCP.
+ghost use Rattle.std.specs.Prelude.{◌≡◌};
+
+use crate::http_link::is_waiting;
+use crate::line::Line;
+use crate::no_host::raise;
+use router_disk::{Failed, Sink};
+use std::sync::Arc;
+use std::time::{Clock, Duration, Instant};
+
+/// How many seconds a reply may take until the system has taken all of it.
+const LIMIT: u64 = 20;
+
+/// The replies to a client. A reply that the system has not wholly taken within 20 s by the monotonic clock fails, and
+/// so does one whose clock fails.
+#[derive(Drop)]
+pub struct TcpSink<C> {
+    line: Arc<Line>,
+    clock: C,
+    faults: u64,
+}
+
+impl<C: Clock> TcpSink<C> {
+    pub(crate) fn new(line: Arc<Line>, clock: C) -> Self
+        ensures { result.faults ≡ 0 }
+    {
+        TcpSink {
+            line,
+            clock,
+            faults: 0,
+        }
+    }
+
+    /// Writes until all is written or the time is over.
+    fn write_on(&self, bytes: &[u8]) -> Result<(), Failed> {
+        let Ok(start) = Instant::now(&self.clock) else {
+            return Err(Failed);
+        };
+        let mut rest = bytes;
+        for _ in 0..u64::MAX {
+            if rest.is_empty() {
+                self.line.note_reply();
+                return Ok(());
+            }
+            let left = self.left(start);
+            if left.is_zero() {
+                break;
+            }
+            match self.line.write(rest, left) {
+                Ok(0) => break,
+                Ok(count) => rest = &rest[count..],
+                Err(fault) => {
+                    if !is_waiting(fault.kind()) {
+                        break;
+                    }
+                }
+            }
+        }
+        Err(Failed)
+    }
+
+    /// How much of the time is left. None, if the clock fails.
+    fn left(&self, start: Instant) -> Duration {
+        match start.elapsed(&self.clock) {
+            Ok(spent) => Duration::from_secs(LIMIT).saturating_sub(spent),
+            Err(_) => Duration::ZERO,
+        }
+    }
+}
+
+impl<C: Clock + Send> Sink for TcpSink<C> {
+    ghost use Rattle.std.specs.Prelude.{None};
+
+    ghost written = { λ s. None };
+
+    ghost faults = { λ s. s.faults };
+
+    fn faults(&self) -> u64 {
+        self.faults
+    }
+
+    fn write_all(&mut self, bytes: &[u8]) -> Result<(), Failed> {
+        if self.faults == u64::MAX {
+            return Err(Failed);
+        }
+        match self.write_on(bytes) {
+            Ok(()) => Ok(()),
+            Err(Failed) => {
+                raise(&mut self.faults);
+                Err(Failed)
+            }
+        }
+    }
+}
