@@ -1,11 +1,11 @@
 -- What a change leaves as it was: `other_stays` and `matching_same`.
-use Rattle.std.proofs.Common.{◌≡◌, ℕ, true, false, List, [], ◌∷◌, map, Some, refl, sym, ap, ◌∙◌}
+use Rattle.std.proofs.Common.{◌≡◌, ℕ, List, [], ◌∷◌, map, Some, refl, sym, ap, ◌∙◌}
 use Rattle.std.specs.Str.{bytes_eq}
 use Rattle.std.proofs.lemmas.Slice.Eq.{bytes_eq-Decides}
 use Rattle.name_rows.specs.Rows.{named}
 use Rattle.name_rows.proofs.RowLemmas.{by_test}
 use Rattle.rule_table.specs.Control.{Control, rule_put, targets_put, queue_created}
-use Rattle.rule_table.specs.Kept.{changed_bus, matching_of, matching_of_rule}
+use Rattle.rule_table.specs.Altered.{changed_bus, matching_of, matching_of_rule}
 use Rattle.rule_table.specs.RuleSet.{Rule, Bus, RuleSet, changed, applied, put_rule, put_targets}
 use Rattle.rule_table.specs.declared.control.Target.{Target}
 

@@ -1,4 +1,5 @@
 pub mod RowLemmas
+pub mod RefusalLemmas
 pub mod SortedLemmas
 pub mod ChangeLemmas
 pub mod LawLemmas

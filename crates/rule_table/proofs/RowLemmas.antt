@@ -1,7 +1,8 @@
 -- Rows of which one is put or changed: `changed` and a `placed` that joins are a `placed` that replaces (`changed_placed`,
--- `joined_placed`, `joined_new`); a row put into a `Vec` (`put_here`, `put_before`); the place of a name (`here_at`, `before_at`).
-use Rattle.std.proofs.Common.{◌≡◌, ℕ, true, false, List, [], ◌∷◌, ◌++◌, length, Option, Some, None, refl, sym, ap, ◌∙◌, subst, take}
-use Rattle.std.proofs.Common.{drop, suc, ◌<◌, arith, get_or}
+-- `joined_placed`, `joined_new`); a row put into a `Vec` (`put_here`,
+-- `put_before`) and the number of rows then (`length_here`, `length_before`); the place of a name (`here_at`, `before_at`).
+use Rattle.std.proofs.Common.{◌≡◌, ℕ, true, false, List, [], ◌∷◌, ◌++◌, length, Some, None, refl, sym, ap, ◌∙◌, subst, take}
+use Rattle.std.proofs.Common.{drop, suc, ◌<◌, ◌+◌, arith, get_or, length-append}
 use Rattle.std.specs.Prelude.{All}
 use Rattle.std.specs.List.{insert}
 use Rattle.std.specs.Cmp.Lexicographic.{slice_cmp}
@@ -15,7 +16,7 @@ use Rattle.std.proofs.lemmas.List.{take_at, drop_at, take-append-drop, length-ta
 use Rattle.std.proofs.lemmas.List.Elements.{All-head, All-tail}
 use Rattle.std.proofs.lemmas.Slice.Eq.{bytes_eq-Decides}
 use Rattle.name_rows.specs.Rows.{named, placed, replacing, AreSorted}
-use Rattle.name_rows.specs.Place.{IsHere, IsBefore, IsSmaller}
+use Rattle.name_rows.specs.Place.{IsHere, IsBefore}
 use Rattle.name_rows.proofs.NameOrder.{same_name, Greater_from_Less, Less_from_Greater, bytes_eq_itself, bytes_eq_Less}
 use Rattle.name_rows.proofs.RowLemmas.{Other, by_cmp, by_test, named_none, none_greater, others_after, placed_here, placed_before}
 use Rattle.rule_table.specs.RuleSet.{changed}
@@ -99,10 +100,25 @@ set_here f name rows at new h =
 pub put_here : {A : Type 0} (f : A → List ℕ) (new : A) (rows : List A) (at : ℕ) → IsHere f (f new) rows at → placed f replacing new rows ≡ set rows at new
 put_here f new rows at h = placed_here f replacing new rows at h ∙ sym (set_here f (f new) rows at new h)
 
-pub put_before : {A : Type 0} (f : A → List ℕ) (new : A) (rows : List A) (at : ℕ) → IsBefore f (f new) rows at → placed f replacing new rows ≡ insert rows at new
+pub put_before : {A : Type 0} (f : A → List ℕ) (new : A) (rows : List A) (at : ℕ) → IsBefore f (f new) rows at
+    → placed f replacing new rows ≡ insert rows at new
 put_before f new rows at h =
     placed_before f replacing new rows at h
     ∙ sym (ap (λ rs. insert rs at new) h.parts ∙ rw (take_at h.front h.back at h.at, drop_at h.front h.back at h.at) refl)
+
+-- a row that replaces another leaves the number of rows, and a new row adds one
+pub length_here : {A : Type 0} (f : A → List ℕ) (new : A) (rows : List A) (at : ℕ) → IsHere f (f new) rows at
+    → length (placed f replacing new rows) ≡ length rows
+length_here f new rows at h =
+    ap length (placed_here f replacing new rows at h) ∙ length-append h.front (new ∷ h.back)
+    ∙ sym (ap length h.parts ∙ length-append h.front (h.old ∷ h.back))
+
+pub length_before : {A : Type 0} (f : A → List ℕ) (new : A) (rows : List A) (at : ℕ) → IsBefore f (f new) rows at
+    → length (placed f replacing new rows) ≡ length rows + 1
+length_before f new rows at h =
+    let after = ap length (placed_before f replacing new rows at h) ∙ length-append h.front (new ∷ h.back) in
+    let before = ap length h.parts ∙ length-append h.front h.back in
+    omega (arith, after, before)
 
 length-take_within : {A : Type 0} (at : ℕ) (rows : List A) → at < length rows → length (take at rows) ≡ at
 length-take_within at rows within = omega (arith, length-take at rows)

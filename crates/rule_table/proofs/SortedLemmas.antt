@@ -5,8 +5,7 @@ use Rattle.std.specs.Prelude.{All}
 use Rattle.std.specs.Cmp.Lexicographic.{slice_cmp}
 use Rattle.std.specs.Ordering.{nat_cmp}
 use Rattle.std.specs.Str.{bytes_eq}
-use Rattle.std.specs.declared.cmp.Ordering.{Ordering}
-use Rattle.std.specs.declared.cmp.Ordering.TheVariants.{Less, Equal, Greater}
+use Rattle.std.specs.declared.cmp.Ordering.TheVariants.{Less}
 use Rattle.std.proofs.lemmas.Bool.{false≢true}
 use Rattle.std.proofs.lemmas.List.{length-map}
 use Rattle.std.proofs.lemmas.List.Elements.{All-head, All-tail, All-cons, All-nil, All-weaker}
@@ -15,11 +14,11 @@ use Rattle.name_rows.specs.Rows.{named, placed, replacing, AreSorted}
 use Rattle.name_rows.proofs.NameOrder.{Less_from_Greater, same_name, bytes_eq_Less}
 use Rattle.name_rows.proofs.RowLemmas.{by_cmp, by_test, named_none, none_greater, others_after, All_placed, sorted_placed}
 use Rattle.rule_table.specs.RuleSet.{Rule, Bus, RuleSet, changed, keeping_targets, put_rule, put_target}
-use Rattle.rule_table.specs.RuleSet.{put_targets, rules_in, rules_of, rule_at, applied, IsQueueThere, ForRule, IsAllowed, IsSound}
-use Rattle.event_shape.specs.Names.{IsShortName}
+use Rattle.rule_table.specs.RuleSet.{put_targets, rules_in, rules_of, rule_at, applied, IsQueueThere, AreGoodTargets, ForRule, IsAllowed, IsSound}
 use Rattle.rule_table.specs.Control.{Control, rule_put, targets_put, queue_created}
 use Rattle.rule_table.specs.declared.control.Target.{Target}
 use Rattle.rule_table.proofs.RowLemmas.{changed_none, named_same, named_other, All_named}
+use Rattle.rule_table.proofs.RefusalLemmas.{good_few, good_there}
 
 changed_same : {A : Type 0} (f : A → List ℕ) (name : List ℕ) (change : A → A) (row : A) (rows : List A) → bytes_eq (f row) name ≡ true
     → changed f name change (row ∷ rows) ≡ change row ∷ changed f name change rows
@@ -107,13 +106,6 @@ named_placed f joined new name (old ∷ rest) j h =
     (λ other. ap is_some (named_other f name old (placed f joined new rest) other)
     ∙ named_placed f joined new name rest j (sym (ap is_some (named_other f name old rest other)) ∙ h))))
 
-All_put_targets : (P : Target → Type 0) (news targets : List Target) → All P news → All P targets → All P (put_targets news targets)
-All_put_targets P [] targets n all = all
-All_put_targets P (new ∷ news) targets n all =
-    let first = All-head P new news n in
-    All_put_targets P news (put_target new targets) (All-tail P new news n)
-    (All_placed P (λ target. target.id) replacing new targets first (λ old p. first) all)
-
 abbrev RuleInOrder : Rule → Type 0
 RuleInOrder rule = AreSorted (λ target. target.id) rule.targets
 
@@ -172,8 +164,7 @@ sound_targets bus rule targets set a k =
     let IsInOrder : Bus → Type 0 = λ b. AreSorted rule_name b.rules in
     let IsShort : Bus → Type 0 = λ b. length b.rules ≤ 300 in
     let HaveTargets : Bus → Type 0 = λ b. All (AreTargets set) b.rules in
-    let Fact : Rule → Type 0 =
-    λ r. All (λ target. IsShortName target.id × IsQueueThere set target.arn) targets × (length (put_targets targets r.targets) ≤ 5) in
+    let Fact : Rule → Type 0 = λ r. (1 ≤ length targets) × AreGoodTargets set targets r.targets in
     let have : (b : Bus) → named bus_name bus set.buses ≡ Some b → HaveTargets b → All (AreTargets set) (changed rule_name rule put b.rules) =
     λ b is h.
     let sorted = All_named IsInOrder bus_name bus set.buses b is k.rule_order in
@@ -181,10 +172,7 @@ sound_targets bus rule targets set a k =
     (λ r at p.
     let there : rule_at bus rule set ≡ Some r = ap (λ o. named rule_name rule (rules_in o)) is ∙ at in
     let fact = subst (λ o. ForRule o Fact) there a in
-    let queues =
-    All-weaker (λ target. IsShortName target.id × IsQueueThere set target.arn) (λ target. IsQueueThere set target.arn)
-    (λ target both. both.1) targets fact.0 in
-    (fact.1, All_put_targets (λ target. IsQueueThere set target.arn) targets r.targets queues p.1)) h in
+    (good_few set targets r.targets fact.1 p.0, good_there set targets r.targets fact.1 p.1)) h in
     record {
       rules = All_changed IsShort IsShort bus_name bus change set.buses (λ b h. h) (λ b h. rw length-map h) k.rules;
       targets = All_changed_named HaveTargets bus_name bus change set.buses k.bus_order have k.targets;

@@ -1,5 +1,6 @@
 pub mod Control
 pub mod RuleSet
+pub mod Refusal
 pub mod View
-pub mod Kept
+pub mod Altered
 pub mod Room

@@ -2,7 +2,7 @@
 -- changes are allowed. The data model is the public API's; the limits are this project's own, but for that on targets.
 use Rattle.std.specs.Prelude.{◌≡◌, ℕ, ◌+◌, ◌<◌, ◌≤◌, ◌⊎◌, Bool, true, false, if◌then◌else◌, List, [], ◌∷◌, length, map, Option, Some, None, All, is_some}
 use Rattle.std.specs.Str.{bytes_eq}
-use Rattle.event_shape.specs.Names.{default_bus, IsShortName, queue_arn}
+use Rattle.event_shape.specs.Names.{default_bus, IsShortName, IsQueueArn}
 use Rattle.name_rows.specs.Rows.{AreSorted, named, placed, replacing}
 use Rattle.pattern_meaning.specs.Pattern.{Pattern}
 use Rattle.pattern_read.specs.Text.{IsPatternText}
@@ -39,6 +39,7 @@ changed name_of name change rows = map (λ row. if bytes_eq (name_of row) name t
 abbrev pub keeping_targets : Rule → Rule → Rule
 keeping_targets old new = record new { targets = old.targets }
 
+-- the rules with one more, or with the rule of the same name replaced, whose targets stay
 abbrev pub put_rule : Rule → List Rule → List Rule
 put_rule = placed (λ rule. rule.name) keeping_targets
 
@@ -51,6 +52,7 @@ abbrev pub put_targets : List Target → List Target → List Target
 put_targets [] targets = targets
 put_targets (new ∷ news) targets = put_targets news (put_target new targets)
 
+-- the queues with one more
 abbrev pub put_queue : List ℕ → List (List ℕ) → List (List ℕ)
 put_queue = placed (λ name. name) replacing
 
@@ -63,12 +65,20 @@ rules_in (Some bus) = bus.rules
 abbrev pub rules_of : List ℕ → RuleSet → List Rule
 rules_of bus set = rules_in (named (λ b. b.name) bus set.buses)
 
+-- the rule of this name on the bus, if there is one
 abbrev pub rule_at : List ℕ → List ℕ → RuleSet → Option Rule
 rule_at bus name set = named (λ rule. rule.name) name (rules_of bus set)
 
+-- the targets of the rule; none if there is no rule
+abbrev pub targets_in : Option Rule → List Target
+targets_in None = []
+targets_in (Some rule) = rule.targets
+
+-- there is a bus of this name
 abbrev pub has_bus : List ℕ → RuleSet → Bool
 has_bus bus set = is_some (named (λ b. b.name) bus set.buses)
 
+-- there is a queue of this name
 abbrev pub has_queue : List ℕ → RuleSet → Bool
 has_queue name set = is_some (named (λ queue. queue) name set.queues)
 
@@ -88,7 +98,20 @@ applied (queue_created name) set = record set { queues = put_queue name set.queu
 
 -- the text is the ARN of a queue of the rule set
 abbrev pub IsQueueThere : RuleSet → List ℕ → Type 0
-IsQueueThere set arn = (queue : List ℕ) × (arn ≡ queue_arn queue) × (has_queue queue set ≡ true)
+IsQueueThere set arn = (queue : List ℕ) × IsQueueArn arn queue × (has_queue queue set ≡ true)
+
+-- A target is accepted if it is put to a rule that has these targets: its id has the syntax, its queue exists, it has no member
+-- that is not supported yet, and the rule has at most five targets afterwards.
+pub record IsGoodTarget (set : RuleSet) (targets : List Target) (target : Target) : Type 0 where
+  pub id : IsShortName target.id
+  pub queue : IsQueueThere set target.arn
+  pub supported : target.unbuilt ≡ None
+  pub few : length (put_target target targets) ≤ 5
+
+-- each of the new targets is accepted once those before it are put to the rule's targets
+abbrev pub AreGoodTargets : RuleSet → List Target → List Target → Type 0
+AreGoodTargets set [] targets = Unit {0}
+AreGoodTargets set (new ∷ news) targets = IsGoodTarget set targets new × AreGoodTargets set news (put_target new targets)
 
 -- there is a rule, and the fact holds of it
 abbrev pub ForRule : Option Rule → (Rule → Type 0) → Type 0
@@ -96,15 +119,14 @@ ForRule None fact = ⊥
 ForRule (Some rule) fact = fact rule
 
 -- The change is allowed. A rule: its text is a pattern, its bus exists, and the bus has the rule already or has fewer than 300.
--- Targets: their rule exists, their ids have the syntax, their queues exist, and the rule has at most five targets in the end.
--- A queue: no queue has its name, and there are fewer than 1,000.
+-- Targets: their rule exists, there is at least one, and each is accepted after those before it. A queue: no queue has its name,
+-- and there are fewer than 1,000.
 abbrev pub IsAllowed : Control → RuleSet → Type 0
 IsAllowed (rule_put bus name pattern enabled) set =
     ((p : Pattern) × IsPatternText pattern p) × (has_bus bus set ≡ true)
     × ((is_some (rule_at bus name set) ≡ true) ⊎ (length (rules_of bus set) < 300))
 IsAllowed (targets_put bus rule targets) set =
-    ForRule (rule_at bus rule set) (λ r. All (λ target. IsShortName target.id × IsQueueThere set target.arn) targets
-    × (length (put_targets targets r.targets) ≤ 5))
+    ForRule (rule_at bus rule set) (λ r. (1 ≤ length targets) × AreGoodTargets set targets r.targets)
 IsAllowed (queue_created name) set = (has_queue name set ≡ false) × (length set.queues < 1000)
 
 -- What holds of every rule set that allowed changes made from the first one: the limits, and the order of buses, rules, targets and

@@ -1,22 +1,19 @@
 //! Buses, with their rules.
-ghost use Rattle.std.specs.Prelude.{◌≡◌, [], IfOk, IsErrOf};
-ghost use Rattle.name_rows.specs.Rows.{placed, replacing};
+ghost use Rattle.std.specs.Prelude.{◌≡◌, [], None, Some, IfOk, IfSome, MatchOption};
+ghost use Rattle.name_rows.specs.Rows.{named, placed, replacing};
 ghost use Rattle.rule_table.specs.RuleSet as spec;
-ghost use Rattle.rule_table.specs.Room.{HasRoom, HasFew};
+ghost use Rattle.rule_table.specs.Room.{HasRoom};
 
-use crate::control::{ControlFault, Target};
-use crate::rule::{Rule, RulePattern};
-use crate::targets::{copies, with_targets};
+use crate::rule::Rule;
+use crate::targets::copies;
 use json_text::{NoMemory, Text};
 use name_rows::{Row, Rows, RowsFrom};
+use pattern_read::PatternText;
 use std::alloc::Global;
 use std::marker::Model;
 
 /// The greatest number of rules of a bus.
 const MOST_RULES: usize = 300;
-
-/// The greatest number of targets of a rule.
-const MOST_TARGETS: usize = 5;
 
 /// A bus.
 #[derive(Debug, Drop)]
@@ -55,63 +52,46 @@ impl Bus {
         self.rules.iter()
     }
 
-    /// The bus with the rule created or replaced. `NotBuilt` if the rule is new and the bus has 300 rules.
+    /// The rule with this name.
+    pub(crate) fn rule(&self, name: &str) -> Option<&Rule>
+        ensures found { MatchOption result
+            (named (λ r. r.name) name.now self.now.rules ≡ None)
+            (λ rule. named (λ r. r.name) name.now self.now.rules ≡ Some rule.now) }
+    {
+        self.rules.find(name)
+    }
+
+    /// The bus with the rule created or replaced. `None` if the rule is new and the bus has 300 rules.
     pub(crate) fn with_rule(
         &self,
         alloc: Global,
         name: &Text,
-        pattern: RulePattern,
+        pattern: PatternText,
         enabled: bool,
-    ) -> Result<Bus, ControlFault>
-        ensures put { IfOk result (λ bus. bus ≡ record self.now {
+    ) -> Result<Option<Bus>, NoMemory>
+        ensures put { IfOk result (λ found. IfSome found (λ bus. bus ≡ record self.now {
           rules = spec.put_rule (record { name = name.now; pattern = pattern; enabled = enabled; targets = [] }) self.now.rules;
-        }) }
-        ensures room { IfOk result (λ _. HasRoom name.now self.now.rules) }
-        ensures refused { IsErrOf result ControlFault.NotBuilt → ¬ HasRoom name.now self.now.rules }
+        })) }
+        ensures room { IfOk result (λ found. MatchOption found (¬ HasRoom name.now self.now.rules) (λ _. HasRoom name.now self.now.rules)) }
     {
         match self.rules.find(name.as_str()) {
             Some(old) => {
                 let targets = copies(alloc, old.targets())?;
                 let rule = Rule::new(alloc, name, pattern, enabled, targets)?;
-                Ok(self.with(alloc, rule)?)
+                Ok(Some(self.with(alloc, rule)?))
             }
             None => {
                 if self.rules.reach(MOST_RULES) {
-                    return Err(ControlFault::NotBuilt);
+                    return Ok(None);
                 }
                 let rule = Rule::new(alloc, name, pattern, enabled, Vec::new(alloc))?;
-                Ok(self.with(alloc, rule)?)
+                Ok(Some(self.with(alloc, rule)?))
             }
         }
     }
 
-    /// The bus with the targets put to the rule. `NotBuilt` if the bus has no such rule, or the rule would have more than
-    /// five targets.
-    pub(crate) fn with_targets(
-        &self,
-        alloc: Global,
-        rule: &str,
-        targets: &[Target],
-    ) -> Result<Bus, ControlFault>
-        ensures put { IfOk result (λ bus. bus ≡ record self.now {
-          rules = spec.changed (λ r. r.name) rule.now (λ r. record r { targets = spec.put_targets targets.now r.targets }) self.now.rules;
-        }) }
-        ensures few { IfOk result (λ _. HasFew rule.now targets.now self.now.rules) }
-        ensures refused { IsErrOf result ControlFault.NotBuilt → ¬ HasFew rule.now targets.now self.now.rules }
-    {
-        let Some(old) = self.rules.find(rule) else {
-            return Err(ControlFault::NotBuilt);
-        };
-        let targets = with_targets(alloc, old.targets(), targets)?;
-        if targets.len() > MOST_TARGETS {
-            return Err(ControlFault::NotBuilt);
-        }
-        let rule = old.with_targets(alloc, targets)?;
-        Ok(self.with(alloc, rule)?)
-    }
-
     /// The bus with this rule in place of the one of its name, if any.
-    fn with(&self, alloc: Global, rule: Rule) -> Result<Bus, NoMemory>
+    pub(crate) fn with(&self, alloc: Global, rule: Rule) -> Result<Bus, NoMemory>
         ensures { IfOk result (λ bus. bus ≡ record self.now { rules = placed (λ r. r.name) replacing rule self.now.rules }) }
     {
         Ok(Bus {

@@ -1,15 +1,18 @@
 //! Changes of the configuration.
 ghost use Rattle.std.specs.Prelude.{◌≡◌, IfOk};
 
+use api_replies::{Kind, Member};
 use json_text::{NoMemory, Text};
 use std::alloc::{AllocError, AllocFailed, Global};
 use thiserror::Error;
 
-/// A target of a rule: its id, which is unique in the rule, and the ARN of its queue.
+/// A target of a rule: its id, which is unique in the rule, and the ARN of its queue. `unbuilt` is the first member that it has of
+/// those that are not supported yet: Input, InputPath, InputTransformer, RetryPolicy, DeadLetterConfig. A rule's target has none.
 #[derive(Debug, Drop)]
 pub struct Target {
     pub id: Text,
     pub arn: Text,
+    pub unbuilt: Option<Member>,
 }
 
 impl Target {
@@ -20,6 +23,7 @@ impl Target {
         Ok(Target {
             id: self.id.copy(alloc)?,
             arn: self.arn.copy(alloc)?,
+            unbuilt: self.unbuilt,
         })
     }
 }
@@ -46,11 +50,28 @@ pub enum Control {
     },
 }
 
+/// Why a target is not put to a rule, in the order of the checks.
+#[derive(Clone, Copy, Debug, PartialEq, Eq)]
+pub enum TargetFault {
+    /// The member is outside its syntax, or not supported yet.
+    Member(Member),
+    /// The queue of its ARN does not exist.
+    NoQueue,
+    /// The rule would have more than five targets.
+    Sixth,
+}
+
 /// Why a change was not made.
 #[derive(Debug, Drop, Error)]
 pub enum ControlFault {
-    #[error("the change is not allowed")]
-    NotBuilt,
+    #[error("a thing that the change names does not exist")]
+    ResourceNotFound(Kind),
+    #[error("what the change creates exists already")]
+    AlreadyExists(Kind),
+    #[error("the limit of such things is reached")]
+    LimitExceeded(Kind),
+    #[error("a member is not valid")]
+    Validation(Member),
     #[error("out of memory")]
     NoMemory,
 }

@@ -11,7 +11,8 @@ mod targets;
 mod tests;
 
 pub use bus::Bus;
-pub use control::{Control, ControlFault, Target};
-pub use laws::{matching_stays, other_buses_stay};
+pub use control::{Control, ControlFault, Target, TargetFault};
+pub use laws::{matching_stays, one_refusal_of_a_change, one_target_fault, other_buses_stay};
 pub use rule::Rule;
 pub use rule_set::RuleSet;
+pub use targets::put_target;

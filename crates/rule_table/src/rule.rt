@@ -1,58 +1,26 @@
 //! Rules.
-ghost use Rattle.std.specs.Prelude.{◌≡◌, IfOk, IsErrOf};
-ghost use Rattle.pattern_meaning.specs.Pattern.{Pattern as Meaning, IsPattern};
-ghost use Rattle.pattern_meaning.specs.PatternView.{pattern_of};
+ghost use Rattle.std.specs.Prelude.{◌≡◌, IfOk, MatchOption};
+ghost use Rattle.pattern_meaning.specs.Pattern.{Pattern as Meaning};
 ghost use Rattle.pattern_read.specs.Text.{IsPatternText};
 
-use crate::control::{ControlFault, Target};
+use crate::control::Target;
 use json_text::{NoMemory, Text};
 use name_rows::Row;
-use pattern_meaning::Pattern;
-use pattern_read::{PatternFault, read_pattern};
+use pattern_read::{PatternFault, PatternText};
 use std::alloc::Global;
 use std::marker::Model;
 use std::sync::Arc;
 
-/// A pattern with its text.
-#[derive(Debug, Drop)]
-pub(crate) struct RulePattern {
-    text: Text,
-    pattern: Pattern,
-}
-
-impl Model for RulePattern {
-    ghost use Rattle.std.specs.Prelude.{ℕ, List};
-    ghost use Rattle.pattern_meaning.specs.Pattern.{IsPattern};
-    ghost use Rattle.pattern_meaning.specs.PatternView.{pattern_of};
-    ghost use Rattle.pattern_read.specs.Text.{IsPatternText};
-
-    ghost Value = { List ℕ };
-
-    ghost view = { λ p. p.text };
-
-    ghost invariant = { λ p. IsPatternText p.text (pattern_of p.pattern) × IsPattern (pattern_of p.pattern) };
-}
-
-impl RulePattern {
-    /// Reads the text of a pattern. `NotBuilt` if the text is not a pattern.
-    pub(crate) fn read(alloc: Global, text: &Text) -> Result<RulePattern, ControlFault>
-        ensures same { IfOk result (λ p. p ≡ text.now) }
-        ensures read { IfOk result (λ p. (meaning : Meaning) × IsPatternText text.now meaning) }
-        ensures refused { IsErrOf result ControlFault.NotBuilt → (meaning : Meaning) → ¬ IsPatternText text.now meaning }
-    {
-        let text = text.copy(alloc)?;
-        match read_pattern(alloc, text.as_str().as_bytes()) {
-            Ok(pattern) => Ok(RulePattern { text, pattern }),
-            Err(PatternFault::NotBuilt) => Err(ControlFault::NotBuilt),
-            Err(PatternFault::NoMemory) => Err(ControlFault::NoMemory),
-        }
-    }
-
-    fn pattern(&self) -> &Pattern
-        ensures text { IsPatternText self.now (pattern_of result.now) }
-        ensures pattern { IsPattern (pattern_of result.now) }
-    {
-        &self.pattern
+/// The pattern of the text. `None` if the text is not a pattern.
+pub(crate) fn read_rule_pattern(alloc: Global, text: &Text) -> Result<Option<PatternText>, NoMemory>
+    ensures { IfOk result (λ found. MatchOption found
+        ((meaning : Meaning) → ¬ IsPatternText text.now meaning)
+        (λ p. (p ≡ text.now) × (meaning : Meaning) × IsPatternText text.now meaning)) }
+{
+    match PatternText::read(alloc, text.copy(alloc)?) {
+        Ok(pattern) => Ok(Some(pattern)),
+        Err(PatternFault::Refused { why: _, path: _ }) => Ok(None),
+        Err(PatternFault::NoMemory) => Err(NoMemory),
     }
 }
 
@@ -60,7 +28,7 @@ impl RulePattern {
 #[derive(Debug, Drop)]
 pub struct Rule {
     pub(crate) name: Text,
-    pub(crate) pattern: Arc<RulePattern>,
+    pub(crate) pattern: Arc<PatternText>,
     pub(crate) enabled: bool,
     pub(crate) targets: Vec<Target>,
 }
@@ -91,7 +59,7 @@ impl Rule {
     pub(crate) fn new(
         alloc: Global,
         name: &Text,
-        pattern: RulePattern,
+        pattern: PatternText,
         enabled: bool,
         targets: Vec<Target>,
     ) -> Result<Rule, NoMemory>
@@ -124,11 +92,10 @@ impl Rule {
         self.targets.as_slice()
     }
 
-    pub fn pattern(&self) -> &Pattern
-        ensures text { IsPatternText self.now.pattern (pattern_of result.now) }
-        ensures pattern { IsPattern (pattern_of result.now) }
+    pub fn pattern(&self) -> &PatternText
+        ensures { result.now ≡ self.now.pattern }
     {
-        self.pattern.pattern()
+        &self.pattern
     }
 
     /// The rule with these targets in place of its own. Shares the pattern.

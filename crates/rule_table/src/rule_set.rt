@@ -1,15 +1,17 @@
 //! Rule sets, and the rule set after a change.
-ghost use Rattle.std.specs.Prelude.{◌≡◌, ◌↔◌, ◌+◌, ◌^◌, ◌<◌, false, Some, All, IfOk, IsErrOf, IsTrue, MatchOption};
-ghost use Rattle.event_shape.specs.Names.{IsShortName};
+ghost use Rattle.std.specs.Prelude.{◌≡◌, ◌⊎◌, ◌+◌, ◌^◌, ◌<◌, ◌≤◌, [], None, false, Some, IfOk, IfErr, MatchOption, length};
 ghost use Rattle.name_rows.specs.Rows.{named, placed, replacing};
 ghost use Rattle.rule_table.specs.Control.{rule_put, targets_put, queue_created};
 ghost use Rattle.rule_table.specs.RuleSet as spec;
+ghost use Rattle.rule_table.specs.Refusal.{HasTargetFault, HasFaultyTarget, IsRuleRefused, AreTargetsRefused, IsQueueRefused, IsRefused};
 ghost use Rattle.rule_table.specs.View.{control_of};
 
 use crate::bus::Bus;
-use crate::control::{Control, ControlFault, Target};
-use crate::rule::RulePattern;
-use event_shape::{DEFAULT_BUS, is_target_id, queue_name_in};
+use crate::control::{Control, ControlFault, Target, TargetFault};
+use crate::rule::{Rule, read_rule_pattern};
+use crate::targets::{copies, is_sixth, put_target};
+use api_replies::{Kind, Member};
+use event_shape::{DEFAULT_BUS, is_target_id, queue_of};
 use json_text::{NoMemory, Text};
 use name_rows::Rows;
 use std::alloc::Global;
@@ -63,12 +65,12 @@ impl RuleSet {
         })
     }
 
-    /// The rule set after the change. Shares the parts that do not change, and copies the pointers of one block of each list that does.
-    /// `NotBuilt` if the change is not allowed (`IsAllowed`). After an error the old set is unchanged.
+    /// The rule set after the change, or the change's first refusal (`IsRefused`). Shares the parts that do not change with the
+    /// old set, which stays as it was.
     pub fn apply(&self, alloc: Global, control: &Control) -> Result<RuleSet, ControlFault>
         requires { self.now.count < 2 ^ 63 }
         ensures applied { IfOk result (λ set. spec.IsAllowed (control_of control.now) self.now × (set ≡ spec.applied (control_of control.now) self.now)) }
-        ensures refused { IsErrOf result ControlFault.NotBuilt → ¬ spec.IsAllowed (control_of control.now) self.now }
+        ensures refused { IfErr result (λ fault. (fault ≡ ControlFault.NoMemory) ⊎ IsRefused (control_of control.now) self.now fault) }
     {
         match control {
             Control::RulePut {
@@ -91,6 +93,52 @@ impl RuleSet {
             (λ bus. named (λ b. b.name) name.now self.now.buses ≡ Some bus.now) }
     {
         self.found(name)
+    }
+
+    /// The rule of this name on the bus.
+    pub fn rule(&self, bus: &str, name: &str) -> Option<&Rule>
+        ensures { MatchOption result
+            (spec.rule_at bus.now name.now self.now ≡ None)
+            (λ rule. spec.rule_at bus.now name.now self.now ≡ Some rule.now) }
+    {
+        match self.found(bus) {
+            Some(bus) => bus.rule(name),
+            None => None,
+        }
+    }
+
+    /// The targets of the rule, in the byte order of their ids; none if there is no such rule.
+    pub fn targets(&self, bus: &str, rule: &str) -> &[Target]
+        ensures { result.now ≡ spec.targets_in (spec.rule_at bus.now rule.now self.now) }
+    {
+        match self.rule(bus, rule) {
+            Some(rule) => rule.targets(),
+            None => &[],
+        }
+    }
+
+    /// The first fault of the target if it is put to a rule that has these targets. `apply` decides on targets by this call alone.
+    pub fn target_fault(&self, targets: &[Target], target: &Target) -> Option<TargetFault>
+        ensures { MatchOption result
+            (spec.IsGoodTarget self.now targets.now target.now)
+            (λ fault. HasTargetFault self.now targets.now target.now fault) }
+    {
+        if !is_target_id(target.id.as_str()) {
+            return Some(TargetFault::Member(Member::Id));
+        }
+        let Some(queue) = queue_of(target.arn.as_str()) else {
+            return Some(TargetFault::Member(Member::Arn));
+        };
+        if let Some(member) = target.unbuilt {
+            return Some(TargetFault::Member(member));
+        }
+        if !self.queue(queue) {
+            return Some(TargetFault::NoQueue);
+        }
+        if is_sixth(targets, target) {
+            return Some(TargetFault::Sixth);
+        }
+        None
     }
 
     /// Whether a queue has this name.
@@ -119,13 +167,17 @@ impl RuleSet {
         requires { self.now.count < 2 ^ 63 }
         ensures applied { IfOk result (λ set. spec.IsAllowed (rule_put bus.now name.now pattern.now enabled) self.now
             × (set ≡ spec.applied (rule_put bus.now name.now pattern.now enabled) self.now)) }
-        ensures refused { IsErrOf result ControlFault.NotBuilt → ¬ spec.IsAllowed (rule_put bus.now name.now pattern.now enabled) self.now }
+        ensures refused { IfErr result (λ fault. (fault ≡ ControlFault.NoMemory) ⊎ IsRuleRefused bus.now name.now pattern.now self.now fault) }
     {
-        let Some(old) = self.found(bus.as_str()) else {
-            return Err(ControlFault::NotBuilt);
+        let Some(pattern) = read_rule_pattern(alloc, pattern)? else {
+            return Err(ControlFault::Validation(Member::EventPattern));
         };
-        let pattern = RulePattern::read(alloc, pattern)?;
-        let new = old.with_rule(alloc, name, pattern, enabled)?;
+        let Some(old) = self.found(bus.as_str()) else {
+            return Err(ControlFault::ResourceNotFound(Kind::EventBus));
+        };
+        let Some(new) = old.with_rule(alloc, name, pattern, enabled)? else {
+            return Err(ControlFault::LimitExceeded(Kind::Rule));
+        };
         Ok(self.with_bus(alloc, new)?)
     }
 
@@ -139,25 +191,56 @@ impl RuleSet {
         requires { self.now.count < 2 ^ 63 }
         ensures applied { IfOk result (λ set. spec.IsAllowed (targets_put bus.now rule.now targets.now) self.now
             × (set ≡ spec.applied (targets_put bus.now rule.now targets.now) self.now)) }
-        ensures refused { IsErrOf result ControlFault.NotBuilt → ¬ spec.IsAllowed (targets_put bus.now rule.now targets.now) self.now }
+        ensures refused { IfErr result (λ fault. (fault ≡ ControlFault.NoMemory) ⊎ AreTargetsRefused bus.now rule.now targets.now self.now fault) }
     {
         let Some(old) = self.found(bus.as_str()) else {
-            return Err(ControlFault::NotBuilt);
+            return Err(ControlFault::ResourceNotFound(Kind::EventBus));
         };
-        if !self.are_targets(targets) {
-            return Err(ControlFault::NotBuilt);
-        }
-        let new = old.with_targets(alloc, rule.as_str(), targets)?;
+        let Some(rule) = old.rule(rule.as_str()) else {
+            return Err(ControlFault::ResourceNotFound(Kind::Rule));
+        };
+        let Some(targets) = self.after_put(alloc, rule.targets(), targets)? else {
+            return Err(ControlFault::Validation(Member::Targets));
+        };
+        let new = old.with(alloc, rule.with_targets(alloc, targets)?)?;
         Ok(self.with_bus(alloc, new)?)
+    }
+
+    /// A rule's targets with the new ones put to them in order. `None` if there is no new one, or one has a fault.
+    fn after_put(
+        &self,
+        alloc: Global,
+        targets: &[Target],
+        news: &[Target],
+    ) -> Result<Option<Vec<Target>>, NoMemory>
+        ensures { IfOk result (λ found. MatchOption found
+            ((news.now ≡ []) ⊎ HasFaultyTarget self.now news.now targets.now)
+            (λ others. (1 ≤ length news.now) × spec.AreGoodTargets self.now news.now targets.now
+            × (others.items ≡ spec.put_targets news.now targets.now))) }
+    {
+        if news.is_empty() {
+            return Ok(None);
+        }
+        let mut others = copies(alloc, targets)?;
+        for new in news {
+            if self.target_fault(&others, new).is_some() {
+                return Ok(None);
+            }
+            put_target(&mut others, new.copy(alloc)?)?;
+        }
+        Ok(Some(others))
     }
 
     fn create_queue(&self, alloc: Global, name: &Text) -> Result<RuleSet, ControlFault>
         requires { self.now.count < 2 ^ 63 }
         ensures applied { IfOk result (λ set. spec.IsAllowed (queue_created name.now) self.now × (set ≡ spec.applied (queue_created name.now) self.now)) }
-        ensures refused { IsErrOf result ControlFault.NotBuilt → ¬ spec.IsAllowed (queue_created name.now) self.now }
+        ensures refused { IfErr result (λ fault. (fault ≡ ControlFault.NoMemory) ⊎ IsQueueRefused name.now self.now fault) }
     {
-        if self.queue(name.as_str()) || self.queues.reach(MOST_QUEUES) {
-            return Err(ControlFault::NotBuilt);
+        if self.queue(name.as_str()) {
+            return Err(ControlFault::AlreadyExists(Kind::Queue));
+        }
+        if self.queues.reach(MOST_QUEUES) {
+            return Err(ControlFault::LimitExceeded(Kind::Queue));
         }
         Ok(self.with_queue(alloc, name.copy(alloc)?)?)
     }
@@ -206,32 +289,5 @@ impl RuleSet {
         ensures { result ≡ self.now.count + 1 }
     {
         self.count + 1
-    }
-
-    /// Whether each id has the syntax of a target id, and each ARN is that of an existing queue.
-    fn are_targets(&self, targets: &[Target]) -> bool
-        ensures { IsTrue result ↔ All (λ target. IsShortName target.id × spec.IsQueueThere self.now target.arn) targets.now }
-    {
-        for target in targets {
-            if !self.is_target(target) {
-                return false;
-            }
-        }
-        true
-    }
-
-    fn is_target(&self, target: &Target) -> bool
-        ensures { IsTrue result ↔ (IsShortName target.now.id × spec.IsQueueThere self.now target.now.arn) }
-    {
-        is_target_id(target.id.as_str()) && self.is_queue_there(target.arn.as_str())
-    }
-
-    fn is_queue_there(&self, arn: &str) -> bool
-        ensures { IsTrue result ↔ spec.IsQueueThere self.now arn.now }
-    {
-        match queue_name_in(arn) {
-            Some(queue) => self.queue(queue),
-            None => false,
-        }
     }
 }

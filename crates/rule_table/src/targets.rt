@@ -1,5 +1,5 @@
 //! Targets of one rule, in the byte order of their ids.
-ghost use Rattle.std.specs.Prelude.{◌≡◌, IfOk, OnOk};
+ghost use Rattle.std.specs.Prelude.{◌≡◌, ◌↔◌, ◌<◌, IfOk, OnOk, OnErr, IsTrue, length};
 ghost use Rattle.name_rows.specs.Place.{IsPlace};
 ghost use Rattle.rule_table.specs.RuleSet as spec;
 
@@ -8,6 +8,9 @@ use json_text::NoMemory;
 use name_rows::Place;
 use std::alloc::Global;
 use std::cmp::Ordering;
+
+/// The greatest number of targets of a rule.
+const MOST_TARGETS: usize = 5;
 
 /// A copy of the targets.
 pub(crate) fn copies(alloc: Global, targets: &[Target]) -> Result<Vec<Target>, NoMemory>
@@ -34,27 +37,25 @@ fn place_of(targets: &[Target], id: &str) -> Place
     Place::Before(targets.len())
 }
 
-fn put_target(targets: &mut Vec<Target>, new: Target) -> Result<(), NoMemory>
-    ensures { OnOk result (targets.new.items ≡ spec.put_target new targets.old.items) }
+/// Whether the rule would have more than five targets with this one.
+pub(crate) fn is_sixth(targets: &[Target], new: &Target) -> bool
+    ensures { IsTrue result ↔ (5 < length (spec.put_target new.now targets.now)) }
+{
+    match place_of(targets, new.id.as_str()) {
+        Place::Here(_) => targets.len() > MOST_TARGETS,
+        Place::Before(_) => targets.len() >= MOST_TARGETS,
+    }
+}
+
+/// Puts the target to a rule's targets, in the byte order of ids; a target with the same id is replaced. After an error the
+/// targets are as they were.
+pub fn put_target(targets: &mut Vec<Target>, new: Target) -> Result<(), NoMemory>
+    ensures put { OnOk result (targets.new.items ≡ spec.put_target new targets.old.items) }
+    ensures unchanged { OnErr result (targets.new.items ≡ targets.old.items) }
 {
     match place_of(targets.as_slice(), new.id.as_str()) {
         Place::Here(at) => targets[at] = new,
         Place::Before(at) => targets.insert(at, new)?,
     }
     Ok(())
-}
-
-/// The targets, with the new ones put in their order; a target with the same id is replaced.
-pub(crate) fn with_targets(
-    alloc: Global,
-    targets: &[Target],
-    news: &[Target],
-) -> Result<Vec<Target>, NoMemory>
-    ensures { IfOk result (λ others. others.items ≡ spec.put_targets news.now targets.now) }
-{
-    let mut others = copies(alloc, targets)?;
-    for new in news {
-        put_target(&mut others, new.copy(alloc)?)?;
-    }
-    Ok(others)
 }

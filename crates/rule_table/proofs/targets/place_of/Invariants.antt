@@ -1,4 +1,4 @@
-use Rattle.std.proofs.Common.{◌≡◌, take}
+use Rattle.std.proofs.Common.{take}
 use Rattle.std.specs.Prelude.{All}
 use Rattle.name_rows.specs.Place.{IsSmaller}
 use Rattle.rule_table.proofs.targets.place_of.Given as goal

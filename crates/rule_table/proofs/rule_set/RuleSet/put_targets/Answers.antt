@@ -1,56 +1,71 @@
-use Rattle.std.proofs.Common.{◌≡◌, ◌+◌, Err, refl, ap, sym, ◌∙◌, subst}
-use Rattle.std.proofs.lemmas.Result.{err_from_is_err_and}
+use Rattle.std.proofs.Common.{◌≡◌, ◌⊎◌, ◌+◌, [], false, None, Some, inr, ap, sym, ◌∙◌, subst}
+use Rattle.name_rows.specs.Rows.{named, placed, replacing}
 use Rattle.rule_table.specs.Control.{targets_put}
-use Rattle.rule_table.specs.RuleSet.{Rule, Bus, changed, put_targets, IsSound}
-use Rattle.rule_table.specs.Room.{HasFew}
-use Rattle.rule_table.specs.declared.control.ControlFault.TheVariants.{NotBuilt}
+use Rattle.rule_table.specs.RuleSet.{Rule, has_bus, put_targets, AreGoodTargets, IsSound}
+use Rattle.rule_table.specs.Refusal.{HasFaultyTarget, targets_without_bus, targets_without_rule, faulty_targets}
 use Rattle.rule_table.proofs.SortedLemmas.{sound_applied}
-use Rattle.rule_table.proofs.ChangeLemmas.{IsFound, found_changed, targets_allowed, targets_few}
+use Rattle.rule_table.proofs.ChangeLemmas.{IsFound, bus_there, rule_found, rule_missing, targets_allowed, targets_changed}
 use Rattle.rule_table.proofs.rule_set.RuleSet.put_targets.Goals as goal
 
-pub returns-in_err-new-clause-refused : goal.returns-in_err-new-clause-refused
-returns-in_err-new-clause-refused c =
+pub returns-in_default-clause-refused : goal.returns-in_default-clause-refused
+returns-in_default-clause-refused c =
+    inr (targets_without_bus (subst (λ name. has_bus name c.args.self.now ≡ false) c.as_str.ensures c.in_default.ensures.found))
+
+pub returns-in_default-rule-clause-refused : goal.returns-in_default-rule-clause-refused
+returns-in_default-rule-clause-refused c =
+    let set = c.args.self.now in
     let old = c.in-Some.old.now in
-    let found = subst (λ name. IsFound c.args.self.now name old) c.as_str.ensures c.in-Some.ensures.found in
-    let p = err_from_is_err_and c.from_residual.result c.from_residual.ensures.1 in
-    rw (p.1, p.2) (λ e a.
-    let same : c.in_err-new.field-0.0 ≡ NotBuilt = cc in
-    let few = targets_few c.args.bus.now c.args.rule.now c.args.targets.now c.args.self.now old found a in
-    c.in_err-new.ensures.refused (ap Err same) (subst (λ rule. HasFew rule c.args.targets.now old.rules) (sym c.as_str-2.ensures) few))
+    let found = subst (λ name. IsFound set name old) c.as_str.ensures c.in-Some.ensures.found in
+    let none = subst (λ name. named (λ (r : Rule). r.name) name old.rules ≡ None) c.as_str-2.ensures c.in_default-rule.ensures.found in
+    inr (targets_without_rule (bus_there c.args.bus.now set old found) (rule_missing c.args.bus.now c.args.rule.now set old found none))
+
+pub returns-in_default-2-clause-refused : goal.returns-in_default-2-clause-refused
+returns-in_default-2-clause-refused c =
+    let set = c.args.self.now in
+    let old = c.in-Some.old.now in
+    let r = c.in-Some-rule.rule.now in
+    let found = subst (λ name. IsFound set name old) c.as_str.ensures c.in-Some.ensures.found in
+    let there = subst (λ name. named (λ (r : Rule). r.name) name old.rules ≡ Some r) c.as_str-2.ensures c.in-Some-rule.ensures.found in
+    let news = c.args.targets.now in
+    let faulty = rw c.in_default-2.is at c.in_ok-targets.ensures in
+    inr (faulty_targets r (rule_found c.args.bus.now c.args.rule.now set old r found there)
+    (subst (λ ts. (news ≡ []) ⊎ HasFaultyTarget set news ts) c.targets.ensures faulty))
 
 pub with_bus-requires-clause-sound : goal.with_bus-requires-clause-sound
 with_bus-requires-clause-sound c =
     let bus = c.args.bus.now in
     let rule = c.args.rule.now in
-    let targets = c.args.targets.now in
+    let news = c.args.targets.now in
     let set = c.args.self.now in
     let old = c.in-Some.old.now in
-    let sorted = c.in-Some.ensures.sound in
+    let r = c.in-Some-rule.rule.now in
+    let sound = c.in-Some.ensures.sound in
     let found = subst (λ name. IsFound set name old) c.as_str.ensures c.in-Some.ensures.found in
-    let put : Rule → Rule = λ r. record r { targets = put_targets targets r.targets } in
-    let change : Bus → Bus = λ b. record b { rules = changed (λ r. r.name) rule put b.rules } in
-    let new : c.in_ok-new.new ≡ change old =
-    c.in_ok-new.ensures.put ∙ ap (λ name. record old { rules = changed (λ r. r.name) name put old.rules }) c.as_str-2.ensures in
-    let few = subst (λ name. HasFew name targets old.rules) c.as_str-2.ensures c.in_ok-new.ensures.few in
-    let allowed = targets_allowed bus rule targets set old found (c.if-not-are_targets.ensures.0 refl) few in
+    let there = subst (λ name. named (λ (r : Rule). r.name) name old.rules ≡ Some r) c.as_str-2.ensures c.in-Some-rule.ensures.found in
+    let put = rw c.in-Some-2.is at c.in_ok-targets.ensures in
+    let good = subst (AreGoodTargets set news) c.targets.ensures put.1 in
+    let same = put.2 ∙ ap (put_targets news) c.targets.ensures in
+    let made = c.in_ok-new.ensures ∙ ap (λ (x : Rule). record old { rules = placed (λ r. r.name) replacing x old.rules }) c.in_ok-with_targets.ensures in
+    let allowed = targets_allowed bus rule news set r (rule_found bus rule set old r found there) put.0 good in
     subst (λ buses. IsSound (record set { buses = buses; count = set.count + 1 }))
-    (sym (found_changed set bus old change c.in_ok-new.new found sorted (λ b. refl) new))
-    (sound_applied (targets_put bus rule targets) set allowed sorted)
+    (sym (targets_changed bus rule news set old r c.in-Some-2.targets.items c.in_ok-new.new found there sound same made))
+    (sound_applied (targets_put bus rule news) set allowed sound)
 
 pub returns-clause-applied : goal.returns-clause-applied
 returns-clause-applied c =
     let bus = c.args.bus.now in
     let rule = c.args.rule.now in
-    let targets = c.args.targets.now in
+    let news = c.args.targets.now in
     let set = c.args.self.now in
     let old = c.in-Some.old.now in
+    let r = c.in-Some-rule.rule.now in
     let found = subst (λ name. IsFound set name old) c.as_str.ensures c.in-Some.ensures.found in
-    let put : Rule → Rule = λ r. record r { targets = put_targets targets r.targets } in
-    let change : Bus → Bus = λ b. record b { rules = changed (λ r. r.name) rule put b.rules } in
-    let new : c.in_ok-new.new ≡ change old =
-    c.in_ok-new.ensures.put ∙ ap (λ name. record old { rules = changed (λ r. r.name) name put old.rules }) c.as_str-2.ensures in
-    let few = subst (λ name. HasFew name targets old.rules) c.as_str-2.ensures c.in_ok-new.ensures.few in (
-      targets_allowed bus rule targets set old found (c.if-not-are_targets.ensures.0 refl) few,
+    let there = subst (λ name. named (λ (r : Rule). r.name) name old.rules ≡ Some r) c.as_str-2.ensures c.in-Some-rule.ensures.found in
+    let put = rw c.in-Some-2.is at c.in_ok-targets.ensures in
+    let good = subst (AreGoodTargets set news) c.targets.ensures put.1 in
+    let same = put.2 ∙ ap (put_targets news) c.targets.ensures in
+    let made = c.in_ok-new.ensures ∙ ap (λ (x : Rule). record old { rules = placed (λ r. r.name) replacing x old.rules }) c.in_ok-with_targets.ensures in (
+      targets_allowed bus rule news set r (rule_found bus rule set old r found there) put.0 good,
       c.in_ok-with_bus.ensures ∙ ap (λ buses. record set { buses = buses; count = set.count + 1 })
-          (found_changed set bus old change c.in_ok-new.new found c.in-Some.ensures.sound (λ b. refl) new),
+          (targets_changed bus rule news set old r c.in-Some-2.targets.items c.in_ok-new.new found there c.in-Some.ensures.sound same made),
     )

@@ -1,7 +1,7 @@
 -- What a change may alter: the bus that it names, and what matching reads of a rule set.
 use Rattle.std.specs.Prelude.{ℕ, Bool, List, Option, Some, None, map}
 use Rattle.rule_table.specs.Control.{Control, rule_put, targets_put, queue_created}
-use Rattle.rule_table.specs.RuleSet.{Rule, Bus, RuleSet}
+use Rattle.rule_table.specs.RuleSet.{Rule, RuleSet}
 
 -- the bus that the change names, if any
 abbrev pub changed_bus : Control → Option (List ℕ)

@@ -1,0 +1,64 @@
+-- Why a target or a change is refused: its first fault, in the order in which the call reports them.
+use Rattle.std.specs.Prelude.{◌≡◌, ◌<◌, ◌≤◌, ◌⊎◌, ℕ, true, false, List, [], ◌∷◌, length, Some, None}
+use Rattle.event_shape.specs.Names.{IsShortName, IsQueueArn}
+use Rattle.pattern_meaning.specs.Pattern.{Pattern}
+use Rattle.pattern_read.specs.Text.{IsPatternText}
+use Rattle.api_replies.specs.declared.kind.Kind.TheVariants as kind
+use Rattle.api_replies.specs.declared.member.Member.{Member}
+use Rattle.api_replies.specs.declared.member.Member.TheVariants as member
+use Rattle.rule_table.specs.declared.control.Target.{Target}
+use Rattle.rule_table.specs.declared.control.TargetFault.{TargetFault}
+use Rattle.rule_table.specs.declared.control.TargetFault.TheVariants as target_fault
+use Rattle.rule_table.specs.declared.control.ControlFault.{ControlFault}
+use Rattle.rule_table.specs.declared.control.ControlFault.TheVariants.{ResourceNotFound, AlreadyExists, LimitExceeded, Validation}
+use Rattle.rule_table.specs.Control.{Control, rule_put, targets_put, queue_created}
+use Rattle.rule_table.specs.RuleSet.{Rule, RuleSet, put_target, has_bus, has_queue, rule_at, rules_of, IsQueueThere}
+
+-- the first fault of a target that is put to a rule which has these targets
+pub data HasTargetFault (set : RuleSet) (targets : List Target) (target : Target) : TargetFault → Type 0 where
+  -- its id is outside the syntax
+  bad_id : ¬ IsShortName target.id → HasTargetFault set targets target (target_fault.Member member.Id)
+  -- its ARN is no queue's
+  bad_arn : IsShortName target.id → ((queue : List ℕ) → ¬ IsQueueArn target.arn queue)
+      → HasTargetFault set targets target (target_fault.Member member.Arn)
+  -- it has a member that is not supported yet
+  unsupported : (first : Member) → IsShortName target.id → (queue : List ℕ) → IsQueueArn target.arn queue → target.unbuilt ≡ Some first
+      → HasTargetFault set targets target (target_fault.Member first)
+  -- its queue does not exist
+  no_queue : IsShortName target.id → (queue : List ℕ) → IsQueueArn target.arn queue → target.unbuilt ≡ None → has_queue queue set ≡ false
+      → HasTargetFault set targets target target_fault.NoQueue
+  -- with it the rule would have more than five
+  sixth : IsShortName target.id → IsQueueThere set target.arn → target.unbuilt ≡ None → 5 < length (put_target target targets)
+      → HasTargetFault set targets target target_fault.Sixth
+
+-- one of the new targets has a fault once those before it are put to the rule's targets
+abbrev pub HasFaultyTarget : RuleSet → List Target → List Target → Type 0
+HasFaultyTarget set [] targets = ⊥
+HasFaultyTarget set (new ∷ news) targets =
+    ((fault : TargetFault) × HasTargetFault set targets new fault) ⊎ HasFaultyTarget set news (put_target new targets)
+
+-- the first refusal of a rule that is put (PutRule)
+pub data IsRuleRefused (bus name pattern : List ℕ) (set : RuleSet) : ControlFault → Type 0 where
+  no_pattern : ((p : Pattern) → ¬ IsPatternText pattern p) → IsRuleRefused bus name pattern set (Validation member.EventPattern)
+  rule_without_bus : (p : Pattern) → IsPatternText pattern p → has_bus bus set ≡ false → IsRuleRefused bus name pattern set (ResourceNotFound kind.EventBus)
+  -- a new rule, and the bus has 300
+  rule_limit : (p : Pattern) → IsPatternText pattern p → has_bus bus set ≡ true → rule_at bus name set ≡ None → 300 ≤ length (rules_of bus set)
+      → IsRuleRefused bus name pattern set (LimitExceeded kind.Rule)
+
+-- the first refusal of targets that are put (PutTargets)
+pub data AreTargetsRefused (bus rule : List ℕ) (targets : List Target) (set : RuleSet) : ControlFault → Type 0 where
+  targets_without_bus : has_bus bus set ≡ false → AreTargetsRefused bus rule targets set (ResourceNotFound kind.EventBus)
+  targets_without_rule : has_bus bus set ≡ true → rule_at bus rule set ≡ None → AreTargetsRefused bus rule targets set (ResourceNotFound kind.Rule)
+  faulty_targets : (r : Rule) → rule_at bus rule set ≡ Some r → (targets ≡ []) ⊎ HasFaultyTarget set targets r.targets
+      → AreTargetsRefused bus rule targets set (Validation member.Targets)
+
+-- the first refusal of a queue that is created (CreateQueue)
+pub data IsQueueRefused (name : List ℕ) (set : RuleSet) : ControlFault → Type 0 where
+  queue_exists : has_queue name set ≡ true → IsQueueRefused name set (AlreadyExists kind.Queue)
+  queue_limit : has_queue name set ≡ false → 1000 ≤ length set.queues → IsQueueRefused name set (LimitExceeded kind.Queue)
+
+-- the first refusal of a change
+abbrev pub IsRefused : Control → RuleSet → ControlFault → Type 0
+IsRefused (rule_put bus name pattern enabled) set fault = IsRuleRefused bus name pattern set fault
+IsRefused (targets_put bus rule targets) set fault = AreTargetsRefused bus rule targets set fault
+IsRefused (queue_created name) set fault = IsQueueRefused name set fault
