@@ -1,29 +1,23 @@
--- The targets of the rules that match an event. Other files cite `one_pattern`, `matched_more`, `matched_same`,
--- `matched_of_bus`, and `matched_fits`: they are few, and their queues exist.
+-- The targets of the rules that match an event. Other files cite `matched_more`, `matched_same`,
+-- `matched_of_bus`, `matched_numbered` (an event's number does not matter), and `matched_fits`: they are few, and their queues exist.
 use Rattle.std.proofs.Common.{◌≡◌, ℕ, ◌+◌, ◌*◌, ◌<◌, ◌≤◌, ◌⊎◌, inl, inr, true, false, cond, List, [], ◌∷◌, ◌++◌, length, map}
-use Rattle.std.proofs.Common.{take, get_or, Option, Some, None, sym, refl, ap, ◌∙◌, subst, arith, append_assoc, length-append}
+use Rattle.std.proofs.Common.{take, drop, get_or, codes, Option, Some, None, sym, refl, ap, ◌∙◌, subst, arith, append_assoc, length-append}
 use Rattle.std.specs.Prelude.{All, bytes_eq}
 use Rattle.std.specs.declared.sync.Arc.{Arc}
 use Rattle.std.specs.Arc.{arc_value}
 use Rattle.std.proofs.lemmas.List.{append-nil, length-map, take_more, map-append}
 use Rattle.std.proofs.lemmas.List.Elements.{All-nil, All-head, All-tail, All-append, All-map}
-use Rattle.json_text.proofs.OneValue.{one_value}
 use Rattle.json_text.specs.Tree.{Tree}
-use Rattle.json_text.specs.Node.{Node, value_of}
-use Rattle.pattern_meaning.specs.Pattern.{Pattern}
-use Rattle.pattern_read.specs.Text.{IsPatternText, pattern_at}
-use Rattle.pattern_read.proofs.ReadLemmas.{stands}
+use Rattle.event_shape.specs.Id.{event_id}
+use Rattle.event_shape.specs.Event.{Event, event_members, event_tree}
+use Rattle.event_shape.specs.Unnumbered.{with_number}
+use Rattle.pattern_meaning.proofs.UnseenLemmas.{other_text}
+use Rattle.pattern_read.proofs.SoundLemmas.{text_lacks_id}
 use Rattle.rule_table.specs.declared.control.Target.{Target}
 use Rattle.name_rows.specs.Rows.{named}
 use Rattle.rule_table.specs.RuleSet.{Rule, Bus, RuleSet, IsSound, IsQueueThere, rules_of, rules_in}
 use Rattle.router_core.specs.declared.seen.SeenTarget.{SeenTarget}
 use Rattle.router_core.specs.Matching.{Matches, seen_target, AreMatched}
-
--- a text is one pattern only
-pub one_pattern : {text : List ℕ} {p q : Pattern} → IsPatternText text p → IsPatternText text q → p ≡ q
-one_pattern {text} {p} {q} a b =
-    let same : a.node ≡ b.node = one_value 100 100 text a.node b.node a.spelled b.spelled in
-    stands (pattern_at (value_of a.node)) p q a.stands_for (ap (λ (n : Node). pattern_at (value_of n)) same ∙ b.stands_for)
 
 one_more : (bus : List ℕ) (rules : List Rule) (rule : Rule) (event : Tree) (targets more : List SeenTarget) → AreMatched bus rules event targets
     → (Matches rule event × (more ≡ map (seen_target bus rule) rule.targets)) ⊎ ((¬ Matches rule event) × (more ≡ []))
@@ -112,3 +106,28 @@ matched_fits bus set event targets sound =
         let fit = fits_all set bus b.rules event targets
         (named_all (λ (b : Bus). All (Fits set) b.rules) (λ (b : Bus). b.name) bus set.buses b sound.targets e) are in
         (omega (arith, fit.0, few), fit.1)
+
+-- the number of an event does not matter to a rule
+matches_numbered : (rule : Rule) (e : Event) (n m : ℕ) → Matches rule (event_tree (with_number n e) None) → Matches rule (event_tree (with_number m e) None)
+matches_numbered rule e n m (enabled, h) = (
+  enabled,
+  record {
+    pattern = h.pattern;
+    read = h.read;
+    holds = other_text h.pattern (codes "id") (take 1 (event_members e)) (drop 2 (event_members e)) (event_id n) (event_id m)
+        (text_lacks_id rule.pattern h.pattern h.read) h.holds;
+  },
+)
+
+-- nor to the targets of the rules that match it
+pub matched_numbered : (bus : List ℕ) (rules : List Rule) (e : Event) (n m : ℕ) (targets : List SeenTarget)
+    → AreMatched bus rules (event_tree (with_number n e) None) targets → AreMatched bus rules (event_tree (with_number m e) None) targets
+matched_numbered bus [] e n m targets none = none
+matched_numbered bus (rule ∷ rules) e n m targets (rest, are, which) = (
+  rest,
+  matched_numbered bus rules e n m rest are,
+  elim which [
+    | inl (holds, is) ↦ inl (matches_numbered rule e n m holds, is)
+    | inr (not, is) ↦ inr ((λ h. not (matches_numbered rule e m n h)), is)
+  ],
+)

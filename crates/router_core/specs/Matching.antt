@@ -12,12 +12,15 @@ use Rattle.router_core.specs.declared.seen.SeenTarget.{SeenTarget}
 use Rattle.router_core.specs.declared.seen.SeenEntry.{SeenEntry}
 use Rattle.router_core.specs.declared.seen.Seen.{Seen}
 
--- the rule is enabled, and the pattern of its text matches the event
-pub record Matches (rule : Rule) (event : Tree) : Type 0 where
-  pub enabled : rule.enabled ≡ true
+-- the text is a pattern, which holds of the event
+pub record TextMatches (text : List ℕ) (event : Tree) : Type 0 where
   pub pattern : Pattern
-  pub read : IsPatternText rule.pattern pattern
+  pub read : IsPatternText text pattern
   pub holds : PatternHolds pattern event
+
+-- the rule is enabled, and its pattern matches the event
+abbrev pub Matches : Rule → Tree → Type 0
+Matches rule event = (rule.enabled ≡ true) × TextMatches rule.pattern event
 
 -- a target of a rule of the bus, with the ARN of the rule
 abbrev pub seen_target : List ℕ → Rule → Target → SeenTarget

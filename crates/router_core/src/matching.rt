@@ -1,17 +1,20 @@
 //! Which rules match an event, and the duties of the event.
-ghost use Rattle.std.specs.Prelude.{◌≡◌, ◌++◌, map, IsTrue, IsFalse, IfOk, OnOk};
+ghost use Rattle.std.specs.Prelude.{◌≡◌, ◌↔◌, ◌++◌, ℕ, None, map, IsTrue, IsFalse, IfOk, OnOk};
 ghost use Rattle.std.specs.Option.{option_copied};
 ghost use Rattle.json_text.specs.View.{tree_of};
 ghost use Rattle.json_text.specs.Compact.{IsValue};
 ghost use Rattle.event_shape.specs.Event.{event_tree};
+ghost use Rattle.event_shape.specs.Unnumbered.{with_number};
 ghost use Rattle.rule_table.specs.RuleSet.{rules_of};
-ghost use Rattle.router_core.specs.Matching.{Matches, seen_target, AreMatched, IsSeen, duty_of};
+ghost use Rattle.router_core.specs.Verdict.{verdict_of};
+ghost use Rattle.router_core.specs.Matching.{TextMatches, Matches, seen_target, AreMatched, IsSeen, duty_of};
 
-use crate::seen::{Seen, SeenEntry, SeenTarget, SeenTargets};
+use crate::seen::{Seen, SeenEntry, SeenTarget, SeenTargets, SeenVerdict};
 use delivery_duties::{NewDuties, NewDuty};
-use event_shape::{Event, rule_arn};
+use event_shape::{EntryFault, Event, Unnumbered, rule_arn};
 use json_text::{Json, NoMemory, Text};
 use pattern_meaning::plain_holds;
+use pattern_read::PatternText;
 use rule_table::{Rule, RuleSet, Target};
 use std::alloc::Global;
 use std::collections::VecDeque;
@@ -45,6 +48,36 @@ pub fn see_plain_event(
     })
 }
 
+/// The verdict on an entry, on this rule set.
+pub fn verdict_of(set: &RuleSet, entry: &Result<Unnumbered, EntryFault>) -> SeenVerdict
+    ensures { result ≡ verdict_of set.now entry.now }
+{
+    match entry {
+        Ok(event) => {
+            if set.bus(event.bus()).is_some() {
+                SeenVerdict::Allowed
+            } else {
+                SeenVerdict::NoBus
+            }
+        }
+        Err(fault) => SeenVerdict::Fault(*fault),
+    }
+}
+
+/// Matches an event that has no number yet against the rules of its bus, one rule after the other. With any number the result
+/// is the same, since no pattern tests an event's id.
+pub fn see_plain_entry(
+    alloc: Global,
+    set: &RuleSet,
+    event: &Unnumbered,
+) -> Result<SeenEntry, NoMemory>
+    ensures { IfOk result (λ seen. (number : ℕ)
+        → AreMatched event.now.bus (rules_of event.now.bus set.now) (event_tree (with_number number event.now.event) None) seen.targets.items) }
+{
+    let targets = matched(alloc, set, event.bus(), event.tree())?;
+    Ok(SeenEntry { targets })
+}
+
 /// The targets of the rules of the bus that match the event; none if there is no such bus.
 fn matched(alloc: Global, set: &RuleSet, bus: &str, event: &Json) -> Result<SeenTargets, NoMemory>
     requires { IsValue (tree_of event.now) }
@@ -69,7 +102,15 @@ fn matches(rule: &Rule, event: &Json) -> bool
     ensures yes { IsTrue result → Matches rule.now (tree_of event.now) }
     ensures not { IsFalse result → ¬ Matches rule.now (tree_of event.now) }
 {
-    rule.is_enabled() && plain_holds(rule.pattern(), event)
+    rule.is_enabled() && pattern_matches(rule.pattern(), event)
+}
+
+/// Whether the pattern holds of the event. It takes no memory.
+pub fn pattern_matches(pattern: &PatternText, event: &Json) -> bool
+    requires { IsValue (tree_of event.now) }
+    ensures { IsTrue result ↔ TextMatches pattern.now (tree_of event.now) }
+{
+    plain_holds(pattern.pattern(), event)
 }
 
 /// Appends the targets of the rule.

@@ -1,4 +1,5 @@
 //! The result of matching events against a rule set.
+use event_shape::EntryFault;
 use json_text::Text;
 use rule_table::Target;
 use std::collections::VecDeque;
@@ -8,6 +9,16 @@ use std::collections::VecDeque;
 pub struct SeenTarget {
     pub rule_arn: Text,
     pub target: Target,
+}
+
+/// The verdict on an entry of a PutEvents, on a rule set.
+#[derive(Clone, Copy, Debug, PartialEq, Eq)]
+pub enum SeenVerdict {
+    /// The entry's own fault.
+    Fault(EntryFault),
+    /// The entry's bus does not exist.
+    NoBus,
+    Allowed,
 }
 
 /// Targets, in the order of their rules.

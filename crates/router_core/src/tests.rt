@@ -2,10 +2,11 @@ ghost use Rattle.std.specs.Prelude.{◌≡◌, IfOk, codes};
 ghost use Rattle.event_shape.specs.Names as arns;
 
 use crate::{
-    AcceptedEvent, Change, Ready, SeenTarget, SeenTargets, Tables, duties_of, see_plain_event,
+    AcceptedEvent, Change, Ready, Seen, SeenTarget, SeenTargets, Tables, duties_of,
+    see_plain_entry, see_plain_event,
 };
 use delivery_duties::{NewDuties, NewDuty, NewQueue, Outcome};
-use event_shape::{DEFAULT_BUS, Event, EventEntry, OWNER, check, queue_arn};
+use event_shape::{Checked, DEFAULT_BUS, Event, EventEntry, OWNER, Unnumbered, check, queue_arn};
 use json_text::{NoMemory, Text};
 use rule_table::{Control, RuleSet, Target};
 use std::alloc::Global;
@@ -99,54 +100,78 @@ fn attempt_next(tables: &mut Tables, moment: u64) -> Option<(u64, Outcome)> {
     Some((number, tables.record(claim, moment)))
 }
 
-fn shown(alloc: Global, tables: &Tables) -> Result<String, Fail> {
+/// Whether the messages of the queue `q` are as in the text: each one's number and body.
+fn is_shown(alloc: Global, tables: &Tables, want: &str) -> Result<bool, Fail> {
     let mut shown = String::new(alloc);
     for message in &tables.duties().peek(alloc, "q", 9)? {
         let part = format!(in alloc; "{}:{};", message.number, message.body.as_str())?;
         shown.push_str(&part)?;
     }
-    Ok(shown)
+    Ok(shown.as_str() == want)
 }
 
-fn sums(tables: &Tables) -> (u64, u64, u64, u64, u64) {
+/// Whether these are the number of events, the moment, and the numbers of duties that are pending, delivered and dropped.
+fn is_counted(tables: &Tables, events: u64, moment: u64, duties: [u64; 3]) -> bool {
+    let [pending, delivered, dropped] = duties;
     let counts = tables.duties().counts();
-    (
-        tables.events(),
-        tables.moment(),
-        counts.pending,
-        counts.delivered,
-        counts.dropped,
-    )
+    tables.events() == events
+        && tables.moment() == moment
+        && counts.pending == pending
+        && counts.delivered == delivered
+        && counts.dropped == dropped
+}
+
+/// Whether the next duty is the first one.
+fn is_first_due(tables: &mut Tables, moment: u64) -> bool {
+    match next_due(tables, moment) {
+        Some(number) => number == 1,
+        None => false,
+    }
+}
+
+/// Whether the next duty is the first one, and its attempt ends so.
+fn is_attempted(tables: &mut Tables, moment: u64, want: Outcome) -> bool {
+    match attempt_next(tables, moment) {
+        Some((number, outcome)) => number == 1 && outcome == want,
+        None => false,
+    }
 }
 
 #[test]
-fn a_duty_is_added_claimed_and_delivered(rt: HostRuntime) -> Result<(), Fail> {
-    let alloc = rt.alloc();
-    let first = Tables::first(alloc)?;
+fn the_first_tables_are_empty(rt: HostRuntime) -> Result<(), Fail> {
+    let first = Tables::first(rt.alloc())?;
     assert!(rt; !first.full() && !first.set().queue("q"));
-    assert_eq!(rt; sums(&first), (0, 0, 0, 0, 0));
-    let mut tables = with_duty(alloc)?;
+    assert!(rt; is_counted(&first, 0, 0, [0, 0, 0]));
+    Ok(())
+}
+
+#[test]
+fn a_duty_is_added(rt: HostRuntime) -> Result<(), Fail> {
+    let tables = with_duty(rt.alloc())?;
     assert!(rt; !tables.full() && tables.set().queue("q"));
-    assert_eq!(rt; tables.set().control_count(), 1);
-    assert_eq!(rt; sums(&tables), (1, 1000, 1, 0, 0));
-    assert_eq!(rt; next_due(&mut tables, 999), None);
-    assert_eq!(rt; next_due(&mut tables, 1000), Some(1));
-    let ended = attempt_next(&mut tables, 1000 + 86_400);
-    assert_eq!(rt; ended, Some((1, Outcome::Accepted)));
-    assert_eq!(rt; shown(alloc, &tables)?.as_str(), "1:{\"a\":1};");
-    assert_eq!(rt; sums(&tables), (1, 87_400, 0, 1, 0));
-    assert_eq!(rt; next_due(&mut tables, 90_000), None);
+    assert!(rt; tables.set().control_count() == 1);
+    assert!(rt; is_counted(&tables, 1, 1000, [1, 0, 0]));
+    Ok(())
+}
+
+#[test]
+fn a_duty_is_claimed_and_delivered(rt: HostRuntime) -> Result<(), Fail> {
+    let mut tables = with_duty(rt.alloc())?;
+    assert!(rt; next_due(&mut tables, 999).is_none());
+    assert!(rt; is_first_due(&mut tables, 1000));
+    assert!(rt; is_attempted(&mut tables, 1000 + 86_400, Outcome::Accepted));
+    assert!(rt; is_shown(rt.alloc(), &tables, "1:{\"a\":1};")?);
+    assert!(rt; is_counted(&tables, 1, 87_400, [0, 1, 0]));
+    assert!(rt; next_due(&mut tables, 90_000).is_none());
     Ok(())
 }
 
 #[test]
 fn a_duty_past_its_age_is_dropped(rt: HostRuntime) -> Result<(), Fail> {
-    let alloc = rt.alloc();
-    let mut tables = with_duty(alloc)?;
-    let ended = attempt_next(&mut tables, 1000 + 86_401);
-    assert_eq!(rt; ended, Some((1, Outcome::TooOld)));
-    assert_eq!(rt; shown(alloc, &tables)?.as_str(), "");
-    assert_eq!(rt; sums(&tables), (1, 87_401, 0, 0, 1));
+    let mut tables = with_duty(rt.alloc())?;
+    assert!(rt; is_attempted(&mut tables, 1000 + 86_401, Outcome::TooOld));
+    assert!(rt; is_shown(rt.alloc(), &tables, "")?);
+    assert!(rt; is_counted(&tables, 1, 87_401, [0, 0, 1]));
     Ok(())
 }
 
@@ -161,6 +186,39 @@ fn changed(alloc: Global, set: RuleSet, control: Control) -> Result<RuleSet, Fai
     }
 }
 
+fn target(alloc: Global, id: &str) -> Result<Target, Fail> {
+    Ok(Target {
+        id: Text::from_str(alloc, id)?,
+        arn: queue_arn(alloc, "q")?,
+        unbuilt: None,
+    })
+}
+
+/// The targets `t` and `s`.
+fn two_targets(alloc: Global) -> Result<Vec<Target>, Fail> {
+    let mut targets = Vec::new(alloc);
+    targets.push(target(alloc, "t")?)?;
+    targets.push(target(alloc, "s")?)?;
+    Ok(targets)
+}
+
+fn rule_put(alloc: Global, name: &str, pattern: &str, enabled: bool) -> Result<Control, Fail> {
+    Ok(Control::RulePut {
+        bus: Text::from_str(alloc, DEFAULT_BUS)?,
+        name: Text::from_str(alloc, name)?,
+        pattern: Text::from_str(alloc, pattern)?,
+        enabled,
+    })
+}
+
+fn targets_put(alloc: Global, rule: &str) -> Result<Control, Fail> {
+    Ok(Control::TargetsPut {
+        bus: Text::from_str(alloc, DEFAULT_BUS)?,
+        rule: Text::from_str(alloc, rule)?,
+        targets: two_targets(alloc)?,
+    })
+}
+
 /// The rule set with a rule, which has two targets, `t` and `s`.
 fn with_rule(
     alloc: Global,
@@ -169,44 +227,37 @@ fn with_rule(
     pattern: &str,
     enabled: bool,
 ) -> Result<RuleSet, Fail> {
-    let rule = Control::RulePut {
-        bus: Text::from_str(alloc, DEFAULT_BUS)?,
-        name: Text::from_str(alloc, name)?,
-        pattern: Text::from_str(alloc, pattern)?,
-        enabled,
-    };
-    let set = changed(alloc, set, rule)?;
-    let mut targets = Vec::new(alloc);
-    for id in ["t", "s"] {
-        targets.push(Target {
-            id: Text::from_str(alloc, id)?,
-            arn: queue_arn(alloc, "q")?,
-        })?;
-    }
-    let put = Control::TargetsPut {
-        bus: Text::from_str(alloc, DEFAULT_BUS)?,
-        rule: Text::from_str(alloc, name)?,
-        targets,
-    };
-    changed(alloc, set, put)
+    let set = changed(alloc, set, rule_put(alloc, name, pattern, enabled)?)?;
+    changed(alloc, set, targets_put(alloc, name)?)
 }
 
 /// Five rules: `a` is not enabled, `b` tests the source, `c` a text in a list of the detail, `d` another source and `e` the
 /// name of a replay.
-fn rules(alloc: Global) -> Result<RuleSet, Fail> {
+const RULES: [(&str, &str, bool); 5] = [
+    ("e", "{\"replay-name\":[\"p\"]}", true),
+    ("d", "{\"source\":[\"other\"]}", true),
+    ("c", "{\"detail\":{\"a\":[\"1\"]}}", true),
+    ("b", "{\"source\":[\"shop\"]}", true),
+    ("a", "{\"source\":[\"shop\"]}", false),
+];
+
+/// The set with the queue `q`.
+fn with_queue(alloc: Global) -> Result<RuleSet, Fail> {
     let queue = Control::QueueCreated {
         name: Text::from_str(alloc, "q")?,
     };
-    let set = changed(alloc, RuleSet::first(alloc)?, queue)?;
-    let shop = "{\"source\":[\"shop\"]}";
-    let set = with_rule(alloc, set, "e", "{\"replay-name\":[\"p\"]}", true)?;
-    let set = with_rule(alloc, set, "d", "{\"source\":[\"other\"]}", true)?;
-    let set = with_rule(alloc, set, "c", "{\"detail\":{\"a\":[\"1\"]}}", true)?;
-    let set = with_rule(alloc, set, "b", shop, true)?;
-    with_rule(alloc, set, "a", shop, false)
+    changed(alloc, RuleSet::first(alloc)?, queue)
 }
 
-fn event(alloc: Global) -> Result<Event, Fail> {
+fn rules(alloc: Global) -> Result<RuleSet, Fail> {
+    let mut set = with_queue(alloc)?;
+    for (name, pattern, enabled) in RULES.iter() {
+        set = with_rule(alloc, set, name, pattern, *enabled)?;
+    }
+    Ok(set)
+}
+
+fn checked(alloc: Global) -> Result<Checked, Fail> {
     let entry = EventEntry {
         time: None,
         source: Some(Text::from_str(alloc, "shop")?),
@@ -215,22 +266,33 @@ fn event(alloc: Global) -> Result<Event, Fail> {
         detail: Some(Text::from_str(alloc, "{\"a\":[\"0\",\"1\"]}")?),
         bus: None,
     };
-    match check(alloc, entry) {
-        Ok(checked) => Ok(Event::make(alloc, checked, 1, 1000, OWNER)?),
+    match check(alloc, &entry) {
+        Ok(checked) => Ok(checked),
         Err(_) => Err(Fail::from("the entry has a fault")),
+    }
+}
+
+fn event(alloc: Global) -> Result<Event, Fail> {
+    Ok(Event::make(alloc, checked(alloc)?, 1, 1000, OWNER)?)
+}
+
+/// The targets of the only entry.
+fn only_targets(seen: Seen) -> Result<SeenTargets, Fail> {
+    let Seen { k, mut entries } = seen;
+    if k != 11 {
+        return Err(Fail::from("eleven changes made the rule set"));
+    }
+    match entries.pop() {
+        Some(entry) => Ok(entry.targets),
+        None => Err(Fail::from("the result has no entry")),
     }
 }
 
 /// The targets of the rules of the bus that match the event.
 fn targets_seen(alloc: Global, bus: &str, replay: Option<&str>) -> Result<SeenTargets, Fail> {
-    let mut seen = see_plain_event(alloc, &rules(alloc)?, bus, &event(alloc)?, replay)?;
-    if seen.k != 11 {
-        return Err(Fail::from("eleven changes made the rule set"));
-    }
-    match seen.entries.pop() {
-        Some(entry) => Ok(entry.targets),
-        None => Err(Fail::from("the result has no entry")),
-    }
+    let set = rules(alloc)?;
+    let event = event(alloc)?;
+    only_targets(see_plain_event(alloc, &set, bus, &event, replay)?)
 }
 
 /// The ARN of each target's rule, and the target's id, in order.
@@ -244,30 +306,53 @@ fn listed(alloc: Global, targets: &SeenTargets) -> Result<String, Fail> {
     Ok(listed)
 }
 
+const NEW: &str =
+    "arn:aws:events:us-east-1:111122223333:rule/b s;arn:aws:events:us-east-1:111122223333:rule/b t;arn:aws:events:us-east-1:111122223333:rule/c s;arn:aws:events:us-east-1:111122223333:rule/c t;";
+
+const REPLAYED: &str =
+    "arn:aws:events:us-east-1:111122223333:rule/b s;arn:aws:events:us-east-1:111122223333:rule/b t;arn:aws:events:us-east-1:111122223333:rule/c s;arn:aws:events:us-east-1:111122223333:rule/c t;arn:aws:events:us-east-1:111122223333:rule/e s;arn:aws:events:us-east-1:111122223333:rule/e t;";
+
+/// A bus, the replay that sends the event again, and the targets that are seen.
+const SEEN: [(&str, Option<&str>, &str); 4] = [
+    (DEFAULT_BUS, None, NEW),
+    (DEFAULT_BUS, Some("p"), REPLAYED),
+    (DEFAULT_BUS, Some("q"), NEW),
+    ("no bus", None, ""),
+];
+
+fn is_seen(alloc: Global, bus: &str, replay: Option<&str>, want: &str) -> Result<bool, Fail> {
+    let targets = targets_seen(alloc, bus, replay)?;
+    Ok(listed(alloc, &targets)?.as_str() == want)
+}
+
+/// The index of the first row of which other targets are seen.
+fn seen_otherwise(alloc: Global) -> Result<Option<usize>, Fail> {
+    for (place, (bus, replay, want)) in SEEN.iter().enumerate() {
+        if !is_seen(alloc, bus, *replay, want)? {
+            return Ok(Some(place));
+        }
+    }
+    Ok(None)
+}
+
+/// The targets that are seen for the entry, before the event has its number.
+fn entry_targets(alloc: Global) -> Result<SeenTargets, Fail> {
+    let set = rules(alloc)?;
+    let event = Unnumbered::make(alloc, checked(alloc)?, 1000, OWNER)?;
+    Ok(see_plain_entry(alloc, &set, &event)?.targets)
+}
+
 #[test]
 fn the_targets_of_the_rules_that_match_are_seen(rt: HostRuntime) -> Result<(), Fail> {
-    let alloc = rt.alloc();
-    let new =
-        "arn:aws:events:us-east-1:111122223333:rule/b s;arn:aws:events:us-east-1:111122223333:rule/b t;arn:aws:events:us-east-1:111122223333:rule/c s;arn:aws:events:us-east-1:111122223333:rule/c t;";
-    let more =
-        "arn:aws:events:us-east-1:111122223333:rule/e s;arn:aws:events:us-east-1:111122223333:rule/e t;";
-    let replayed = format!(in alloc; "{new}{more}")?;
-    for (bus, replay, want) in [
-        (DEFAULT_BUS, None, new),
-        (DEFAULT_BUS, Some("p"), replayed.as_str()),
-        (DEFAULT_BUS, Some("q"), new),
-        ("no bus", None, ""),
-    ] {
-        let targets = targets_seen(alloc, bus, replay)?;
-        assert_eq!(rt; listed(alloc, &targets)?.as_str(), want, "on {bus}");
-    }
+    assert_eq!(rt; seen_otherwise(rt.alloc())?, None);
+    let targets = entry_targets(rt.alloc())?;
+    assert!(rt; listed(rt.alloc(), &targets)?.as_str() == NEW);
     Ok(())
 }
 
 #[test]
 fn each_target_is_owed_one_duty(rt: HostRuntime) -> Result<(), Fail> {
-    let alloc = rt.alloc();
-    let targets = targets_seen(alloc, DEFAULT_BUS, None)?;
-    assert_eq!(rt; duties_of(alloc, targets, "{}")?.len(), 4);
+    let targets = targets_seen(rt.alloc(), DEFAULT_BUS, None)?;
+    assert!(rt; duties_of(rt.alloc(), targets, "{}")?.len() == 4);
     Ok(())
 }
