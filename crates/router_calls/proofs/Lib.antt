@@ -1,2 +1,4 @@
 pub mod CallLemmas
+pub mod EntryLemmas
+pub mod TargetLemmas
 pub mod OneLemmas

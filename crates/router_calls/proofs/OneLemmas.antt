@@ -1,26 +1,42 @@
 -- A request has at most one answer: `one_answer`, which the law of src/laws.rt cites. The other lemmas lead to it.
-use Rattle.std.proofs.Common.{◌≡◌, ℕ, ◌+◌, ◌<◌, ◌≤◌, ◌⊎◌, inl, inr, List, [], ◌∷◌, ◌++◌, map, None, sym, refl, ap, ◌∙◌, subst, arith}
+use Rattle.std.proofs.Common.{◌≡◌, ℕ, ◌+◌, ◌<◌, ◌≤◌, ◌⊎◌, inl, inr, true, false, List, [], ◌∷◌, ◌++◌, map, drop, Some, None, Ok, Err, sym, refl, ap, ◌∙◌}
+use Rattle.std.proofs.Common.{subst, arith}
+use Rattle.std.proofs.lemmas.Bool.{false≢true}
 use Rattle.json_text.specs.Tree.{Tree}
-use Rattle.json_text.specs.Compact.{compact_text}
 use Rattle.event_time.specs.Time.{IsIso}
 use Rattle.event_time.proofs.ClockLemmas.{time_once, iso_is_time}
-use Rattle.event_shape.specs.Entry.{Entry}
-use Rattle.event_shape.specs.Fault.{HasFault}
+use Rattle.event_shape.specs.Names.{queue_arn}
+use Rattle.event_shape.specs.Event.{event_tree}
+use Rattle.event_shape.specs.Unnumbered.{Unnumbered, with_number}
 use Rattle.event_shape.specs.declared.entry.EntryFault.{EntryFault}
-use Rattle.event_shape.specs.Event.{Event, Checked, event_tree}
-use Rattle.event_shape.proofs.CheckedOnce.{checked_once, made_once}
-use Rattle.rule_table.specs.Control.{Control}
-use Rattle.rule_table.specs.RuleSet.{Rule, RuleSet, rules_of}
+use Rattle.rule_table.specs.declared.control.Target.{Target}
+use Rattle.rule_table.specs.declared.control.TargetFault.{TargetFault}
+use Rattle.rule_table.specs.declared.control.TargetFault.TheVariants as target_fault
+use Rattle.rule_table.specs.declared.control.ControlFault.{ControlFault}
+use Rattle.rule_table.specs.declared.control.ControlFault.TheVariants as fault
+use Rattle.rule_table.specs.Control.{Control, targets_put}
+use Rattle.rule_table.specs.RuleSet.{Rule, RuleSet, put_target, rules_of, rule_at, has_bus}
+use Rattle.rule_table.specs.Refusal.{IsRefused, HasTargetFault}
+use Rattle.rule_table.proofs.RefusalLemmas.{one_fault, faulty_not_good, no_rule_at, one_refusal, refused_not_allowed}
 use Rattle.delivery_duties.specs.declared.duty.NewDuty.{NewDuty}
-use Rattle.delivery_duties.proofs.AnyLemmas.{any_cases}
+use Rattle.api_replies.specs.declared.kind.Kind.TheVariants as kind
+use Rattle.api_replies.specs.declared.cause.Cause.{Cause}
+use Rattle.api_replies.specs.declared.cause.Cause.TheVariants as cause
+use Rattle.api_replies.specs.Reply.{Reply, refused}
 use Rattle.router_core.specs.Batch as batch
-use Rattle.router_core.specs.Matching.{AreMatched, AreDuties, seen_target, duty_of}
+use Rattle.router_core.specs.Matching.{TextMatches, AreMatched, AreDuties, seen_target, duty_of}
+use Rattle.router_core.specs.Verdict.{verdict_of}
 use Rattle.router_core.specs.declared.seen.SeenTarget.{SeenTarget}
-use Rattle.api_replies.specs.Reply.{Reply}
-use Rattle.router_core.specs.Request.{Action, create_queue, put_rule, put_targets, put_events, peek_messages, deliver_due, Request}
+use Rattle.router_core.specs.declared.seen.SeenVerdict.{SeenVerdict}
+use Rattle.router_core.specs.declared.seen.SeenVerdict.TheVariants as verdict
+use Rattle.router_core.specs.Request.{Action, create_queue, put_rule, put_targets, put_events, peek_messages, test_event_pattern, deliver_due, Request}
 use Rattle.router_core.specs.Tables.{Tables}
-use Rattle.router_calls.specs.Accepted.{IsAcceptedAs, IsAccepted, AreAccepted, HasFaulty, total_size}
-use Rattle.router_calls.specs.Answer.{Answer, IsAnswer, IsAnswerAt, IsControlled, IsPublished, events_reply, writes, moment_at}
+use Rattle.router_calls.specs.Causes.{IsCause, IsTargetCause}
+use Rattle.router_calls.specs.Accepted.{Given, Placed, IsAcceptedAs, IsPlacedBy, ArePlaced, number_after, events_in}
+use Rattle.router_calls.specs.Targets.{AreSplit}
+use Rattle.router_calls.specs.Answer.{Answer, IsAnswer, IsAnswerAt, IsControlled, IsPublished, IsTargetsPut, IsTested, targets_answer, events_answer}
+use Rattle.router_calls.specs.Answer.{entries_reply}
+use Rattle.router_calls.specs.Answer.{reply_alone, moment_at}
 
 -- ---- the targets that match
 
@@ -37,7 +53,7 @@ duties_once : (bus : List ℕ) (rules : List Rule) (event : Tree) (shown : List 
     → AreDuties bus rules event shown es → ds ≡ es
 duties_once bus rules event shown ds es (xs, are, d) (ys, so, e) = d ∙ ap (map (duty_of shown)) (matched_once bus rules event xs ys are so) ∙ sym e
 
--- ---- the event of an accepted entry
+-- ---- the entries of a PutEvents
 
 abbrev accepted_from : ℕ → List ℕ → ℕ → ℕ → List ℕ → List NewDuty → batch.Accepted
 accepted_from n b v t shown ds = record { number = n; bus = b; k = v; time = t; text = shown; duties = ds }
@@ -48,72 +64,130 @@ same_accepted a b h0 h1 h2 h3 h4 h5 =
     rw (h0, h1, h2, h3, h4, h5) refl in
     whole
 
-accepted_as_once : (set : RuleSet) (reading n : ℕ) (c : Checked) (a b : batch.Accepted) → IsAcceptedAs set reading n c a
-    → IsAcceptedAs set reading n c b → a ≡ b
-accepted_as_once set reading n c a b p q =
-    let event : q.event ≡ p.event = made_once c n reading _ q.event p.event q.is_made p.is_made in
-    let texts : b.text ≡ a.text = q.text ∙ ap (λ (e : Event). compact_text (event_tree e None)) event ∙ sym p.text in
-    let shown = subst (λ (e : Event). IsIso b.time e.time) event q.time in
-    let owed = subst (λ (e : Event). AreDuties c.bus (rules_of c.bus set) (event_tree e None) b.text b.duties) event q.duties in
-    let duties = subst (λ (t : List ℕ). AreDuties c.bus (rules_of c.bus set) (event_tree p.event None) t b.duties) texts owed in
+accepted_once : (set : RuleSet) (n : ℕ) (u : Unnumbered) (a b : batch.Accepted) → IsAcceptedAs set n u a → IsAcceptedAs set n u b → a ≡ b
+accepted_once set n u a b p q =
+    let event = event_tree (with_number n u.event) None in
+    let texts : b.text ≡ a.text = q.text ∙ sym p.text in
+    let owed = subst (λ (t : List ℕ). AreDuties u.bus (rules_of u.bus set) event t b.duties) texts q.duties in
     same_accepted a b (p.number ∙ sym q.number) (p.bus ∙ sym q.bus) (p.k ∙ sym q.k)
-    (time_once p.event.time a.time b.time (iso_is_time p.event.time a.time p.time) (iso_is_time p.event.time b.time shown)) (sym texts)
-    (duties_once c.bus (rules_of c.bus set) (event_tree p.event None) a.text a.duties b.duties p.duties duties)
+    (time_once u.event.time a.time b.time (iso_is_time u.event.time a.time p.time) (iso_is_time u.event.time b.time q.time)) (sym texts)
+    (duties_once u.bus (rules_of u.bus set) event a.text a.duties b.duties p.duties owed)
 
-accepted_once : (set : RuleSet) (reading n : ℕ) (entry : Entry) (a b : batch.Accepted) → IsAccepted set reading n entry a
-    → IsAccepted set reading n entry b → a ≡ b
-accepted_once set reading n entry a b (c, is, p) (d, so, q) =
-    accepted_as_once set reading n c a b p (subst (λ (x : Checked). IsAcceptedAs set reading n x b) (checked_once entry d c so is) q)
+placed_once : (v : SeenVerdict) (set : RuleSet) (n : ℕ) (entry : Given) (a b : Placed) → IsPlacedBy v set n entry a → IsPlacedBy v set n entry b → a ≡ b
+placed_once (verdict.Fault f) set n entry a b p q = p ∙ sym q
+placed_once verdict.NoBus set n entry a b p q = p ∙ sym q
+placed_once verdict.Allowed set n entry a b (u, x, e, is, p) (v, y, f, so, q) =
+    let both : Ok u ≡ Ok v = sym e ∙ f in
+    let events : v ≡ u = cc in
+    is ∙ ap Ok (accepted_once set n u x y p (subst (λ (w : Unnumbered). IsAcceptedAs set n w y) events q)) ∙ sym so
 
-events_once : (set : RuleSet) (reading n : ℕ) (entries : List Entry) (xs ys : List batch.Accepted) → AreAccepted set reading n entries xs
-    → AreAccepted set reading n entries ys → xs ≡ ys
-events_once set reading n [] xs ys p q = p ∙ sym q
-events_once set reading n (entry ∷ entries) xs ys (a, rest, e, one, more) (b, other, f, also, others) =
-    e ∙ ap (λ (x : batch.Accepted). x ∷ rest) (accepted_once set reading n entry a b one also)
-    ∙ ap (λ (es : List batch.Accepted). b ∷ es) (events_once set reading (n + 1) entries rest other more others) ∙ sym f
+all_once : (set : RuleSet) (n : ℕ) (entries : List Given) (xs ys : List Placed) → ArePlaced set n entries xs → ArePlaced set n entries ys → xs ≡ ys
+all_once set n [] xs ys p q = p ∙ sym q
+all_once set n (entry ∷ entries) xs ys (a, rest, e, one, more) (b, other, f, also, others) =
+    let first : a ≡ b = placed_once (verdict_of set entry) set n entry a b one also in
+    let so = subst (λ (x : Placed). ArePlaced set (number_after n x) entries other) (sym first) others in
+    e ∙ ap (λ (x : Placed). x ∷ rest) first ∙ ap (λ (xs : List Placed). b ∷ xs) (all_once set (number_after n a) entries rest other more so) ∙ sym f
 
--- if all entries are accepted, none has a fault
-none_faulty : (set : RuleSet) (reading n : ℕ) (entries : List Entry) (events : List batch.Accepted)
-    → AreAccepted set reading n entries events → ¬ HasFaulty entries
-none_faulty set reading n [] events p h = absurd (omega (arith, h.2))
-none_faulty set reading n (entry ∷ entries) events (a, others, e, (c, is, p), more) h =
-    elim (any_cases (λ (x : Entry). (fault : EntryFault) × HasFault x fault) entry entries h) [
-      | inl (fault, has) ↦ is.faultless fault has
-      | inr rest ↦ none_faulty set reading (n + 1) entries others more rest
-    ]
+published_once : (t : Tables) (moment : ℕ) (entries : List Given) (size : ℕ) (a b : Answer) → IsPublished t moment entries size a
+    → IsPublished t moment entries size b → a ≡ b
+published_once t moment entries size a b (inl (large, e)) (inl (also, f)) = e ∙ sym f
+published_once t moment entries size a b (inl (large, e)) (inr (small, rest)) = absurd (omega (arith, large, small))
+published_once t moment entries size a b (inr (small, rest)) (inl (large, f)) = absurd (omega (arith, large, small))
+published_once t moment entries size a b (inr (small, (xs, are, e))) (inr (low, (ys, so, f))) =
+    e ∙ ap (λ (all : List Placed). events_answer t moment (events_in all) (entries_reply all)) (all_once t.set (t.events + 1) entries xs ys are so) ∙ sym f
+
+-- ---- the targets of a PutTargets
+
+name_after : (queue : List ℕ) → drop 35 (queue_arn queue) ≡ queue
+name_after queue = refl
+
+name_once : (a b : List ℕ) → queue_arn a ≡ queue_arn b → a ≡ b
+name_once a b same = sym (name_after a) ∙ ap (drop 35) same ∙ name_after b
+
+queues_once : (arn a b : List ℕ) → arn ≡ queue_arn a → arn ≡ queue_arn b → a ≡ b
+queues_once arn a b p q = name_once a b (sym p ∙ q)
+
+target_cause_once : (target : Target) (f : TargetFault) (c d : Cause) → IsTargetCause target f c → IsTargetCause target f d → c ≡ d
+target_cause_once target (target_fault.Member member) c d p q = p ∙ sym q
+target_cause_once target target_fault.NoQueue c d (a, is, e) (b, so, f) =
+    e ∙ ap (cause.NotFound kind.Queue) (queues_once target.arn a b is so) ∙ sym f
+target_cause_once target target_fault.Sixth c d p q = p ∙ sym q
+
+split_once : (set : RuleSet) (have targets xs ys : List Target) (fs gs : List (List ℕ × Cause)) → AreSplit set have targets xs fs
+    → AreSplit set have targets ys gs → (xs ≡ ys) × (fs ≡ gs)
+split_once set have [] xs ys fs gs (a, b) (c, d) = (a ∙ sym c, b ∙ sym d)
+split_once set have (target ∷ targets) xs ys fs gs (inl (rest, is, good, more)) (inl (other, so, also, others)) =
+    let next = split_once set (put_target target have) targets rest other fs gs more others in
+    (is ∙ ap (λ ts. target ∷ ts) next.0 ∙ sym so, next.1)
+split_once set have (target ∷ targets) xs ys fs gs (inl (rest, is, good, more)) (inr (f, c, other, so, has, why, others)) =
+    absurd (faulty_not_good set have target f has good)
+split_once set have (target ∷ targets) xs ys fs gs (inr (f, c, rest, is, has, why, more)) (inl (other, so, good, others)) =
+    absurd (faulty_not_good set have target f has good)
+split_once set have (target ∷ targets) xs ys fs gs (inr (f, c, rest, is, has, why, more)) (inr (g, d, other, so, also, too, others)) =
+    let next = split_once set have targets xs ys rest other more others in
+    let same : g ≡ f = one_fault set have target g f also has in
+    let causes : c ≡ d = target_cause_once target f c d why (subst (λ (x : TargetFault). IsTargetCause target x d) same too) in
+    (next.0, is ∙ ap (λ (x : Cause). (target.id, x) ∷ rest) causes ∙ ap (λ ts. (target.id, d) ∷ ts) next.1 ∙ sym so)
+
+no_rule : (set : RuleSet) (bus rule : List ℕ) (r : Rule) → has_bus bus set ≡ false → rule_at bus rule set ≡ Some r → ⊥
+no_rule set bus rule r none found =
+    let both : None ≡ Some r = sym (no_rule_at bus rule set none) ∙ found in
+    cc
+
+targets_once : (t : Tables) (moment : ℕ) (bus rule : List ℕ) (targets : List Target) (a b : Answer) → IsTargetsPut t moment bus rule targets a
+    → IsTargetsPut t moment bus rule targets b → a ≡ b
+targets_once t moment bus rule targets a b (inl (none, e)) (inl (also, f)) = e ∙ sym f
+targets_once t moment bus rule targets a b (inl (none, e)) (inr (inl (there, lacks, f))) = absurd (false≢true (sym none ∙ there))
+targets_once t moment bus rule targets a b (inl (none, e)) (inr (inr (r, xs, fs, found, split, f))) = absurd (no_rule t.set bus rule r none found)
+targets_once t moment bus rule targets a b (inr (inl (there, lacks, e))) (inl (none, f)) = absurd (false≢true (sym none ∙ there))
+targets_once t moment bus rule targets a b (inr (inl (there, lacks, e))) (inr (inl (also, so, f))) = e ∙ sym f
+targets_once t moment bus rule targets a b (inr (inl (there, lacks, e))) (inr (inr (r, xs, fs, found, split, f))) =
+    let both : None ≡ Some r = sym lacks ∙ found in
+    cc
+targets_once t moment bus rule targets a b (inr (inr (r, xs, fs, found, split, e))) (inl (none, f)) = absurd (no_rule t.set bus rule r none found)
+targets_once t moment bus rule targets a b (inr (inr (r, xs, fs, found, split, e))) (inr (inl (there, lacks, f))) =
+    let both : None ≡ Some r = sym lacks ∙ found in
+    cc
+targets_once t moment bus rule targets a b (inr (inr (r, xs, fs, found, split, e))) (inr (inr (s, ys, gs, also, other, f))) =
+    let both : Some r ≡ Some s = sym found ∙ also in
+    let rules : s ≡ r = cc in
+    let so = subst (λ (x : Rule). AreSplit t.set x.targets targets ys gs) rules other in
+    let same = split_once t.set r.targets targets xs ys fs gs split so in
+    e ∙ ap (λ ts. targets_answer t moment bus rule ts fs) same.0 ∙ ap (targets_answer t moment bus rule ys) same.1 ∙ sym f
 
 -- ---- the answer to a request
+
+cause_once : (control : Control) (f : ControlFault) (c d : Cause) → IsCause control f c → IsCause control f d → c ≡ d
+cause_once control (fault.ResourceNotFound kind) c d p q = p ∙ sym q
+cause_once control (fault.AlreadyExists kind) c d p q = p ∙ sym q
+cause_once control (fault.LimitExceeded kind) c d p q = p ∙ sym q
+cause_once control (fault.Validation member) c d p q = p ∙ sym q
+cause_once control fault.NoMemory c d p q = absurd p
 
 controlled_once : (t : Tables) (moment : ℕ) (control : Control) (reply : Reply) (a b : Answer) → IsControlled t moment control reply a
     → IsControlled t moment control reply b → a ≡ b
 controlled_once t moment control reply a b (inl (is, e)) (inl (so, f)) = e ∙ sym f
-controlled_once t moment control reply a b (inl (is, e)) (inr (refused, f)) = absurd (refused is)
-controlled_once t moment control reply a b (inr (refused, e)) (inl (so, f)) = absurd (refused so)
-controlled_once t moment control reply a b (inr (refused, e)) (inr (also, f)) = e ∙ sym f
+controlled_once t moment control reply a b (inl (is, e)) (inr (f, c, bad, why, so)) = absurd (refused_not_allowed control t.set f bad is)
+controlled_once t moment control reply a b (inr (f, c, bad, why, e)) (inl (is, so)) = absurd (refused_not_allowed control t.set f bad is)
+controlled_once t moment control reply a b (inr (f, c, bad, why, e)) (inr (g, d, also, other, so)) =
+    let same : g ≡ f = one_refusal control t.set g f also bad in
+    let causes : c ≡ d = cause_once control f c d why (subst (λ (x : ControlFault). IsCause control x d) same other) in
+    e ∙ ap (λ (x : Cause). reply_alone (refused x)) causes ∙ sym so
 
-not_both : (set : RuleSet) (reading n : ℕ) (entries : List Entry) (events : List batch.Accepted) → total_size entries ≤ 262144
-    → AreAccepted set reading n entries events
-    → (262144 < total_size entries) ⊎ HasFaulty entries → ⊥
-not_both set reading n entries events small are (inl large) = omega (arith, small, large)
-not_both set reading n entries events small are (inr faulty) = none_faulty set reading n entries events are faulty
+tested_once : (pattern : List ℕ) (event : Tree) (a b : Answer) → IsTested pattern event a → IsTested pattern event b → a ≡ b
+tested_once pattern event a b (inl (holds, e)) (inl (also, f)) = e ∙ sym f
+tested_once pattern event a b (inl (holds, e)) (inr (not, f)) = absurd (not holds)
+tested_once pattern event a b (inr (not, e)) (inl (holds, f)) = absurd (not holds)
+tested_once pattern event a b (inr (not, e)) (inr (also, f)) = e ∙ sym f
 
-published_once : (t : Tables) (moment reading : ℕ) (entries : List Entry) (a b : Answer) → IsPublished t moment reading entries a
-    → IsPublished t moment reading entries b → a ≡ b
-published_once t moment reading entries a b (inl (xs, small, are, e)) (inl (ys, low, so, f)) =
-    e ∙ ap (λ (es : List batch.Accepted). writes t moment (map batch.accepted es) (events_reply es))
-    (events_once t.set reading (t.events + 1) entries xs ys are so) ∙ sym f
-published_once t moment reading entries a b (inl (xs, small, are, e)) (inr (bad, f)) = absurd (not_both t.set reading (t.events + 1) entries xs small are bad)
-published_once t moment reading entries a b (inr (bad, e)) (inl (ys, low, so, f)) = absurd (not_both t.set reading (t.events + 1) entries ys low so bad)
-published_once t moment reading entries a b (inr (bad, e)) (inr (worse, f)) = e ∙ sym f
-
-answer_once : (t : Tables) (moment reading : ℕ) (action : Action) (a b : Answer) → IsAnswerAt t moment reading action a
-    → IsAnswerAt t moment reading action b → a ≡ b
-answer_once t moment reading (create_queue name) a b p q = controlled_once t moment _ _ a b p q
-answer_once t moment reading (put_rule name pattern) a b p q = controlled_once t moment _ _ a b p q
-answer_once t moment reading (put_targets rule targets) a b p q = controlled_once t moment _ _ a b p q
-answer_once t moment reading (put_events entries) a b p q = published_once t moment reading entries a b p q
-answer_once t moment reading (peek_messages queue) a b p q = p ∙ sym q
-answer_once t moment reading deliver_due a b p q = absurd p
+answer_once : (t : Tables) (moment : ℕ) (action : Action) (a b : Answer) → IsAnswerAt t moment action a → IsAnswerAt t moment action b → a ≡ b
+answer_once t moment (create_queue name) a b p q = controlled_once t moment _ _ a b p q
+answer_once t moment (put_rule bus name pattern enabled) a b p q = controlled_once t moment _ _ a b p q
+answer_once t moment (put_targets bus rule targets) a b p q = targets_once t moment bus rule targets a b p q
+answer_once t moment (put_events entries size) a b p q = published_once t moment entries size a b p q
+answer_once t moment (peek_messages queue limit) a b p q = p ∙ sym q
+answer_once t moment (test_event_pattern pattern event) a b p q = tested_once pattern event a b p q
+answer_once t moment (deliver_due budget) a b p q = absurd p
 
 pub one_answer : (t : Tables) (r : Request) (a b : Answer) → IsAnswer t r a → IsAnswer t r b → a ≡ b
-one_answer t r a b p q = answer_once t (moment_at t r.reading) r.reading r.action a b p q
+one_answer t r a b p q = answer_once t (moment_at t r.reading) r.action a b p q

@@ -1,44 +1,70 @@
 -- What the entries of a PutEvents become.
-use Rattle.std.specs.Prelude.{◌≡◌, ℕ, ◌+◌, List, [], ◌∷◌, None, Any, sum_by}
+use Rattle.std.specs.Prelude.{◌≡◌, ℕ, ◌+◌, List, [], ◌∷◌, Result, Ok, Err, None}
 use Rattle.json_text.specs.Compact.{compact_text}
-use Rattle.event_shape.specs.Names.{owner}
-use Rattle.event_shape.specs.Entry.{Entry, size_of}
-use Rattle.event_shape.specs.declared.entry.EntryFault.{EntryFault}
-use Rattle.event_shape.specs.Fault.{HasFault}
 use Rattle.event_time.specs.Time.{IsIso}
-use Rattle.event_shape.specs.Event.{Event, Checked, IsCheckedOf, IsMade, IsEvent, event_tree}
+use Rattle.event_shape.specs.Event.{IsEvent, event_tree}
+use Rattle.event_shape.specs.Unnumbered.{Unnumbered, with_number}
+use Rattle.event_shape.specs.declared.entry.EntryFault.{EntryFault}
 use Rattle.rule_table.specs.RuleSet.{RuleSet, rules_of}
+use Rattle.api_replies.specs.declared.member.Member.TheVariants as member
+use Rattle.api_replies.specs.declared.cause.Cause.{Cause}
+use Rattle.api_replies.specs.declared.cause.Cause.TheVariants as cause
 use Rattle.router_core.specs.Batch as batch
 use Rattle.router_core.specs.Matching.{AreDuties}
+use Rattle.router_core.specs.Verdict.{verdict_of}
+use Rattle.router_core.specs.declared.seen.SeenVerdict.{SeenVerdict}
+use Rattle.router_core.specs.declared.seen.SeenVerdict.TheVariants as verdict
+use Rattle.router_calls.specs.Causes.{entry_cause}
 
--- the members of an entry without a fault become this accepted event: an event of the owner with this number, its text, the
--- configuration version, and its duties on this rule set
-pub record IsAcceptedAs (set : RuleSet) (reading n : ℕ) (checked : Checked) (a : batch.Accepted) : Type 0 where
-  pub event : Event
-  pub is_made : IsMade checked n reading owner event
-  pub is_event : IsEvent event
+-- an entry of a PutEvents: an event without its number, or a fault
+abbrev pub Given : Type 0
+Given = Result Unnumbered EntryFault
+
+-- what becomes of it: an accepted event, or a refusal
+abbrev pub Placed : Type 0
+Placed = Result batch.Accepted Cause
+
+-- the event becomes this accepted event: with this number, its text, the configuration version, and its duties on this rule set
+pub record IsAcceptedAs (set : RuleSet) (n : ℕ) (event : Unnumbered) (a : batch.Accepted) : Type 0 where
+  pub is_event : IsEvent (with_number n event.event)
   pub number : a.number ≡ n
-  pub bus : a.bus ≡ checked.bus
+  pub bus : a.bus ≡ event.bus
   pub k : a.k ≡ set.count
-  pub time : IsIso a.time event.time
-  pub text : a.text ≡ compact_text (event_tree event None)
-  pub duties : AreDuties checked.bus (rules_of checked.bus set) (event_tree event None) a.text a.duties
+  pub time : IsIso a.time event.event.time
+  pub text : a.text ≡ compact_text (event_tree (with_number n event.event) None)
+  pub duties : AreDuties event.bus (rules_of event.bus set) (event_tree (with_number n event.event) None) a.text a.duties
 
--- the entry has no fault, and becomes this accepted event
-abbrev pub IsAccepted : RuleSet → ℕ → ℕ → Entry → batch.Accepted → Type 0
-IsAccepted set reading n entry a = (checked : Checked) × IsCheckedOf entry checked × IsAcceptedAs set reading n checked a
+-- what becomes of an entry with this verdict, if the next event gets this number
+abbrev pub IsPlacedBy : SeenVerdict → RuleSet → ℕ → Given → Placed → Type 0
+IsPlacedBy (verdict.Fault fault) set n entry placed = placed ≡ Err (entry_cause fault)
+IsPlacedBy verdict.NoBus set n entry placed = placed ≡ Err (cause.Parameter member.EventBusName)
+IsPlacedBy verdict.Allowed set n entry placed =
+    (event : Unnumbered) × (a : batch.Accepted) × (entry ≡ Ok event) × (placed ≡ Ok a) × IsAcceptedAs set n event a
 
--- the entries become these events, in their order; the first gets this number, each later one the next
-abbrev pub AreAccepted : RuleSet → ℕ → ℕ → List Entry → List batch.Accepted → Type 0
-AreAccepted set reading number [] events = events ≡ []
-AreAccepted set reading number (entry ∷ entries) events =
-    (e : batch.Accepted) × (es : List batch.Accepted) × (events ≡ e ∷ es)
-    × IsAccepted set reading number entry e × AreAccepted set reading (number + 1) entries es
+-- what becomes of an entry on this rule set, by its verdict
+abbrev pub IsPlaced : RuleSet → ℕ → Given → Placed → Type 0
+IsPlaced set n entry placed = IsPlacedBy (verdict_of set entry) set n entry placed
 
--- one of the entries has a fault
-abbrev pub HasFaulty : List Entry → Type 0
-HasFaulty entries = Any (λ entry. (fault : EntryFault) × HasFault entry fault) entries
+-- the number of the next event
+abbrev pub number_after : ℕ → Placed → ℕ
+number_after n (Ok a) = n + 1
+number_after n (Err c) = n
 
--- the number of bytes that the entries have together
-abbrev pub total_size : List Entry → ℕ
-total_size entries = sum_by size_of entries
+-- what becomes of entries, in their order; only accepted events take numbers, from this one on
+abbrev pub ArePlaced : RuleSet → ℕ → List Given → List Placed → Type 0
+ArePlaced set n [] all = all ≡ []
+ArePlaced set n (entry ∷ entries) all =
+    (placed : Placed) × (rest : List Placed) × (all ≡ placed ∷ rest) × IsPlaced set n entry placed
+    × ArePlaced set (number_after n placed) entries rest
+
+-- the accepted events
+abbrev pub events_in : List Placed → List batch.Accepted
+events_in [] = []
+events_in (Ok a ∷ rest) = a ∷ events_in rest
+events_in (Err c ∷ rest) = events_in rest
+
+-- the number of refused entries
+abbrev pub failures_in : List Placed → ℕ
+failures_in [] = 0
+failures_in (Ok a ∷ rest) = failures_in rest
+failures_in (Err c ∷ rest) = failures_in rest + 1

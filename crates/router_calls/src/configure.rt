@@ -7,10 +7,12 @@ ghost use Rattle.router_core.specs.Ready.{HasPlace, IsReadyAt};
 ghost use Rattle.router_calls.specs.Answer.{IsControlled};
 ghost use Rattle.router_calls.specs.Decided.{answer_of};
 
+use crate::causes::change_cause;
+use crate::reply::refused;
 use delivery_duties::NewQueue;
 use json_text::NoMemory;
-use router_core::{Change, Ready, Reply, Tables, limit_reply, not_built};
-use rule_table::{Control, ControlFault};
+use router_core::{Cause, Change, Ready, Reply, Tables};
+use rule_table::Control;
 use std::alloc::Global;
 
 /// The change of the configuration and its reply, if the change is allowed and the number limit is not reached; else a refusal.
@@ -30,7 +32,7 @@ pub(crate) fn configure(
 {
     let full = tables.full();
     match tables.set().apply(alloc, &control) {
-        Ok(_) if full => Ok((None, limit_reply(alloc)?)),
+        Ok(_) if full => refused(alloc, &Cause::NumberLimit),
         Ok(set) => {
             let change = Change::Configuration {
                 control,
@@ -39,7 +41,9 @@ pub(crate) fn configure(
             };
             Ok((Some(Ready { moment, change }), reply))
         }
-        Err(ControlFault::NotBuilt) => Ok((None, not_built(alloc)?)),
-        Err(ControlFault::NoMemory) => Err(NoMemory),
+        Err(fault) => {
+            let cause = change_cause(alloc, &control, fault)?;
+            refused(alloc, &cause)
+        }
     }
 }

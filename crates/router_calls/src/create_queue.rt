@@ -1,5 +1,5 @@
 //! CreateQueue.
-ghost use Rattle.std.specs.Prelude.{◌≤◌, ℕ, IfOk, IfSome};
+ghost use Rattle.std.specs.Prelude.{◌≤◌, IfOk, IfSome};
 ghost use Rattle.json_text.specs.Moment.{IsMoment};
 ghost use Rattle.router_core.specs.Request as request;
 ghost use Rattle.router_core.specs.Ready.{IsReadyAt};
@@ -19,16 +19,18 @@ pub(crate) fn create_queue(
     alloc: Global,
     tables: &Tables,
     moment: u64,
-    name: Text,
+    name: &Text,
 ) -> Result<(Option<Ready>, Reply), NoMemory>
     requires moment { IsMoment moment }
     requires later { tables.now.moment ≤ moment }
-    ensures answer { IfOk result (λ p. (reading : ℕ) → IsAnswerAt tables.now moment reading (request.create_queue name) (answer_of p)) }
+    ensures answer { IfOk result (λ p. IsAnswerAt tables.now moment (request.create_queue name.now) (answer_of p)) }
     ensures ready { IfOk result (λ p. IfSome p.0 (λ r. IsReadyAt tables.now r)) }
 {
     let arn = queue_arn(alloc, name.as_str())?;
     let reply = text_reply(alloc, "QueueArn", arn)?;
     let new_queue = NewQueue::new(alloc, name.as_str())?;
-    let control = Control::QueueCreated { name };
+    let control = Control::QueueCreated {
+        name: name.copy(alloc)?,
+    };
     configure(alloc, tables, moment, control, Some(new_queue), reply)
 }

@@ -1,6 +1,7 @@
 //! The router machine: decides what each request changes and what its reply is.
 #![tactic(auto)]
 
+mod causes;
 mod configure;
 mod create_queue;
 mod laws;
@@ -10,6 +11,7 @@ mod put_rule;
 mod put_targets;
 mod reply;
 mod requests;
+mod test_event_pattern;
 #[cfg(test)]
 mod tests;
 

@@ -6,27 +6,27 @@ ghost use Rattle.api_replies.specs.View.{reply_of};
 ghost use Rattle.router_calls.specs.Answer.{peeked, message_report, messages_reply};
 ghost use Rattle.router_calls.specs.Decided.{answer_of};
 
-use crate::reply::number_json;
+use crate::reply::{number_json, refused};
 use delivery_duties::QueueMessage;
-use json_text::{Items, Json, Members, NoMemory, push_member};
-use router_core::{Ready, Reply, Tables, not_built};
+use json_text::{Items, Json, Members, NoMemory, Text, push_member};
+use router_core::{Cause, Kind, Ready, Reply, Tables};
 use std::alloc::Global;
-
-/// The greatest number of messages that PeekMessages shows.
-const PEEKED: u32 = 10;
 
 pub(crate) fn peek_messages(
     alloc: Global,
     tables: &Tables,
     queue: &str,
+    limit: u32,
 ) -> Result<(Option<Ready>, Reply), NoMemory>
-    ensures answer { IfOk result (λ p. answer_of p ≡ peeked tables.now queue.now) }
+    ensures answer { IfOk result (λ p. answer_of p ≡ peeked tables.now queue.now limit) }
     ensures ready { IfOk result (λ p. p.0 ≡ None) }
 {
     if !tables.set().queue(queue) {
-        return Ok((None, not_built(alloc)?));
+        let name = Text::from_str(alloc, queue)?;
+        let kind = Kind::Queue;
+        return refused(alloc, &Cause::NotFound { kind, name });
     }
-    let messages = tables.duties().peek(alloc, queue, PEEKED)?;
+    let messages = tables.duties().peek(alloc, queue, limit)?;
     Ok((None, messages_reply(alloc, messages)?))
 }
 

@@ -1,27 +1,28 @@
 //! PutEvents.
-ghost use Rattle.std.specs.Prelude.{◌≡◌, ◌≤◌, ◌+◌, ◌-◌, ◌^◌, min, length, map, None, IfOk, IfSome, IfNone, All};
+ghost use Rattle.std.specs.Prelude.{◌≡◌, ◌≤◌, ◌<◌, ◌+◌, ◌^◌, length, None, Ok, IfOk, IfSome, OnOk, All};
 ghost use Rattle.json_text.specs.Moment.{IsMoment};
 ghost use Rattle.json_text.specs.View.{tree_of};
 ghost use Rattle.json_text.specs.Compact.{compact_text};
-ghost use Rattle.event_shape.specs.Entry.{entry_of};
-ghost use Rattle.event_shape.specs.Event.{event_tree};
+ghost use Rattle.event_shape.specs.Event.{event_tree, IsEvent};
+ghost use Rattle.event_shape.specs.Unnumbered.{with_number};
 ghost use Rattle.rule_table.specs.RuleSet.{rules_of};
 ghost use Rattle.delivery_duties.specs.Duties.{HasEndpoint};
 ghost use Rattle.router_core.specs.Matching.{AreDuties};
-ghost use Rattle.router_core.specs.Ready.{accepted_of, AreDeliverable, IsReadyAt};
-ghost use Rattle.api_replies.specs.View.{reply_of};
-ghost use Rattle.router_calls.specs.Accepted.{total_size, IsAcceptedAs, AreAccepted, HasFaulty};
-ghost use Rattle.router_calls.specs.Answer.{IsPublished, event_report, events_reply};
+ghost use Rattle.router_core.specs.Ready.{accepted_of, IsReadyAt};
+ghost use Rattle.router_calls.specs.Accepted.{IsAcceptedAs, IsPlaced};
+ghost use Rattle.router_calls.specs.Answer.{IsPublished, entry_report};
 ghost use Rattle.router_calls.specs.Decided.{answer_of};
+ghost use Rattle.router_calls.specs.Steps.{placed_of, AddsEntries, IsEventAdded, IsRefusalAdded};
 
-use crate::reply::list_reply;
+use crate::causes::entry_cause;
+use crate::reply::{items_reply, refused};
 use crate::requests::read_tables;
 use delivery_duties::NewDuties;
-use event_shape::{CheckFault, Checked, Event, EventEntry, OWNER, check, event_id, size};
+use event_shape::{EntryFault, Unnumbered, event_id};
 use json_text::{Items, Json, Members, NoMemory, Text, push_member};
 use router_core::{
-    AcceptedEvent, Change, Ready, Reply, Seen, Tables, duties_of, limit_reply, not_built,
-    see_plain_event,
+    AcceptedEvent, Cause, Change, Member, Ready, Reply, SeenVerdict, Tables, duties_of,
+    push_failure, see_plain_entry, verdict_of,
 };
 use std::alloc::Global;
 use std::collections::VecDeque;
@@ -29,93 +30,138 @@ use std::collections::VecDeque;
 /// The greatest number of bytes that the entries of one request have together.
 const SIZE_LIMIT: u64 = 262_144;
 
-/// Accepts all entries or none.
+/// Accepts each entry that has no fault and whose bus exists. If all fail, nothing is changed.
 pub(crate) fn put_events(
     alloc: Global,
     tables: &Tables,
     moment: u64,
-    reading: u64,
-    entries: Vec<EventEntry>,
+    entries: &[Result<Unnumbered, EntryFault>],
+    size: u64,
 ) -> Result<(Option<Ready>, Reply), NoMemory>
-    requires reading { IsMoment reading }
     requires moment { IsMoment moment }
     requires later { tables.now.moment ≤ moment }
-    requires few { length entries.items ≤ 10 }
-    ensures answer { IfOk result (λ p. IsPublished tables.now moment reading (map entry_of entries.items) (answer_of p)) }
+    requires few { length entries.now ≤ 10 }
+    ensures answer { IfOk result (λ p. IsPublished tables.now moment entries.now size (answer_of p)) }
     ensures ready { IfOk result (λ p. IfSome p.0 (λ r. IsReadyAt tables.now r)) }
 {
-    if total_len(&entries) > SIZE_LIMIT {
-        return Ok((None, not_built(alloc)?));
+    if size > SIZE_LIMIT {
+        return refused(alloc, &Cause::TooLargeTogether);
     }
-    let Some(events) = accept_all(alloc, tables, reading, VecDeque::from(entries))? else {
-        return Ok((None, not_built(alloc)?));
+    read_tables(tables);
+    let mut all = PlacedEntries {
+        events: VecDeque::with_capacity(alloc, entries.len())?,
+        reports: Vec::with_capacity(alloc, entries.len())?,
+        failed: 0,
     };
-    if tables.full() {
-        return Ok((None, limit_reply(alloc)?));
+    place_all(alloc, tables, entries, tables.events() + 1, &mut all)?;
+    let PlacedEntries {
+        events,
+        reports,
+        failed,
+    } = all;
+    let reply = items_reply(alloc, failed, "Entries", reports)?;
+    if events.is_empty() {
+        return Ok((None, reply));
     }
-    let reply = events_reply(alloc, &events)?;
+    if tables.full() {
+        return refused(alloc, &Cause::NumberLimit);
+    }
     let change = Change::Events(events);
     Ok((Some(Ready { moment, change }), reply))
 }
 
-/// The number of bytes that the entries have together; `u64::MAX` if the sum is greater.
-fn total_len(entries: &[EventEntry]) -> u64
-    ensures { result ≡ min (total_size (map entry_of entries.now)) (2 ^ 64 - 1) }
-{
-    let mut total: u64 = 0;
-    for entry in entries {
-        total = total.saturating_add(size(entry));
-    }
-    total
+/// What entries became.
+#[derive(Drop)]
+pub(crate) struct PlacedEntries {
+    events: VecDeque<AcceptedEvent>,
+    /// An item for each entry.
+    reports: Items,
+    /// The number of entries that failed.
+    failed: u64,
 }
 
-/// The events of the entries, numbered from the next number on; none if an entry has a fault.
-fn accept_all(
+/// Places the entries in their order. The first event gets this number.
+fn place_all(
     alloc: Global,
     tables: &Tables,
-    reading: u64,
-    mut entries: VecDeque<EventEntry>,
-) -> Result<Option<VecDeque<AcceptedEvent>>, NoMemory>
-    requires reading { IsMoment reading }
-    requires few { length entries.items ≤ 10 }
-    ensures accepted { IfOk result (λ found. IfSome found (λ events.
-        AreAccepted tables.now.set reading (tables.now.events + 1) (map entry_of entries.items) (map accepted_of events.items))) }
-    ensures deliverable { IfOk result (λ found. IfSome found (λ events. AreDeliverable tables.now.duties.queues events.items)) }
-    ensures faulty { IfOk result (λ found. IfNone found (HasFaulty (map entry_of entries.items))) }
+    entries: &[Result<Unnumbered, EntryFault>],
+    number: u64,
+    all: &mut PlacedEntries,
+) -> Result<(), NoMemory>
+    requires number { number + length entries.now < 2 ^ 63 }
+    requires failed { all.old.failed + length entries.now < 2 ^ 63 }
+    ensures { OnOk result (AddsEntries tables.now number entries.now all.old all.new) }
 {
-    read_tables(tables);
-    let mut events = VecDeque::with_capacity(alloc, entries.len())?;
-    let mut number = tables.events();
-    while let Some(entry) = entries.pop_front() {
-        number += 1;
-        match check(alloc, entry) {
-            Ok(checked) => {
-                let event = accept(alloc, tables, checked, number, reading)?;
-                events.push_back(event)?;
+    match entries {
+        [entry, rest @ ..] => match place(alloc, tables, entry, number)? {
+            Ok(event) => {
+                push_event(alloc, event, all)?;
+                place_all(alloc, tables, rest, number + 1, all)
             }
-            Err(CheckFault::Entry(_fault)) => return Ok(None),
-            Err(CheckFault::NoMemory) => return Err(NoMemory),
-        }
+            Err(cause) => {
+                push_refusal(alloc, &cause, all)?;
+                place_all(alloc, tables, rest, number, all)
+            }
+        },
+        [] => Ok(()),
     }
-    Ok(Some(events))
 }
 
-/// The event of an entry without a fault, with its duties.
+/// Adds the event and its item.
+fn push_event(alloc: Global, event: AcceptedEvent, all: &mut PlacedEntries) -> Result<(), NoMemory>
+    ensures { OnOk result (IsEventAdded event all.old all.new) }
+{
+    all.reports.push(event_json(alloc, &event)?)?;
+    all.events.push_back(event)?;
+    Ok(())
+}
+
+/// Adds the item of an entry that is refused.
+fn push_refusal(alloc: Global, cause: &Cause, all: &mut PlacedEntries) -> Result<(), NoMemory>
+    requires { all.old.failed < 2 ^ 63 }
+    ensures { OnOk result (IsRefusalAdded cause.now all.old all.new) }
+{
+    let mut members: Members = Vec::with_capacity(alloc, 2)?;
+    push_failure(alloc, &mut members, cause)?;
+    all.reports.push(Json::Obj(members))?;
+    all.failed += 1;
+    Ok(())
+}
+
+/// What becomes of the entry, if the next event gets this number.
+fn place(
+    alloc: Global,
+    tables: &Tables,
+    entry: &Result<Unnumbered, EntryFault>,
+    number: u64,
+) -> Result<Result<AcceptedEvent, Cause>, NoMemory>
+    ensures placed { IfOk result (λ p. IsPlaced tables.now.set number entry.now (placed_of p)) }
+    ensures few { IfOk result (λ p. IfOk p (λ e. length e.duties ≤ 1500)) }
+    ensures there { IfOk result (λ p. IfOk p (λ e. All (λ d. HasEndpoint d.endpoint tables.now.duties.queues) e.duties)) }
+{
+    match verdict_of(tables.set(), entry) {
+        SeenVerdict::Fault(fault) => Ok(Err(entry_cause(fault))),
+        SeenVerdict::NoBus => Ok(Err(Cause::Parameter(Member::EventBusName))),
+        SeenVerdict::Allowed => match entry {
+            Ok(event) => Ok(Ok(accept(alloc, tables, event, number)?)),
+            Err(_) => unreachable!(),
+        },
+    }
+}
+
+/// The event with its number and its duties.
 fn accept(
     alloc: Global,
     tables: &Tables,
-    checked: Checked,
+    event: &Unnumbered,
     number: u64,
-    reading: u64,
 ) -> Result<AcceptedEvent, NoMemory>
-    requires reading { IsMoment reading }
-    ensures accepted { IfOk result (λ e. IsAcceptedAs tables.now.set reading number checked (accepted_of e)) }
+    ensures accepted { IfOk result (λ e. IsAcceptedAs tables.now.set number event.now (accepted_of e)) }
     ensures few { IfOk result (λ e. length e.duties ≤ 1500) }
     ensures there { IfOk result (λ e. All (λ d. HasEndpoint d.endpoint tables.now.duties.queues) e.duties) }
 {
-    let bus = Text::from_str(alloc, checked.bus())?;
-    let event = Event::make(alloc, checked, number, reading, OWNER)?;
-    let MatchedEvent { k, text, duties } = matched(alloc, tables, bus.as_str(), &event)?;
+    let bus = Text::from_str(alloc, event.bus())?;
+    let MatchedEvent { k, text, duties } = matched(alloc, tables, event, number)?;
     Ok(AcceptedEvent {
         number,
         bus,
@@ -134,43 +180,31 @@ struct MatchedEvent {
     duties: NewDuties,
 }
 
-/// Matches the event against the rules of the bus.
+/// Matches the event against the rules of its bus, and gives it its number.
 fn matched(
     alloc: Global,
     tables: &Tables,
-    bus: &str,
-    event: &Event,
+    event: &Unnumbered,
+    number: u64,
 ) -> Result<MatchedEvent, NoMemory>
     ensures k { IfOk result (λ m. m.k ≡ tables.now.set.count) }
-    ensures text { IfOk result (λ m. m.text ≡ compact_text (event_tree event.now None)) }
-    ensures duties { IfOk result (λ m. AreDuties bus.now (rules_of bus.now tables.now.set) (event_tree event.now None) m.text m.duties) }
+    ensures event { IsEvent (with_number number event.now.event) }
+    ensures text { IfOk result (λ m. m.text ≡ compact_text (event_tree (with_number number event.now.event) None)) }
+    ensures duties { IfOk result (λ m. AreDuties event.now.bus (rules_of event.now.bus tables.now.set)
+        (event_tree (with_number number event.now.event) None) m.text m.duties) }
     ensures few { IfOk result (λ m. length m.duties ≤ 1500) }
     ensures there { IfOk result (λ m. All (λ d. HasEndpoint d.endpoint tables.now.duties.queues) m.duties) }
 {
     read_tables(tables);
-    let seen = see_plain_event(alloc, tables.set(), bus, event, None)?;
-    let Seen { k, mut entries } = seen;
-    let Some(entry) = entries.pop() else {
-        unreachable!();
-    };
-    let text = event.text(alloc, None)?;
-    let duties = duties_of(alloc, entry.targets, text.as_str())?;
+    let k = tables.set().control_count();
+    let text = event.numbered(alloc, number)?;
+    let seen = see_plain_entry(alloc, tables.set(), event)?;
+    let duties = duties_of(alloc, seen.targets, text.as_str())?;
     Ok(MatchedEvent { k, text, duties })
 }
 
-/// The reply with the ids of the events.
-fn events_reply(alloc: Global, events: &VecDeque<AcceptedEvent>) -> Result<Reply, NoMemory>
-    ensures { IfOk result (λ r. reply_of r ≡ events_reply (map accepted_of events.now.items)) }
-{
-    let mut items: Items = Vec::with_capacity(alloc, events.len())?;
-    for event in events {
-        items.push(event_json(alloc, event)?)?;
-    }
-    list_reply(alloc, "Entries", items)
-}
-
 fn event_json(alloc: Global, event: &AcceptedEvent) -> Result<Json, NoMemory>
-    ensures { IfOk result (λ j. tree_of j ≡ event_report (accepted_of event.now)) }
+    ensures { IfOk result (λ j. tree_of j ≡ entry_report (Ok (accepted_of event.now))) }
 {
     let id = event_id(alloc, event.number)?;
     let mut members: Members = Vec::with_capacity(alloc, 1)?;

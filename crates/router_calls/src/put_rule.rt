@@ -1,14 +1,16 @@
 //! PutRule.
-ghost use Rattle.std.specs.Prelude.{◌≤◌, ℕ, IfOk, IfSome};
+ghost use Rattle.std.specs.Prelude.{◌≡◌, ◌≤◌, None, IfOk, IfSome};
 ghost use Rattle.json_text.specs.Moment.{IsMoment};
 ghost use Rattle.router_core.specs.Request as request;
-ghost use Rattle.router_core.specs.Ready.{IsReadyAt};
+ghost use Rattle.rule_table.specs.Control.{rule_put};
+ghost use Rattle.rule_table.specs.View.{control_of};
+ghost use Rattle.router_core.specs.Ready.{HasPlace, IsReadyAt};
 ghost use Rattle.router_calls.specs.Answer.{IsAnswerAt};
 ghost use Rattle.router_calls.specs.Decided.{answer_of};
 
 use crate::configure::configure;
 use crate::reply::text_reply;
-use event_shape::{DEFAULT_BUS, rule_arn};
+use event_shape::rule_arn;
 use json_text::{NoMemory, Text};
 use router_core::{Ready, Reply, Tables};
 use rule_table::Control;
@@ -18,22 +20,37 @@ pub(crate) fn put_rule(
     alloc: Global,
     tables: &Tables,
     moment: u64,
-    name: Text,
-    pattern: Text,
+    bus: &Text,
+    name: &Text,
+    pattern: &Text,
+    enabled: bool,
 ) -> Result<(Option<Ready>, Reply), NoMemory>
     requires moment { IsMoment moment }
     requires later { tables.now.moment ≤ moment }
-    ensures answer { IfOk result (λ p. (reading : ℕ) → IsAnswerAt tables.now moment reading (request.put_rule name pattern) (answer_of p)) }
+    ensures answer { IfOk result (λ p. IsAnswerAt tables.now moment (request.put_rule bus.now name.now pattern.now enabled) (answer_of p)) }
     ensures ready { IfOk result (λ p. IfSome p.0 (λ r. IsReadyAt tables.now r)) }
 {
-    let arn = rule_arn(alloc, DEFAULT_BUS, name.as_str())?;
+    let arn = rule_arn(alloc, bus.as_str(), name.as_str())?;
     let reply = text_reply(alloc, "RuleArn", arn)?;
-    let bus = Text::from_str(alloc, DEFAULT_BUS)?;
-    let control = Control::RulePut {
-        bus,
-        name,
-        pattern,
-        enabled: true,
-    };
+    let control = rule_put(alloc, bus, name, pattern, enabled)?;
     configure(alloc, tables, moment, control, None, reply)
+}
+
+/// The change that puts the rule.
+fn rule_put(
+    alloc: Global,
+    bus: &Text,
+    name: &Text,
+    pattern: &Text,
+    enabled: bool,
+) -> Result<Control, NoMemory>
+    ensures change { IfOk result (λ control. control_of control ≡ rule_put bus.now name.now pattern.now enabled) }
+    ensures place { IfOk result (λ control. HasPlace (control_of control) None) }
+{
+    Ok(Control::RulePut {
+        bus: bus.copy(alloc)?,
+        name: name.copy(alloc)?,
+        pattern: pattern.copy(alloc)?,
+        enabled,
+    })
 }

@@ -1,33 +1,146 @@
 //! PutTargets.
-ghost use Rattle.std.specs.Prelude.{◌≤◌, ℕ, IfOk, IfSome};
+ghost use Rattle.std.specs.Prelude.{◌≡◌, ◌≤◌, ◌∷◌, [], ◌++◌, IfOk, IfSome, OnOk};
 ghost use Rattle.json_text.specs.Moment.{IsMoment};
-ghost use Rattle.router_core.specs.Request as request;
+ghost use Rattle.json_text.specs.View.{tree_of};
 ghost use Rattle.router_core.specs.Ready.{IsReadyAt};
-ghost use Rattle.router_calls.specs.Answer.{IsAnswerAt};
+ghost use Rattle.rule_table.specs.RuleSet.{put_target};
+ghost use Rattle.router_calls.specs.Answer.{IsTargetsPut, target_report};
 ghost use Rattle.router_calls.specs.Decided.{answer_of};
+ghost use Rattle.router_calls.specs.Steps.{AddsTargets, AreAllSplit, IsOneSplit};
 
+use crate::causes::target_cause;
 use crate::configure::configure;
-use crate::reply::list_reply;
-use event_shape::DEFAULT_BUS;
-use json_text::{NoMemory, Text};
-use router_core::{Ready, Reply, Tables};
-use rule_table::{Control, Target};
+use crate::reply::{items_reply, refused};
+use json_text::{Items, Json, Members, NoMemory, Text, push_text};
+use router_core::{Cause, Kind, Ready, Reply, Tables, push_failure};
+use rule_table::{Control, RuleSet, Target, put_target};
 use std::alloc::Global;
 
+/// Puts each target that has no fault to the rule, as one change. If all fail, nothing is changed.
 pub(crate) fn put_targets(
     alloc: Global,
     tables: &Tables,
     moment: u64,
-    rule: Text,
-    targets: Vec<Target>,
+    bus: &Text,
+    rule: &Text,
+    targets: &[Target],
 ) -> Result<(Option<Ready>, Reply), NoMemory>
     requires moment { IsMoment moment }
     requires later { tables.now.moment ≤ moment }
-    ensures answer { IfOk result (λ p. (reading : ℕ) → IsAnswerAt tables.now moment reading (request.put_targets rule targets.items) (answer_of p)) }
+    ensures answer { IfOk result (λ p. IsTargetsPut tables.now moment bus.now rule.now targets.now (answer_of p)) }
     ensures ready { IfOk result (λ p. IfSome p.0 (λ r. IsReadyAt tables.now r)) }
 {
-    let reply = list_reply(alloc, "FailedEntries", Vec::new(alloc))?;
-    let bus = Text::from_str(alloc, DEFAULT_BUS)?;
-    let control = Control::TargetsPut { bus, rule, targets };
+    let set = tables.set();
+    if set.bus(bus.as_str()).is_none() {
+        let name = bus.copy(alloc)?;
+        let kind = Kind::EventBus;
+        return refused(alloc, &Cause::NotFound { kind, name });
+    }
+    let Some(old) = set.rule(bus.as_str(), rule.as_str()) else {
+        let name = rule.copy(alloc)?;
+        let kind = Kind::Rule;
+        return refused(alloc, &Cause::NotFound { kind, name });
+    };
+    let SplitTargets {
+        have: _,
+        accepted,
+        reports,
+    } = split_all(alloc, set, old.targets(), targets)?;
+    let reply = items_reply(alloc, reports.len() as u64, "FailedEntries", reports)?;
+    if accepted.is_empty() {
+        return Ok((None, reply));
+    }
+    let control = Control::TargetsPut {
+        bus: bus.copy(alloc)?,
+        rule: rule.copy(alloc)?,
+        targets: accepted,
+    };
     configure(alloc, tables, moment, control, None, reply)
+}
+
+/// Targets that were put one after the other.
+#[derive(Drop)]
+pub(crate) struct SplitTargets {
+    /// The rule's targets with the accepted ones put to them.
+    have: Vec<Target>,
+    accepted: Vec<Target>,
+    /// The items of those that failed.
+    reports: Items,
+}
+
+/// Puts the targets to a rule that has these targets.
+fn split_all(
+    alloc: Global,
+    set: &RuleSet,
+    have: &[Target],
+    targets: &[Target],
+) -> Result<SplitTargets, NoMemory>
+    ensures { IfOk result (λ all. AreAllSplit set.now have.now targets.now all) }
+{
+    let mut all = SplitTargets {
+        have: copies(alloc, have)?,
+        accepted: Vec::with_capacity(alloc, targets.len())?,
+        reports: Vec::new(alloc),
+    };
+    split(alloc, set, targets, &mut all)?;
+    Ok(all)
+}
+
+fn copies(alloc: Global, targets: &[Target]) -> Result<Vec<Target>, NoMemory>
+    ensures { IfOk result (λ others. others.items ≡ targets.now) }
+{
+    let mut others = Vec::with_capacity(alloc, targets.len())?;
+    for target in targets {
+        others.push(target.copy(alloc)?)?;
+    }
+    Ok(others)
+}
+
+/// Puts the targets in their order.
+fn split(
+    alloc: Global,
+    set: &RuleSet,
+    targets: &[Target],
+    all: &mut SplitTargets,
+) -> Result<(), NoMemory>
+    ensures { OnOk result (AddsTargets set.now targets.now all.old all.new) }
+{
+    match targets {
+        [target, rest @ ..] => {
+            split_one(alloc, set, target, all)?;
+            split(alloc, set, rest, all)
+        }
+        [] => Ok(()),
+    }
+}
+
+fn split_one(
+    alloc: Global,
+    set: &RuleSet,
+    target: &Target,
+    all: &mut SplitTargets,
+) -> Result<(), NoMemory>
+    ensures { OnOk result (IsOneSplit set.now target.now all.old all.new) }
+{
+    match set.target_fault(all.have.as_slice(), target) {
+        None => {
+            put_target(&mut all.have, target.copy(alloc)?)?;
+            all.accepted.push(target.copy(alloc)?)?;
+        }
+        Some(fault) => {
+            let cause = target_cause(alloc, target, fault)?;
+            all.reports
+                .push(target_json(alloc, target.id.as_str(), &cause)?)?;
+        }
+    }
+    Ok(())
+}
+
+fn target_json(alloc: Global, id: &str, cause: &Cause) -> Result<Json, NoMemory>
+    ensures { IfOk result (λ j. tree_of j ≡ target_report (id.now, cause.now)) }
+{
+    let mut members: Members = Vec::with_capacity(alloc, 3)?;
+    push_text(alloc, &mut members, "TargetId", id)?;
+    push_failure(alloc, &mut members, cause)?;
+    Ok(Json::Obj(members))
 }

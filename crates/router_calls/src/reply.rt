@@ -1,13 +1,14 @@
 //! Replies to requests that are carried out.
-ghost use Rattle.std.specs.Prelude.{◌≡◌, ◌++◌, ◌∷◌, [], map, IfOk, OnOk, codes, decimal};
-ghost use Rattle.json_text.specs.Tree.{Tree, text, number, list, items_of, members_of, object};
-ghost use Rattle.json_text.specs.View.{tree_of, pairs_of, trees_of};
+ghost use Rattle.std.specs.Prelude.{◌≡◌, ◌∷◌, [], None, IfOk, decimal};
+ghost use Rattle.json_text.specs.Tree.{text, number};
+ghost use Rattle.json_text.specs.View.{tree_of, trees_of};
 ghost use Rattle.api_replies.specs.Reply as replies;
 ghost use Rattle.api_replies.specs.View.{reply_of};
-ghost use Rattle.router_calls.specs.Answer.{none_failed, events_reply, messages_reply};
+ghost use Rattle.router_calls.specs.Answer.{reply_alone, items_reply};
+ghost use Rattle.router_calls.specs.Decided.{answer_of};
 
 use json_text::{Items, Json, Members, NoMemory, Text, push_member};
-use router_core::Reply;
+use router_core::{Cause, Ready, Reply, refused_reply};
 use std::alloc::Global;
 
 /// A reply with one member, which is a string.
@@ -29,19 +30,33 @@ pub(crate) fn number_json(alloc: Global, value: u64) -> Result<Json, NoMemory>
     Ok(Json::Num(Text::from(format!(in alloc; "{value}")?)))
 }
 
-/// A reply with `FailedEntryCount` 0 and a list.
-pub(crate) fn list_reply(alloc: Global, key: &str, items: Items) -> Result<Reply, NoMemory>
-    ensures { IfOk result (λ r. reply_of r ≡ replies.served (
-        (codes "FailedEntryCount", number (codes "0"))
-        ∷ (key.now, list (items_of (trees_of items.items)))
-        ∷ [])) }
+/// A reply with `FailedEntryCount` and a list.
+pub(crate) fn items_reply(
+    alloc: Global,
+    failed: u64,
+    key: &str,
+    items: Items,
+) -> Result<Reply, NoMemory>
+    ensures { IfOk result (λ r. reply_of r ≡ items_reply failed key.now (trees_of items.items)) }
 {
     let mut members: Members = Vec::with_capacity(alloc, 2)?;
-    let none = Json::Num(Text::from_str(alloc, "0")?);
-    push_member(alloc, &mut members, "FailedEntryCount", none)?;
+    push_member(
+        alloc,
+        &mut members,
+        "FailedEntryCount",
+        number_json(alloc, failed)?,
+    )?;
     push_member(alloc, &mut members, key, Json::List(items))?;
     Ok(Reply {
         status: 200,
         body: Json::Obj(members),
     })
+}
+
+/// A refusal, without a change.
+pub(crate) fn refused(alloc: Global, cause: &Cause) -> Result<(Option<Ready>, Reply), NoMemory>
+    ensures answer { IfOk result (λ p. answer_of p ≡ reply_alone (replies.refused cause.now)) }
+    ensures ready { IfOk result (λ p. p.0 ≡ None) }
+{
+    Ok((None, refused_reply(alloc, cause)?))
 }

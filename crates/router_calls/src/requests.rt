@@ -1,8 +1,8 @@
 //! What each request changes, and its reply.
-ghost use Rattle.std.specs.Prelude.{◌≡◌, ◌≢◌, IfOk, IfSome};
+ghost use Rattle.std.specs.Prelude.{◌≡◌, IfOk, IfSome};
 ghost use Rattle.json_text.specs.Moment.{IsMoment};
 ghost use Rattle.rule_table.specs.RuleSet.{IsSound};
-ghost use Rattle.router_core.specs.Request.{deliver_due};
+ghost use Rattle.router_core.specs.Request.{IsOneTurn};
 ghost use Rattle.router_core.specs.View.{action_of, request_of};
 ghost use Rattle.router_core.specs.Ready.{IsReadyAt, IsConsistent};
 ghost use Rattle.router_calls.specs.Answer.{IsAnswer, moment_at};
@@ -13,6 +13,7 @@ use crate::peek_messages::peek_messages;
 use crate::put_events::put_events;
 use crate::put_rule::put_rule;
 use crate::put_targets::put_targets;
+use crate::test_event_pattern::test_event_pattern;
 use json_text::NoMemory;
 use router_core::{Action, Ready, Reply, Request, Tables};
 use std::alloc::Global;
@@ -22,25 +23,34 @@ use std::alloc::Global;
 pub fn decide(
     alloc: Global,
     tables: &Tables,
-    request: Request,
+    request: &Request,
     moment: u64,
 ) -> Result<(Option<Ready>, Reply), NoMemory>
-    requires reading { IsMoment request.reading }
-    requires at { moment ≡ moment_at tables.now request.reading }
-    requires few { IsBounded (action_of request.action) }
-    requires one_turn { action_of request.action ≢ deliver_due }
-    ensures answer { IfOk result (λ p. IsAnswer tables.now (request_of request) (answer_of p)) }
+    requires reading { IsMoment request.now.reading }
+    requires at { moment ≡ moment_at tables.now request.now.reading }
+    requires few { IsBounded (action_of request.now.action) }
+    requires one_turn { IsOneTurn (action_of request.now.action) }
+    ensures answer { IfOk result (λ p. IsAnswer tables.now (request_of request.now) (answer_of p)) }
     ensures ready { IfOk result (λ p. IfSome p.0 (λ r. IsReadyAt tables.now r)) }
 {
     read_tables(tables);
-    let Request { action, reading } = request;
-    match action {
+    match &request.action {
         Action::CreateQueue { name } => create_queue(alloc, tables, moment, name),
-        Action::PutRule { name, pattern } => put_rule(alloc, tables, moment, name, pattern),
-        Action::PutTargets { rule, targets } => put_targets(alloc, tables, moment, rule, targets),
-        Action::PutEvents { entries } => put_events(alloc, tables, moment, reading, entries),
-        Action::PeekMessages { queue } => peek_messages(alloc, tables, queue.as_str()),
-        Action::DeliverDue => unreachable!(),
+        Action::PutRule {
+            bus,
+            name,
+            pattern,
+            enabled,
+        } => put_rule(alloc, tables, moment, bus, name, pattern, *enabled),
+        Action::PutTargets { bus, rule, targets } => {
+            put_targets(alloc, tables, moment, bus, rule, targets)
+        }
+        Action::PutEvents { entries, size } => put_events(alloc, tables, moment, entries, *size),
+        Action::PeekMessages { queue, limit } => {
+            peek_messages(alloc, tables, queue.as_str(), *limit)
+        }
+        Action::TestEventPattern { pattern, event } => test_event_pattern(alloc, pattern, event),
+        Action::DeliverDue { .. } => unreachable!(),
     }
 }
 

@@ -1,0 +1,89 @@
+//! Why a change, an entry or a target is refused, as replies report it.
+ghost use Rattle.std.specs.Prelude.{◌≡◌, ℕ, List, IfOk};
+ghost use Rattle.event_shape.specs.Names.{queue_arn};
+ghost use Rattle.rule_table.specs.View.{control_of};
+ghost use Rattle.rule_table.specs.declared.control.TargetFault.TheVariants.{NoQueue};
+ghost use Rattle.router_calls.specs.Causes as spec;
+
+use event_shape::{EntryFault, queue_name_in};
+use json_text::{NoMemory, Text};
+use router_core::{Cause, Kind, Member};
+use rule_table::{Control, ControlFault, Target, TargetFault};
+use std::alloc::Global;
+
+/// The refusal of the change for this fault.
+pub(crate) fn change_cause(
+    alloc: Global,
+    control: &Control,
+    fault: ControlFault,
+) -> Result<Cause, NoMemory>
+    ensures { IfOk result (λ cause. spec.IsCause (control_of control.now) fault cause) }
+{
+    match fault {
+        ControlFault::ResourceNotFound(kind) => {
+            let name = name_in(control, kind).copy(alloc)?;
+            Ok(Cause::NotFound { kind, name })
+        }
+        ControlFault::AlreadyExists(kind) => {
+            let name = name_in(control, kind).copy(alloc)?;
+            Ok(Cause::Exists { kind, name })
+        }
+        ControlFault::LimitExceeded(kind) => Ok(Cause::LimitReached(kind)),
+        ControlFault::Validation(member) => Ok(Cause::NotValid(member)),
+        ControlFault::NoMemory => Err(NoMemory),
+    }
+}
+
+/// The name that the change has for a thing of this kind.
+fn name_in(control: &Control, kind: Kind) -> &Text
+    ensures { result.now ≡ spec.name_in (control_of control.now) kind }
+{
+    match control {
+        Control::RulePut { bus, name, .. } => match kind {
+            Kind::EventBus => bus,
+            Kind::Rule | Kind::Target | Kind::Queue => name,
+        },
+        Control::TargetsPut { bus, rule, .. } => match kind {
+            Kind::EventBus => bus,
+            Kind::Rule | Kind::Target | Kind::Queue => rule,
+        },
+        Control::QueueCreated { name } => name,
+    }
+}
+
+/// The refusal of the target for this fault.
+pub(crate) fn target_cause(
+    alloc: Global,
+    target: &Target,
+    fault: TargetFault,
+) -> Result<Cause, NoMemory>
+    requires { fault ≡ NoQueue → (queue : List ℕ) × (target.now.arn ≡ queue_arn queue) }
+    ensures { IfOk result (λ cause. spec.IsTargetCause target.now fault cause) }
+{
+    match fault {
+        TargetFault::Member(member) => Ok(Cause::NotValid(member)),
+        TargetFault::NoQueue => match queue_name_in(target.arn.as_str()) {
+            Some(queue) => Ok(Cause::NotFound {
+                kind: Kind::Queue,
+                name: Text::from_str(alloc, queue)?,
+            }),
+            None => unreachable!(),
+        },
+        TargetFault::Sixth => Ok(Cause::LimitReached(Kind::Target)),
+    }
+}
+
+/// The refusal of an entry with this fault of its own.
+pub(crate) fn entry_cause(fault: EntryFault) -> Cause
+    ensures { result ≡ spec.entry_cause fault }
+{
+    match fault {
+        EntryFault::Source => Cause::Parameter(Member::Source),
+        EntryFault::DetailType => Cause::Parameter(Member::DetailType),
+        EntryFault::Detail => Cause::Parameter(Member::Detail),
+        EntryFault::Time => Cause::Parameter(Member::Time),
+        EntryFault::Bus => Cause::Parameter(Member::EventBusName),
+        EntryFault::Malformed => Cause::MalformedDetail,
+        EntryFault::NotAuthorized => Cause::NotAuthorized,
+    }
+}
