@@ -1,0 +1,49 @@
+-- The first refusal of a list of members. Other files cite `IsSoFar`, `sound_so_far`, `refused_so_far`; `text_refused`.
+use Rattle.std.proofs.Common.{◌≡◌, ℕ, List, [], ◌∷◌, refl, ap, ◌∙◌}
+use Rattle.json_text.specs.Tree.{Members}
+use Rattle.pattern_read.specs.Refusal.{IsFault}
+use Rattle.pattern_read.specs.declared.fault.PatternFault.{PatternFault}
+use Rattle.pattern_read.specs.declared.fault.PatternFault.TheVariants as pattern
+use Rattle.api_replies.specs.declared.cause.Cause.{Cause}
+use Rattle.api_replies.specs.declared.cause.Cause.TheVariants as cause
+use Rattle.api_members.specs.declared.asked.Asked.{Asked}
+use Rattle.api_members.specs.declared.fault.CallFault.{CallFault}
+use Rattle.api_members.specs.declared.fault.CallFault.TheVariants.{Refused, NoMemory}
+use Rattle.api_members.specs.Refusal.{IsSound, IsMemberRefused, AreSound, IsFirstRefusal, FirstFault, MemberFault, IsTextRefused}
+use Rattle.api_members.specs.Why.{why_name}
+use Rattle.api_members.specs.Fault.{IsCallFault}
+
+pub first_here : (a : Asked) (rest : List Asked) (ms : Members) (c : Cause) → IsMemberRefused a ms c → IsFirstRefusal (a ∷ rest) ms c
+first_here a rest ms c is = record { before = []; here = a; after = rest; order = refl; sound = tt; refused = is }
+
+pub first_later : (a : Asked) (rest : List Asked) (ms : Members) (c : Cause) → IsSound a ms → IsFirstRefusal rest ms c
+    → IsFirstRefusal (a ∷ rest) ms c
+first_later a rest ms c sound later = record {
+  before = a ∷ later.before;
+  here = later.here;
+  after = later.after;
+  order = ap (λ l. a ∷ l) later.order;
+  sound = (sound, later.sound);
+  refused = later.refused;
+}
+
+-- what is found of the members that are left is true of all
+pub record IsSoFar (all left : List Asked) (ms : Members) : Type 0 where
+  pub sound : AreSound left ms → AreSound all ms
+  pub first : (c : Cause) → IsFirstRefusal left ms c → IsFirstRefusal all ms c
+
+pub sound_so_far : (all left : List Asked) (a : Asked) (ms : Members) → IsSoFar all (a ∷ left) ms → IsSound a ms → IsSoFar all left ms
+sound_so_far all left a ms old is = record {
+  sound = λ rest. old.sound (is, rest);
+  first = λ c later. old.first c (first_later a left ms c is later);
+}
+
+pub refused_so_far : (all left : List Asked) (a : Asked) (ms : Members) (e : CallFault) → IsSoFar all (a ∷ left) ms → MemberFault a ms e
+    → FirstFault all ms e
+refused_so_far all left a ms (Refused c) old is = old.first c (first_here a left ms c is)
+refused_so_far all left a ms NoMemory old is = tt
+
+pub text_refused : (t : List ℕ) (f : PatternFault) (e : CallFault) → IsFault t f → IsCallFault f e → IsTextRefused t e
+text_refused t (pattern.Refused why path) (Refused c) is so = (why, is.0, is.1, so ∙ ap (cause.NotAPattern (why_name why)) is.2)
+text_refused t pattern.NoMemory (Refused c) is so = absurd so
+text_refused t f NoMemory is so = tt

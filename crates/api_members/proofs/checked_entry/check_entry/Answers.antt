@@ -1,0 +1,9 @@
+use Rattle.std.proofs.Common.{ap, sym, subst, Err}
+use Rattle.event_shape.specs.Entry.{entry_of}
+use Rattle.event_shape.specs.Fault.{IsFirstFault}
+use Rattle.api_members.proofs.checked_entry.check_entry.Goals as goal
+
+pub returns-in-Err-Entry : goal.returns-in-Err-Entry
+returns-in-Err-Entry c = let found : IsFirstFault (entry_of c.args.entry.now) c.in-Err-Entry.fault = c.in-Err-Entry.ensures.fault c.in-Err-Entry.fault
+    (ap Err c.in-Err-Entry.field-0-is)
+    in subst (IsFirstFault (entry_of c.args.entry.now)) (sym c.in-Err-Entry.fault-is) found

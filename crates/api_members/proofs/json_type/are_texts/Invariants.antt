@@ -1,0 +1,8 @@
+use Rattle.std.proofs.Common.{◌≡◌, drop}
+use Rattle.std.specs.List.{list_all}
+use Rattle.json_text.specs.View.{trees_of}
+use Rattle.api_members.specs.JsonType.{is_text}
+use Rattle.api_members.proofs.json_type.are_texts.Given as goal
+
+abbrev pub invariant-loop-item : goal.invariant-loop-item
+invariant-loop-item l = list_all is_text (trees_of (drop l.item-index l.items)) ≡ list_all is_text (trees_of l.items)

@@ -1,0 +1,51 @@
+-- The members that are given. Null counts as absent, members that no call names are ignored. If two members have one key, the first
+-- counts.
+use Rattle.std.specs.Prelude.{ℕ, List, [], ◌∷◌, Option, Some, None, option_and_then, unwrap_or}
+use Rattle.json_text.specs.Tree.{Tree, null, list, object, Items, no_items, item, Members, no_members}
+use Rattle.json_text.specs.Access.{member_in, text_in}
+use Rattle.api_replies.specs.Name.{member_name}
+use Rattle.api_replies.specs.declared.member.Member.{Member}
+
+-- the value itself; null counts as absent
+abbrev pub unless_null : Tree → Option Tree
+unless_null null = None
+unless_null t = Some t
+
+-- the value of the first member with this key
+abbrev pub value_at : List ℕ → Members → Option Tree
+value_at key members = option_and_then unless_null (member_in key members)
+
+-- the value of the member
+abbrev pub given : Member → Members → Option Tree
+given m members = value_at (member_name m) members
+
+-- the member's text, if it is given as a text
+abbrev pub text_given : Member → Members → Option (List ℕ)
+text_given m members = option_and_then text_in (given m members)
+
+-- the same, empty if there is none
+abbrev pub text_of : Member → Members → List ℕ
+text_of m members = unwrap_or (text_given m members) []
+
+-- the members of an object
+abbrev pub object_in : Tree → Option Members
+object_in (object members) = Some members
+object_in _ = None
+
+-- the items as a list
+abbrev pub values_of : Items → List Tree
+values_of no_items = []
+values_of (item t items) = t ∷ values_of items
+
+-- the values of a list
+abbrev pub list_in : Tree → Option (List Tree)
+list_in (list items) = Some (values_of items)
+list_in _ = None
+
+-- the values of the member's list; none if no list is given
+abbrev pub values_in : Member → Members → List Tree
+values_in m members = unwrap_or (option_and_then list_in (given m members)) []
+
+-- the members of an object; none if the value is no object
+abbrev pub members_in : Tree → Members
+members_in tree = unwrap_or (object_in tree) no_members

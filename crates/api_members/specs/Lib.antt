@@ -1,0 +1,10 @@
+pub mod Why
+pub mod Fault
+pub mod Given
+pub mod JsonType
+pub mod Entry
+pub mod CheckedEntry
+pub mod Target
+pub mod Event
+pub mod Value
+pub mod Refusal

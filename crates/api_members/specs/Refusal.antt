@@ -1,0 +1,86 @@
+-- The first refusal of a request's members.
+use Rattle.std.specs.Prelude.{◌≡◌, ℕ, List, [], ◌∷◌, ◌++◌, Option, Some, None}
+use Rattle.json_text.specs.Tree.{Tree, text, Members}
+use Rattle.pattern_read.specs.Refusal.{IsRefused, path_text}
+use Rattle.pattern_read.specs.declared.fault.Why.{Why}
+use Rattle.api_replies.specs.declared.member.Member.{Member}
+use Rattle.api_replies.specs.declared.cause.Cause.{Cause}
+use Rattle.api_replies.specs.declared.cause.Cause.TheVariants as cause
+use Rattle.api_members.specs.declared.asked.Syntax.{Syntax}
+use Rattle.api_members.specs.declared.asked.Syntax.TheVariants as syntax
+use Rattle.api_members.specs.declared.asked.Asked.{Asked}
+use Rattle.api_members.specs.declared.asked.Asked.TheVariants.{Required, Optional}
+use Rattle.api_members.specs.declared.fault.CallFault.{CallFault}
+use Rattle.api_members.specs.declared.fault.CallFault.TheVariants.{Refused, NoMemory}
+use Rattle.api_members.specs.Given.{given}
+use Rattle.api_members.specs.Why.{why_name}
+use Rattle.api_members.specs.Event.{GivesEvent}
+use Rattle.api_members.specs.Value.{IsValid}
+
+-- a text that is no pattern is refused for its own reason, at its place
+abbrev pub IsPatternRefusal : List ℕ → Cause → Type 0
+IsPatternRefusal t c = (why : Why) × (keys : List (List ℕ)) × IsRefused t why keys × (c ≡ cause.NotAPattern (why_name why) (path_text keys))
+
+-- the value is refused: a text as a pattern for its own reason, any other value as not valid
+abbrev pub IsValueRefused : Syntax → Member → Tree → Cause → Type 0
+IsValueRefused syntax.Pattern m (text t) c = IsPatternRefusal t c
+IsValueRefused s m tree c = (¬ IsValid s tree) × (c ≡ cause.NotValid m)
+
+-- the value is valid; an absent one as `absent` says
+abbrev pub ValidOr : Type 0 → Syntax → Option Tree → Type 0
+ValidOr absent s None = absent
+ValidOr absent s (Some tree) = IsValid s tree
+
+-- the value is refused; an absent one as `absent` says
+abbrev pub RefusedOr : Type 0 → Syntax → Member → Option Tree → Cause → Type 0
+RefusedOr absent s m None c = absent
+RefusedOr absent s m (Some tree) c = IsValueRefused s m tree c
+
+-- the member is given and valid, or it is optional and absent
+abbrev pub IsSound : Asked → Members → Type 0
+IsSound (Required m s) ms = ValidOr ⊥ s (given m ms)
+IsSound (Optional m s) ms = ValidOr (Unit {0}) s (given m ms)
+
+-- the member is absent though required, or its value is refused
+abbrev pub IsMemberRefused : Asked → Members → Cause → Type 0
+IsMemberRefused (Required m s) ms c = RefusedOr (c ≡ cause.Required m) s m (given m ms) c
+IsMemberRefused (Optional m s) ms c = RefusedOr ⊥ s m (given m ms) c
+
+-- each of the asked members is sound
+abbrev pub AreSound : List Asked → Members → Type 0
+AreSound [] ms = Unit {0}
+AreSound (a ∷ asked) ms = IsSound a ms × AreSound asked ms
+
+-- the first refusal: of one of the members, and those before it in the list are sound
+pub record IsFirstRefusal (asked : List Asked) (ms : Members) (c : Cause) : Type 0 where
+  pub before : List Asked
+  pub here : Asked
+  pub after : List Asked
+  pub order : asked ≡ before ++ here ∷ after
+  pub sound : AreSound before ms
+  pub refused : IsMemberRefused here ms c
+
+-- the fault is this first refusal, or out of memory
+abbrev pub FirstFault : List Asked → Members → CallFault → Type 0
+FirstFault asked ms (Refused c) = IsFirstRefusal asked ms c
+FirstFault asked ms NoMemory = Unit {0}
+
+-- the same of one member (no public clause names this and the next two)
+abbrev pub MemberFault : Asked → Members → CallFault → Type 0
+MemberFault a ms (Refused c) = IsMemberRefused a ms c
+MemberFault a ms NoMemory = Unit {0}
+
+-- the same of one value
+abbrev pub ValueFault : Syntax → Member → Tree → CallFault → Type 0
+ValueFault s m tree (Refused c) = IsValueRefused s m tree c
+ValueFault s m tree NoMemory = Unit {0}
+
+-- the fault of a text that is no pattern
+abbrev pub IsTextRefused : List ℕ → CallFault → Type 0
+IsTextRefused t (Refused c) = IsPatternRefusal t c
+IsTextRefused t NoMemory = Unit {0}
+
+-- the fault of a text that is no event
+abbrev pub IsEventRefused : Member → List ℕ → CallFault → Type 0
+IsEventRefused m t (Refused c) = (¬ GivesEvent t) × (c ≡ cause.NotValid m)
+IsEventRefused m t NoMemory = Unit {0}

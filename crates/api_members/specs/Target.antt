@@ -1,0 +1,31 @@
+-- The targets of a PutTargets: the JSON types of their members. Whether the values are valid is decided target by target.
+use Rattle.std.specs.Prelude.{Bool, ◌&&◌, codes}
+use Rattle.json_text.specs.Tree.{Tree, Members}
+use Rattle.api_replies.specs.declared.member.Member.TheVariants.{Id, Arn, Input, InputPath, InputTransformer, RetryPolicy, DeadLetterConfig}
+use Rattle.api_members.specs.declared.json_type.JsonType.TheVariants as is
+use Rattle.api_members.specs.Given.{value_at, given, object_in}
+use Rattle.api_members.specs.JsonType.{may_pass, must_pass, may_be, must_be}
+
+-- InputTransformer {InputPathsMap?, InputTemplate}
+abbrev pub is_transformer : Tree → Bool
+is_transformer tree = must_pass (λ ms. may_be is.TextMap (value_at (codes "InputPathsMap") ms)
+    && must_be is.Text (value_at (codes "InputTemplate") ms)) (object_in tree)
+
+-- RetryPolicy {MaximumRetryAttempts?, MaximumEventAgeInSeconds?}
+abbrev pub is_retry_policy : Tree → Bool
+is_retry_policy tree = must_pass (λ ms. may_be is.Number (value_at (codes "MaximumRetryAttempts") ms)
+    && may_be is.Number (value_at (codes "MaximumEventAgeInSeconds") ms)) (object_in tree)
+
+-- DeadLetterConfig {Arn?}
+abbrev pub is_dead_letter_config : Tree → Bool
+is_dead_letter_config tree = must_pass (λ ms. may_be is.Text (value_at (codes "Arn") ms)) (object_in tree)
+
+-- an Id and an Arn are given, and the members that are given have their JSON types
+abbrev pub are_target_members : Members → Bool
+are_target_members ms = must_be is.Text (given Id ms) && must_be is.Text (given Arn ms)
+    && may_be is.Text (given Input ms) && may_be is.Text (given InputPath ms) && may_pass is_transformer (given InputTransformer ms)
+    && may_pass is_retry_policy (given RetryPolicy ms) && may_pass is_dead_letter_config (given DeadLetterConfig ms)
+
+-- an object with an Id and an Arn, whose members have their types
+abbrev pub is_target : Tree → Bool
+is_target tree = must_pass are_target_members (object_in tree)

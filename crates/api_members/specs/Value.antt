@@ -1,0 +1,75 @@
+-- Which values are valid for a member.
+use Rattle.std.specs.Prelude.{◌≡◌, ℕ, ◌≤◌, nat_le, ◌⊎◌, Bool, ◌&&◌, List, length, Option, Some, None, codes, decimal, IsTrue}
+use Rattle.std.specs.List.{list_all}
+use Rattle.json_text.specs.Tree.{Tree, number, text}
+use Rattle.event_shape.specs.Names.{IsQueueName, IsShortName, IsBusGiven}
+use Rattle.pattern_meaning.specs.Pattern.{Pattern}
+use Rattle.pattern_read.specs.Text.{IsPatternText}
+use Rattle.api_members.specs.declared.asked.Syntax.{Syntax}
+use Rattle.api_members.specs.declared.asked.Syntax.TheVariants as syntax
+use Rattle.api_members.specs.Given.{list_in}
+use Rattle.api_members.specs.JsonType.{must_pass}
+use Rattle.api_members.specs.Entry.{is_entry}
+use Rattle.api_members.specs.Target.{is_target}
+use Rattle.api_members.specs.Event.{GivesEvent}
+
+-- a text with this property
+abbrev pub IsTextThat : (List ℕ → Type 0) → Tree → Type 0
+IsTextThat P (text t) = P t
+IsTextThat P _ = ⊥
+
+-- a bus's name or its ARN
+abbrev pub GivesBus : List ℕ → Type 0
+GivesBus t = (bus : List ℕ) × IsBusGiven t bus
+
+-- the text is some pattern
+abbrev pub IsPattern : List ℕ → Type 0
+IsPattern t = (p : Pattern) × IsPatternText t p
+
+-- the text is a rule's state
+abbrev pub IsState : List ℕ → Type 0
+IsState t = (t ≡ codes "ENABLED") ⊎ (t ≡ codes "DISABLED")
+
+-- the spelling is that of this number, in decimal digits without a sign, a leading zero, a fraction or an exponent; from 1 to `most`
+abbrev pub IsSpelled : ℕ → List ℕ → ℕ → Type 0
+IsSpelled most spelling n = (1 ≤ n) × (n ≤ most) × (spelling ≡ decimal n)
+
+-- the value is this number
+abbrev pub IsCount : ℕ → Tree → ℕ → Type 0
+IsCount most (number spelling) n = IsSpelled most spelling n
+IsCount most _ n = ⊥
+
+-- what is given, or else `default`
+abbrev pub GivesOr : {X : Type 0} → (X → Type 0) → X → X → Type 0
+GivesOr {X} Gives default x = Gives x ⊎ ((x ≡ default) × ((other : X) → ¬ Gives other))
+
+-- the member gives this number
+abbrev pub HasCount : ℕ → Option Tree → ℕ → Type 0
+HasCount most None n = ⊥
+HasCount most (Some tree) n = IsCount most tree n
+
+-- the member gives this bus
+abbrev pub HasBus : Option (List ℕ) → List ℕ → Type 0
+HasBus None bus = ⊥
+HasBus (Some t) bus = IsBusGiven t bus
+
+-- 1 to `most` values, each of which passes
+abbrev pub are_few : (Tree → Bool) → ℕ → List Tree → Bool
+are_few test most values = nat_le 1 (length values) && nat_le (length values) most && list_all test values
+
+-- a list of 1 to `most` values, each of which passes
+abbrev pub is_list_of : (Tree → Bool) → ℕ → Tree → Bool
+is_list_of test most tree = must_pass (are_few test most) (list_in tree)
+
+-- The value is valid for this syntax: a line for each. A member that is not served (`Unserved`) has no valid value.
+abbrev pub IsValid : Syntax → Tree → Type 0
+IsValid syntax.QueueName tree = IsTextThat IsQueueName tree
+IsValid syntax.RuleName tree = IsTextThat IsShortName tree
+IsValid syntax.Bus tree = IsTextThat GivesBus tree
+IsValid syntax.Pattern tree = IsTextThat IsPattern tree
+IsValid syntax.Event tree = IsTextThat GivesEvent tree
+IsValid syntax.State tree = IsTextThat IsState tree
+IsValid (syntax.Count most) tree = (n : ℕ) × IsCount most tree n
+IsValid syntax.Entries tree = IsTrue (is_list_of is_entry 10 tree)
+IsValid syntax.Targets tree = IsTrue (is_list_of is_target 100 tree)
+IsValid syntax.Unserved tree = ⊥

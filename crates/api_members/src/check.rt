@@ -1,0 +1,144 @@
+//! The first refusal of a request's members.
+ghost use Rattle.std.specs.Prelude.{◌≡◌, IsTrue, MatchResult};
+ghost use Rattle.json_text.specs.Tree.{members_of};
+ghost use Rattle.json_text.specs.View.{tree_of, pairs_of};
+ghost use Rattle.api_members.specs.Fault.{IsCallFault};
+ghost use Rattle.api_members.specs.Value.{IsValid, IsPattern};
+ghost use Rattle.api_members.specs.Refusal.{IsSound, AreSound, FirstFault, MemberFault, ValueFault, IsTextRefused, IsEventRefused};
+ghost use Rattle.api_members.specs.Event.{GivesEvent};
+
+use crate::asked::{Asked, Syntax};
+use crate::count::count_of;
+use crate::event::read_event;
+use crate::fault::CallFault;
+use crate::members::given;
+use crate::value::{are_entries, are_targets, is_bus, is_queue, is_rule, is_state};
+use crate::why::why_name;
+use api_replies::{Cause, Member};
+use json_text::{Json, NoMemory, Text};
+use pattern_read::{PatternFault, read_pattern};
+use std::alloc::Global;
+
+/// Checks the members against what is asked, in this order, and returns the first refusal. Members that are not asked are
+/// ignored.
+pub fn check_members(
+    alloc: Global,
+    asked: &[Asked],
+    members: &[(Text, Json)],
+) -> Result<(), CallFault>
+    ensures { MatchResult result
+        (λ _. AreSound asked.now (members_of (pairs_of members.now)))
+        (FirstFault asked.now (members_of (pairs_of members.now))) }
+{
+    for one in asked {
+        check_member(alloc, *one, members)?;
+    }
+    Ok(())
+}
+
+fn check_member(alloc: Global, asked: Asked, members: &[(Text, Json)]) -> Result<(), CallFault>
+    ensures { MatchResult result
+        (λ _. IsSound asked (members_of (pairs_of members.now)))
+        (MemberFault asked (members_of (pairs_of members.now))) }
+{
+    match asked {
+        Asked::Required(member, syntax) => match given(members, member) {
+            Some(value) => check_value(alloc, member, syntax, value),
+            None => Err(CallFault::Refused(Cause::Required(member))),
+        },
+        Asked::Optional(member, syntax) => match given(members, member) {
+            Some(value) => check_value(alloc, member, syntax, value),
+            None => Ok(()),
+        },
+    }
+}
+
+fn check_value(alloc: Global, member: Member, syntax: Syntax, value: &Json) -> Result<(), CallFault>
+    ensures { MatchResult result
+        (λ _. IsValid syntax (tree_of value.now))
+        (ValueFault syntax member (tree_of value.now)) }
+{
+    match syntax {
+        Syntax::QueueName => valid_if(is_queue(value), member),
+        Syntax::RuleName => valid_if(is_rule(value), member),
+        Syntax::Bus => valid_if(is_bus(value), member),
+        Syntax::Pattern => check_pattern(alloc, member, value),
+        Syntax::Event => check_event(alloc, member, value),
+        Syntax::State => valid_if(is_state(value), member),
+        Syntax::Count(most) => valid_if(count_of(value, most).is_some(), member),
+        Syntax::Entries => valid_if(are_entries(value), member),
+        Syntax::Targets => valid_if(are_targets(value), member),
+        Syntax::Unserved => valid_if(false, member),
+    }
+}
+
+fn valid_if(valid: bool, member: Member) -> Result<(), CallFault>
+    ensures { MatchResult result
+        (λ _. IsTrue valid)
+        (λ fault. (¬ IsTrue valid) × (fault ≡ CallFault.Refused (Cause.NotValid member))) }
+{
+    if valid {
+        Ok(())
+    } else {
+        Err(CallFault::Refused(Cause::NotValid(member)))
+    }
+}
+
+fn check_pattern(alloc: Global, member: Member, value: &Json) -> Result<(), CallFault>
+    ensures { MatchResult result
+        (λ _. IsValid Syntax.Pattern (tree_of value.now))
+        (ValueFault Syntax.Pattern member (tree_of value.now)) }
+{
+    match value {
+        Json::Str(text) => check_pattern_text(alloc, text.as_str()),
+        Json::Null | Json::Truth(_) | Json::Num(_) | Json::List(_) | Json::Obj(_) => {
+            Err(CallFault::Refused(Cause::NotValid(member)))
+        }
+    }
+}
+
+/// Checks the pattern. The value that is read is dropped, since a rule holds the text.
+fn check_pattern_text(alloc: Global, text: &str) -> Result<(), CallFault>
+    ensures { MatchResult result (λ _. IsPattern text.now) (IsTextRefused text.now) }
+{
+    match read_pattern(alloc, text.as_bytes()) {
+        Ok(_pattern) => Ok(()),
+        Err(fault) => Err(pattern_fault(alloc, fault)),
+    }
+}
+
+fn check_event(alloc: Global, member: Member, value: &Json) -> Result<(), CallFault>
+    ensures { MatchResult result
+        (λ _. IsValid Syntax.Event (tree_of value.now))
+        (ValueFault Syntax.Event member (tree_of value.now)) }
+{
+    match value {
+        Json::Str(text) => check_event_text(alloc, member, text.as_str()),
+        Json::Null | Json::Truth(_) | Json::Num(_) | Json::List(_) | Json::Obj(_) => {
+            Err(CallFault::Refused(Cause::NotValid(member)))
+        }
+    }
+}
+
+/// Checks the event. The value that is read is dropped, as that of a pattern.
+fn check_event_text(alloc: Global, member: Member, text: &str) -> Result<(), CallFault>
+    ensures { MatchResult result (λ _. GivesEvent text.now) (IsEventRefused member text.now) }
+{
+    match read_event(alloc, text) {
+        Ok(Some(_event)) => Ok(()),
+        Ok(None) => Err(CallFault::Refused(Cause::NotValid(member))),
+        Err(NoMemory) => Err(CallFault::NoMemory),
+    }
+}
+
+fn pattern_fault(alloc: Global, fault: PatternFault) -> CallFault
+    ensures { IsCallFault fault result }
+{
+    match fault {
+        PatternFault::Refused { why, path } => match Text::from_str(alloc, why_name(why)) {
+            Ok(why) => CallFault::Refused(Cause::NotAPattern { why, path }),
+            Err(NoMemory) => CallFault::NoMemory,
+        },
+        PatternFault::NoMemory => CallFault::NoMemory,
+    }
+}

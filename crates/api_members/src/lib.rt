@@ -1,0 +1,27 @@
+//! The members of a request: what a call asks of each, and the first refusal.
+#![tactic(auto)]
+
+mod asked;
+mod check;
+mod checked_entry;
+mod count;
+mod entry;
+mod event;
+mod fault;
+mod json_type;
+mod laws;
+mod members;
+mod target;
+mod value;
+mod why;
+
+pub use asked::{Asked, Syntax};
+pub use check::check_members;
+pub use checked_entry::{CheckedEntry, check_entries, total_size};
+pub use count::count_given;
+pub use entry::read_entries;
+pub use event::read_event;
+pub use fault::CallFault;
+pub use laws::one_first_refusal;
+pub use members::{given, members_in, text_given, text_of, values_in};
+pub use value::bus_given;

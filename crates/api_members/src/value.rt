@@ -1,0 +1,138 @@
+//! Which values are valid for a member.
+ghost use Rattle.std.specs.Prelude.{◌≡◌, ◌↔◌, ◌&&◌, nat_le, IsTrue, IfOk, length};
+ghost use Rattle.std.specs.List.{list_all};
+ghost use Rattle.std.specs.Option.{option_copied};
+ghost use Rattle.json_text.specs.Tree.{members_of};
+ghost use Rattle.json_text.specs.View.{tree_of, trees_of, pairs_of};
+ghost use Rattle.event_shape.specs.Names.{IsQueueName, IsShortName, default_bus};
+ghost use Rattle.api_members.specs.Given.{text_given};
+ghost use Rattle.api_members.specs.Entry.{is_entry};
+ghost use Rattle.api_members.specs.Target.{is_target};
+ghost use Rattle.api_members.specs.Value as spec;
+
+use crate::entry::is_entry;
+use crate::members::{list_in, text_given};
+use crate::target::is_target;
+use api_replies::Member;
+use event_shape::{DEFAULT_BUS, bus_of, is_queue_name, is_rule_name};
+use json_text::{Json, NoMemory, Text};
+use std::alloc::Global;
+
+pub(crate) fn is_queue(value: &Json) -> bool
+    ensures { IsTrue result ↔ spec.IsTextThat IsQueueName (tree_of value.now) }
+{
+    match value {
+        Json::Str(text) => is_queue_name(text.as_str()),
+        Json::Null | Json::Truth(_) | Json::Num(_) | Json::List(_) | Json::Obj(_) => false,
+    }
+}
+
+pub(crate) fn is_rule(value: &Json) -> bool
+    ensures { IsTrue result ↔ spec.IsTextThat IsShortName (tree_of value.now) }
+{
+    match value {
+        Json::Str(text) => is_rule_name(text.as_str()),
+        Json::Null | Json::Truth(_) | Json::Num(_) | Json::List(_) | Json::Obj(_) => false,
+    }
+}
+
+pub(crate) fn is_bus(value: &Json) -> bool
+    ensures { IsTrue result ↔ spec.IsTextThat spec.GivesBus (tree_of value.now) }
+{
+    match value {
+        Json::Str(text) => gives_bus(text.as_str()),
+        Json::Null | Json::Truth(_) | Json::Num(_) | Json::List(_) | Json::Obj(_) => false,
+    }
+}
+
+fn gives_bus(text: &str) -> bool
+    ensures { IsTrue result ↔ spec.GivesBus text.now }
+{
+    match bus_of(text) {
+        Some(_) => true,
+        None => false,
+    }
+}
+
+/// The name of the bus that the member gives as a name or as an ARN, or `default` if it gives none.
+pub fn bus_given(alloc: Global, members: &[(Text, Json)], member: Member) -> Result<Text, NoMemory>
+    ensures { IfOk result (λ bus. spec.GivesOr (spec.HasBus (text_given member (members_of (pairs_of members.now)))) default_bus bus) }
+{
+    Text::from_str(alloc, bus_name(text_given(members, member)))
+}
+
+fn bus_name(text: Option<&str>) -> &str
+    ensures { spec.GivesOr (spec.HasBus (option_copied text.entry)) default_bus result.now }
+{
+    match text {
+        Some(text) => match bus_of(text) {
+            Some(bus) => bus,
+            None => DEFAULT_BUS,
+        },
+        None => DEFAULT_BUS,
+    }
+}
+
+pub(crate) fn is_state(value: &Json) -> bool
+    ensures { IsTrue result ↔ spec.IsTextThat spec.IsState (tree_of value.now) }
+{
+    match value {
+        Json::Str(text) => is_state_name(text.as_str()),
+        Json::Null | Json::Truth(_) | Json::Num(_) | Json::List(_) | Json::Obj(_) => false,
+    }
+}
+
+fn is_state_name(text: &str) -> bool
+    ensures { IsTrue result ↔ spec.IsState text.now }
+{
+    text == "ENABLED" || text == "DISABLED"
+}
+
+/// Whether the value is a list of 1 to 10 entries.
+pub(crate) fn are_entries(value: &Json) -> bool
+    ensures { result ≡ spec.is_list_of is_entry 10 (tree_of value.now) }
+{
+    match list_in(value) {
+        Some(values) => is_few(values, 10) && all_entries(values),
+        None => false,
+    }
+}
+
+/// Whether there are 1 to `most` values.
+fn is_few(values: &[Json], most: usize) -> bool
+    ensures { result ≡ nat_le 1 (length (trees_of values.now)) && nat_le (length (trees_of values.now)) most }
+{
+    1 <= values.len() && values.len() <= most
+}
+
+fn all_entries(values: &[Json]) -> bool
+    ensures { result ≡ list_all is_entry (trees_of values.now) }
+{
+    for value in values {
+        if !is_entry(value) {
+            return false;
+        }
+    }
+    true
+}
+
+/// Whether the value is a list of 1 to 100 targets.
+pub(crate) fn are_targets(value: &Json) -> bool
+    ensures { result ≡ spec.is_list_of is_target 100 (tree_of value.now) }
+{
+    match list_in(value) {
+        Some(values) => is_few(values, 100) && all_targets(values),
+        None => false,
+    }
+}
+
+fn all_targets(values: &[Json]) -> bool
+    ensures { result ≡ list_all is_target (trees_of values.now) }
+{
+    for value in values {
+        if !is_target(value) {
+            return false;
+        }
+    }
+    true
+}
