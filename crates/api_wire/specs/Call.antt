@@ -1,18 +1,28 @@
--- Which request a message asks for. Members that no operation has are ignored, and null counts as absent.
-use Rattle.std.specs.Prelude.{◌≡◌, ℕ, ◌≤◌, List, [], ◌∷◌, length, Option, Some, None, option_and_then, if◌then◌else◌, codes}
+-- Which request a message asks for, and its first refusal.
+use Rattle.std.specs.Prelude.{◌≡◌, ℕ, ◌-◌, ◌^◌, min, Bool, true, not, List, [], ◌∷◌, Option, Some, None, IsSome, is_some, if◌then◌else◌, codes, map}
 use Rattle.std.specs.Str.{bytes_eq}
-use Rattle.json_text.specs.Tree.{Tree, null, truth, number, text, list, object, Items, no_items, item, Members, no_members}
-use Rattle.json_text.specs.Access.{member_in}
+use Rattle.json_text.specs.Tree.{Tree, object, Members, no_members}
 use Rattle.json_text.specs.Node.{Node, value_of}
 use Rattle.json_text.specs.Grammar.{IsText}
-use Rattle.event_shape.specs.Names.{IsQueueName, IsShortName}
-use Rattle.event_shape.specs.Entry.{Entry}
-use Rattle.pattern_meaning.specs.Pattern.{Pattern}
-use Rattle.pattern_read.specs.Text.{IsPatternText}
+use Rattle.event_shape.specs.Names.{default_bus}
 use Rattle.rule_table.specs.declared.control.Target.{Target}
-use Rattle.router_core.specs.Request.{Action, create_queue, put_rule, put_targets, put_events, peek_messages, deliver_due, Request}
+use Rattle.router_core.specs.Request.{Action, create_queue, put_rule, put_targets, put_events, peek_messages, test_event_pattern, deliver_due, Request}
+use Rattle.api_replies.specs.declared.member.Member.{Member}
+use Rattle.api_replies.specs.declared.member.Member.TheVariants as member
+use Rattle.api_replies.specs.declared.cause.Cause.{Cause}
+use Rattle.api_replies.specs.declared.cause.Cause.TheVariants as cause
+use Rattle.api_members.specs.declared.asked.Asked.{Asked}
+use Rattle.api_members.specs.declared.asked.Asked.TheVariants.{Required, Optional}
+use Rattle.api_members.specs.declared.asked.Syntax.TheVariants as syntax
+use Rattle.api_members.specs.Given.{given, text_given, text_of, values_in, members_in}
+use Rattle.api_members.specs.Entry.{entries_of}
+use Rattle.api_members.specs.CheckedEntry.{AreChecked, total_size}
+use Rattle.api_members.specs.Event.{IsEventGiven}
+use Rattle.api_members.specs.Value.{GivesOr, HasCount, HasBus}
+use Rattle.api_members.specs.Refusal.{AreSound, IsFirstRefusal}
 use Rattle.api_wire.specs.declared.call.operation.Operation.{Operation}
-use Rattle.api_wire.specs.declared.call.operation.Operation.TheVariants.{CreateQueue, PutRule, PutTargets, PutEvents, PeekMessages, DeliverDue}
+use Rattle.api_wire.specs.declared.call.operation.Operation.TheVariants.{CreateQueue, PutRule, PutTargets, PutEvents, PeekMessages, TestEventPattern}
+use Rattle.api_wire.specs.declared.call.operation.Operation.TheVariants.{DeliverDue}
 use Rattle.api_messages.specs.declared.message.Message.{Message}
 
 -- the operation of an X-Amz-Target, which is compared exactly
@@ -23,131 +33,66 @@ named_operation name =
     if bytes_eq name (codes "AWSEvents.PutTargets") then Some PutTargets else (
     if bytes_eq name (codes "AWSEvents.PutEvents") then Some PutEvents else (
     if bytes_eq name (codes "RouterLocal.PeekMessages") then Some PeekMessages else (
-    if bytes_eq name (codes "RouterLocal.DeliverDue") then Some DeliverDue else None)))))
+    if bytes_eq name (codes "AWSEvents.TestEventPattern") then Some TestEventPattern else (
+    if bytes_eq name (codes "RouterLocal.DeliverDue") then Some DeliverDue else None))))))
 
 -- the operation of a message; a message without the field has none
 abbrev pub operation_of : Option (List ℕ) → Option Operation
 operation_of None = None
 operation_of (Some name) = named_operation name
 
--- the value itself; null counts as absent
-abbrev pub unless_null : Tree → Option Tree
-unless_null null = None
-unless_null (truth b) = Some (truth b)
-unless_null (number spelling) = Some (number spelling)
-unless_null (text t) = Some (text t)
-unless_null (list items) = Some (list items)
-unless_null (object members) = Some (object members)
+-- what an operation asks of its members, in the order in which they are checked
+abbrev pub asked : Operation → List Asked
+asked CreateQueue = Required member.QueueName syntax.QueueName ∷ []
+asked PutRule = Required member.Name syntax.RuleName ∷ Required member.EventPattern syntax.Pattern
+    ∷ Optional member.ScheduleExpression syntax.Unserved ∷ Optional member.State syntax.State ∷ Optional member.EventBusName syntax.Bus ∷ []
+asked PutTargets = Required member.Rule syntax.RuleName ∷ Optional member.EventBusName syntax.Bus ∷ Required member.Targets syntax.Targets ∷ []
+asked PutEvents = Required member.Entries syntax.Entries ∷ []
+asked PeekMessages = Required member.QueueName syntax.QueueName ∷ Optional member.Limit (syntax.Count 1000) ∷ []
+asked TestEventPattern = Required member.EventPattern syntax.Pattern ∷ Required member.Event syntax.Event ∷ []
+asked DeliverDue = Optional member.Budget (syntax.Count 1000) ∷ []
 
--- the value of the first member with this key; null counts as absent
-abbrev pub value_at : List ℕ → Members → Option Tree
-value_at key members = option_and_then unless_null (member_in key members)
+-- the bus whose name or ARN is given, or else `default`
+abbrev pub IsBus : Members → List ℕ → Type 0
+IsBus ms bus = GivesOr (HasBus (text_given member.EventBusName ms)) default_bus bus
 
--- the member is absent, or a text
-abbrev pub IsOptionalText : Option Tree → Option (List ℕ) → Type 0
-IsOptionalText None given = given ≡ None
-IsOptionalText (Some tree) given = (t : List ℕ) × (tree ≡ text t) × (given ≡ Some t)
+-- a rule is enabled unless its state is `DISABLED`
+abbrev pub is_enabled : Option (List ℕ) → Bool
+is_enabled None = true
+is_enabled (Some state) = not (bytes_eq state (codes "DISABLED"))
 
--- the member is this text
-abbrev pub HasText : List ℕ → Members → List ℕ → Type 0
-HasText key members t = value_at key members ≡ Some (text t)
+-- the first of these members that is given
+abbrev pub first_given : List Member → Members → Option Member
+first_given [] ms = None
+first_given (m ∷ others) ms = if is_some (given m ms) then Some m else first_given others ms
 
--- the member is absent
-abbrev pub Lacks : List ℕ → Members → Type 0
-Lacks key members = value_at key members ≡ None
+-- the members of a target that are not supported yet
+abbrev pub unsupported : List Member
+unsupported = member.Input ∷ member.InputPath ∷ member.InputTransformer ∷ member.RetryPolicy ∷ member.DeadLetterConfig ∷ []
 
--- the values of the list are read to these, in order
-abbrev pub AreEach : {X : Type 0} → (Tree → X → Type 0) → Items → List X → Type 0
-AreEach IsRead no_items xs = xs ≡ []
-AreEach {X} IsRead (item t items) xs = (x : X) × (rest : List X) × (xs ≡ x ∷ rest) × IsRead t x × AreEach IsRead items rest
+-- the target with these members
+abbrev pub target_with : Members → Target
+target_with ms = record { id = text_of member.Id ms; arn = text_of member.Arn ms; unbuilt = first_given unsupported ms }
 
--- one target: an id and an endpoint, and no member that is not built
-pub record IsTarget (members : Members) (target : Target) : Type 0 where
-  pub id : HasText (codes "Id") members target.id
-  pub arn : HasText (codes "Arn") members target.arn
-  pub no_input : Lacks (codes "Input") members
-  pub no_path : Lacks (codes "InputPath") members
-  pub no_transformer : Lacks (codes "InputTransformer") members
-  pub no_retry : Lacks (codes "RetryPolicy") members
-  pub no_dead_letter : Lacks (codes "DeadLetterConfig") members
+-- the targets that these values are
+abbrev pub targets_of : List Tree → List Target
+targets_of values = map (λ tree. target_with (members_in tree)) values
 
--- the value is an object with the members of this target
-abbrev pub IsTargetTree : Tree → Target → Type 0
-IsTargetTree tree target = (members : Members) × (tree ≡ object members) × IsTarget members target
-
--- the list has these targets
-abbrev pub AreTargets : Items → List Target → Type 0
-AreTargets items targets = AreEach IsTargetTree items targets
-
--- one entry: source, type and detail, each a text or absent, and no member that is not built
-pub record IsEntry (members : Members) (entry : Entry) : Type 0 where
-  pub source : IsOptionalText (value_at (codes "Source") members) entry.source
-  pub detail_type : IsOptionalText (value_at (codes "DetailType") members) entry.detail_type
-  pub detail : IsOptionalText (value_at (codes "Detail") members) entry.detail
-  pub time : entry.time ≡ None
-  pub resources : entry.resources ≡ []
-  pub bus : entry.bus ≡ None
-  pub no_time : Lacks (codes "Time") members
-  pub no_resources : Lacks (codes "Resources") members
-  pub no_bus : Lacks (codes "EventBusName") members
-
--- the value is an object with the members of this entry
-abbrev pub IsEntryTree : Tree → Entry → Type 0
-IsEntryTree tree entry = (members : Members) × (tree ≡ object members) × IsEntry members entry
-
--- the list has these entries
-abbrev pub AreEntries : Items → List Entry → Type 0
-AreEntries items entries = AreEach IsEntryTree items entries
-
--- create a queue with this name
-pub record IsCreateQueue (members : Members) (name : List ℕ) : Type 0 where
-  pub name_given : HasText (codes "QueueName") members name
-  pub is_name : IsQueueName name
-
--- put a rule with this name and this pattern on the bus `default`
-pub record IsPutRule (members : Members) (name pattern : List ℕ) : Type 0 where
-  pub name_given : HasText (codes "Name") members name
-  pub is_name : IsShortName name
-  pub pattern_given : HasText (codes "EventPattern") members pattern
-  pub is_pattern : (p : Pattern) × IsPatternText pattern p
-  pub no_schedule : Lacks (codes "ScheduleExpression") members
-  pub no_state : Lacks (codes "State") members
-  pub no_bus : Lacks (codes "EventBusName") members
-
--- put 1 to 100 targets to this rule of the bus `default`
-pub record IsPutTargets (members : Members) (rule : List ℕ) (targets : List Target) : Type 0 where
-  pub rule_given : HasText (codes "Rule") members rule
-  pub is_rule : IsShortName rule
-  pub no_bus : Lacks (codes "EventBusName") members
-  pub items : Items
-  pub targets_given : value_at (codes "Targets") members ≡ Some (list items)
-  pub are_targets : AreTargets items targets
-  pub some : 1 ≤ length targets
-  pub few : length targets ≤ 100
-
--- put 1 to 10 entries
-pub record IsPutEvents (members : Members) (entries : List Entry) : Type 0 where
-  pub items : Items
-  pub entries_given : value_at (codes "Entries") members ≡ Some (list items)
-  pub are_entries : AreEntries items entries
-  pub some : 1 ≤ length entries
-  pub few : length entries ≤ 10
-
--- return the messages of this queue
-pub record IsPeekMessages (members : Members) (queue : List ℕ) : Type 0 where
-  pub queue_given : HasText (codes "QueueName") members queue
-  pub is_queue : IsQueueName queue
-  pub no_limit : Lacks (codes "Limit") members
-
--- The members of an operation make this action. Names, numbers of entries and targets are within the bounds of the public API.
-abbrev pub IsAction : Operation → Members → Action → Type 0
-IsAction CreateQueue given (create_queue name) = IsCreateQueue given name
-IsAction PutRule given (put_rule name pattern) = IsPutRule given name pattern
-IsAction PutTargets given (put_targets rule targets) = IsPutTargets given rule targets
-IsAction PutEvents given (put_events entries) = IsPutEvents given entries
-IsAction PeekMessages given (peek_messages queue) = IsPeekMessages given queue
-IsAction DeliverDue given deliver_due = Lacks (codes "Budget") given
-IsAction _ _ _ = ⊥
+-- the members of an operation make this action, if they are sound; `reading` is the reading of the clock
+abbrev pub IsAction : Operation → Members → ℕ → Action → Type 0
+IsAction CreateQueue ms reading (create_queue name) = name ≡ text_of member.QueueName ms
+IsAction PutRule ms reading (put_rule bus name pattern enabled) = IsBus ms bus × (name ≡ text_of member.Name ms)
+    × (pattern ≡ text_of member.EventPattern ms) × (enabled ≡ is_enabled (text_given member.State ms))
+IsAction PutTargets ms reading (put_targets bus rule targets) = IsBus ms bus × (rule ≡ text_of member.Rule ms)
+    × (targets ≡ targets_of (values_in member.Targets ms))
+IsAction PutEvents ms reading (put_events entries size) = AreChecked reading (entries_of (values_in member.Entries ms)) entries
+    × (size ≡ min (total_size (entries_of (values_in member.Entries ms))) (2 ^ 64 - 1))
+IsAction PeekMessages ms reading (peek_messages queue limit) = (queue ≡ text_of member.QueueName ms)
+    × GivesOr (HasCount 1000 (given member.Limit ms)) 10 limit
+IsAction TestEventPattern ms reading (test_event_pattern pattern event) = (pattern ≡ text_of member.EventPattern ms)
+    × IsEventGiven (text_of member.Event ms) event
+IsAction DeliverDue ms reading (deliver_due budget) = GivesOr (HasCount 1000 (given member.Budget ms)) 100 budget
+IsAction _ _ _ _ = ⊥
 
 -- the body is an object of at most 100 levels; an empty one counts as `{}`
 abbrev pub IsBody : List ℕ → Members → Type 0
@@ -160,5 +105,13 @@ pub record IsAsked (m : Message) (reading : ℕ) (request : Request) : Type 0 wh
   pub named : operation_of m.target ≡ Some operation
   pub members : Members
   pub body : IsBody m.body members
-  pub action : IsAction operation members request.action
+  pub sound : AreSound (asked operation) members
+  pub action : IsAction operation members reading request.action
   pub read_at : request.reading ≡ reading
+
+-- the message's first refusal: of its operation, of its body, of its members
+pub data IsCallRefused (m : Message) (c : Cause) : Type 0 where
+  unknown : operation_of m.target ≡ None → c ≡ cause.UnknownOperation → IsCallRefused m c
+  no_object : IsSome (operation_of m.target) → ((ms : Members) → ¬ IsBody m.body ms) → c ≡ cause.NoObject → IsCallRefused m c
+  members : (operation : Operation) (ms : Members) → operation_of m.target ≡ Some operation → IsBody m.body ms
+      → IsFirstRefusal (asked operation) ms c → IsCallRefused m c

@@ -2,7 +2,9 @@
 #![tactic(auto)]
 
 mod call;
+mod laws;
 
+pub use api_members::CallFault;
 pub use api_messages::{
     Message, Method, Refusal, WireFault, WireIn, awaited_is_short, no_message_is_empty,
     one_reading, one_refusal,
@@ -11,7 +13,8 @@ pub use api_replies::{
     CountsReply, bad_head_reply, head_too_large_reply, length_required_reply, no_memory_reply,
     not_post_head, not_post_reply, too_large_reply, write_reply,
 };
-pub use call::{CallFault, read_call};
+pub use call::read_call;
+pub use laws::one_call;
 
 #[cfg(test)]
 mod tests;

@@ -1,40 +1,11 @@
 use crate::{CallFault, Message, WireIn, read_call};
-use event_shape::EventEntry;
+use api_members::CheckedEntry;
+use event_shape::EntryFault;
 use json_text::Text;
 use router_core::{Action, Request};
 use rule_table::Target;
 use std::alloc::Global;
 use std::test::Fail;
-
-/// What a message was read to.
-#[derive(Clone, Copy, Debug, PartialEq, Eq)]
-enum Asked {
-    CreateQueue,
-    PutRule,
-    PutTargets,
-    PutEvents,
-    PeekMessages,
-    DeliverDue,
-    UnknownOperation,
-    NotBuilt,
-    NoMemory,
-}
-
-fn asked_by(read: &Result<Request, CallFault>) -> Asked {
-    match read {
-        Ok(request) => match &request.action {
-            Action::CreateQueue { .. } => Asked::CreateQueue,
-            Action::PutRule { .. } => Asked::PutRule,
-            Action::PutTargets { .. } => Asked::PutTargets,
-            Action::PutEvents { .. } => Asked::PutEvents,
-            Action::PeekMessages { .. } => Asked::PeekMessages,
-            Action::DeliverDue => Asked::DeliverDue,
-        },
-        Err(CallFault::UnknownOperation) => Asked::UnknownOperation,
-        Err(CallFault::NotBuilt) => Asked::NotBuilt,
-        Err(CallFault::NoMemory) => Asked::NoMemory,
-    }
-}
 
 /// The message with these fields besides `Host`, each with its line end, and this body.
 fn message(alloc: Global, fields: &str, body: &str) -> Result<Message, Fail> {
@@ -56,206 +27,305 @@ fn call(alloc: Global, operation: &str, body: &str) -> Result<Message, Fail> {
     message(alloc, field.as_str(), body)
 }
 
-/// An operation, a body, and what they ask for. Worked by hand.
-const CALLS: [(&str, &str, Asked); 43] = [
-    (
-        "RouterLocal.CreateQueue",
-        r#"{"QueueName":"q"}"#,
-        Asked::CreateQueue,
-    ),
+/// The message of the refusal; empty if there is none.
+fn refusal(alloc: Global, read: Result<Request, CallFault>) -> Result<Text, Fail> {
+    match read {
+        Ok(_) => Ok(Text::new(alloc)),
+        Err(CallFault::Refused(cause)) => Ok(cause.message(alloc)?),
+        Err(CallFault::NoMemory) => Err(Fail::new("out of memory")),
+    }
+}
+
+/// An operation, a body, and the message of its refusal, or nothing if it is a request. Worked by hand.
+const NAMES: [(&str, &str, &str); 23] = [
+    ("RouterLocal.CreateQueue", r#"{"QueueName":"q"}"#, ""),
     (
         "RouterLocal.CreateQueue",
         r#"{"QueueName":"q.x"}"#,
-        Asked::NotBuilt,
+        "Member QueueName is not valid.",
     ),
     (
         "RouterLocal.CreateQueue",
         r#"{"QueueName":1}"#,
-        Asked::NotBuilt,
-    ),
-    ("RouterLocal.CreateQueue", "{}", Asked::NotBuilt),
-    ("RouterLocal.CreateQueue", "", Asked::NotBuilt),
-    ("RouterLocal.CreateQueue", "[1]", Asked::NotBuilt),
-    (
-        "RouterLocal.CreateQueue",
-        r#"{"QueueName":"q""#,
-        Asked::NotBuilt,
-    ),
-    (
-        "RouterLocal.CreateQueue",
-        r#"{"QueueName":null,"Name":"q"}"#,
-        Asked::NotBuilt,
+        "Member QueueName is not valid.",
     ),
     (
         "RouterLocal.CreateQueue",
         r#"{"QueueName":"","Foo":1}"#,
-        Asked::NotBuilt,
-    ),
-    ("AWSEvents.PutRule", r#"{"Name":"r"}"#, Asked::NotBuilt),
-    (
-        "AWSEvents.PutRule",
-        r#"{"Name":"r","EventPattern":{"source":["shop.orders"]}}"#,
-        Asked::NotBuilt,
+        "Member QueueName is not valid.",
     ),
     (
-        "AWSEvents.PutRule",
-        r#"{"Name":"r/1","EventPattern":"{\"source\":[\"shop.orders\"]}"}"#,
-        Asked::NotBuilt,
+        "RouterLocal.CreateQueue",
+        "{}",
+        "Member QueueName is required.",
     ),
     (
-        "AWSEvents.PutRule",
-        r#"{"Name":"r","EventPattern":"{\"source\":[\"shop.orders\"]}","State":"ENABLED"}"#,
-        Asked::NotBuilt,
+        "RouterLocal.CreateQueue",
+        "",
+        "Member QueueName is required.",
     ),
     (
-        "AWSEvents.PutTargets",
-        r#"{"Rule":"r","Targets":[{"Id":"1","Arn":"a"}]}"#,
-        Asked::PutTargets,
+        "RouterLocal.CreateQueue",
+        r#"{"QueueName":null,"Name":"q"}"#,
+        "Member QueueName is required.",
     ),
     (
-        "AWSEvents.PutTargets",
-        r#"{"Rule":"r","Targets":[]}"#,
-        Asked::NotBuilt,
-    ),
-    ("AWSEvents.PutTargets", r#"{"Rule":"r"}"#, Asked::NotBuilt),
-    (
-        "AWSEvents.PutTargets",
-        r#"{"Rule":"r","Targets":[{"Id":"1","Arn":"a"},{"Id":"2","Arn":"a","Input":"{}"}]}"#,
-        Asked::NotBuilt,
+        "RouterLocal.CreateQueue",
+        "[1]",
+        "The body is not a JSON object.",
     ),
     (
-        "AWSEvents.PutTargets",
-        r#"{"Rule":"r","Targets":[{"Id":"1","Arn":"a","Input":null,"Foo":1}]}"#,
-        Asked::PutTargets,
+        "RouterLocal.CreateQueue",
+        r#"{"QueueName":"q""#,
+        "The body is not a JSON object.",
     ),
-    (
-        "AWSEvents.PutTargets",
-        r#"{"Rule":"r","Targets":[{"Id":"1"}]}"#,
-        Asked::NotBuilt,
-    ),
-    (
-        "AWSEvents.PutTargets",
-        r#"{"Rule":"r","Targets":[1]}"#,
-        Asked::NotBuilt,
-    ),
-    (
-        "AWSEvents.PutTargets",
-        r#"{"Rule":"r","EventBusName":"default","Targets":[{"Id":"1","Arn":"a"}]}"#,
-        Asked::NotBuilt,
-    ),
-    ("AWSEvents.PutEvents", r#"{"Entries":[]}"#, Asked::NotBuilt),
-    (
-        "AWSEvents.PutEvents",
-        r#"{"Entries":[{},{},{},{},{},{},{},{},{},{}]}"#,
-        Asked::PutEvents,
-    ),
-    (
-        "AWSEvents.PutEvents",
-        r#"{"Entries":[{},{},{},{},{},{},{},{},{},{},{}]}"#,
-        Asked::NotBuilt,
-    ),
-    (
-        "AWSEvents.PutEvents",
-        r#"{"Entries":[{"Source":"s","DetailType":"t","Detail":"{}","Time":null}]}"#,
-        Asked::PutEvents,
-    ),
-    (
-        "AWSEvents.PutEvents",
-        r#"{"Entries":[{"Source":"s","DetailType":"t","Detail":"{}","Time":1}]}"#,
-        Asked::NotBuilt,
-    ),
-    (
-        "AWSEvents.PutEvents",
-        r#"{"Entries":[{"Source":"s","Resources":[]}]}"#,
-        Asked::NotBuilt,
-    ),
-    (
-        "AWSEvents.PutEvents",
-        r#"{"Entries":[{"Source":1}]}"#,
-        Asked::NotBuilt,
-    ),
-    (
-        "AWSEvents.PutEvents",
-        r#"{"Entries":[{"DetailType":"t","Detail":"{}"}]}"#,
-        Asked::PutEvents,
-    ),
-    (
-        "AWSEvents.PutEvents",
-        r#"{"Entries":[{"Source":"s"},null]}"#,
-        Asked::NotBuilt,
-    ),
-    (
-        "RouterLocal.PeekMessages",
-        r#"{"QueueName":"q"}"#,
-        Asked::PeekMessages,
-    ),
-    (
-        "RouterLocal.PeekMessages",
-        r#"{"QueueName":"q","Limit":1}"#,
-        Asked::NotBuilt,
-    ),
-    ("RouterLocal.DeliverDue", "", Asked::DeliverDue),
-    ("RouterLocal.DeliverDue", "{}", Asked::DeliverDue),
-    ("RouterLocal.DeliverDue", " ", Asked::NotBuilt),
-    ("RouterLocal.DeliverDue", "null", Asked::NotBuilt),
-    ("RouterLocal.DeliverDue", r#"{"Budget":5}"#, Asked::NotBuilt),
-    (
-        "RouterLocal.DeliverDue",
-        r#"{"Budget":5,"Budget":null}"#,
-        Asked::DeliverDue,
-    ),
-    (
-        "RouterLocal.DeleteQueue",
-        r#"{"QueueName":"q"}"#,
-        Asked::UnknownOperation,
-    ),
-    ("RouterLocal.DeleteQueue", "[1]", Asked::UnknownOperation),
+    ("RouterLocal.DeleteQueue", "[1]", "Unknown operation."),
     (
         "routerlocal.createqueue",
         r#"{"QueueName":"q"}"#,
-        Asked::UnknownOperation,
+        "Unknown operation.",
+    ),
+    ("CreateQueue", r#"{"QueueName":"q"}"#, "Unknown operation."),
+    ("", r#"{"QueueName":"q"}"#, "Unknown operation."),
+    ("RouterLocal.DeliverDue", "", ""),
+    (
+        "RouterLocal.DeliverDue",
+        " ",
+        "The body is not a JSON object.",
     ),
     (
-        "CreateQueue",
-        r#"{"QueueName":"q"}"#,
-        Asked::UnknownOperation,
+        "RouterLocal.DeliverDue",
+        "null",
+        "The body is not a JSON object.",
     ),
-    ("", r#"{"QueueName":"q"}"#, Asked::UnknownOperation),
+    ("RouterLocal.DeliverDue", r#"{"Budget":1}"#, ""),
+    ("RouterLocal.DeliverDue", r#"{"Budget":1000}"#, ""),
+    (
+        "RouterLocal.DeliverDue",
+        r#"{"Budget":1001}"#,
+        "Member Budget is not valid.",
+    ),
+    (
+        "RouterLocal.DeliverDue",
+        r#"{"Budget":0}"#,
+        "Member Budget is not valid.",
+    ),
+    (
+        "RouterLocal.DeliverDue",
+        r#"{"Budget":1.0}"#,
+        "Member Budget is not valid.",
+    ),
+    (
+        "RouterLocal.PeekMessages",
+        r#"{"QueueName":"q","Limit":"1"}"#,
+        "Member Limit is not valid.",
+    ),
+    (
+        "RouterLocal.PeekMessages",
+        r#"{"QueueName":"q.x","Limit":0}"#,
+        "Member QueueName is not valid.",
+    ),
 ];
 
 #[test]
-fn a_message_asks_for_one_request_or_none(rt: HostRuntime) -> Result<(), Fail> {
-    for (operation, body, want) in CALLS {
+fn a_message_has_its_first_refusal(rt: HostRuntime) -> Result<(), Fail> {
+    for (operation, body, want) in NAMES {
         let message = call(rt.alloc(), operation, body)?;
-        let read = read_call(rt.alloc(), &message, 0);
-        assert_eq!(rt; asked_by(&read), want, "{operation} {body}");
+        let text = refusal(rt.alloc(), read_call(rt.alloc(), &message, 0))?;
+        assert_eq!(rt; text.as_str(), want, "{operation} {body}");
     }
     let message = message(rt.alloc(), "", r#"{"QueueName":"q"}"#)?;
-    let read = read_call(rt.alloc(), &message, 0);
-    assert_eq!(rt; asked_by(&read), Asked::UnknownOperation, "no operation");
+    let text = refusal(rt.alloc(), read_call(rt.alloc(), &message, 0))?;
+    assert_eq!(rt; text.as_str(), "Unknown operation.", "no operation");
     Ok(())
 }
 
+/// What follows the name in a PutRule, and the message of its refusal, in the order of the members.
+const RULES: [(&str, &str); 13] = [
+    (r#""}"#, "Member EventPattern is required."),
+    (r#"/1","EventPattern":1}"#, "Member Name is not valid."),
+    (
+        r#"","EventPattern":{"source":["a"]},"State":1}"#,
+        "Member EventPattern is not valid.",
+    ),
+    (
+        r#"","EventPattern":"{\"source\":[]}","ScheduleExpression":"rate(1 day)"}"#,
+        "Event pattern is not valid. Reason: EmptyArray at source",
+    ),
+    (
+        r#"","EventPattern":"{","State":1}"#,
+        "Event pattern is not valid. Reason: NotJson at ",
+    ),
+    (
+        r#"","EventPattern":"{\"source\":[\"a\"]}","ScheduleExpression":"rate(1 day)","State":1}"#,
+        "Member ScheduleExpression is not valid.",
+    ),
+    (
+        r#"","EventPattern":"{\"source\":[\"a\"]}","State":"enabled","EventBusName":"a/b"}"#,
+        "Member State is not valid.",
+    ),
+    (
+        r#"","EventPattern":"{\"source\":[\"a\"]}","State":"ENABLED","EventBusName":"a/b"}"#,
+        "Member EventBusName is not valid.",
+    ),
+    (
+        r#"","EventPattern":"{\"source\":[\"a\"]}","EventBusName":["b"]}"#,
+        "Member EventBusName is not valid.",
+    ),
+    (
+        r#"","EventPattern":"{\"source\":[\"a\"]}","State":"DISABLED","EventBusName":"b"}"#,
+        "",
+    ),
+    (
+        r#"","EventPattern":"{\"source\":[\"a\"]}","EventBusName":"arn:aws:events:us-east-1:111122223333:event-bus/b"}"#,
+        "",
+    ),
+    (
+        r#"","EventPattern":"{\"source\":[\"a\"]}","State":null,"ScheduleExpression":null,"Foo":1}"#,
+        "",
+    ),
+    (r#"","EventPattern":"{\"source\":[\"a\"]}"}"#, ""),
+];
+
 #[test]
-fn a_rule_is_asked_for_with_a_pattern(rt: HostRuntime) -> Result<(), Fail> {
-    let rows = [
-        (
-            r#"{"Name":"r","EventPattern":"{\"source\":[\"shop.orders\"]}"}"#,
-            Asked::PutRule,
-        ),
-        (
-            r#"{"Name":"r","EventPattern":"{\"source\":[\"shop.orders\"]}","State":null,"Foo":1}"#,
-            Asked::PutRule,
-        ),
-        (
-            r#"{"Name":"r","EventPattern":"{\"source\":[1]}"}"#,
-            Asked::NotBuilt,
-        ),
-    ];
-    for (body, want) in rows {
-        let message = call(rt.alloc(), "AWSEvents.PutRule", body)?;
-        let read = read_call(rt.alloc(), &message, 0);
-        assert_eq!(rt; asked_by(&read), want, "{body}");
+fn a_rule_is_refused_for_its_first_member(rt: HostRuntime) -> Result<(), Fail> {
+    for (rest, want) in RULES {
+        let body = format!(in rt.alloc(); "{{\"Name\":\"r{rest}")?;
+        let message = call(rt.alloc(), "AWSEvents.PutRule", body.as_str())?;
+        let text = refusal(rt.alloc(), read_call(rt.alloc(), &message, 0))?;
+        assert_eq!(rt; text.as_str(), want, "{rest}");
+    }
+    Ok(())
+}
+
+/// Bodies of a TestEventPattern, and the message of the refusal: of the pattern before the event.
+const TESTS: [(&str, &str); 6] = [
+    (r#"{"Event":"[1]"}"#, "Member EventPattern is required."),
+    (
+        r#"{"EventPattern":"{}","Event":"[1]"}"#,
+        "Event pattern is not valid. Reason: EmptyObject at ",
+    ),
+    (
+        r#"{"EventPattern":"{\"a\":[1]}"}"#,
+        "Member Event is required.",
+    ),
+    (
+        r#"{"EventPattern":"{\"a\":[1]}","Event":"[1]"}"#,
+        "Member Event is not valid.",
+    ),
+    (
+        r#"{"EventPattern":"{\"a\":[1]}","Event":"{\"account\":1,\"source\":1,\"time\":1,\"region\":1,\"resources\":1,\"detail-type\":1}"}"#,
+        "Member Event is not valid.",
+    ),
+    (
+        r#"{"EventPattern":"{\"a\":[1]}","Event":"{\"id\":1,\"account\":null,\"source\":1,\"time\":1,\"region\":1,\"resources\":1,\"detail-type\":1}"}"#,
+        "",
+    ),
+];
+
+#[test]
+fn a_pattern_is_refused_before_its_event(rt: HostRuntime) -> Result<(), Fail> {
+    for (body, want) in TESTS {
+        let message = call(rt.alloc(), "AWSEvents.TestEventPattern", body)?;
+        let text = refusal(rt.alloc(), read_call(rt.alloc(), &message, 0))?;
+        assert_eq!(rt; text.as_str(), want, "{body}");
+    }
+    Ok(())
+}
+
+/// Targets of a PutTargets, and whether their JSON types are those of the public API.
+const TARGETS: [(&str, bool); 18] = [
+    (r#"{"Id":"1","Arn":"a"}"#, true),
+    (
+        r#"{"Id":"1","Arn":"a"},{"Id":"2","Arn":"a","Input":"{}"}"#,
+        true,
+    ),
+    (r#"{"Id":"1","Arn":"a","Input":null,"Foo":1}"#, true),
+    ("", false),
+    ("1", false),
+    (r#"{"Id":"1"}"#, false),
+    (r#"{"Id":null,"Arn":"a"}"#, false),
+    (r#"{"Id":"1","Arn":"a"},{"Id":"2"}"#, false),
+    (r#"{"Id":"1","Arn":"a","InputPath":1}"#, false),
+    (r#"{"Id":"1","Arn":"a","InputTransformer":{}}"#, false),
+    (
+        r#"{"Id":"1","Arn":"a","InputTransformer":{"InputTemplate":"t"}}"#,
+        true,
+    ),
+    (
+        r#"{"Id":"1","Arn":"a","InputTransformer":{"InputTemplate":"t","InputPathsMap":{"p":"$","q":null}}}"#,
+        false,
+    ),
+    (r#"{"Id":"1","Arn":"a","RetryPolicy":{}}"#, true),
+    (
+        r#"{"Id":"1","Arn":"a","RetryPolicy":{"MaximumRetryAttempts":1.0}}"#,
+        true,
+    ),
+    (
+        r#"{"Id":"1","Arn":"a","RetryPolicy":{"MaximumEventAgeInSeconds":"60"}}"#,
+        false,
+    ),
+    (r#"{"Id":"1","Arn":"a","RetryPolicy":[]}"#, false),
+    (
+        r#"{"Id":"1","Arn":"a","DeadLetterConfig":{"Arn":null}}"#,
+        true,
+    ),
+    (
+        r#"{"Id":"1","Arn":"a","DeadLetterConfig":{"Arn":1}}"#,
+        false,
+    ),
+];
+
+#[test]
+fn targets_have_their_json_types(rt: HostRuntime) -> Result<(), Fail> {
+    for (targets, fine) in TARGETS {
+        let body = format!(in rt.alloc(); "{{\"Rule\":\"r\",\"Targets\":[{targets}]}}")?;
+        let message = call(rt.alloc(), "AWSEvents.PutTargets", body.as_str())?;
+        let text = refusal(rt.alloc(), read_call(rt.alloc(), &message, 0))?;
+        let want = if fine {
+            ""
+        } else {
+            "Member Targets is not valid."
+        };
+        assert_eq!(rt; text.as_str(), want, "{targets}");
+    }
+    Ok(())
+}
+
+/// Entries of a PutEvents, and whether there are 1 to 10 with the JSON types of the public API.
+const ENTRIES: [(&str, bool); 15] = [
+    ("", false),
+    ("{},{},{},{},{},{},{},{},{},{}", true),
+    ("{},{},{},{},{},{},{},{},{},{},{}", false),
+    (
+        r#"{"Source":"s","DetailType":"t","Detail":"{}","Time":null}"#,
+        true,
+    ),
+    (r#"{"Source":"s"},null"#, false),
+    (r#"{"Source":1}"#, false),
+    (r#"{"DetailType":["t"]}"#, false),
+    (r#"{"Detail":{}}"#, false),
+    (r#"{"EventBusName":true}"#, false),
+    (r#"{"Time":1}"#, true),
+    (r#"{"Time":"x"}"#, true),
+    (r#"{"Time":true}"#, false),
+    (r#"{"Resources":["a","b"]}"#, true),
+    (r#"{"Resources":["a",null]}"#, false),
+    (r#"{"Resources":"a"}"#, false),
+];
+
+#[test]
+fn entries_have_their_json_types(rt: HostRuntime) -> Result<(), Fail> {
+    for (entries, fine) in ENTRIES {
+        let body = format!(in rt.alloc(); "{{\"Entries\":[{entries}]}}")?;
+        let message = call(rt.alloc(), "AWSEvents.PutEvents", body.as_str())?;
+        let text = refusal(rt.alloc(), read_call(rt.alloc(), &message, 0))?;
+        let want = if fine {
+            ""
+        } else {
+            "Member Entries is not valid."
+        };
+        assert_eq!(rt; text.as_str(), want, "{entries}");
     }
     Ok(())
 }
@@ -264,12 +334,15 @@ fn is_target(target: &Target, id: &str, arn: &str) -> bool {
     target.id.as_str() == id && target.arn.as_str() == arn
 }
 
-/// Whether the action puts target 1 with the endpoint a and target 2 with b, in this order, to the rule r.
+/// Whether the action puts target 1 with the endpoint a and target 2 with b, in this order, to the rule r of the bus b.
 fn puts_two_targets(action: &Action) -> bool {
     match action {
-        Action::PutTargets { rule, targets } => match targets.as_slice() {
+        Action::PutTargets { bus, rule, targets } => match targets.as_slice() {
             [first, second] => {
-                rule.as_str() == "r" && is_target(first, "1", "a") && is_target(second, "2", "b")
+                bus.as_str() == "b"
+                    && rule.as_str() == "r"
+                    && is_target(first, "1", "a")
+                    && is_target(second, "2", "b")
             }
             _ => false,
         },
@@ -277,42 +350,79 @@ fn puts_two_targets(action: &Action) -> bool {
     }
 }
 
-fn shown(text: &Option<Text>) -> &str {
-    match text {
-        Some(text) => text.as_str(),
-        None => "-",
+fn is_event(entry: &CheckedEntry, source: &str, detail_type: &str, bus: &str) -> bool {
+    match entry {
+        Ok(event) => {
+            event.source() == source && event.detail_type() == detail_type && event.bus() == bus
+        }
+        Err(_) => false,
     }
 }
 
-fn is_entry(entry: &EventEntry, source: &str, detail_type: &str, detail: &str) -> bool {
-    shown(&entry.source) == source
-        && shown(&entry.detail_type) == detail_type
-        && shown(&entry.detail) == detail
+fn has_fault(entry: &CheckedEntry, wanted: EntryFault) -> bool {
+    match entry {
+        Ok(_) => false,
+        Err(fault) => *fault == wanted,
+    }
 }
 
-/// Whether the action puts an entry with all three texts and then one with a detail alone.
+/// Whether the action puts an event on the bus b and then an entry without a source, of 21 bytes together.
 fn puts_two_entries(action: &Action) -> bool {
     match action {
-        Action::PutEvents { entries } => match entries.as_slice() {
+        Action::PutEvents { entries, size } => match entries.as_slice() {
             [first, second] => {
-                is_entry(first, "s", "t", "{}") && is_entry(second, "-", "-", "x")
+                *size == 21
+                    && is_event(first, "s", "t", "b")
+                    && has_fault(second, EntryFault::Source)
             }
             _ => false,
         },
+        _ => false,
+    }
+}
+
+fn disables_a_rule(action: &Action) -> bool {
+    match action {
+        Action::PutRule {
+            bus,
+            name,
+            pattern: _,
+            enabled,
+        } => bus.as_str() == "default" && name.as_str() == "r" && !enabled,
+        _ => false,
+    }
+}
+
+fn peeks(action: &Action, wanted: u32) -> bool {
+    match action {
+        Action::PeekMessages { queue, limit } => queue.as_str() == "q" && *limit == wanted,
         _ => false,
     }
 }
 
 #[test]
 fn a_request_has_what_the_message_gives(rt: HostRuntime) -> Result<(), Fail> {
-    let body = r#"{"Rule":"r","Targets":[{"Id":"1","Arn":"a"},{"Arn":"b","Id":"2"}]}"#;
+    let body =
+        r#"{"Rule":"r","EventBusName":"b","Targets":[{"Id":"1","Arn":"a"},{"Arn":"b","Id":"2"}]}"#;
     let put_targets = call(rt.alloc(), "AWSEvents.PutTargets", body)?;
     let request = read_call(rt.alloc(), &put_targets, 7)?;
     assert_eq!(rt; request.reading, 7);
     assert!(rt; puts_two_targets(&request.action));
-    let body = r#"{"Entries":[{"Source":"s","DetailType":"t","Detail":"{}"},{"Detail":"x"}]}"#;
+    let body =
+        r#"{"Entries":[{"Source":"s","DetailType":"t","Detail":"{}","Time":1,"Resources":["r1"],"EventBusName":"b"},{"Detail":"x"}]}"#;
     let put_events = call(rt.alloc(), "AWSEvents.PutEvents", body)?;
     let request = read_call(rt.alloc(), &put_events, 0)?;
     assert!(rt; puts_two_entries(&request.action));
+    let body = r#"{"Name":"r","EventPattern":"{\"source\":[\"a\"]}","State":"DISABLED"}"#;
+    let put_rule = call(rt.alloc(), "AWSEvents.PutRule", body)?;
+    let request = read_call(rt.alloc(), &put_rule, 0)?;
+    assert!(rt; disables_a_rule(&request.action));
+    let peek = call(
+        rt.alloc(),
+        "RouterLocal.PeekMessages",
+        r#"{"QueueName":"q"}"#,
+    )?;
+    let request = read_call(rt.alloc(), &peek, 0)?;
+    assert!(rt; peeks(&request.action, 10));
     Ok(())
 }

@@ -3,9 +3,10 @@ ghost use Rattle.std.specs.Prelude.{◌≡◌, MatchOption, MatchResult};
 ghost use Rattle.json_text.specs.Tree.{Members as MembersView, object, members_of};
 ghost use Rattle.json_text.specs.View.{tree_of, pairs_of};
 ghost use Rattle.api_wire.specs.Call.{IsBody};
-ghost use Rattle.api_wire.specs.CallAnswers.{IsFault};
+ghost use Rattle.api_wire.specs.CallAnswers.{IsBodyFault};
 
-use super::fault::CallFault;
+use api_members::CallFault;
+use api_replies::Cause;
 use json_text::{Json, Members, read};
 use std::alloc::Global;
 
@@ -16,7 +17,7 @@ const BODY_LEVELS: u32 = 100;
 pub(super) fn read_body(alloc: Global, bytes: &[u8]) -> Result<Members, CallFault>
     ensures read { MatchResult result
         (λ ms. IsBody bytes.now (members_of (pairs_of ms.items)))
-        (IsFault (IsBody bytes.now)) }
+        (IsBodyFault bytes.now) }
     ensures only { MatchResult result
         (λ ms. (other : MembersView) → IsBody bytes.now other → members_of (pairs_of ms.items) ≡ other)
         (λ _. Unit {0}) }
@@ -26,7 +27,7 @@ pub(super) fn read_body(alloc: Global, bytes: &[u8]) -> Result<Members, CallFaul
     }
     match members_of(read(alloc, bytes, BODY_LEVELS)?) {
         Some(members) => Ok(members),
-        None => Err(CallFault::NotBuilt),
+        None => Err(CallFault::Refused(Cause::NoObject)),
     }
 }
 

@@ -1,24 +1,26 @@
 //! DeliverDue.
-ghost use Rattle.std.specs.Prelude.{MatchResult};
+ghost use Rattle.std.specs.Prelude.{ℕ};
 ghost use Rattle.json_text.specs.Tree.{members_of};
 ghost use Rattle.json_text.specs.View.{pairs_of};
 ghost use Rattle.router_core.specs.View.{action_of};
 ghost use Rattle.api_wire.specs.Call.{IsAction};
-ghost use Rattle.api_wire.specs.CallAnswers.{IsFault};
 ghost use Rattle.api_wire.specs.declared.call.operation.Operation.TheVariants.{DeliverDue};
 
-use super::fault::CallFault;
-use super::members::lacks;
-use json_text::Members;
+use api_members::count_given;
+use api_replies::Member;
+use json_text::{Json, Text};
 use router_core::Action;
 
-pub(super) fn deliver_due(members: &Members) -> Result<Action, CallFault>
-    ensures { MatchResult result
-        (λ a. IsAction DeliverDue (members_of (pairs_of members.now.items)) (action_of a))
-        (IsFault (IsAction DeliverDue (members_of (pairs_of members.now.items)))) }
+/// How many steps one call makes at most.
+const BUDGET: u32 = 1_000;
+
+/// How many it makes at most if none is given.
+const DEFAULT_BUDGET: u32 = 100;
+
+pub(super) fn deliver_due(members: &[(Text, Json)]) -> Action
+    ensures { (reading : ℕ) → IsAction DeliverDue (members_of (pairs_of members.now)) reading (action_of result) }
 {
-    if !lacks(members, "Budget") {
-        return Err(CallFault::NotBuilt);
+    Action::DeliverDue {
+        budget: count_given(members, Member::Budget, BUDGET, DEFAULT_BUDGET),
     }
-    Ok(Action::DeliverDue)
 }

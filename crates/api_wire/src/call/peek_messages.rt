@@ -1,30 +1,27 @@
 //! PeekMessages.
-ghost use Rattle.std.specs.Prelude.{MatchResult};
+ghost use Rattle.std.specs.Prelude.{ℕ, IfOk};
 ghost use Rattle.json_text.specs.Tree.{members_of};
 ghost use Rattle.json_text.specs.View.{pairs_of};
 ghost use Rattle.router_core.specs.View.{action_of};
 ghost use Rattle.api_wire.specs.Call.{IsAction};
-ghost use Rattle.api_wire.specs.CallAnswers.{IsFault};
 ghost use Rattle.api_wire.specs.declared.call.operation.Operation.TheVariants.{PeekMessages};
 
-use super::fault::CallFault;
-use super::members::{lacks, text_at};
-use event_shape::is_queue_name;
-use json_text::{Members, Text};
+use api_members::{count_given, text_of};
+use api_replies::Member;
+use json_text::{Json, NoMemory, Text};
 use router_core::Action;
 use std::alloc::Global;
 
-pub(super) fn peek_messages(alloc: Global, members: &Members) -> Result<Action, CallFault>
-    ensures { MatchResult result
-        (λ a. IsAction PeekMessages (members_of (pairs_of members.now.items)) (action_of a))
-        (IsFault (IsAction PeekMessages (members_of (pairs_of members.now.items)))) }
+/// How many messages one call shows at most.
+const LIMIT: u32 = 1_000;
+
+/// How many it shows if none is given.
+const DEFAULT_LIMIT: u32 = 10;
+
+pub(super) fn peek_messages(alloc: Global, members: &[(Text, Json)]) -> Result<Action, NoMemory>
+    ensures { (reading : ℕ) → IfOk result (λ a. IsAction PeekMessages (members_of (pairs_of members.now)) reading (action_of a)) }
 {
-    let Some(queue) = text_at(members, "QueueName") else {
-        return Err(CallFault::NotBuilt);
-    };
-    if !is_queue_name(queue) || !lacks(members, "Limit") {
-        return Err(CallFault::NotBuilt);
-    }
-    let queue = Text::from_str(alloc, queue)?;
-    Ok(Action::PeekMessages { queue })
+    let queue = Text::from_str(alloc, text_of(members, Member::QueueName))?;
+    let limit = count_given(members, Member::Limit, LIMIT, DEFAULT_LIMIT);
+    Ok(Action::PeekMessages { queue, limit })
 }

@@ -1,90 +1,65 @@
 //! PutTargets.
-ghost use Rattle.std.specs.Prelude.{◌↔◌, IsTrue, MatchResult, codes};
-ghost use Rattle.json_text.specs.Tree.{items_of, members_of};
-ghost use Rattle.json_text.specs.View.{tree_of, trees_of, pairs_of};
+ghost use Rattle.std.specs.Prelude.{◌≡◌, ℕ, IfOk};
+ghost use Rattle.json_text.specs.Tree.{members_of};
+ghost use Rattle.json_text.specs.View.{trees_of, pairs_of};
 ghost use Rattle.router_core.specs.View.{action_of};
-ghost use Rattle.api_wire.specs.Call.{IsAction, IsTargetTree, AreTargets, Lacks};
-ghost use Rattle.api_wire.specs.CallAnswers.{IsFault};
+ghost use Rattle.api_wire.specs.Call.{IsAction, target_with, targets_of, first_given, unsupported};
 ghost use Rattle.api_wire.specs.declared.call.operation.Operation.TheVariants.{PutTargets};
 
-use super::fault::CallFault;
-use super::members::{lacks, list_at, object_of, text_at};
-use event_shape::is_rule_name;
-use json_text::{Items, Json, Members, Text};
+use api_members::{bus_given, given, members_in, text_of, values_in};
+use api_replies::Member;
+use json_text::{Json, NoMemory, Text};
 use router_core::Action;
 use rule_table::Target;
 use std::alloc::Global;
 
-/// The number of targets that one call may put.
-const TARGETS_LIMIT: usize = 100;
-
-pub(super) fn put_targets(alloc: Global, members: &Members) -> Result<Action, CallFault>
-    ensures { MatchResult result
-        (λ a. IsAction PutTargets (members_of (pairs_of members.now.items)) (action_of a))
-        (IsFault (IsAction PutTargets (members_of (pairs_of members.now.items)))) }
+pub(super) fn put_targets(alloc: Global, members: &[(Text, Json)]) -> Result<Action, NoMemory>
+    ensures { (reading : ℕ) → IfOk result (λ a. IsAction PutTargets (members_of (pairs_of members.now)) reading (action_of a)) }
 {
-    let Some(rule) = text_at(members, "Rule") else {
-        return Err(CallFault::NotBuilt);
-    };
-    let Some(items) = list_at(members, "Targets") else {
-        return Err(CallFault::NotBuilt);
-    };
-    if !is_rule_name(rule) || !lacks(members, "EventBusName") {
-        return Err(CallFault::NotBuilt);
-    }
-    if items.is_empty() || items.len() > TARGETS_LIMIT {
-        return Err(CallFault::NotBuilt);
-    }
-    let targets = read_targets(alloc, items)?;
-    let rule = Text::from_str(alloc, rule)?;
-    Ok(Action::PutTargets { rule, targets })
+    let bus = bus_given(alloc, members, Member::EventBusName)?;
+    let rule = Text::from_str(alloc, text_of(members, Member::Rule))?;
+    let targets = read_targets(alloc, values_in(members, Member::Targets))?;
+    Ok(Action::PutTargets { bus, rule, targets })
 }
 
-fn read_targets(alloc: Global, items: &Items) -> Result<Vec<Target>, CallFault>
-    ensures { MatchResult result
-        (λ targets. AreTargets (items_of (trees_of items.now.items)) targets.items)
-        (IsFault (AreTargets (items_of (trees_of items.now.items)))) }
+fn read_targets(alloc: Global, values: &[Json]) -> Result<Vec<Target>, NoMemory>
+    ensures { IfOk result (λ targets. targets.items ≡ targets_of (trees_of values.now)) }
 {
-    let mut targets = Vec::with_capacity(alloc, items.len())?;
-    for item in items {
-        let target = read_target(alloc, item)?;
+    let mut targets = Vec::with_capacity(alloc, values.len())?;
+    for value in values {
+        let target = read_target(alloc, members_in(value))?;
         targets.push(target)?;
     }
     Ok(targets)
 }
 
-fn read_target(alloc: Global, item: &Json) -> Result<Target, CallFault>
-    ensures { MatchResult result (λ target. IsTargetTree (tree_of item.now) target) (IsFault (IsTargetTree (tree_of item.now))) }
+fn read_target(alloc: Global, members: &[(Text, Json)]) -> Result<Target, NoMemory>
+    ensures { IfOk result (λ target. target ≡ target_with (members_of (pairs_of members.now))) }
 {
-    let Some(members) = object_of(item) else {
-        return Err(CallFault::NotBuilt);
-    };
-    let Some(id) = text_at(members, "Id") else {
-        return Err(CallFault::NotBuilt);
-    };
-    let Some(arn) = text_at(members, "Arn") else {
-        return Err(CallFault::NotBuilt);
-    };
-    if !is_built_target(members) {
-        return Err(CallFault::NotBuilt);
-    }
-    let id = Text::from_str(alloc, id)?;
-    let arn = Text::from_str(alloc, arn)?;
-    Ok(Target { id, arn })
+    let id = Text::from_str(alloc, text_of(members, Member::Id))?;
+    let arn = Text::from_str(alloc, text_of(members, Member::Arn))?;
+    Ok(Target {
+        id,
+        arn,
+        unbuilt: first_unsupported(members),
+    })
 }
 
-/// Whether the target has no member that is not built.
-fn is_built_target(members: &Members) -> bool
-    ensures { IsTrue result
-        ↔ (Lacks (codes "Input") (members_of (pairs_of members.now.items))
-        × Lacks (codes "InputPath") (members_of (pairs_of members.now.items))
-        × Lacks (codes "InputTransformer") (members_of (pairs_of members.now.items))
-        × Lacks (codes "RetryPolicy") (members_of (pairs_of members.now.items))
-        × Lacks (codes "DeadLetterConfig") (members_of (pairs_of members.now.items))) }
+/// The first member of a target that is not supported yet.
+fn first_unsupported(members: &[(Text, Json)]) -> Option<Member>
+    ensures { result ≡ first_given unsupported (members_of (pairs_of members.now)) }
 {
-    lacks(members, "Input")
-        && lacks(members, "InputPath")
-        && lacks(members, "InputTransformer")
-        && lacks(members, "RetryPolicy")
-        && lacks(members, "DeadLetterConfig")
+    if given(members, Member::Input).is_some() {
+        Some(Member::Input)
+    } else if given(members, Member::InputPath).is_some() {
+        Some(Member::InputPath)
+    } else if given(members, Member::InputTransformer).is_some() {
+        Some(Member::InputTransformer)
+    } else if given(members, Member::RetryPolicy).is_some() {
+        Some(Member::RetryPolicy)
+    } else if given(members, Member::DeadLetterConfig).is_some() {
+        Some(Member::DeadLetterConfig)
+    } else {
+        None
+    }
 }

@@ -1,4 +1,4 @@
-use Rattle.std.proofs.Common.{◌<◌, length, arith}
+use Rattle.std.proofs.Common.{◌<◌, length, refl, arith}
 use Rattle.std.proofs.lemmas.Bool.Decides.{nat_tests}
 use Rattle.json_text.specs.View.{tree_of}
 use Rattle.api_wire.proofs.CallLemmas.{body_only, body_none}
@@ -12,4 +12,4 @@ returns-in-Some-clause-only c =
 pub returns-in-None-clause-read : goal.returns-in-None-clause-read
 returns-in-None-clause-read c =
     let some : 0 < length c.args.bytes.now = grind (arith, nat_tests) in
-    body_none c.args.bytes.now (tree_of c.in_ok-read.field-0) some c.in_ok-read.ensures.only c.in-None.ensures
+    (body_none c.args.bytes.now (tree_of c.in_ok-read.field-0) some c.in_ok-read.ensures.only c.in-None.ensures, refl)

@@ -1,0 +1,34 @@
+//! TestEventPattern.
+ghost use Rattle.std.specs.Prelude.{ℕ, IfOk};
+ghost use Rattle.json_text.specs.Tree.{members_of};
+ghost use Rattle.json_text.specs.View.{pairs_of};
+ghost use Rattle.router_core.specs.View.{action_of};
+ghost use Rattle.api_members.specs.Refusal.{AreSound};
+ghost use Rattle.api_wire.specs.Call.{asked, IsAction};
+ghost use Rattle.api_wire.specs.declared.call.operation.Operation.TheVariants.{TestEventPattern};
+
+use api_members::{read_event, text_of};
+use api_replies::Member;
+use json_text::{Json, NoMemory, Text};
+use pattern_read::{PatternFault, PatternText};
+use router_core::Action;
+use std::alloc::Global;
+
+pub(super) fn test_event_pattern(
+    alloc: Global,
+    members: &[(Text, Json)],
+) -> Result<Action, NoMemory>
+    requires sound { AreSound (asked TestEventPattern) (members_of (pairs_of members.now)) }
+    ensures { (reading : ℕ) → IfOk result (λ a. IsAction TestEventPattern (members_of (pairs_of members.now)) reading (action_of a)) }
+{
+    let text = Text::from_str(alloc, text_of(members, Member::EventPattern))?;
+    let pattern = match PatternText::read(alloc, text) {
+        Ok(pattern) => pattern,
+        Err(PatternFault::Refused { .. }) => unreachable!(),
+        Err(PatternFault::NoMemory) => return Err(NoMemory),
+    };
+    match read_event(alloc, text_of(members, Member::Event))? {
+        Some(event) => Ok(Action::TestEventPattern { pattern, event }),
+        None => unreachable!(),
+    }
+}
