@@ -11,7 +11,7 @@ use Rattle.bus_server.specs.declared.book.Step.TheVariants.{Idle, Limited, Made}
 use Rattle.bus_server.specs.declared.delivery.Ending.TheVariants as endings
 use Rattle.bus_server.specs.History.{Turn, claims, puts_back}
 use Rattle.bus_server.specs.Book.{BookState}
-use Rattle.bus_server.specs.Exchange.{moment_of, no_counts, and_one, IsStep, AreSteps, default_budget}
+use Rattle.bus_server.specs.Exchange.{moment_of, no_counts, and_one, IsStep, AreSteps}
 use Rattle.bus_server.specs.Steps.{StepOf, Delivering, DeliveryOf}
 
 and_swap : (a b : Outcome) (n : Counts) → and_one a (and_one b n) ≡ and_one b (and_one a n)
@@ -59,10 +59,10 @@ delivering_more old mid new ahead ahead_mid ahead_new n steps reading o d gave (
 }
 
 -- the budget is used
-pub delivery_used : (old now : BookState) (ahead ahead_now : Option (ℕ → ℕ)) (a b c : ℕ)
-    → Delivering old now ahead ahead_now (record { attempts = a; delivered = b; dropped = c }) default_budget
-    → DeliveryOf old now ahead ahead_now (record { attempts = a; delivered = b; dropped = c; ending = endings.Done })
-delivery_used old now ahead ahead_now a b c d = record {
+pub delivery_used : (budget : ℕ) (old now : BookState) (ahead ahead_now : Option (ℕ → ℕ)) (a b c : ℕ)
+    → Delivering old now ahead ahead_now (record { attempts = a; delivered = b; dropped = c }) budget
+    → DeliveryOf budget old now ahead ahead_now (record { attempts = a; delivered = b; dropped = c; ending = endings.Done })
+delivery_used budget old now ahead ahead_now a b c d = record {
   given = d.given;
   made = d.made;
   steps = record {
@@ -81,11 +81,11 @@ delivery_used old now ahead ahead_now a b c d = record {
 }
 
 -- no duty is due
-pub delivery_idle : (old mid new : BookState) (ahead ahead_mid ahead_new : Option (ℕ → ℕ)) (a b c steps reading : ℕ)
-    → Delivering old mid ahead ahead_mid (record { attempts = a; delivered = b; dropped = c }) steps → steps < default_budget
+pub delivery_idle : (budget : ℕ) (old mid new : BookState) (ahead ahead_mid ahead_new : Option (ℕ → ℕ)) (a b c steps reading : ℕ)
+    → Delivering old mid ahead ahead_mid (record { attempts = a; delivered = b; dropped = c }) steps → steps < budget
     → Gives ahead_mid ahead_new (reading ∷ []) → StepOf mid new reading Idle
-    → DeliveryOf old new ahead ahead_new (record { attempts = a; delivered = b; dropped = c; ending = endings.Done })
-delivery_idle old mid new ahead ahead_mid ahead_new a b c steps reading d below gave (none, same) = record {
+    → DeliveryOf budget old new ahead ahead_new (record { attempts = a; delivered = b; dropped = c; ending = endings.Done })
+delivery_idle budget old mid new ahead ahead_mid ahead_new a b c steps reading d below gave (none, same) = record {
   given = d.given ++ reading ∷ [];
   made = d.made;
   steps = record {
@@ -97,18 +97,18 @@ delivery_idle old mid new ahead ahead_mid ahead_new a b c steps reading d below 
     readings_are = refl;
     turns_are = sym (append-nil d.made);
     steps = d.are_steps;
-    stops = (inr (subst (λ (k : ℕ). k < default_budget) (sym d.count) below, (reading, refl, none)), refl, ap (λ (s : BookState). s.tables) same);
+    stops = (inr (subst (λ (k : ℕ). k < budget) (sym d.count) below, (reading, refl, none)), refl, ap (λ (s : BookState). s.tables) same);
   };
   turns = ap (λ (s : BookState). s.turns) same ∙ d.turns;
   readings = Gives-append d.readings gave;
 }
 
 -- a duty is due, and no further batch is numbered
-pub delivery_limited : (old mid new : BookState) (ahead ahead_mid ahead_new : Option (ℕ → ℕ)) (a b c steps reading : ℕ)
-    → Delivering old mid ahead ahead_mid (record { attempts = a; delivered = b; dropped = c }) steps → steps < default_budget
+pub delivery_limited : (budget : ℕ) (old mid new : BookState) (ahead ahead_mid ahead_new : Option (ℕ → ℕ)) (a b c steps reading : ℕ)
+    → Delivering old mid ahead ahead_mid (record { attempts = a; delivered = b; dropped = c }) steps → steps < budget
     → Gives ahead_mid ahead_new (reading ∷ []) → StepOf mid new reading Limited
-    → DeliveryOf old new ahead ahead_new (record { attempts = a; delivered = b; dropped = c; ending = endings.Limited })
-delivery_limited old mid new ahead ahead_mid ahead_new a b c steps reading d below gave (duty, next, full, is) =
+    → DeliveryOf budget old new ahead ahead_new (record { attempts = a; delivered = b; dropped = c; ending = endings.Limited })
+delivery_limited budget old mid new ahead ahead_mid ahead_new a b c steps reading d below gave (duty, next, full, is) =
     let last : List Turn = record { ask = claims duty (moment_of reading); batch = None } ∷ record { ask = puts_back duty; batch = None } ∷ [] in
     record {
       given = d.given ++ reading ∷ [];
@@ -122,7 +122,7 @@ delivery_limited old mid new ahead ahead_mid ahead_new a b c steps reading d bel
         readings_are = refl;
         turns_are = refl;
         steps = d.are_steps;
-        stops = (subst (λ (k : ℕ). k < default_budget) (sym d.count) below, (reading, duty, refl, next, full, refl, ap (λ (s : BookState). s.tables) is));
+        stops = (subst (λ (k : ℕ). k < budget) (sym d.count) below, (reading, duty, refl, next, full, refl, ap (λ (s : BookState). s.tables) is));
       };
       turns = ap (λ (s : BookState). s.turns) is ∙ ap (λ (ts : List Turn). ts ++ last) d.turns ∙ append_assoc old.turns d.made last;
       readings = Gives-append d.readings gave;

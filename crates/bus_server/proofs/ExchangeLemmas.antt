@@ -2,7 +2,7 @@
 -- `fault_exchange` and `delivery_exchange`.
 use Rattle.std.proofs.Common.{◌≡◌, ℕ, ◌⊎◌, inl, inr, Bool, true, false, List, [], ◌∷◌, ◌++◌, Option, None, Result, Ok, Err, sym, refl, ap, ◌∙◌, subst}
 use Rattle.std.proofs.Common.{append-nil}
-use Rattle.std.specs.Prelude.{IfOk, OnErr, IsSome}
+use Rattle.std.specs.Prelude.{IfOk, OnErr}
 use Rattle.json_text.specs.declared.base.NoMemory.{NoMemory}
 use Rattle.router_disk.specs.Clock.{Gives}
 use Rattle.router_disk.specs.Sink.{WritesAll}
@@ -10,22 +10,20 @@ use Rattle.router_disk.specs.declared.fault.Failed.{Failed}
 use Rattle.router_disk.proofs.ClockLemmas.{Gives-append}
 use Rattle.router_core.specs.Request.{Action, create_queue, put_rule, put_targets, put_events, peek_messages, deliver_due, Request}
 use Rattle.router_core.specs.Batch.{Batch}
-use Rattle.api_replies.specs.Reply.{Reply, no_memory, not_built, not_post, unknown_operation}
-use Rattle.router_calls.specs.Decided.{IsBounded}
+use Rattle.api_replies.specs.Reply.{Reply, refused as refusal_of, no_memory, not_post}
 use Rattle.api_messages.specs.declared.message.Message.{Message}
 use Rattle.api_messages.specs.declared.method.Method.{Method}
 use Rattle.api_messages.specs.declared.method.Method.TheVariants.{Post, Head, Other}
 use Rattle.api_messages.specs.Fields.{is_post}
-use Rattle.api_wire.specs.declared.call.fault.CallFault.{CallFault}
-use Rattle.api_wire.specs.declared.call.fault.CallFault.TheVariants as faults
-use Rattle.api_wire.specs.declared.call.operation.Operation.{Operation}
-use Rattle.api_wire.specs.declared.call.operation.Operation.TheVariants.{CreateQueue, PutRule, PutTargets, PutEvents, PeekMessages, DeliverDue}
-use Rattle.api_wire.specs.Call.{operation_of, IsAsked, IsAction}
+use Rattle.api_members.specs.declared.fault.CallFault.{CallFault}
+use Rattle.api_members.specs.declared.fault.CallFault.TheVariants as faults
+use Rattle.api_wire.specs.Call.{IsAsked}
+use Rattle.api_wire.specs.CallAnswers.{IsFault}
 use Rattle.api_replies.specs.Written.{reply_text}
 use Rattle.bus_server.specs.History.{asked, after_written}
 use Rattle.bus_server.specs.declared.book.TurnReply.{TurnReply}
 use Rattle.bus_server.specs.Book.{BookState}
-use Rattle.bus_server.specs.Exchange.{unknown, unbuilt, answered, unrendered, delivered, out_of_memory, unposted, posted, sent_text, moment_of, delivery_reply}
+use Rattle.bus_server.specs.Exchange.{refused, answered, unrendered, delivered, out_of_memory, unposted, posted, sent_text, moment_of, delivery_reply}
 use Rattle.bus_server.specs.Answered.{IsAnswered, IsUnrendered, turn_text}
 use Rattle.bus_server.specs.Responses.{text_or, IsFaultText, IsUndelivered, DeliveredOf}
 use Rattle.bus_server.specs.Running.{ExchangeOf}
@@ -86,7 +84,7 @@ answered_exchange m close old new ahead ahead_new written written_new result rea
   readings = gave;
   writes = sent_whole m is.answer.reply close written written_new result post (subst (WritesAll written written_new result) (ok ∙ is.text) writes);
 }
-answered_exchange m close old new ahead ahead_new written written_new result reading r reply (Err refused) post is_asked is ok err gave writes =
+answered_exchange m close old new ahead ahead_new written written_new result reading r reply (Err none) post is_asked is ok err gave writes =
     let none : is.answer.batch ≡ None = is.unwritten err in
     record {
       exchanged = record { message = m; reading = reading; steps = []; turns = record { ask = asked r; batch = None } ∷ []; reply = no_memory };
@@ -99,49 +97,38 @@ answered_exchange m close old new ahead ahead_new written written_new result rea
       writes = sent_whole m no_memory close written written_new result post writes;
     }
 
--- the message is no request, or out of memory while it was read
+-- the message is refused, or out of memory while it was read
 pub fault_exchange : (m : Message) (close : Bool) (old : BookState)
     (ahead ahead_new : Option (ℕ → ℕ)) (written written_new : Option (List ℕ)) (result : Result (Unit {0}) Failed) (reading : ℕ)
     (fault : CallFault) (bytes : Result (List ℕ) NoMemory)
-    → is_post m.method ≡ true → (fault ≡ faults.UnknownOperation → operation_of m.target ≡ None)
-    → (fault ≡ faults.NotBuilt → IsSome (operation_of m.target) × ((r : Request) → ¬ IsAsked m (moment_of reading) r))
-    → IfOk bytes (λ b. IsFaultText fault close b)
+    → is_post m.method ≡ true → IsFault m fault → IfOk bytes (λ b. IsFaultText fault close b)
     → Gives ahead ahead_new (reading ∷ []) → WritesAll written written_new result (text_or bytes close)
     → ExchangeOf m close old old ahead ahead_new written written_new result
-fault_exchange m close old ahead ahead_new written written_new result reading fault (Err refused) post none missing ok gave writes =
+fault_exchange m close old ahead ahead_new written written_new result reading fault (Err none) post is ok gave writes =
     refused_exchange m close old old ahead ahead_new written written_new result reading post refl gave writes
-fault_exchange m close old ahead ahead_new written written_new result reading faults.UnknownOperation (Ok bytes) post none missing ok gave writes = record {
-  exchanged = record { message = m; reading = reading; steps = []; turns = []; reply = unknown_operation };
+fault_exchange m close old ahead ahead_new written written_new result reading (faults.Refused c) (Ok bytes) post is ok gave writes = record {
+  exchanged = record { message = m; reading = reading; steps = []; turns = []; reply = refusal_of c };
   message_is = refl;
-  is_exchange = posted post (unknown (none refl) (record { no_steps = refl; no_turns = refl; replies = refl; same = refl }));
+  is_exchange = posted post (refused c is (record { no_steps = refl; no_turns = refl; replies = refl; same = refl }));
   turns = sym (append-nil old.turns);
   readings = gave;
-  writes = sent_whole m unknown_operation close written written_new result post (subst (WritesAll written written_new result) ok writes);
+  writes = sent_whole m (refusal_of c) close written written_new result post (subst (WritesAll written written_new result) ok writes);
 }
-fault_exchange m close old ahead ahead_new written written_new result reading faults.NotBuilt (Ok bytes) post none missing ok gave writes =
-    let why = missing refl in
-    record {
-      exchanged = record { message = m; reading = reading; steps = []; turns = []; reply = not_built };
-      message_is = refl;
-      is_exchange = posted post (unbuilt why.0 why.1 (record { no_steps = refl; no_turns = refl; replies = refl; same = refl }));
-      turns = sym (append-nil old.turns);
-      readings = gave;
-      writes = sent_whole m not_built close written written_new result post (subst (WritesAll written written_new result) ok writes);
-    }
-fault_exchange m close old ahead ahead_new written written_new result reading faults.NoMemory (Ok bytes) post none missing ok gave writes = absurd ok
+fault_exchange m close old ahead ahead_new written written_new result reading faults.NoMemory (Ok bytes) post is ok gave writes = absurd ok
 
 pub delivery_exchange : (m : Message) (close : Bool) (old new : BookState)
     (ahead ahead_mid ahead_new : Option (ℕ → ℕ)) (written written_new : Option (List ℕ)) (result : Result (Unit {0}) Failed) (reading : ℕ)
-    (r : Request) → is_post m.method ≡ true → IsAsked m (moment_of reading) r → r.action ≡ deliver_due → Gives ahead ahead_mid (reading ∷ [])
-    → DeliveredOf close old new ahead_mid ahead_new written written_new result ⊎ IsUndelivered close old new ahead_mid ahead_new written written_new result
+    (r : Request) (budget : ℕ) → is_post m.method ≡ true → IsAsked m (moment_of reading) r → r.action ≡ deliver_due budget
+    → Gives ahead ahead_mid (reading ∷ []) → DeliveredOf budget close old new ahead_mid ahead_new written written_new result
+    ⊎ IsUndelivered close old new ahead_mid ahead_new written written_new result
     → ExchangeOf m close old new ahead ahead_new written written_new result
-delivery_exchange m close old new ahead ahead_mid ahead_new written written_new result reading r post is_asked due gave (inl d) = record {
+delivery_exchange m close old new ahead ahead_mid ahead_new written written_new result reading r budget post is_asked due gave (inl d) = record {
   exchanged = record { message = m; reading = reading; steps = d.given; turns = d.made; reply = delivery_reply d.counts d.stop };
   message_is = refl;
-  is_exchange = posted post (delivered r d.counts d.stop is_asked due d.steps refl);
+  is_exchange = posted post (delivered r budget d.counts d.stop is_asked due d.steps refl);
   turns = d.turns;
   readings = Gives-append gave d.readings;
   writes = sent_whole m (delivery_reply d.counts d.stop) close written written_new result post d.writes;
 }
-delivery_exchange m close old new ahead ahead_mid ahead_new written written_new result reading r post is_asked due gave (inr (same, none, writes)) =
+delivery_exchange m close old new ahead ahead_mid ahead_new written written_new result reading r budget post is_asked due gave (inr (same, none, writes)) =
     refused_exchange m close old new ahead ahead_new written written_new result reading post same (Gives-append gave none) writes

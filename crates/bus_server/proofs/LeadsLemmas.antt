@@ -19,7 +19,7 @@ use Rattle.router_core.specs.Steps.{EndsSo, record_of, claiming, putting_back}
 use Rattle.router_calls.specs.Answer.{Answer, IsAnswer, moment_at}
 use Rattle.bus_server.specs.History.{Turn, State, asked, claims, records, puts_back, closed_claims, after_turn, after_written, IsLegal, state_after}
 use Rattle.bus_server.specs.History.{with_written, batches_of, begun, NoneClaimed, Leads}
-use Rattle.bus_server.specs.Exchange.{Exchange, moment_of, AreSteps, Stop, done, limited, IsStop, IsPosted, IsExchange, unknown, unbuilt, answered}
+use Rattle.bus_server.specs.Exchange.{Exchange, moment_of, AreSteps, Stop, done, limited, IsStop, IsPosted, IsExchange, refused, answered}
 use Rattle.bus_server.specs.Exchange.{unrendered, delivered, out_of_memory, unposted, posted, IsWithoutTurn, AreExchanges, turns_of}
 
 -- two lists of turns, the second after the first
@@ -238,13 +238,12 @@ leads_without : (t : Tables) (e : Exchange) (reply : Reply) (new : Tables) → I
 leads_without t e reply new is = leads_to t new t e.turns [] is.no_turns is.same (leads_none t)
 
 leads_posted : (t : Tables) (e : Exchange) (new : Tables) → IsPosted t e new → Leads t e.turns new
-leads_posted t e new (unknown none is) = leads_without t e _ new is
-leads_posted t e new (unbuilt some none is) = leads_without t e _ new is
+leads_posted t e new (refused c why is) = leads_without t e _ new is
 leads_posted t e new (answered r a is_asked is unread turns reply now) = leads_to t new _ e.turns _ turns now (leads_answer t r a is)
 leads_posted t e new (unrendered r a is_asked is unwritten unread turns reply same) =
     leads_to t new _ e.turns _ (turns ∙ ap (λ (b : Option Batch). record { ask = asked r; batch = b } ∷ []) (sym unwritten))
     (same ∙ ap (λ (b : Option Batch). after_written b t) (sym unwritten)) (leads_answer t r a is)
-leads_posted t e new (delivered r counts stop is_asked due d reply) =
+leads_posted t e new (delivered r budget counts stop is_asked due d reply) =
     leads_to t new new e.turns (d.stepping ++ d.stopping) d.turns_are refl
     (leads_append t d.mid new d.stepping d.stopping (leads_steps t d.made d.stepping counts d.mid d.steps)
     (leads_stop _ _ d.mid d.last d.stopping stop new d.stops))

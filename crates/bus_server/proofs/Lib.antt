@@ -7,3 +7,5 @@ pub mod LeadsLemmas
 pub mod ReadingLemmas
 pub mod RunningLemmas
 pub mod RunLemmas
+pub mod BoundLemmas
+pub mod ServedLemmas

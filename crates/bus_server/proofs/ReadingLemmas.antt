@@ -5,7 +5,7 @@ use Rattle.std.proofs.lemmas.Grind.{flat_map-append}
 use Rattle.api_replies.specs.Reply.{Counts}
 use Rattle.router_core.specs.Tables.{Tables}
 use Rattle.bus_server.specs.History.{Turn, claims, puts_back, readings_at, asked_readings, IsSublist}
-use Rattle.bus_server.specs.Exchange.{Exchange, moment_of, AreSteps, Stop, done, limited, IsStop, IsPosted, IsExchange, unknown, unbuilt, answered, unrendered}
+use Rattle.bus_server.specs.Exchange.{Exchange, moment_of, AreSteps, Stop, done, limited, IsStop, IsPosted, IsExchange, refused, answered, unrendered}
 use Rattle.bus_server.specs.Exchange.{delivered, out_of_memory, unposted, posted, AreExchanges, turns_of, readings_of}
 
 sub_skip : (xs ys : List ℕ) (y : ℕ) → IsSublist xs ys → IsSublist xs (y ∷ ys)
@@ -57,13 +57,12 @@ stop_read budget made t last turns limited new (fewer, (reading, duty, read, nex
     (back_read duty reading))
 
 posted_read : (t : Tables) (e : Exchange) (new : Tables) → IsPosted t e new → ReadAt e.turns (e.reading ∷ e.steps)
-posted_read t e new (unknown none is) = read_nothing e.turns (e.reading ∷ e.steps) is.no_turns
-posted_read t e new (unbuilt some none is) = read_nothing e.turns (e.reading ∷ e.steps) is.no_turns
+posted_read t e new (refused c why is) = read_nothing e.turns (e.reading ∷ e.steps) is.no_turns
 posted_read t e new (answered r a is_asked is unread turns reply now) =
     subst (λ (ts : List Turn). ReadAt ts (e.reading ∷ e.steps)) (sym turns) (inl (is_asked.read_at, tt))
 posted_read t e new (unrendered r a is_asked is unwritten unread turns reply same) =
     subst (λ (ts : List Turn). ReadAt ts (e.reading ∷ e.steps)) (sym turns) (inl (is_asked.read_at, tt))
-posted_read t e new (delivered r counts stop is_asked due d reply) =
+posted_read t e new (delivered r budget counts stop is_asked due d reply) =
     sub_skip (asked_readings e.turns) (map moment_of e.steps) (moment_of e.reading)
     (subst (λ (ts : List Turn). ReadAt ts e.steps) (sym d.turns_are)
     (subst (λ (gs : List ℕ). ReadAt (d.stepping ++ d.stopping) gs) (sym d.readings_are)

@@ -20,22 +20,27 @@ pub record BookState : Type 0 where
   pub tables : Tables
   pub turns : List view.Turn
 
+-- the ask, with the view of its request
 abbrev pub ask_of : Ask → view.Ask
 ask_of (Asked request) = view.asked (request_of request.value)
 ask_of (Claims duty reading) = view.claims duty reading
 ask_of (Records duty reading outcome) = view.records duty reading outcome
 ask_of (PutsBack duty) = view.puts_back duty
 
+-- the batch that a turn wrote, if any
 abbrev pub written_of : Written → Option Batch
 written_of Nothing = None
 written_of (Change ready) = Some (batch_of ready.value)
 written_of (Record moment duty outcome) = Some (record_of moment duty outcome)
 
+-- the turn, with the views of its ask and its batch
 abbrev pub turn_of : Turn → view.Turn
 turn_of turn = record { ask = ask_of turn.ask; batch = written_of turn.written }
 
+-- the turns, oldest first
 abbrev pub turns_in : History → List view.Turn
 turns_in history = map turn_of (firsts history.log.items)
 
+-- the tables, and the turns of the history
 abbrev pub book_of : Book → BookState
 book_of b = record { tables = b.tables; turns = turns_in b.history }

@@ -1,10 +1,11 @@
 -- One exchange of a session: a message, the turns that it made, and its reply.
-use Rattle.std.specs.Prelude.{◌≡◌, ℕ, ◌+◌, ◌<◌, ◌⊎◌, min, Bool, true, false, List, [], ◌∷◌, ◌++◌, length, map, Some, None, IsSome, flat_map}
+use Rattle.std.specs.Prelude.{◌≡◌, ℕ, ◌+◌, ◌<◌, ◌⊎◌, min, Bool, true, false, List, [], ◌∷◌, ◌++◌, length, map, Some, None, flat_map}
 use Rattle.delivery_duties.specs.declared.fate.Outcome.{Outcome}
 use Rattle.delivery_duties.specs.declared.fate.Outcome.TheVariants.{Accepted, TooOld}
 use Rattle.delivery_duties.specs.Duties.{IsNext, NoneDue}
 use Rattle.router_core.specs.Request.{deliver_due, Request}
-use Rattle.api_replies.specs.Reply.{Reply, Counts, counted, unknown_operation, not_built, not_post, limit_reply, no_memory}
+use Rattle.api_replies.specs.declared.cause.Cause.{Cause}
+use Rattle.api_replies.specs.Reply.{Reply, Counts, counted, refused as refusal_of, not_post, limit_reply, no_memory}
 use Rattle.api_replies.specs.Written.{reply_text, reply_head}
 use Rattle.router_core.specs.Tables.{Tables, is_full, after_batch}
 use Rattle.router_calls.specs.Answer.{Answer, IsAnswer, moment_at}
@@ -12,7 +13,7 @@ use Rattle.api_messages.specs.declared.message.Message.{Message}
 use Rattle.api_messages.specs.declared.method.Method.{Method}
 use Rattle.api_messages.specs.declared.method.Method.TheVariants.{Post, Head, Other}
 use Rattle.api_messages.specs.Fields.{is_post}
-use Rattle.api_wire.specs.Call.{operation_of, IsAsked}
+use Rattle.api_wire.specs.Call.{IsAsked, IsCallRefused}
 use Rattle.router_core.specs.Steps.{EndsSo, record_of, claiming, putting_back}
 use Rattle.bus_server.specs.History.{asked, claims, records, puts_back, Turn, after_written}
 
@@ -29,6 +30,7 @@ pub record Exchange : Type 0 where
 abbrev pub moment_of : ℕ → ℕ
 moment_of reading = min reading 250000000000
 
+-- the counts before the first step
 abbrev pub no_counts : Counts
 no_counts = record { attempts = 0; delivered = 0; dropped = 0 }
 
@@ -83,10 +85,6 @@ pub record IsDelivery (budget : ℕ) (t : Tables) (readings : List ℕ) (turns :
   pub steps : AreSteps t made stepping counts mid
   pub stops : IsStop budget (length made) mid last stopping stop new
 
--- the number of steps that one DeliverDue makes at most
-abbrev pub default_budget : ℕ
-default_budget = 100
-
 -- the reply to a DeliverDue
 abbrev pub delivery_reply : Counts → Stop → Reply
 delivery_reply counts done = counted counts
@@ -101,11 +99,8 @@ pub record IsWithoutTurn (t : Tables) (e : Exchange) (reply : Reply) (new : Tabl
 
 -- A POST and its reply, from the tables before it to those after it.
 pub data IsPosted (t : Tables) (e : Exchange) (new : Tables) : Type 0 where
-  -- no operation has this name
-  unknown : operation_of e.message.target ≡ None → IsWithoutTurn t e unknown_operation new → IsPosted t e new
-  -- the operation is served, but the message is no request that is built
-  unbuilt : IsSome (operation_of e.message.target) → ((r : Request) → ¬ IsAsked e.message (moment_of e.reading) r)
-      → IsWithoutTurn t e not_built new → IsPosted t e new
+  -- the message is refused
+  refused : (c : Cause) → IsCallRefused e.message c → IsWithoutTurn t e (refusal_of c) new → IsPosted t e new
   -- a request of one turn
   answered : (r : Request) (a : Answer) → IsAsked e.message (moment_of e.reading) r → IsAnswer t r a
       → e.steps ≡ [] → e.turns ≡ record { ask = asked r; batch = a.batch } ∷ [] → e.reply ≡ a.reply
@@ -114,8 +109,8 @@ pub data IsPosted (t : Tables) (e : Exchange) (new : Tables) : Type 0 where
   unrendered : (r : Request) (a : Answer) → IsAsked e.message (moment_of e.reading) r → IsAnswer t r a → a.batch ≡ None
       → e.steps ≡ [] → e.turns ≡ record { ask = asked r; batch = None } ∷ [] → e.reply ≡ no_memory → new ≡ t → IsPosted t e new
   -- DeliverDue
-  delivered : (r : Request) (counts : Counts) (stop : Stop) → IsAsked e.message (moment_of e.reading) r → r.action ≡ deliver_due
-      → IsDelivery default_budget t e.steps e.turns counts stop new → e.reply ≡ delivery_reply counts stop → IsPosted t e new
+  delivered : (r : Request) (budget : ℕ) (counts : Counts) (stop : Stop) → IsAsked e.message (moment_of e.reading) r
+      → r.action ≡ deliver_due budget → IsDelivery budget t e.steps e.turns counts stop new → e.reply ≡ delivery_reply counts stop → IsPosted t e new
   -- out of memory, before anything changed
   out_of_memory : IsWithoutTurn t e no_memory new → IsPosted t e new
 
@@ -140,11 +135,14 @@ abbrev pub AreExchanges : Tables → List Exchange → Tables → Type 0
 AreExchanges t [] new = new ≡ t
 AreExchanges t (e ∷ es) new = (mid : Tables) × IsExchange t e mid × AreExchanges mid es new
 
+-- the turns of exchanges, in order
 abbrev pub turns_of : List Exchange → List Turn
 turns_of = flat_map (λ e. e.turns)
 
+-- the readings of exchanges: of each message, and then of its steps
 abbrev pub readings_of : List Exchange → List ℕ
 readings_of = flat_map (λ e. e.reading ∷ e.steps)
 
+-- the messages of exchanges, in order
 abbrev pub messages_of : List Exchange → List Message
 messages_of = map (λ e. e.message)

@@ -41,6 +41,7 @@ IsTurnOf s (puts_back duty) written = (written ≡ None) × ((reading : ℕ) × 
 abbrev pub closed_claims : ℕ → List (ℕ × ℕ) → List (ℕ × ℕ)
 closed_claims duty cs = filter (λ c. not (c.0 == duty)) cs
 
+-- the tables after what a turn wrote
 abbrev pub after_written : Option Batch → Tables → Tables
 after_written None t = t
 after_written (Some b) t = after_batch b t
@@ -52,6 +53,7 @@ after_ask (claims duty reading) written s = record { tables = claiming duty s.ta
 after_ask (records duty reading outcome) written s = record { tables = after_written written s.tables; open_claims = closed_claims duty s.open_claims }
 after_ask (puts_back duty) written s = record { tables = putting_back duty s.tables; open_claims = closed_claims duty s.open_claims }
 
+-- the same of the turn as a whole
 abbrev pub after_turn : Turn → State → State
 after_turn turn s = after_ask turn.ask turn.batch s
 
@@ -65,6 +67,7 @@ abbrev pub state_after : List Turn → State → State
 state_after [] s = s
 state_after (turn ∷ turns) s = state_after turns (after_turn turn s)
 
+-- the batches with this one before them, if there is one
 abbrev pub with_written : Option Batch → List Batch → List Batch
 with_written None batches = batches
 with_written (Some b) batches = b ∷ batches

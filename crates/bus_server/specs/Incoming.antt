@@ -44,6 +44,7 @@ closing_of lacks.ReadFault = None
 closing_of (lacks.NoMemory true) = Some (reply_text no_memory true)
 closing_of (lacks.NoMemory false) = None
 
+-- the end of a session that lacks a further message for this reason
 abbrev pub end_of : Lack → SessionEnd
 end_of lacks.Closed = ends.Closed
 end_of lacks.Cut = ends.Cut

@@ -14,6 +14,7 @@ use Rattle.bus_server.specs.History.{IsLegal, state_after, batches_of, begun}
 use Rattle.bus_server.specs.Book.{BookState}
 use Rattle.bus_server.specs.Session.{IsSession}
 
+-- the status of a session's end
 abbrev pub status_of : SessionEnd → Status
 status_of ends.Closed = statuses.Done
 status_of ends.Cut = statuses.Cut

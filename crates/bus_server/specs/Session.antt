@@ -29,6 +29,7 @@ abbrev pub texts_from : ℕ → List Exchange → List ℕ
 texts_from before [] = []
 texts_from before (e ∷ es) = exchange_text e (closes before e) ++ texts_from (before + 1) es
 
+-- all replies of a session as they are written
 abbrev pub texts_of : List Exchange → List ℕ
 texts_of es = texts_from 0 es
 

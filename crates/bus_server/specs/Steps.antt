@@ -13,7 +13,7 @@ use Rattle.bus_server.specs.declared.delivery.Ending.TheVariants as endings
 use Rattle.bus_server.specs.declared.delivery.Delivery.{Delivery}
 use Rattle.bus_server.specs.History.{Turn, claims, puts_back}
 use Rattle.bus_server.specs.Book.{BookState}
-use Rattle.bus_server.specs.Exchange.{moment_of, IsStep, IsDelivery, AreSteps, Stop, done, limited, default_budget}
+use Rattle.bus_server.specs.Exchange.{moment_of, IsStep, IsDelivery, AreSteps, Stop, done, limited}
 
 -- what one step did: no duty was due; one was due but the number limit was reached; or one attempt had this outcome
 abbrev pub StepOf : BookState → BookState → ℕ → Step → Type 0
@@ -25,18 +25,20 @@ StepOf old new reading Limited = (duty : ℕ) × IsNext old.tables.duties (momen
     })
 StepOf old new reading (Made outcome) = (turns : List Turn) × IsStep old.tables reading turns outcome new.tables × (new.turns ≡ old.turns ++ turns)
 
+-- how the run of steps ended
 abbrev pub stop_of : Ending → Stop
 stop_of endings.Done = done
 stop_of endings.Limited = limited
 
+-- what the steps counted
 abbrev pub counts_of : Delivery → Counts
 counts_of d = record { attempts = d.attempts; delivered = d.delivered; dropped = d.dropped }
 
--- the steps of one DeliverDue, from the readings that the clock gave for them
-pub record DeliveryOf (old new : BookState) (ahead ahead_new : Option (ℕ → ℕ)) (d : Delivery) : Type 0 where
+-- the steps of one DeliverDue, at most `budget`, from the readings that the clock gave for them
+pub record DeliveryOf (budget : ℕ) (old new : BookState) (ahead ahead_new : Option (ℕ → ℕ)) (d : Delivery) : Type 0 where
   pub given : List ℕ
   pub made : List Turn
-  pub steps : IsDelivery default_budget old.tables given made (counts_of d) (stop_of d.ending) new.tables
+  pub steps : IsDelivery budget old.tables given made (counts_of d) (stop_of d.ending) new.tables
   pub turns : new.turns ≡ old.turns ++ made
   pub readings : Gives ahead ahead_new given
 

@@ -1,8 +1,8 @@
 //! The router's guarded state: its tables, and the history of its turns.
-ghost use Rattle.std.specs.Prelude.{◌≡◌, ◌≢◌, ◌++◌, ◌∷◌, [], IfOk, IfSome, OnErr};
+ghost use Rattle.std.specs.Prelude.{◌≡◌, ◌++◌, ◌∷◌, [], IfOk, IfSome, OnErr};
 ghost use Rattle.std.specs.Option.{option_map};
 ghost use Rattle.json_text.specs.Moment.{IsMoment};
-ghost use Rattle.router_core.specs.Request.{deliver_due};
+ghost use Rattle.router_core.specs.Request.{IsOneTurn};
 ghost use Rattle.router_core.specs.View.{action_of, request_of};
 ghost use Rattle.router_core.specs.Tables.{first_tables};
 ghost use Rattle.router_core.specs.Ready.{batch_of, IsReadyAt};
@@ -70,14 +70,14 @@ impl Book {
     ) -> Result<TurnReply, NoMemory>
         requires reading { IsMoment request.reading }
         requires few { IsBounded (action_of request.action) }
-        requires one_turn { action_of request.action ≢ deliver_due }
+        requires one_turn { IsOneTurn (action_of request.action) }
         ensures answered { IfOk result (λ reply. IsAnswered (book_of self.old) (book_of self.new) (request_of request) close reply) }
         ensures renderable { IfOk result (λ reply. IsRenderable reply) }
         ensures unchanged { OnErr result (book_of self.new ≡ book_of self.old) }
     {
         let ask = Ask::Asked(Snapshot::of(&request));
         let moment = turn_moment(&self.tables, request.reading);
-        let (ready, reply) = decide(alloc, &self.tables, request, moment)?;
+        let (ready, reply) = decide(alloc, &self.tables, &request, moment)?;
         match ready {
             Some(ready) => {
                 let bytes = reply_bytes(alloc, &reply, close)?;

@@ -6,9 +6,6 @@ use crate::book::{Book, Step};
 use delivery_duties::Outcome;
 use router_disk::Clock;
 
-/// The number of steps that are made at most.
-const BUDGET: u32 = 100;
-
 /// How the steps ended.
 #[derive(Clone, Copy, Debug, PartialEq, Eq)]
 pub enum Ending {
@@ -27,14 +24,14 @@ pub struct Delivery {
     pub ending: Ending,
 }
 
-/// Makes steps of delivery, each at a reading of its own, until no delivery is due, the budget is used or the number limit is
-/// reached.
-pub(crate) fn deliver<C: Clock>(book: &mut Book, clock: &mut C) -> Delivery
-    ensures { DeliveryOf (book_of book.old) (book_of book.new) (C.ahead clock.old) (C.ahead clock.new) result }
+/// Makes steps of delivery, each at a reading of its own, until no delivery is due, `budget` steps were made or the number limit
+/// is reached.
+pub(crate) fn deliver<C: Clock>(book: &mut Book, budget: u32, clock: &mut C) -> Delivery
+    ensures { DeliveryOf budget (book_of book.old) (book_of book.new) (C.ahead clock.old) (C.ahead clock.new) result }
 {
     let mut delivered: u32 = 0;
     let mut dropped: u32 = 0;
-    for attempts in 0..BUDGET {
+    for attempts in 0..budget {
         match book.step(clock.now()) {
             Step::Made(Outcome::Accepted) => {
                 delivered += 1;
@@ -60,7 +57,7 @@ pub(crate) fn deliver<C: Clock>(book: &mut Book, clock: &mut C) -> Delivery
         }
     }
     Delivery {
-        attempts: BUDGET,
+        attempts: budget,
         delivered,
         dropped,
         ending: Ending::Done,

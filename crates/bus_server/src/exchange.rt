@@ -1,7 +1,7 @@
 //! One message and its reply.
-ghost use Rattle.std.specs.Prelude.{◌≡◌, ◌↔◌, ◌⊎◌, IsTrue, IfOk};
+ghost use Rattle.std.specs.Prelude.{◌≡◌, ◌⊎◌, IfOk, MatchOption};
 ghost use Rattle.api_replies.specs.Reply as replies;
-ghost use Rattle.router_core.specs.Request.{deliver_due};
+ghost use Rattle.router_core.specs.Request.{deliver_due, IsOneTurn};
 ghost use Rattle.router_core.specs.View.{action_of};
 ghost use Rattle.router_disk.specs.Faults.{CountsFaults};
 ghost use Rattle.router_disk.specs.Sink.{WritesAll};
@@ -15,16 +15,18 @@ ghost use Rattle.bus_server.specs.Running.{ExchangeOf};
 use crate::book::Book;
 use crate::delivery::{Delivery, Ending, deliver};
 use crate::text::{reply_bytes, turn_bytes};
+use api_replies::{Cause, refused_reply};
 use api_wire::{
     CallFault, CountsReply, Message, Method, no_memory_reply, not_post_head, not_post_reply,
     read_call,
 };
 use json_text::{Bytes, LAST_MOMENT, NoMemory};
-use router_core::{Action, limit_reply, not_built, unknown_operation};
+use router_core::{Action, limit_reply};
 use router_disk::{Clock, Failed, Sink};
 use std::alloc::Global;
 
 /// Answers the message, and writes the reply. `close` is true if the session ends after it. A HEAD gets the reply's head alone.
+#[tactic(auto, using(crate::proofs::BoundLemmas::asked_bounded))]
 pub(crate) fn answer_message<K: Sink, C: Clock>(
     alloc: Global,
     book: &mut Book,
@@ -44,8 +46,8 @@ pub(crate) fn answer_message<K: Sink, C: Clock>(
     }
     match read_call(alloc, message, reading.min(LAST_MOMENT)) {
         Ok(request) => {
-            if is_deliver_due(&request.action) {
-                return answer_delivery(alloc, book, close, output, clock);
+            if let Some(budget) = delivery_budget(&request.action) {
+                return answer_delivery(alloc, book, budget, close, output, clock);
             }
             match book.turn(alloc, request, close) {
                 Ok(reply) => respond(turn_bytes(alloc, reply, close), close, output),
@@ -56,16 +58,18 @@ pub(crate) fn answer_message<K: Sink, C: Clock>(
     }
 }
 
-fn is_deliver_due(action: &Action) -> bool
-    ensures { IsTrue result ↔ (action_of action.now ≡ deliver_due) }
+/// The budget of a DeliverDue. `None` for every other request.
+fn delivery_budget(action: &Action) -> Option<u32>
+    ensures { MatchOption result (IsOneTurn (action_of action.now)) (λ budget. action_of action.now ≡ deliver_due budget) }
 {
     match action {
-        Action::DeliverDue => true,
+        Action::DeliverDue { budget } => Some(*budget),
         Action::CreateQueue { .. }
         | Action::PutRule { .. }
         | Action::PutTargets { .. }
         | Action::PutEvents { .. }
-        | Action::PeekMessages { .. } => false,
+        | Action::PeekMessages { .. }
+        | Action::TestEventPattern { .. } => None,
     }
 }
 
@@ -84,28 +88,20 @@ fn respond<K: Sink>(
     }
 }
 
-/// The reply to a message that is no request that is built.
+/// The reply to a message that is refused.
 fn fault_bytes(alloc: Global, fault: CallFault, close: bool) -> Result<Bytes, NoMemory>
     ensures { IfOk result (λ bytes. IsFaultText fault close bytes) }
 {
     match fault {
-        CallFault::UnknownOperation => unknown_bytes(alloc, close),
-        CallFault::NotBuilt => not_built_bytes(alloc, close),
+        CallFault::Refused(cause) => refused_bytes(alloc, &cause, close),
         CallFault::NoMemory => Err(NoMemory),
     }
 }
 
-fn unknown_bytes(alloc: Global, close: bool) -> Result<Bytes, NoMemory>
-    ensures { IfOk result (λ bytes. bytes ≡ reply_text replies.unknown_operation close) }
+fn refused_bytes(alloc: Global, cause: &Cause, close: bool) -> Result<Bytes, NoMemory>
+    ensures { IfOk result (λ bytes. bytes ≡ reply_text (replies.refused cause.now) close) }
 {
-    let reply = unknown_operation(alloc)?;
-    reply_bytes(alloc, &reply, close)
-}
-
-fn not_built_bytes(alloc: Global, close: bool) -> Result<Bytes, NoMemory>
-    ensures { IfOk result (λ bytes. bytes ≡ reply_text replies.not_built close) }
-{
-    let reply = not_built(alloc)?;
+    let reply = refused_reply(alloc, cause)?;
     reply_bytes(alloc, &reply, close)
 }
 
@@ -113,17 +109,18 @@ fn not_built_bytes(alloc: Global, close: bool) -> Result<Bytes, NoMemory>
 fn answer_delivery<K: Sink, C: Clock>(
     alloc: Global,
     book: &mut Book,
+    budget: u32,
     close: bool,
     output: &mut K,
     clock: &mut C,
 ) -> Result<(), Failed>
-    ensures delivered { DeliveredOf close (book_of book.old) (book_of book.new) (C.ahead clock.old) (C.ahead clock.new) (K.written output.old) (K.written output.new) result
+    ensures delivered { DeliveredOf budget close (book_of book.old) (book_of book.new) (C.ahead clock.old) (C.ahead clock.new) (K.written output.old) (K.written output.new) result
         ⊎ IsUndelivered close (book_of book.old) (book_of book.new) (C.ahead clock.old) (C.ahead clock.new) (K.written output.old) (K.written output.new) result }
     ensures count { CountsFaults (K.faults output.old) (K.faults output.new) result }
 {
     match delivery_room(alloc, close) {
         Ok((room, limit)) => {
-            let made = deliver(book, clock);
+            let made = deliver(book, budget, clock);
             write_delivery(room, limit.as_slice(), made, close, output)
         }
         Err(NoMemory) => output.write_all(no_memory_reply(close)),

@@ -1,8 +1,9 @@
 //! The next message of an input.
 ghost use Rattle.std.specs.Prelude.{◌≡◌, ◌≢◌, ◌<◌, ◌≤◌, None, length};
-ghost use Rattle.router_disk.specs.Faults.{Rose};
+ghost use Rattle.router_disk.specs.Faults.{CountsFaults, Rose};
 ghost use Rattle.std.specs.Prelude.{ℕ, List, Option};
-ghost use Rattle.std.specs.Io.KnownBytes.{IsAtEnd};
+ghost use Rattle.std.specs.Io.{ReadsAtMost};
+ghost use Rattle.std.specs.Io.KnownBytes.{IsAtEnd, ReadConsumes};
 ghost use Rattle.api_messages.specs.Messages.{IsAwaited};
 ghost use Rattle.bus_server.specs.Session.{piece_size};
 ghost use Rattle.bus_server.specs.Incoming.{LackOf, NextOf, StaysOpen};
@@ -59,7 +60,7 @@ pub(crate) fn next_message<S: Source>(
             let head = wire.has_head();
             return Incoming::Lack(Lack::NoMemory { head });
         }
-        match input.read(piece) {
+        match read_piece(wire, input, piece) {
             Ok(0) => return Incoming::Lack(lack_at_end(wire)),
             Ok(count) => match wire.feed(&piece[..count]) {
                 Ok(()) => {}
@@ -68,6 +69,18 @@ pub(crate) fn next_message<S: Source>(
             Err(Failed) => return Incoming::Lack(Lack::ReadFault),
         }
     }
+}
+
+/// Reads once. Between messages it first calls `rests` of the source.
+fn read_piece<S: Source>(wire: &WireIn, input: &mut S, piece: &mut [u8]) -> Result<usize, Failed>
+    ensures within { ReadsAtMost result piece.new }
+    ensures bytes { ReadConsumes (S.left input.old) (S.left input.new) result piece.new }
+    ensures count { CountsFaults (S.faults input.old) (S.faults input.new) result }
+{
+    if wire.is_between() {
+        input.rests();
+    }
+    input.read(piece)
 }
 
 /// Why there is no message if the input ends here.

@@ -36,19 +36,19 @@ loop-attempts-preserved g c =
 pub returns-in-Idle : goal.returns-in-Idle
 returns-in-Idle g c =
     let l = c.loop-attempts in
-    delivery_idle _ (book_of l.book) _ _ _ _ l.attempts l.delivered l.dropped l.attempts c.now.result
+    delivery_idle c.args.budget _ (book_of l.book) _ _ _ _ l.attempts l.delivered l.dropped l.attempts c.now.result
     l.invariant.delivering c.loop-attempts-test.true c.now.ensures c.in-Idle.ensures
 
 pub returns-in-Limited : goal.returns-in-Limited
 returns-in-Limited g c =
     let l = c.loop-attempts in
-    delivery_limited _ (book_of l.book) _ _ _ _ l.attempts l.delivered l.dropped l.attempts c.now.result
+    delivery_limited c.args.budget _ (book_of l.book) _ _ _ _ l.attempts l.delivered l.dropped l.attempts c.now.result
     l.invariant.delivering c.loop-attempts-test.true c.now.ensures c.in-Limited.ensures
 
 pub returns : goal.returns
 returns g c =
     let l = c.loop-attempts in
-    let all : l.attempts ≡ 100 = omega (arith, c.loop-attempts-test.false, l.auto.attempts-end) in
-    delivery_used _ _ _ _ 100 l.delivered l.dropped
+    let all : l.attempts ≡ c.args.budget = omega (arith, c.loop-attempts-test.false, l.auto.attempts-end) in
+    delivery_used c.args.budget _ _ _ _ c.args.budget l.delivered l.dropped
     (subst (λ (k : ℕ). Delivering (book_of c.args.book.now) (book_of l.book) (g.C.Clock.ahead c.args.clock.now) (g.C.Clock.ahead l.clock)
     (record { attempts = k; delivered = l.delivered; dropped = l.dropped }) k) all l.invariant.delivering)

@@ -1,4 +1,4 @@
-use Rattle.std.proofs.Common.{◌≡◌, ℕ, Err, ap, sym, ◌∙◌, subst}
+use Rattle.std.proofs.Common.{◌≡◌, ℕ, ap, sym, ◌∙◌, subst}
 use Rattle.router_core.specs.View.{request_of}
 use Rattle.router_disk.specs.Sink.{WritesAll}
 use Rattle.api_replies.specs.Reply.{not_post}
@@ -10,13 +10,12 @@ use Rattle.bus_server.specs.Exchange.{moment_of, sent_text}
 use Rattle.bus_server.proofs.ExchangeLemmas.{other_exchange, refused_exchange, answered_exchange, fault_exchange, delivery_exchange}
 use Rattle.bus_server.proofs.exchange.answer_message.Goals as goal
 
-pub returns-then-is_deliver_due-clause-exchange : goal.returns-then-is_deliver_due-clause-exchange
-returns-then-is_deliver_due-clause-exchange g c =
+pub returns-in-Some-clause-exchange : goal.returns-in-Some-clause-exchange
+returns-in-Some-clause-exchange g c =
     let asked : IsAsked c.args.message.now (moment_of c.now-reading.result) (request_of c.in-Ok.request) =
     subst (λ (m : ℕ). IsAsked c.args.message.now m (request_of c.in-Ok.request)) c.min.ensures c.in-Ok.ensures.asked in
     delivery_exchange c.args.message.now c.args.close _ _ _ _ _ _ _ c.answer_delivery.result c.now-reading.result (request_of c.in-Ok.request)
-    (ap is_post c.in-Post.is) asked
-    (c.is_deliver_due.ensures.0 c.if-is_deliver_due.true) c.now-reading.ensures c.answer_delivery.ensures.delivered
+    c.in-Some.budget (ap is_post c.in-Post.is) asked c.in-Some.ensures c.now-reading.ensures c.answer_delivery.ensures.delivered
 
 pub returns-in-Head-clause-exchange : goal.returns-in-Head-clause-exchange
 returns-in-Head-clause-exchange g c =
@@ -47,13 +46,6 @@ returns-in-Err-turn-clause-exchange g c =
 
 pub returns-in-Err-clause-exchange : goal.returns-in-Err-clause-exchange
 returns-in-Err-clause-exchange g c =
-    let reading : c.min.result ≡ moment_of c.now-reading.result = c.min.ensures in
     fault_exchange c.args.message.now c.args.close
     (book_of c.args.book.now) _ _ _ _ c.respond-in-Err.result c.now-reading.result c.in-Err.fault c.fault_bytes.result
-    (ap is_post c.in-Post.is)
-    (λ unknown. c.in-Err.ensures.unknown (ap Err unknown))
-    (λ not_built. (
-      c.in-Err.ensures.known (ap Err not_built),
-      λ r asked. let e = c.in-Err.ensures.only r (subst (λ (m : ℕ). IsAsked c.args.message.now m r) (sym reading) asked) in cc,
-    ))
-    c.fault_bytes.ensures c.now-reading.ensures c.respond-in-Err.ensures.writes
+    (ap is_post c.in-Post.is) c.in-Err.ensures.refused c.fault_bytes.ensures c.now-reading.ensures c.respond-in-Err.ensures.writes

@@ -46,24 +46,24 @@ pub returns-in-Ok-eq0-clause-next : goal.returns-in-Ok-eq0-clause-next
 returns-in-Ok-eq0-clause-next g c =
     let so_far = c.loop-message.invariant.taken in
     let more = c.in-Ok-eq0.ensures.bytes in
-    let end = more.1 c.in-Ok-eq0.field-0-test (subst (λ n. 0 < n) (sym c.read.auto.buf) c.loop-message.invariant.room) in
+    let end = more.1 c.in-Ok-eq0.field-0-test (subst (λ n. 0 < n) (sym c.read_piece.auto.piece) c.loop-message.invariant.room) in
     let awaited : IsAwaited c.loop-message.wire.rest × (c.next.new.self ≡ c.loop-message.wire) = search rules in
     let same : c.reserve.new.self.rest ≡ c.loop-message.wire.rest = c.reserve.ensures.rest ∙ ap (λ (w : Incoming). w.rest) awaited.1 in
-    at_end _ _ _ c.args.wire.now.rest c.reserve.new.self.rest so_far.0 c.read.new.buf c.in-Ok-eq0.field-0 c.lack_at_end.result c.in-Ok-eq0.field-0-test
+    at_end _ _ _ c.args.wire.now.rest c.reserve.new.self.rest so_far.0 c.read_piece.new.piece c.in-Ok-eq0.field-0 c.lack_at_end.result c.in-Ok-eq0.field-0-test
     so_far.1 (same ∙ so_far.2) more.0 end (c.lack_at_end.ensures.lack _ end)
 
-pub returns-in-Err-read-clause-next : goal.returns-in-Err-read-clause-next
-returns-in-Err-read-clause-next g c =
+pub returns-in-Err-read_piece-clause-next : goal.returns-in-Err-read_piece-clause-next
+returns-in-Err-read_piece-clause-next g c =
     let so_far = c.loop-message.invariant.taken in
     let awaited : IsAwaited c.loop-message.wire.rest × (c.next.new.self ≡ c.loop-message.wire) = search rules in
-    read_failed _ _ _ c.args.wire.now.rest c.loop-message.wire.rest so_far.0 so_far.1 so_far.2 c.in-Err-read.ensures.bytes awaited.0
+    read_failed _ _ _ c.args.wire.now.rest c.loop-message.wire.rest so_far.0 so_far.1 so_far.2 c.in-Err-read_piece.ensures.bytes awaited.0
 
 pub loop-message-preserved : goal.loop-message-preserved
 loop-message-preserved g c =
     let so_far = c.loop-message.invariant.taken in
     let awaited : IsAwaited c.loop-message.wire.rest × (c.next.new.self ≡ c.loop-message.wire) = search rules in
     let same : c.reserve.new.self.rest ≡ c.loop-message.wire.rest = c.reserve.ensures.rest ∙ ap (λ (w : Incoming). w.rest) awaited.1 in
-    let piece = take c.in-Ok.count c.read.new.buf in
+    let piece = take c.in-Ok.count c.read_piece.new.piece in
     let longer : c.feed.new.self.rest ≡ c.reserve.new.self.rest ++ piece = c.in-Ok-feed.ensures.ok in
     let more = read_more _ _ _ c.args.wire.now.rest c.reserve.new.self.rest so_far.0 piece so_far.1 (same ∙ so_far.2) c.in-Ok.ensures.bytes.0 in
     record {
@@ -77,7 +77,7 @@ loop-message-preserved g c =
         piece,
         longer,
         subst IsAwaited (sym same) awaited.0,
-        omega (arith, length-take c.in-Ok.count c.read.new.buf, c.read.auto.buf, c.loop-message.invariant.one_piece),
+        omega (arith, length-take c.in-Ok.count c.read_piece.new.piece, c.read_piece.auto.piece, c.loop-message.invariant.one_piece),
       );
     }
 
@@ -86,10 +86,10 @@ loop-message-smaller g c =
     let awaited : IsAwaited c.loop-message.wire.rest × (c.next.new.self ≡ c.loop-message.wire) = search rules in
     let short = c.awaited_is_short.ensures c.loop-message.wire.rest awaited.0 in
     let same : c.reserve.new.self.rest ≡ c.loop-message.wire.rest = c.reserve.ensures.rest ∙ ap (λ (w : Incoming). w.rest) awaited.1 in
-    let longer_now : c.feed.new.self.rest ≡ c.reserve.new.self.rest ++ take c.in-Ok.count c.read.new.buf = c.in-Ok-feed.ensures.ok in
-    let within : c.in-Ok.count ≤ length c.read.new.buf = c.in-Ok.ensures.within.0 in
+    let longer_now : c.feed.new.self.rest ≡ c.reserve.new.self.rest ++ take c.in-Ok.count c.read_piece.new.piece = c.in-Ok-feed.ensures.ok in
+    let within : c.in-Ok.count ≤ length c.read_piece.new.piece = c.in-Ok.ensures.within.0 in
     let read : ¬ (c.in-Ok.count ≡ 0) = c.in-Ok.count-test.1 in
-    let some : 0 < length (take c.in-Ok.count c.read.new.buf) = omega (arith, length-take c.in-Ok.count c.read.new.buf, within, read) in
+    let some : 0 < length (take c.in-Ok.count c.read_piece.new.piece) = omega (arith, length-take c.in-Ok.count c.read_piece.new.piece, within, read) in
     let fact : 1064960 - length c.feed.new.self.rest < 1064960 - length c.loop-message.wire.rest =
-    omega (arith, ap length longer_now, ap length same, length-append c.reserve.new.self.rest (take c.in-Ok.count c.read.new.buf), short, some) in
+    omega (arith, ap length longer_now, ap length same, length-append c.reserve.new.self.rest (take c.in-Ok.count c.read_piece.new.piece), short, some) in
     fact
