@@ -1,7 +1,7 @@
 #!/usr/bin/env python3
 """Times the calls of the leaf crates by the proved program leaf_bench, and prints tables.
 
-    bench/leaves.py [wildcards] [ranges] [json] [events]
+    bench/leaves.py [wildcards] [ranges] [json] [events] [patterns] [reading]
 
 Run at the top of the repository, once `rt run` in crates/leaf_bench has built crates/leaf_bench/out/leaf_bench.
 If c++ and Debian's rapidjson-dev are installed, RapidJSON's rates are shown beside ours. Outside the gate: nothing
@@ -45,6 +45,16 @@ RANGES = [
 ]
 RANGE_COUNTS = [10, 1_000, 100_000]
 LOOKUPS = 1_000  # in one run of the program
+
+# Measurement, and for each number of objects in the event's list how many calls one run makes.
+PATTERNS = [
+    ("holds_source", {0: 100_000}),
+    ("holds_nested", {0: 20_000}),
+    ("holds_list", {100: 2_000, 1_000: 200, 10_000: 20}),
+    ("holds_or", {100: 2_000, 1_000: 200, 10_000: 20}),
+    ("holds_absent", {100: 2_000, 1_000: 200, 10_000: 20}),
+    ("holds_alternatives", {0: 200}),
+]
 
 
 def least(command, stdin):
@@ -148,6 +158,35 @@ def events():
         row(length, round(1e6 * rounds / micros))
 
 
+def patterns():
+    table("pattern", "objects", "calls in which it holds", "one call, ns")
+    for word, sizes in PATTERNS:
+        for objects, rounds in sizes.items():
+            answer, [micros] = run(word, rounds, objects)
+            row(word, objects, f"{answer} of {rounds}", f"{1000 * micros / rounds:.1f}")
+
+
+def pattern_texts():
+    """Texts of patterns, each with its name."""
+    compact = lambda value: json.dumps(value, separators=(",", ":"))
+    fields = lambda count: compact({f"field-{i:03d}": [f"value-{i:03d}"] for i in range(count)})
+    branches = {"$or": [{"a": [1]}, {"b": [2]}]}
+    return {
+        "4 fields": fields(4),
+        "38 fields": fields(38),
+        "157 fields": fields(157),
+        "113 `$or`s": compact({f"{i:02x}": branches for i in range(113)}),
+    }
+
+
+def reading():
+    table("text of a pattern", "bytes", "it is one", "read as a pattern, MB/s", "read as JSON, MB/s")
+    for name, text in pattern_texts().items():
+        rounds = max(1, 4_000_000 // len(text))
+        answer, times = run("pattern", rounds, 0, text.encode())
+        row(name, len(text), answer, *[f"{rounds * len(text) / max(1, micros):.0f}" for micros in times])
+
+
 def built_rapidjson(folder):
     """The program for RapidJSON, or nothing if it cannot be built here."""
     program = os.path.join(folder, "rapidjson")
@@ -161,7 +200,7 @@ def main():
     if not os.path.exists(PROGRAM):
         sys.exit(f"{PROGRAM} is not built: run `rt run` in crates/leaf_bench")
     print(f"{datetime.date.today()}, {os.cpu_count()} processors, {platform.machine()}, {' '.join(sys.argv)}")
-    tables = {"wildcards": wildcards, "ranges": ranges, "json": jsons, "events": events}
+    tables = {"wildcards": wildcards, "ranges": ranges, "json": jsons, "events": events, "patterns": patterns, "reading": reading}
     for name in sys.argv[1:] or tables:
         tables[name]()
 

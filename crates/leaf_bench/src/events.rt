@@ -20,7 +20,7 @@ pub fn measure(rt: &impl Clock, alloc: Global, detail: &str, rounds: u32) -> Res
     let mut bytes = 0;
     let start = Instant::now(rt)?;
     for number in 0..rounds {
-        let checked = check(alloc, entry(alloc, detail)?)?;
+        let checked = check(alloc, &entry(alloc, detail)?)?;
         let event = Event::make(alloc, checked, u64::from(number), NOVEMBER_2023, OWNER)?;
         bytes = event.text(alloc, None)?.as_str().len();
     }

@@ -5,10 +5,14 @@
 //! - `ranges_*`: SIZE ranges, made once, and NUMBER looked up a thousand times.
 //! - `json`: standard input, read and written SIZE times; NUMBER is ignored.
 //! - `events`: SIZE events with standard input as their detail; NUMBER is ignored.
+//! - `holds_*`: a pattern on two events in turn, SIZE times; each event has a list of NUMBER objects.
+//! - `pattern`: standard input, read as a pattern and read as JSON, SIZE times each; NUMBER is ignored.
 #![tactic(auto)]
 
 mod events;
+mod patterns;
 mod ranges;
+mod reading;
 mod texts;
 mod wildcards;
 
@@ -50,6 +54,20 @@ fn measure(
         let figures = events::measure(rt, rt.alloc(), detail.as_str(), size)?;
         println!(rt; "{}", figures.bytes)?;
         eprintln!(rt; "{}", figures.took.as_micros())?;
+    } else if word.starts_with("holds") {
+        let figures = patterns::measure(rt, rt.alloc(), word, size, number)?;
+        println!(rt; "{}", figures.held)?;
+        eprintln!(rt; "{}", figures.took.as_micros())?;
+    } else if word == "pattern" {
+        let mut text = Vec::new(rt.alloc());
+        rt.reader().read_to_end(&mut text)?;
+        let figures = reading::measure(rt, rt.alloc(), &text, size)?;
+        println!(rt; "{}", figures.is_pattern)?;
+        eprintln!(rt;
+            "{} {}",
+            figures.pattern.as_micros(),
+            figures.json.as_micros()
+        )?;
     } else if word.starts_with("ranges") {
         let figures = ranges::measure(rt, rt.alloc(), word, size, number)?;
         println!(rt; "{}", figures.hit)?;
