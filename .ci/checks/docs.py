@@ -130,7 +130,7 @@ class Source:
         made = Function(name[0], owner, self.path, self.line_of(at), is_pub or public == "trait")
         self.functions.append(made)
         at = name.end()
-        mark = re.compile(r"[({\[;]|\b(ensures|requires)\b\s*([a-z_0-9]*)\s*(?=\{)")
+        mark = re.compile(r"[({\[;]|\b(ensures|requires)\b\*?\s*([a-z_0-9]*)\s*(?=\{)")
         while found := mark.search(self.code, at, end):
             if found[1]:
                 begin = self.code.index("{", found.end() - 1) if self.code[found.end() - 1] != "{" else found.end() - 1

@@ -4,11 +4,12 @@
 A run has one request for each length of a body from 2 to 20,000 bytes, and some up to the limit of 1,048,576, in an order
 that a fixed seed shuffles. The requests are all actions that the program serves, accepted and refused, and messages that
 it does not serve. The model, `Router`, knows only the requests: which event has which number, what each queue is owed, and
-what a look into a queue shows. Required are the status and the body of each reply, no reply more or less, nothing on
-standard error, and the exit status 0. A 503 is never right here: memory is available.
+what a look into a queue shows. Patterns have a model of their own, `patterns.py`, and their texts come from
+`pattern_texts.py`. Required are the status and the body of each reply, no reply more or less, nothing on standard error, and
+the exit status 0. A 503 is never right here: memory is available.
 
 To add an action, write a function `def action(router, chance, length)` that returns a `Request`, or None if no body of
-that length fits, and name it in ACTIONS with its weight.
+that length fits, name it in ACTIONS with its weight, and add its members to ASKED.
 
 The last line is `N passed, M failed`.
 """
@@ -17,10 +18,14 @@ import json
 import os
 import queue
 import random
+import re
 import subprocess
 import sys
 import threading
 import time
+
+from pattern_texts import EVENT_MEMBERS, a_pattern_text, an_event, no_event, spell
+from patterns import Fault, Number, holds, read_json, read_pattern, spelled
 
 PROGRAM = "crates/ebusd/out/ebusd"
 EBUSD = "bin/ebusd"
@@ -34,14 +39,17 @@ HEADS = ["Host: a\r\n", "Host: 127.0.0.1\r\nUser-Agent: mixed\r\n", "host: b\r\n
 RULES = 12  # rules that a run makes; the program's limit is 300
 TARGETS_LIMIT = 5  # targets of a rule
 QUEUES_LIMIT = 200  # queues that a run makes; the program's limit is 1,000
-A_CALL = 100  # deliveries of one DeliverDue
-PEEKED = 10
+A_CALL = 100  # deliveries of one DeliverDue, if it has no Budget
+PEEKED = 10  # messages that one PeekMessages shows, if it has no Limit
+PEEKED_MOST = 1_000
+MOMENT_LIMIT = 250_000_000_000
 ENTRIES_SIZE = 262_144
 
 SOURCES = [f"shop.{it}" for it in ("orders", "returns", "stock", "prices", "users", "carts")] + ["Ünï.код", "a"]
 TYPES = ["Order", "Return", "Item sold", "Price \\ \"new\"", "x"]
 STATES = ["open", "paid", "sent", ""]
 CITIES = ["Oslo", "Bern", "Åbo"]
+BUS_ARN = "arn:aws:events:us-east-1:111122223333:event-bus/"
 FILLING = "The quick brown fox jumps over the lazy dog 0123456789 " * 20_000
 
 
@@ -60,12 +68,21 @@ def served(action, body, value):
     return Request(action, body, (200, compact(value).encode()))
 
 
-def not_built(action, body):
-    return Request(action, body, (400, b'{"__type":"NotBuilt","message":"Not built yet."}'))
+def refused(action, body, kind, message):
+    return Request(action, body, (400, compact({"__type": kind, "message": message}).encode()))
+
+
+def not_valid(action, body, member):
+    return refused(action, body, "ValidationException", f"Member {member} is not valid.")
+
+
+def not_a_pattern(action, body, fault):
+    message = f"Event pattern is not valid. Reason: {fault.why} at {fault.path}"
+    return refused(action, body, "InvalidEventPatternException", message)
 
 
 def unknown(action, body):
-    return Request(action, body, (400, b'{"__type":"UnknownOperationException","message":"Unknown operation."}'))
+    return refused(action, body, "UnknownOperationException", "Unknown operation.")
 
 
 def not_post(method, body):
@@ -84,69 +101,84 @@ class Queue:
         return f"arn:aws:sqs:us-east-1:111122223333:{self.name}"
 
 
+class Rule:
+    def __init__(self):
+        self.pattern, self.is_enabled = None, True
+        self.targets = {}  # its targets' queues by their ids
+
+
 class Router:
     """What the requests so far have made, by the rules of the documents."""
 
     def __init__(self, reading):
+        self.reading = reading
         self.queues = {}
-        self.rules = {}  # a rule's name, its pattern, and its targets by their ids
+        self.rules = {}
         self.events = 0
         self.due = queue.SimpleQueue()  # of each delivery its queue and text, oldest first
         self.owed = 0
-        moment = datetime.datetime(1970, 1, 1) + datetime.timedelta(seconds=reading)
-        self.time = moment.strftime("%Y-%m-%dT%H:%M:%SZ").rjust(20, "0")
 
     def create_queue(self, name):
         self.queues[name] = Queue(name)
 
-    def put_rule(self, name, pattern):
-        self.rules.setdefault(name, [None, {}])[0] = pattern
+    def put_rule(self, name, pattern, is_enabled):
+        rule = self.rules.setdefault(name, Rule())
+        rule.pattern, rule.is_enabled = pattern, is_enabled
 
-    def put_event(self, source, kind, detail):
+    def put_event(self, entry):
         """Numbers an event, and makes one delivery for each target of each rule that matches. Returns its id."""
         self.events += 1
+        moment = self.reading if entry.members.get("Time") is None else moment_of(entry.members["Time"])
         made = {
             "version": "0",
             "id": f"00000000-0000-8000-8000-{self.events:012x}",
-            "detail-type": kind,
-            "source": source,
+            "detail-type": entry.members["DetailType"],
+            "source": entry.members["Source"],
             "account": "111122223333",
-            "time": self.time,
+            "time": shown(moment),
             "region": "us-east-1",
-            "resources": [],
-            "detail": detail,
+            "resources": entry.members.get("Resources") or [],
         }
-        text = None
-        for pattern, targets in self.rules.values():
-            if targets and matches(pattern, made):
-                text = text or compact(made)
-                for target in targets.values():
+        text = f'{compact(made)[:-1]},"detail":{entry.compact}}}'
+        made["detail"] = entry.detail
+        for _, rule in sorted(self.rules.items()):
+            if rule.is_enabled and rule.targets and holds(rule.pattern, made):
+                for _, target in sorted(rule.targets.items()):
                     self.due.put((target, text))
                     self.owed += 1
         return made["id"]
 
-    def deliver(self):
-        """Makes at most one call's deliveries. Returns how many it made."""
-        count = min(A_CALL, self.owed)
+    def deliver(self, most):
+        """Makes at most so many deliveries. Returns how many it made."""
+        count = min(most, self.owed)
         for _ in range(count):
             target, text = self.due.get()
             target.delivered += 1
-            if len(target.oldest) < PEEKED:
+            if len(target.oldest) < PEEKED_MOST:
                 target.oldest.append(text)
         self.owed -= count
         return count
 
 
-def matches(pattern, value):
-    """Whether each field of the pattern has a test that equals the value's text, or one text of the value's list."""
-    for key, field in pattern.items():
-        inside = value.get(key) if isinstance(value, dict) else None
-        if isinstance(field, dict):
-            if not matches(field, inside):
-                return False
-        elif not any(it in field for it in (inside if isinstance(inside, list) else [inside])):
-            return False
-    return True
+def shown(moment):
+    """The moment as an event shows it."""
+    date = datetime.datetime(1970, 1, 1) + datetime.timedelta(seconds=moment)
+    return date.strftime("%Y-%m-%dT%H:%M:%SZ").rjust(20, "0")
+
+
+def moment_of(value):
+    """The moment that a Time gives, or None."""
+    if isinstance(value, Number):
+        found = re.fullmatch(r"(-?)([0-9]+)(\.[0-9]+)?", value.spelling)
+        moment = int(found[2]) if found else -1
+        return None if moment < 0 or moment > MOMENT_LIMIT or found[1] and moment > 0 else moment
+    found = re.fullmatch(r"([0-9]{4}-[0-9]{2}-[0-9]{2}T[0-9]{2}:[0-9]{2}:[0-9]{2})(\.[0-9]+)?Z", value)
+    try:
+        date = datetime.datetime.strptime(found[1], "%Y-%m-%dT%H:%M:%S") if found and found[1][17:19] < "60" else None
+    except ValueError:
+        date = None
+    moment = -1 if date is None else (date - datetime.datetime(1970, 1, 1)) // datetime.timedelta(seconds=1)
+    return moment if 0 <= moment <= MOMENT_LIMIT else None
 
 
 # ---- Bodies of a wanted length
@@ -177,9 +209,21 @@ def create_queue(router, chance, length):
     if body is None or len(router.queues) >= QUEUES_LIMIT and name not in router.queues:
         return None
     if name in router.queues:
-        return not_built("RouterLocal.CreateQueue", body)
+        return refused("RouterLocal.CreateQueue", body, "ResourceAlreadyExistsException", f"Queue {name} already exists.")
     router.create_queue(name)
     return served("RouterLocal.CreateQueue", body, {"QueueArn": router.queues[name].arn})
+
+
+def a_bus(chance):
+    """Members that name a bus, and the bus."""
+    bus = chance.choices(["default", "other"], [9, 1])[0]
+    if bus == "default" and chance.random() < 0.7:
+        return chance.choice([{}, {"EventBusName": None}]), bus
+    return {"EventBusName": chance.choice(["", BUS_ARN]) + bus}, bus
+
+
+def not_found(action, body, kind, name):
+    return refused(action, body, "ResourceNotFoundException", f"{kind} {name} does not exist.")
 
 
 def a_pattern(chance):
@@ -195,128 +239,343 @@ def a_pattern(chance):
 
 def put_rule(router, chance, length):
     name = f"rule.{chance.randint(1, RULES)}"
-    pattern = a_pattern(chance)
-    body = padded(chance, compact({"Name": name, "EventPattern": compact(pattern)}), length)
+    if chance.random() < 0.7:
+        text = compact(a_pattern(chance))
+    else:
+        entry = an_entry(chance)
+        event = {"source": entry.members["Source"], "detail-type": entry.members["DetailType"], "detail": entry.detail}
+        text = a_pattern_text(chance, event)
+    state = chance.choices([None, "ENABLED", "DISABLED"], [8, 1, 1])[0]
+    named, bus = a_bus(chance)
+    body = padded(chance, compact({"Name": name, "EventPattern": text, "State": state, **named}), length)
     if body is None:
         return None
-    router.put_rule(name, pattern)
+    try:
+        pattern = read_pattern(text)
+    except Fault as fault:
+        return not_a_pattern("AWSEvents.PutRule", body, fault)
+    if bus != "default":
+        return not_found("AWSEvents.PutRule", body, "Event bus", bus)
+    router.put_rule(name, pattern, state != "DISABLED")
     return served("AWSEvents.PutRule", body, {"RuleArn": f"arn:aws:events:us-east-1:111122223333:rule/{name}"})
+
+
+UNSUPPORTED = {
+    "Input": "{}",
+    "InputPath": "$.detail",
+    "InputTransformer": {"InputTemplate": "1", "InputPathsMap": {"a": "$.a"}},
+    "RetryPolicy": {},
+    "DeadLetterConfig": {"Arn": None},
+}
+BAD_ARNS = ["", "q", "arn:aws:sqs:us-east-1:111122223333:", "arn:aws:sqs:us-east-1:111122223333:a.b", "http://127.0.0.1/q"]
+
+
+def a_target(router, chance):
+    """A target, with no fault or some."""
+    target = {"Id": f"t{chance.randint(1, 7)}", "Arn": chance.choice(list(router.queues.values())).arn}
+    for _ in range(chance.choice([0, 0, 0, 0, 0, 0, 0, 0, 1, 2])):
+        fault = chance.choice(
+            [
+                {"Id": chance.choice(["", "a b", "t" * 65, "t/1"])},
+                {"Arn": chance.choice(BAD_ARNS)},
+                {"Arn": Queue("none").arn},
+                {chance.choice(list(UNSUPPORTED)): None},
+                dict([chance.choice(list(UNSUPPORTED.items()))]),
+            ]
+        )
+        target.update(fault)
+    return target
 
 
 def put_targets(router, chance, length):
     if not router.rules or not router.queues:
         return None
-    name = chance.choice(list(router.rules))
-    added = {}
-    for _ in range(chance.randint(1, 2)):
-        added[f"t{chance.randint(1, 7)}"] = chance.choice(list(router.queues.values()))
-    targets = [{"Id": it, "Arn": target.arn} for it, target in added.items()]
-    body = padded(chance, compact({"Rule": name, "Targets": targets}), length)
+    name = chance.choices([chance.choice(list(router.rules)), "none"], [19, 1])[0]
+    targets = [a_target(router, chance) for _ in range(chance.choice([1, 1, 2, 3, 6]))]
+    named, bus = a_bus(chance)
+    body = padded(chance, compact({"Rule": name, **named, "Targets": targets}), length)
     if body is None:
         return None
-    after = {**router.rules[name][1], **added}
-    if len(after) > TARGETS_LIMIT:
-        return not_built("AWSEvents.PutTargets", body)
-    router.rules[name][1] = after
-    return served("AWSEvents.PutTargets", body, {"FailedEntryCount": 0, "FailedEntries": []})
+    if bus != "default":
+        return not_found("AWSEvents.PutTargets", body, "Event bus", bus)
+    if name not in router.rules:
+        return not_found("AWSEvents.PutTargets", body, "Rule", name)
+    failed = []
+    for target in targets:
+        fault = put_target(router, router.rules[name].targets, target)
+        if fault:
+            failed.append({"TargetId": target["Id"], "ErrorCode": fault[0], "ErrorMessage": fault[1]})
+    return served("AWSEvents.PutTargets", body, {"FailedEntryCount": len(failed), "FailedEntries": failed})
+
+
+def put_target(router, targets, target):
+    """Puts the target to a rule's, or returns its first fault."""
+    if not re.fullmatch(r"[A-Za-z0-9._-]{1,64}", target["Id"]):
+        return "ValidationException", "Member Id is not valid."
+    found = re.fullmatch(r"arn:aws:sqs:us-east-1:111122223333:([A-Za-z0-9_-]{1,80})", target["Arn"])
+    if not found:
+        return "ValidationException", "Member Arn is not valid."
+    for member in UNSUPPORTED:
+        if target.get(member) is not None:
+            return "ValidationException", f"Member {member} is not valid."
+    if found[1] not in router.queues:
+        return "ResourceNotFoundException", f"Queue {found[1]} does not exist."
+    if target["Id"] not in targets and len(targets) == TARGETS_LIMIT:
+        return "LimitExceededException", f"Target limit {TARGETS_LIMIT} reached."
+    targets[target["Id"]] = router.queues[found[1]]
+    return None
+
+
+class Entry:
+    """An entry's members, and its detail with its compact text. The detail is None if it is no object, or absent."""
+
+    def __init__(self, members, detail, text):
+        self.members, self.detail, self.compact = members, detail, text
+
+    def change(self, members):
+        self.members.update(members)
+        if "Detail" in members:
+            self.detail = self.compact = None
+            try:
+                detail, _ = read_json(members["Detail"] or "", 99)
+            except Fault:
+                return
+            if isinstance(detail, dict):
+                self.detail, self.compact = detail, spelled(detail)
+
+    @property
+    def size(self):
+        texts = [self.members.get(it) or "" for it in ("Source", "DetailType", "Detail")]
+        time = 14 if self.members.get("Time") is not None else 0
+        return time + sum(len(it.encode()) for it in texts + (self.members.get("Resources") or []))
+
+    def fault(self):
+        """The type and message of its first fault, or None."""
+        given = self.members.get
+        bus = given("EventBusName")
+        name = "default" if bus is None else bus.removeprefix(BUS_ARN)
+        invalid = [
+            ("Source", not given("Source")),
+            ("DetailType", not given("DetailType")),
+            ("Detail", given("Detail") is None),
+            ("Time", given("Time") is not None and moment_of(given("Time")) is None),
+            ("EventBusName", not re.fullmatch(r"[A-Za-z0-9._-]{1,256}", name)),
+        ]
+        for member, is_faulty in invalid:
+            if is_faulty:
+                return "InvalidArgument", f"Parameter {member} is not valid."
+        if self.detail is None:
+            return "MalformedDetail", "Detail is malformed."
+        if given("Source").startswith("aws."):
+            return "NotAuthorizedForSourceException", "Not authorized for the source."
+        if name != "default":
+            return "InvalidArgument", "Parameter EventBusName is not valid."
+        return None
+
+
+ODD_DETAILS = ['{"a":1, "b":2,"a":3}', ' {"\\u0061\\/":"\\u00e9\\u001F\\ud83d\\ude00"}\n', '{"n":[1E+2,-0,1.50]}', '{"a":%s}' % ("[" * 98 + "]" * 98)]
+NO_DETAILS = ["", "[]", "{", "1", "null", '{"a":1}x', "{'a':1}", '{"a":"\\ud800"}', '{"a":%s}' % ("[" * 99 + "]" * 99)]
+TIMES = [Number("0"), Number("-0.5"), Number("1700000000.9"), "2023-11-14T22:13:20Z", "2000-02-29T23:59:59.75Z", Number("250000000000")]
+NO_TIMES = ["", "0", Number("-1"), Number("1.7e9"), Number("250000000001"), "2023-11-14T22:13:60Z", "2023-02-29T00:00:00Z", "2023-11-14t22:13:20Z"]
+NO_TIMES += ["2023-11-14T22:13:20.Z", "2023-11-14T22:13:20+00:00", "1969-12-31T23:59:59Z", "2023-11-14T24:00:00Z"]
+
+
+def a_change(chance):
+    """Members of an entry that are valid, but for those that the next changes."""
+    return chance.choice(
+        [
+            {"Time": chance.choice(TIMES)},
+            {"Resources": chance.sample(SOURCES, chance.randint(0, 3))},
+            {"EventBusName": chance.choice(["default", BUS_ARN + "default", None])},
+            {"Detail": chance.choice(ODD_DETAILS)},
+            {"Source": "aws", "Time": None, "Resources": None, "TraceHeader": {}},
+        ]
+    )
+
+
+def a_fault(chance):
+    return chance.choice(
+        [
+            {"Source": chance.choice([None, "", "aws.s3", "aws."])},
+            {"DetailType": chance.choice([None, ""])},
+            {"Detail": chance.choice([None, *NO_DETAILS])},
+            {"Time": chance.choice(NO_TIMES)},
+            {"EventBusName": chance.choice(["", "a/b", "other", BUS_ARN, BUS_ARN + "other", "b" * 257])},
+        ]
+    )
 
 
 def an_entry(chance):
     detail = {"total": chance.randint(0, 999), "state": chance.choice([*STATES, STATES[:2], None, True])}
     if chance.random() < 0.5:
         detail["place"] = {"city": chance.choice(CITIES), "at": [chance.randint(0, 9)] * chance.randint(0, 3)}
-    return chance.choice(SOURCES), chance.choice(TYPES), detail
+    text = compact(detail)
+    return Entry({"Source": chance.choice(SOURCES), "DetailType": chance.choice(TYPES), "Detail": text}, detail, text)
 
 
 def put_events(router, chance, length):
     entries = [an_entry(chance) for _ in range(chance.choice([1, 1, 2, 3, 5, 10]))]
+    if chance.random() < 0.3:
+        for it in entries:
+            for _ in range(chance.choice([0, 1, 1, 2])):
+                it.change(a_fault(chance) if chance.random() < 0.4 else a_change(chance))
 
-    def spelled():
-        return compact({"Entries": [{"Source": s, "DetailType": k, "Detail": compact(d)} for s, k, d in entries]})
+    def spelled_all():
+        return spelled({"Entries": [it.members for it in entries]})
 
-    body = spelled()
+    body = spelled_all()
     missing = length - len(body.encode())
     if missing < 0 and len(entries) > 1:
         entries = entries[:1]
-        body = spelled()
-    if missing > 60 and chance.random() < 0.4:
-        note = chance.choice(["text", "list"])
-        entries[chance.randrange(len(entries))][2]["note"] = filled(note, min(missing - 20, 200_000))
-        body = spelled()
+        body = spelled_all()
+    entry = chance.choice(entries)
+    if missing > 60 and chance.random() < 0.4 and entry.detail is not None and entry.members["Detail"] not in ODD_DETAILS:
+        entry.detail["note"] = filled(chance.choice(["text", "list"]), min(missing - 20, 200_000))
+        entry.members["Detail"] = entry.compact = compact(entry.detail)
+        body = spelled_all()
     body = padded(chance, body, length)
     if body is None:
         return None
-    ids = [{"EventId": router.put_event(*it)} for it in entries]
-    return served("AWSEvents.PutEvents", body, {"FailedEntryCount": 0, "Entries": ids})
+    return put_entries(router, entries, body)
 
 
-def deliver_due(router, chance, length):
-    count = router.deliver()
+def put_entries(router, entries, body):
+    if sum(it.size for it in entries) > ENTRIES_SIZE:
+        return refused("AWSEvents.PutEvents", body, "ValidationException", f"The request is over {ENTRIES_SIZE} bytes.")
+    items = []
+    for it in entries:
+        fault = it.fault()
+        items.append({"ErrorCode": fault[0], "ErrorMessage": fault[1]} if fault else {"EventId": router.put_event(it)})
+    failed = sum("ErrorCode" in it for it in items)
+    return served("AWSEvents.PutEvents", body, {"FailedEntryCount": failed, "Entries": items})
+
+
+def put_most_bytes(router, chance, length, over):
+    """PutEvents of entries that have as many bytes together as one request may have, or so many more."""
+    half = '{"note":"%s"}' % FILLING[: ENTRIES_SIZE // 2 - 13]
+    good = Entry({"Source": "a", "DetailType": "b"}, None, None)
+    good.change({"Detail": half})
+    bad = Entry({"Source": "", "DetailType": "b" * (2 + over), "Detail": half}, None, None)
+    body = padded(chance, compact({"Entries": [good.members, bad.members]}), length)
+    assert good.size + bad.size == ENTRIES_SIZE + over
+    return put_entries(router, [good, bad], body)
+
+
+def deliver_due(router, chance, length, most=None):
+    most = most or chance.choice([None, None, None, 1, 7, 1_000])
+    value = {} if most is None else {"Budget": most}
+    body = padded(chance, compact(value), length)
+    if body is None:
+        return None
+    count = router.deliver(most or A_CALL)
     reply = {"Attempts": count, "Delivered": count, "DeadLettered": 0, "Dropped": 0}
-    return served("RouterLocal.DeliverDue", padded(chance, "{}", length), reply)
+    return served("RouterLocal.DeliverDue", body, reply)
 
 
 def peek_messages(router, chance, length):
     name = chance.choice([*router.queues, "none"])
-    body = padded(chance, compact({"QueueName": name}), length)
-    return body and peek(router, name, body)
+    most = chance.choices([None, 1, 3, 100, PEEKED_MOST], [50, 20, 20, 9, 1])[0]
+    value = {"QueueName": name} if most is None else {"QueueName": name, "Limit": most}
+    body = padded(chance, compact(value), length)
+    return body and peek(router, name, body, most or PEEKED)
 
 
-def peek(router, name, body):
+def peek(router, name, body, most=PEEKED):
     if name not in router.queues:
-        return not_built("RouterLocal.PeekMessages", body)
-    messages = enumerate(router.queues[name].oldest, 1)
+        return not_found("RouterLocal.PeekMessages", body, "Queue", name)
+    messages = enumerate(router.queues[name].oldest[:most], 1)
     shown = [{"Number": number, "Body": text, "Attributes": {}} for number, text in messages]
     return served("RouterLocal.PeekMessages", body, {"Messages": shown})
 
 
-def refused_members(router, chance, length):
-    """A request of an action that is served, with a member that is missing, malformed or not built."""
-    rule = next(iter(router.rules), "rule.1")
-    arn = next(iter(router.queues.values()), Queue("q")).arn
-    pattern = '{"source":["a"]}'
-    entry = {"Source": "a", "DetailType": "b", "Detail": "{}"}
-    action, value = chance.choice(
-        [
-            ("RouterLocal.CreateQueue", {}),
-            ("RouterLocal.CreateQueue", {"QueueName": "a.b"}),
-            ("RouterLocal.CreateQueue", {"QueueName": "q" * 81}),
-            ("RouterLocal.CreateQueue", {"QueueName": 1}),
-            ("AWSEvents.PutRule", {"Name": rule}),
-            ("AWSEvents.PutRule", {"Name": "r r", "EventPattern": pattern}),
-            ("AWSEvents.PutRule", {"Name": rule, "EventPattern": "{}"}),
-            ("AWSEvents.PutRule", {"Name": rule, "EventPattern": '{"source":[]}'}),
-            ("AWSEvents.PutRule", {"Name": rule, "EventPattern": '{"source":[{"prefix":"a"}]}'}),
-            ("AWSEvents.PutRule", {"Name": rule, "EventPattern": '{"source":["a"],"source":["b"]}'}),
-            ("AWSEvents.PutRule", {"Name": rule, "EventPattern": '{"id":["a"]}'}),
-            ("AWSEvents.PutRule", {"Name": rule, "EventPattern": pattern, "State": "DISABLED"}),
-            ("AWSEvents.PutTargets", {"Rule": "none", "Targets": [{"Id": "t", "Arn": arn}]}),
-            ("AWSEvents.PutTargets", {"Rule": rule, "Targets": []}),
-            ("AWSEvents.PutTargets", {"Rule": rule, "Targets": [{"Id": "t", "Arn": arn + "-none"}]}),
-            ("AWSEvents.PutTargets", {"Rule": rule, "Targets": [{"Id": "t", "Arn": arn, "Input": "{}"}]}),
-            ("AWSEvents.PutEvents", {"Entries": []}),
-            ("AWSEvents.PutEvents", {"Entries": [entry] * 11}),
-            ("AWSEvents.PutEvents", {"Entries": [entry, {**entry, "Source": "aws.s3"}]}),
-            ("AWSEvents.PutEvents", {"Entries": [entry, {**entry, "Source": ""}]}),
-            ("AWSEvents.PutEvents", {"Entries": [{**entry, "Detail": "[]"}]}),
-            ("AWSEvents.PutEvents", {"Entries": [{**entry, "Detail": "{"}]}),
-            ("AWSEvents.PutEvents", {"Entries": [{**entry, "Time": 0}]}),
-            ("RouterLocal.DeliverDue", {"Budget": 1}),
-            ("RouterLocal.PeekMessages", {"QueueName": "q1", "Limit": 1}),
-        ]
-    )
-    body = padded(chance, compact(value), length)
-    return body and not_built(action, body)
+# ---- TestEventPattern
 
 
-def too_many_bytes(_router, chance, length):
-    """Entries that have more bytes together than one PutEvents may have."""
-    entry = {"Source": "a", "DetailType": "b", "Detail": '{"note":"%s"}' % FILLING[: ENTRIES_SIZE // 2 - 10]}
-    body = padded(chance, compact({"Entries": [entry, entry]}), length)
-    return body and not_built("AWSEvents.PutEvents", body)
+def test_event_pattern(_router, chance, length):
+    event = an_event(chance)
+    pattern = a_pattern_text(chance, event)
+    text = spell(chance, event, 0.05)
+    if chance.random() < 0.08:
+        text = no_event(chance, event)
+    body = padded(chance, compact({"EventPattern": pattern, "Event": text}), length)
+    if body is None:
+        return None
+    try:
+        read = read_pattern(pattern)
+    except Fault as fault:
+        return not_a_pattern(TEST, body, fault)
+    try:
+        event, _ = read_json(text)
+    except Fault:
+        return not_valid(TEST, body, "Event")
+    if not isinstance(event, dict) or any(it not in event for it in EVENT_MEMBERS):
+        return not_valid(TEST, body, "Event")
+    return served(TEST, body, {"Result": holds(read, event)})
 
 
-SERVED = ["RouterLocal.CreateQueue", "AWSEvents.PutRule", "AWSEvents.PutTargets", "AWSEvents.PutEvents", "RouterLocal.DeliverDue"]
+TEST = "AWSEvents.TestEventPattern"
+
+
+# ---- Members that are missing or malformed
+
+BAD_QUEUES = ["", "a.b", "q" * 81, "é", 1, ["q"]]
+BAD_NAMES = ["", "r r", "r" * 65, "r/1", True, {}]
+BAD_BUSES = ["", "a/b", "b" * 257, BUS_ARN, BUS_ARN + "a b", 1, []]
+BAD_COUNTS = [0, 1_001, -1, Number("1.0"), Number("1e1"), Number("-0"), Number("99999999999999999999"), "1", True, [1], {}]
+A_TARGET = {"Id": "t", "Arn": Queue("q").arn}
+BAD_TARGETS = [[], [A_TARGET] * 101, {}, "t", [1], [[]], [A_TARGET, {}]]
+BAD_TARGETS += [[A_TARGET, {**A_TARGET, key: it}] for key in ("Id", "Arn") for it in (None, 1, [], {})]
+BAD_TARGETS += [[{**A_TARGET, "Id": "", key: it}] for key in ("Input", "InputPath") for it in (1, {}, ["$"])]
+BAD_TARGETS += [[{**A_TARGET, "InputTransformer": it}] for it in ("", [], {}, {"InputTemplate": None}, {"InputTemplate": 1})]
+BAD_TARGETS += [[{**A_TARGET, "InputTransformer": {"InputTemplate": "", "InputPathsMap": it}}] for it in ("", [], {"a": 1}, {"a": "", "b": None})]
+BAD_TARGETS += [[{**A_TARGET, "RetryPolicy": it}] for it in (1, [], {"MaximumRetryAttempts": "1"}, {"MaximumEventAgeInSeconds": []})]
+BAD_TARGETS += [[{**A_TARGET, "DeadLetterConfig": it}] for it in ("", [], {"Arn": 1}, {"Arn": {}})]
+AN_ENTRY = {"Source": "a", "DetailType": "b", "Detail": "{}"}
+BAD_ENTRIES = [[], [AN_ENTRY] * 11, AN_ENTRY, "{}", [AN_ENTRY, []], ["{}"], [None]]
+BAD_ENTRIES += [[AN_ENTRY, {**AN_ENTRY, key: it}] for key in ("Source", "DetailType", "Detail", "EventBusName") for it in (1, {}, ["a"], True)]
+BAD_ENTRIES += [[{**AN_ENTRY, "Resources": it}] for it in ("a", {}, [None], ["a", 1], [["a"]])]
+BAD_ENTRIES += [[{**AN_ENTRY, "Source": "", "Time": it}] for it in (True, [], {}, [0])]
+BAD_EVENTS = ["", "[1]", "1", "null", "{}", '{"source":"a"}', 1, {}, [], '{"id":1,"account":1,"source":1,"time":1,"region":1,"resources":1}']
+A_PATTERN = '{"source":["a"]}'
+
+# The members of each action in the order in which they are read: whether it is required, a valid value, and others.
+ASKED = {
+    "RouterLocal.CreateQueue": [("QueueName", True, "q", BAD_QUEUES)],
+    "AWSEvents.PutRule": [
+        ("Name", True, "r", BAD_NAMES),
+        ("EventPattern", True, A_PATTERN, [1, {"source": ["a"]}, [], True]),
+        ("ScheduleExpression", False, None, ["", "rate(1 day)", 1, {}]),
+        ("State", False, "DISABLED", ["", "enabled", "DISABLED ", 1, ["ENABLED"], True]),
+        ("EventBusName", False, "other", BAD_BUSES),
+    ],
+    "AWSEvents.PutTargets": [
+        ("Rule", True, "none", BAD_NAMES),
+        ("EventBusName", False, "other", BAD_BUSES),
+        ("Targets", True, [A_TARGET], BAD_TARGETS),
+    ],
+    "AWSEvents.PutEvents": [("Entries", True, [AN_ENTRY], BAD_ENTRIES)],
+    "RouterLocal.PeekMessages": [("QueueName", True, "none", BAD_QUEUES), ("Limit", False, 1, BAD_COUNTS)],
+    "RouterLocal.DeliverDue": [("Budget", False, 1, BAD_COUNTS)],
+    TEST: [("EventPattern", True, A_PATTERN, [1, {"source": ["a"]}, [], True]), ("Event", True, "{}", BAD_EVENTS)],
+}
+
+
+def refused_members(_router, chance, length):
+    """A request of an action that is served, with a member that is missing or malformed, and the first refusal that it gets."""
+    action = chance.choice(list(ASKED))
+    members, message = {}, None
+    while message is None:
+        members, message = {}, None
+        for member, is_required, valid, others in ASKED[action]:
+            kind = chance.choices(["valid", "absent", "null", "malformed"], [6, 1, 1, 2])[0]
+            if kind != "absent":
+                members[member] = {"valid": valid, "null": None, "malformed": chance.choice(others)}[kind]
+            is_missing = is_required and members.get(member) is None
+            if message is None and (is_missing or kind == "malformed"):
+                message = f"Member {member} is {'required' if is_missing else 'not valid'}."
+    shuffled = dict(chance.sample(list(members.items()), len(members)))
+    body = padded(chance, spelled(shuffled), length)
+    return body and refused(action, body, "ValidationException", message)
 
 
 def no_object(_router, chance, length):
@@ -325,11 +584,12 @@ def no_object(_router, chance, length):
     texts.append("\x00" * length)
     if length > 220:
         texts.append('{"a":' + "[" * 100 + "]" * 100 + " " * (length - 206) + "}")
-    return not_built(chance.choice(SERVED), chance.choice([it for it in texts if len(it) == length]))
+    body = chance.choice([it for it in texts if len(it) == length])
+    return refused(chance.choice(list(ASKED)), body, "SerializationException", "The body is not a JSON object.")
 
 
 def no_action(_router, chance, length):
-    action = chance.choice(["RouterLocal.DeleteQueue", "AWSEvents.putEvents", "PutEvents", "", "AWSEvents.DescribeRule", None])
+    action = chance.choice(["RouterLocal.DeleteQueue", "AWSEvents.putEvents", "PutEvents", "", "AWSEvents.DescribeRule", "RouterLocal.TestEventPattern", None])
     return unknown(action, chance.choice("{ x") * length)
 
 
@@ -344,15 +604,23 @@ ACTIONS = [
     (put_events, 45),
     (deliver_due, 8),
     (peek_messages, 3),
-    (refused_members, 18),
+    (test_event_pattern, 25),
+    (refused_members, 12),
     (no_object, 6),
     (no_action, 6),
     (another_method, 2),
-    (too_many_bytes, 1),
 ]
 
 
 # ---- A run
+
+
+def made_by(actions, weights, router, chance, length):
+    """A request of one of the actions. An action is chosen again if it has none of this length."""
+    while True:
+        made = chance.choices(actions, weights)[0](router, chance, length)
+        if made is not None:
+            return made
 
 
 def requests_of(reading):
@@ -361,18 +629,17 @@ def requests_of(reading):
     router = Router(reading)
     for action in (create_queue, put_rule, put_targets):
         for _ in range(8):
-            yield action(router, chance, 500)
+            yield made_by([action], [1], router, chance, 1_000)
     lengths = [*LENGTHS, *LONG_LENGTHS]
     chance.shuffle(lengths)
     actions, weights = zip(*ACTIONS)
     for length in lengths:
-        made = None
-        while made is None:
-            made = chance.choices(actions, weights)[0](router, chance, length)
-        yield made
+        yield made_by(actions, weights, router, chance, length)
+    for over in (0, 1):
+        yield put_most_bytes(router, chance, 300_000, over)
     while router.owed:
-        yield deliver_due(router, chance, 2)
-    yield deliver_due(router, chance, 2)
+        yield deliver_due(router, chance, 20, A_CALL)
+    yield deliver_due(router, chance, 20, A_CALL)
     for name in router.queues:
         yield peek(router, name, compact({"QueueName": name}))
 
@@ -444,6 +711,7 @@ def run(command, reading, counts):
     timer.start()
     asked = queue.Queue()
     faults = []
+    broken = []  # what ended the model, if it did not end by itself
 
     def write():
         try:
@@ -453,6 +721,9 @@ def run(command, reading, counts):
             ran.stdin.close()
         except BrokenPipeError:
             pass
+        except Exception as error:
+            broken.append(error)
+            ran.kill()
         asked.put(None)
 
     threads = [threading.Thread(target=write), threading.Thread(target=lambda: faults.append(ran.stderr.read()))]
@@ -469,6 +740,8 @@ def run(command, reading, counts):
     timer.cancel()
     for it in threads:
         it.join()
+    if broken:
+        raise broken[0]
     if late.is_set():
         raise Failure(f"the run took more than {SECONDS} s")
     if status != 0 and (failure is None or "has none" in failure):
