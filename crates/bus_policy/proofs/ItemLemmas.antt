@@ -1,7 +1,7 @@
--- Lists of the code and the items of the definitions: `before_none`, `some_sid_items`, `count_items`; copies, one more at a
+-- Lists of the code and the items of the definitions: `before_none`, `some_sid_items`; copies, one more at a
 -- time: `left_out`, `copied`;
 -- the value of a changed policy: `made_first`, `made_more`, `made_less`; `some_left`.
-use Rattle.std.proofs.Common.{◌≡◌, ◌<◌, ℕ, ◌+◌, true, false, cond, ◌||◌, List, [], ◌∷◌, ◌++◌, length, get_or, drop, refl, sym, ap, ◌∙◌, arith}
+use Rattle.std.proofs.Common.{◌≡◌, ◌<◌, ℕ, ◌+◌, true, false, cond, ◌||◌, List, [], ◌∷◌, ◌++◌, length, get_or, drop, refl, sym, ap, ◌∙◌}
 use Rattle.std.specs.List.{list_any}
 use Rattle.std.specs.Prelude.{unwrap_or, codes}
 use Rattle.std.proofs.lemmas.Bool.{cond-true, cond-false}
@@ -12,7 +12,7 @@ use Rattle.json_text.specs.declared.value.Json.{Json}
 use Rattle.json_text.specs.Access.{member_of}
 use Rattle.bus_policy.specs.Parts.{statements_of, has_sid}
 use Rattle.bus_policy.specs.Stored.{default_version, policy_with}
-use Rattle.bus_policy.specs.Change.{with_last, first_policy, with_statement, without_sid, without_statement, some_has_sid, statement_count}
+use Rattle.bus_policy.specs.Change.{with_last, first_policy, with_statement, without_sid, without_statement, some_has_sid}
 
 -- trees before others
 abbrev pub items_before : List Tree → Items → Items
@@ -41,10 +41,6 @@ pushed_last xs pushed x t ss more is of =
 pub some_sid_items : (sid : List ℕ) (ts : List Tree) → list_any (has_sid sid) ts ≡ some_has_sid sid (items_of ts)
 some_sid_items sid [] = refl
 some_sid_items sid (t ∷ ts) = ap (λ b. has_sid sid t || b) (some_sid_items sid ts)
-
-pub count_items : (xs : List Json) → length xs ≡ statement_count (items_of (trees_of xs))
-count_items [] = refl
-count_items (x ∷ xs) = let e : length xs ≡ statement_count (items_of (trees_of xs)) = count_items xs in omega arith
 
 -- what is stored of the rest
 abbrev pub left_of : List ℕ → List Json → Items

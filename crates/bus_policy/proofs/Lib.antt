@@ -7,3 +7,4 @@ pub mod ItemLemmas
 pub mod ChangeLemmas
 pub mod LevelLemmas
 pub mod LawLemmas
+pub mod LengthLemmas

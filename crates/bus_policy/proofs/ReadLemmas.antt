@@ -1,19 +1,19 @@
--- From what a text spells to what it is: `reported_fault`, `read_stored`, `read_policy`; and to its verdict, `verdict_read`.
+-- From what a text spells to what it is: `reported_fault`, `read_stored`, `read_policy`, `one_policy`.
 use Rattle.std.proofs.Common.{◌≡◌, ◌≤◌, ℕ, List, length, Some, None, Result, Ok, Err, refl, sym, ap, ◌∙◌, subst, inl}
 use Rattle.std.specs.Prelude.{IfOk, IfErr, MatchResult}
 use Rattle.json_text.specs.Tree.{Tree}
-use Rattle.json_text.specs.Node.{Node, first_repeat}
+use Rattle.json_text.specs.Node.{Node, first_repeat, value_of}
 use Rattle.json_text.specs.Grammar.{IsText}
 use Rattle.json_text.specs.Faults.{FailsAt, OpensTooMany}
 use Rattle.json_text.specs.Compact.{IsValue}
+use Rattle.json_text.proofs.OneValue.{one_value}
 use Rattle.json_text.specs.declared.fault.JsonFault.{JsonFault}
 use Rattle.json_text.specs.declared.fault.JsonFault.TheVariants as json
 use Rattle.bus_policy.specs.declared.fault.PolicyFault.TheVariants.{Bad, NoMemory}
 use Rattle.bus_policy.specs.declared.fault.PolicyFault.{PolicyFault}
 use Rattle.bus_policy.specs.Grammar.{IsPolicy, fault_of}
 use Rattle.bus_policy.specs.Stored.{stored_of, IsStored}
-use Rattle.bus_policy.specs.Text.{Spells, SpellsPolicy, IsPolicyText}
-use Rattle.bus_policy.specs.Verdict.{Asker, Verdict, IsVerdict}
+use Rattle.bus_policy.specs.Text.{Spells, IsPolicyText}
 use Rattle.bus_policy.specs.Fault.{IsPolicyFaultOf, IsFirstFaultOrMemory, IsValueFault}
 use Rattle.bus_policy.proofs.StoredLemmas.{stored_is_stored}
 
@@ -46,9 +46,10 @@ read_policy bytes value policy (Ok seen) only ok err p = ok.1 ∙ ap stored_of (
 read_policy bytes value policy (Err e) only ok err p =
     only_memory value e (ap fault_of (only p.value p.spelled.short p.spelled.spelled) ∙ p.spelled.is_policy) err
 
--- the verdict of a text's policy is that of its value
-pub verdict_read : (bytes : List ℕ) (policy value : Tree) (asker : Asker) (verdict : Verdict)
-    → IsPolicyText bytes policy → ((p : Tree) → IsPolicyText bytes p → policy ≡ p)
-    → IsVerdict policy asker verdict → SpellsPolicy bytes value → IsVerdict value asker verdict
-verdict_read bytes policy value asker verdict is only h spelled =
-    subst (λ t. IsVerdict t asker verdict) (only (stored_of value) (record { value = value; spelled = spelled; is_stored = refl })) h
+-- a text spells one value, of which one policy is stored
+pub one_policy : (t : List ℕ) (a b : Tree) → IsPolicyText t a → IsPolicyText t b → a ≡ b
+one_policy t a b p q =
+    let same : p.value ≡ q.value =
+    sym p.spelled.spelled.stands_for ∙ ap value_of (one_value 100 100 t p.spelled.spelled.node q.spelled.spelled.node
+    p.spelled.spelled.spelled q.spelled.spelled.spelled) ∙ q.spelled.spelled.stands_for in
+    p.is_stored ∙ ap stored_of same ∙ sym q.is_stored

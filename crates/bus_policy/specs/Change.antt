@@ -1,5 +1,5 @@
 -- Statements that are added to a policy, and that are removed.
-use Rattle.std.specs.Prelude.{ℕ, ◌+◌, Bool, false, ◌||◌, List, [], ◌∷◌, Option, Some, None, codes, if◌then◌else◌, unwrap_or, IsTrue}
+use Rattle.std.specs.Prelude.{ℕ, Bool, false, ◌||◌, List, [], ◌∷◌, Option, Some, None, codes, if◌then◌else◌, unwrap_or, IsTrue}
 use Rattle.json_text.specs.Tree.{Tree, text, object, Items, no_items, item, members_of}
 use Rattle.event_shape.specs.Names.{is_account, bus_arn}
 use Rattle.json_text.specs.Access.{member_of}
@@ -53,7 +53,3 @@ without_statement policy sid =
 abbrev pub some_has_sid : List ℕ → Items → Bool
 some_has_sid sid no_items = false
 some_has_sid sid (item s items) = has_sid sid s || some_has_sid sid items
-
-abbrev pub statement_count : Items → ℕ
-statement_count no_items = 0
-statement_count (item s items) = statement_count items + 1

@@ -7,3 +7,4 @@ pub mod Fault
 pub mod Change
 pub mod Grantee
 pub mod View
+pub mod StatementId

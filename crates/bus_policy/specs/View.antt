@@ -3,8 +3,6 @@ use Rattle.bus_policy.specs.Verdict as spec
 use Rattle.bus_policy.specs.declared.asker.Asker.{Asker}
 use Rattle.bus_policy.specs.declared.verdict.Verdict.{Verdict}
 use Rattle.bus_policy.specs.declared.verdict.Verdict.TheVariants.{Allowed, DeniedBy, NoAllow}
-use Rattle.bus_policy.specs.declared.verdicts.OwnedVerdict.{OwnedVerdict}
-use Rattle.bus_policy.specs.declared.verdicts.OwnedVerdict.TheVariants as owned
 
 abbrev pub asker_of : Asker → spec.Asker
 asker_of a = record { account = a.account.now; bus = a.bus.now; source = a.source.now; detail_type = a.detail_type.now }
@@ -13,8 +11,3 @@ abbrev pub verdict_of : Verdict → spec.Verdict
 verdict_of Allowed = spec.allowed
 verdict_of (DeniedBy name) = spec.denied_by name.now
 verdict_of NoAllow = spec.no_allow
-
-abbrev pub owned_verdict_of : OwnedVerdict → spec.Verdict
-owned_verdict_of owned.Allowed = spec.allowed
-owned_verdict_of (owned.DeniedBy name) = spec.denied_by name
-owned_verdict_of owned.NoAllow = spec.no_allow

@@ -1,6 +1,7 @@
 //! Statements that are added to a policy, and that are removed.
-ghost use Rattle.std.specs.Prelude.{◌≡◌, ◌++◌, ◌∷◌, [], false, IfOk, codes};
-ghost use Rattle.json_text.specs.Tree.{items_of, members_of, text, object};
+ghost use Rattle.std.specs.Prelude.{◌≡◌, ◌≤◌, ◌++◌, ◌∷◌, [], false, length, IfOk, codes};
+ghost use Rattle.json_text.specs.Compact.{compact_text};
+ghost use Rattle.json_text.specs.Tree.{Tree, items_of, members_of, text, object};
 ghost use Rattle.json_text.specs.View.{tree_of, trees_of, pairs_of};
 ghost use Rattle.bus_policy.specs.Change as spec;
 ghost use Rattle.bus_policy.specs.Grantee.{account_given, IsRemoved};
@@ -67,10 +68,11 @@ impl Policy {
         Policy::of(alloc, value)
     }
 
-    /// What is left without the statement of the Sid.
+    /// What is left without the statement of the Sid. Its text is no longer than that of this policy.
     pub fn without_statement(&self, alloc: Global, sid: &str) -> Result<Removed, NoMemory>
         ensures removed { IfOk result (IsRemoved self.now sid.now) }
         ensures not_there { spec.some_has_sid sid.now (statements_seen self.now) ≡ false → result ≡ Ok Removed.NotThere }
+        ensures no_longer { (rest : Tree) → result ≡ Ok (Removed.Rest rest) → length (compact_text rest) ≤ length (compact_text self.now) }
     {
         if !self.has_sid(sid) {
             return Ok(Removed::NotThere);
@@ -89,13 +91,6 @@ impl Policy {
         ensures { result ≡ spec.some_has_sid sid.now (statements_seen self.now) }
     {
         some_has_sid(self.statements(), sid)
-    }
-
-    /// How many statements there are.
-    pub fn statement_count(&self) -> usize
-        ensures { result ≡ spec.statement_count (statements_seen self.now) }
-    {
-        self.statements().len()
     }
 }
 

@@ -15,6 +15,7 @@ mod parts;
 mod policy;
 mod reading;
 mod statement;
+mod statement_id;
 mod storing;
 #[cfg(test)]
 mod tests;
@@ -26,7 +27,8 @@ mod words;
 pub use asker::Asker;
 pub use change::{Grantee, Removed};
 pub use fault::{PolicyCause, PolicyFault};
-pub use laws::one_verdict;
+pub use laws::{one_policy, one_verdict};
 pub use policy::Policy;
+pub use statement_id::is_statement_id;
 pub use verdict::Verdict;
-pub use verdicts::{OwnedVerdict, bus_verdict, text_verdict};
+pub use verdicts::bus_verdict;

@@ -8,7 +8,7 @@ use crate::deciding::verdict;
 use crate::naming::names_of;
 use crate::storing::compact;
 use crate::verdict::Verdict;
-use json_text::{Json, NoMemory, Text, copy};
+use json_text::{Json, NoMemory, Text};
 use std::alloc::Global;
 use std::marker::Model;
 
@@ -57,13 +57,6 @@ impl Policy {
         Ok(Policy { value, names, text })
     }
 
-    /// A copy of the policy, in memory of its own.
-    pub fn copy(&self, alloc: Global) -> Result<Policy, NoMemory>
-        ensures { IfOk result (λ p. p ≡ self.now) }
-    {
-        Policy::of(alloc, copy(alloc, &self.value)?)
-    }
-
     /// Whether the asker may put its event on its bus. Takes no memory.
     pub fn decide<'a>(&'a self, asker: &Asker) -> Verdict<'a>
         ensures { IsVerdict self.now (asker_of asker.now) (verdict_of result) }
@@ -91,13 +84,6 @@ impl Policy {
         ensures stored { IsStored self.now }
     {
         self.text.as_str()
-    }
-
-    /// How many bytes the text has; `read` takes at most 10,240.
-    pub fn text_len(&self) -> usize
-        ensures { result ≡ length (compact_text self.now) }
-    {
-        self.text.as_str().len()
     }
 }
 

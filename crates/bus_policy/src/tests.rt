@@ -2,9 +2,7 @@
 ghost use Rattle.bus_policy.specs.Change.{IsAccountGiven};
 ghost use Rattle.bus_policy.specs.Grantee.{account_given};
 
-use crate::{
-    Asker, Grantee, OwnedVerdict, Policy, PolicyFault, Removed, Verdict, bus_verdict, text_verdict,
-};
+use crate::{Asker, Grantee, Policy, PolicyFault, Removed, Verdict, bus_verdict, is_statement_id};
 use event_shape::is_account;
 use std::alloc::Global;
 use std::test::Fail;
@@ -419,20 +417,17 @@ fn with_rest(alloc: Global, text: &str) -> Result<String, Fail> {
 }
 
 fn answered(alloc: Global, policy: &str, asker: &Asker) -> Result<String, Fail> {
-    match text_verdict(alloc, policy.as_bytes(), asker) {
-        Ok(verdict) => verdict_text(alloc, &verdict),
+    match Policy::read(alloc, policy.as_bytes()) {
+        Ok(policy) => verdict_text(alloc, policy.decide(asker)),
         Err(fault) => fault_text(alloc, &fault),
     }
 }
 
-fn verdict_text(alloc: Global, verdict: &OwnedVerdict) -> Result<String, Fail> {
+fn verdict_text(alloc: Global, verdict: Verdict) -> Result<String, Fail> {
     Ok(match verdict {
-        OwnedVerdict::Allowed => String::from_str(alloc, "allowed")?,
-        OwnedVerdict::DeniedBy(name) => {
-            let name = name.as_str();
-            format!(in alloc; "denied by {name}")?
-        }
-        OwnedVerdict::NoAllow => String::from_str(alloc, "no allow")?,
+        Verdict::Allowed => String::from_str(alloc, "allowed")?,
+        Verdict::DeniedBy(name) => format!(in alloc; "denied by {name}")?,
+        Verdict::NoAllow => String::from_str(alloc, "no allow")?,
     })
 }
 
@@ -595,7 +590,7 @@ fn deep_policy(alloc: Global, levels: usize) -> Result<String, Fail> {
 /// How many bytes a policy's stored text has.
 fn stored_len(alloc: Global, policy: &str) -> Result<usize, Fail> {
     let policy = Policy::read(alloc, policy.as_bytes())?;
-    Ok(policy.text_len())
+    Ok(policy.text().len())
 }
 
 #[test]
@@ -704,17 +699,29 @@ fn a_statement_is_added_at_the_end(rt: HostRuntime) -> Result<(), Fail> {
     Ok(())
 }
 
-/// Two statements without a Sid, of which the second denies, and one with a Sid before and between them.
+/// Two statements without a Sid, of which the second denies, and one with a Sid before and between them; `@` as above.
 const NAMED: &str =
-    r#"{"Version":"2008-10-17","Statement":[{"Sid":"x","Effect":"Allow","Principal":"*","Action":"*","Resource":"*"},{"Effect":"Allow","Principal":"*","Action":"*","Resource":"*"},{"Sid":"y","Effect":"Allow","Principal":"*","Action":"*","Resource":"*"},{"Effect":"Deny","Principal":"*","Action":"*","Resource":"*"}]}"#;
+    r#"{"Version":"2008-10-17","Statement":[{"Sid":"x",@},{@},{"Sid":"y",@},{"Effect":"Deny","Principal":"*","Action":"*","Resource":"*"}]}"#;
 
-/// A policy, a Sid, and what is left without it: how many statements, and who denies a stranger.
+/// A policy, a Sid, and what is left without it: who denies a stranger, and the text.
 const REMOVED: [(&str, &str, &str); 7] = [
-    (NAMED, "x", "3, denied by #3"),
-    (NAMED, "y", "3, denied by #3"),
+    (
+        NAMED,
+        "x",
+        r#"denied by #3 {"Version":"2008-10-17","Statement":[{@},{"Sid":"y",@},{"Effect":"Deny","Principal":"*","Action":"*","Resource":"*"}]}"#,
+    ),
+    (
+        NAMED,
+        "y",
+        r#"denied by #3 {"Version":"2008-10-17","Statement":[{"Sid":"x",@},{@},{"Effect":"Deny","Principal":"*","Action":"*","Resource":"*"}]}"#,
+    ),
     (NAMED, "z", "not there"),
     (NAMED, "#4", "not there"),
-    (BOTH, "b", "1, no deny"),
+    (
+        r#"{"Statement":[{"Sid":"a",@},{"Sid":"b",@}]}"#,
+        "b",
+        r#"no deny {"Version":"2012-10-17","Statement":[{"Sid":"a",@}]}"#,
+    ),
     (ONE, "A", "not there"),
     (ONE, "a", "last"),
 ];
@@ -730,16 +737,18 @@ fn removed(alloc: Global, policy: &str, sid: &str) -> Result<String, Fail> {
 }
 
 fn denial(alloc: Global, policy: &Policy) -> Result<String, Fail> {
-    let count = policy.statement_count();
+    let left = policy.text();
     let text = match policy.decide(&asker([SEVEN, "b", "s", "x"])) {
-        Verdict::DeniedBy(name) => format!(in alloc; "{count}, denied by {name}")?,
-        _ => format!(in alloc; "{count}, no deny")?,
+        Verdict::DeniedBy(name) => format!(in alloc; "denied by {name} {left}")?,
+        _ => format!(in alloc; "no deny {left}")?,
     };
     Ok(text)
 }
 
 fn is_removed(alloc: Global, policy: &str, sid: &str, want: &str) -> Result<bool, Fail> {
-    Ok(removed(alloc, policy, sid)?.as_str() == want)
+    let policy = with_rest(alloc, policy)?;
+    let want = with_rest(alloc, want)?;
+    Ok(removed(alloc, policy.as_str(), sid)?.as_str() == want.as_str())
 }
 
 /// The index of the first row of which something else is left.
@@ -758,10 +767,37 @@ fn names_follow_the_places_after_a_removal(rt: HostRuntime) -> Result<(), Fail> 
     Ok(())
 }
 
+/// A text, and whether it is a statement's id; the last two have 64 and 65 bytes.
+const IDS: [(&str, bool); 10] = [
+    ("a", true),
+    ("A-1_", true),
+    ("-", true),
+    ("", false),
+    ("a.b", false),
+    ("a b", false),
+    ("#1", false),
+    ("é", false),
+    (
+        "abcdefghijklmnopqrstuvwxyzABCDEFGHIJKLMNOPQRSTUVWXYZ0123456789-_",
+        true,
+    ),
+    (
+        "abcdefghijklmnopqrstuvwxyzABCDEFGHIJKLMNOPQRSTUVWXYZ0123456789-_a",
+        false,
+    ),
+];
+
+/// The first text that is an id, or is none, against its row.
+fn other_id() -> Option<&'static str> {
+    for (sid, want) in IDS.iter() {
+        if is_statement_id(sid) != *want {
+            return Some(sid);
+        }
+    }
+    None
+}
+
 #[test]
-fn a_copy_has_the_same_text(rt: HostRuntime) -> Result<(), Fail> {
-    let policy = Policy::read(rt.alloc(), BOTH.as_bytes())?;
-    let copy = policy.copy(rt.alloc())?;
-    assert!(rt; copy.text() == BOTH);
-    Ok(())
+fn ids_have_1_to_64_bytes_of_letters_digits_and_two_signs(rt: HostRuntime) {
+    assert_eq!(rt; other_id(), None);
 }
