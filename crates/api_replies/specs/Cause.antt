@@ -17,10 +17,20 @@ type_of cause.TooLargeTogether = codes "ValidationException"
 type_of (cause.NotFound kind name) = codes "ResourceNotFoundException"
 type_of (cause.Exists kind name) = codes "ResourceAlreadyExistsException"
 type_of (cause.LimitReached kind) = codes "LimitExceededException"
+type_of (cause.InUse kind name) = codes "ValidationException"
+type_of (cause.HasTargets name) = codes "ValidationException"
+type_of cause.DefaultBusStays = codes "ValidationException"
+type_of (cause.NoStatement sid) = codes "ResourceNotFoundException"
+type_of (cause.StatementExists sid) = codes "ResourceAlreadyExistsException"
+type_of cause.OwnerOnly = codes "AccessDeniedException"
+type_of (cause.NotAPolicy why place) = codes "ValidationException"
+type_of cause.PolicyTooLong = codes "PolicyLengthExceededException"
 type_of cause.NumberLimit = codes "LimitExceededException"
 type_of (cause.Parameter member) = codes "InvalidArgument"
 type_of cause.MalformedDetail = codes "MalformedDetail"
 type_of cause.NotAuthorized = codes "NotAuthorizedForSourceException"
+type_of (cause.DeniedBy statement) = codes "AccessDeniedException"
+type_of cause.NotAllowed = codes "AccessDeniedException"
 
 -- the message: `message` of a refusal, `ErrorMessage` of a failed entry or target
 abbrev pub message_of : Cause → List ℕ
@@ -33,10 +43,20 @@ message_of cause.TooLargeTogether = codes "The request is over 262144 bytes."
 message_of (cause.NotFound kind name) = kind_word kind ++ (codes " " ++ (name ++ codes " does not exist."))
 message_of (cause.Exists kind name) = kind_word kind ++ (codes " " ++ (name ++ codes " already exists."))
 message_of (cause.LimitReached kind) = kind_word kind ++ (codes " limit " ++ (decimal (kind_limit kind) ++ codes " reached."))
+message_of (cause.InUse kind name) = kind_word kind ++ (codes " " ++ (name ++ codes " is in use."))
+message_of (cause.HasTargets name) = codes "Rule " ++ (name ++ codes " has targets.")
+message_of cause.DefaultBusStays = codes "The default bus stays."
+message_of (cause.NoStatement sid) = codes "Statement " ++ (sid ++ codes " does not exist.")
+message_of (cause.StatementExists sid) = codes "Statement " ++ (sid ++ codes " already exists.")
+message_of cause.OwnerOnly = codes "Only the owner may call this."
+message_of (cause.NotAPolicy why place) = codes "Policy is not valid. Reason: " ++ (why ++ (codes " at " ++ decimal place))
+message_of cause.PolicyTooLong = codes "Policy is not valid. Reason: TooLong at 0"
 message_of cause.NumberLimit = codes "Number limit 281474976710656 reached."
 message_of (cause.Parameter member) = codes "Parameter " ++ (member_name member ++ codes " is not valid.")
 message_of cause.MalformedDetail = codes "Detail is malformed."
 message_of cause.NotAuthorized = codes "Not authorized for the source."
+message_of (cause.DeniedBy statement) = codes "Denied by statement " ++ (statement ++ codes ".")
+message_of cause.NotAllowed = codes "No statement allows it."
 
 -- the members of a failed entry or target that say why it failed
 abbrev pub failed_members : Cause → List (List ℕ × Tree)

@@ -24,6 +24,22 @@ pub enum Cause {
     NotFound { kind: Kind, name: Text },
     Exists { kind: Kind, name: Text },
     LimitReached(Kind),
+    /// What is to be deleted is still used: an event bus by a rule, a queue by a target.
+    InUse { kind: Kind, name: Text },
+    /// The rule that is to be deleted has targets.
+    HasTargets { name: Text },
+    /// The bus `default` is never deleted.
+    DefaultBusStays,
+    /// The policy of the bus has no statement with this StatementId.
+    NoStatement { sid: Text },
+    /// The policy of the bus has a statement with this StatementId already.
+    StatementExists { sid: Text },
+    /// The caller is not the account that owns the buses.
+    OwnerOnly,
+    /// The fault of a policy, and the place of its statement, counted from 1; 0 if the fault is the whole policy's.
+    NotAPolicy { why: Text, place: u64 },
+    /// The policy has more than 10,240 bytes, as it was given or as it would be stored.
+    PolicyTooLong,
     /// No further entry or delivery can be numbered.
     NumberLimit,
     /// A member of an entry is absent though required, or not valid.
@@ -31,6 +47,10 @@ pub enum Cause {
     MalformedDetail,
     /// The entry's source is one that only AWS may use.
     NotAuthorized,
+    /// The statement of this name denies the entry: its Sid, or `#` and its place.
+    DeniedBy { statement: Text },
+    /// No statement of the bus's policy allows the caller to put the entry.
+    NotAllowed,
 }
 
 impl Cause {
@@ -41,16 +61,26 @@ impl Cause {
         match self {
             Cause::UnknownOperation => "UnknownOperationException",
             Cause::NoObject => "SerializationException",
-            Cause::Required(_) | Cause::NotValid(_) | Cause::TooLargeTogether => {
-                "ValidationException"
-            }
+            Cause::Required(_)
+            | Cause::NotValid(_)
+            | Cause::TooLargeTogether
+            | Cause::InUse { kind: _, name: _ }
+            | Cause::HasTargets { name: _ }
+            | Cause::DefaultBusStays => "ValidationException",
             Cause::NotAPattern { why: _, path: _ } => "InvalidEventPatternException",
             Cause::NotFound { kind: _, name: _ } => "ResourceNotFoundException",
             Cause::Exists { kind: _, name: _ } => "ResourceAlreadyExistsException",
+            Cause::NoStatement { sid: _ } => "ResourceNotFoundException",
+            Cause::StatementExists { sid: _ } => "ResourceAlreadyExistsException",
+            Cause::NotAPolicy { why: _, place: _ } => "ValidationException",
+            Cause::PolicyTooLong => "PolicyLengthExceededException",
             Cause::LimitReached(_) | Cause::NumberLimit => "LimitExceededException",
             Cause::Parameter(_) => "InvalidArgument",
             Cause::MalformedDetail => "MalformedDetail",
             Cause::NotAuthorized => "NotAuthorizedForSourceException",
+            Cause::OwnerOnly | Cause::DeniedBy { statement: _ } | Cause::NotAllowed => {
+                "AccessDeniedException"
+            }
         }
     }
 
@@ -68,10 +98,22 @@ impl Cause {
             Cause::NotFound { kind, name } => not_found_message(alloc, *kind, name.as_str()),
             Cause::Exists { kind, name } => exists_message(alloc, *kind, name.as_str()),
             Cause::LimitReached(kind) => limit_message(alloc, *kind),
+            Cause::InUse { kind, name } => in_use_message(alloc, *kind, name.as_str()),
+            Cause::HasTargets { name } => has_targets_message(alloc, name.as_str()),
+            Cause::DefaultBusStays => Text::from_str(alloc, "The default bus stays."),
+            Cause::NoStatement { sid } => no_statement_message(alloc, sid.as_str()),
+            Cause::StatementExists { sid } => statement_exists_message(alloc, sid.as_str()),
+            Cause::OwnerOnly => Text::from_str(alloc, "Only the owner may call this."),
+            Cause::NotAPolicy { why, place } => policy_message(alloc, why.as_str(), *place),
+            Cause::PolicyTooLong => {
+                Text::from_str(alloc, "Policy is not valid. Reason: TooLong at 0")
+            }
             Cause::NumberLimit => Text::from_str(alloc, "Number limit 281474976710656 reached."),
             Cause::Parameter(member) => parameter_message(alloc, *member),
             Cause::MalformedDetail => Text::from_str(alloc, "Detail is malformed."),
             Cause::NotAuthorized => Text::from_str(alloc, "Not authorized for the source."),
+            Cause::DeniedBy { statement } => denied_message(alloc, statement.as_str()),
+            Cause::NotAllowed => Text::from_str(alloc, "No statement allows it."),
         }
     }
 }
@@ -108,6 +150,43 @@ fn exists_message(alloc: Global, kind: Kind, name: &str) -> Result<Text, NoMemor
 {
     let word = kind.word();
     Ok(Text::from(format!(in alloc; "{word} {name} already exists.")?))
+}
+
+fn in_use_message(alloc: Global, kind: Kind, name: &str) -> Result<Text, NoMemory>
+    ensures { IfOk result (λ t. t ≡ message_of (Cause.InUse kind name.now)) }
+{
+    let word = kind.word();
+    Ok(Text::from(format!(in alloc; "{word} {name} is in use.")?))
+}
+
+fn has_targets_message(alloc: Global, name: &str) -> Result<Text, NoMemory>
+    ensures { IfOk result (λ t. t ≡ message_of (Cause.HasTargets name.now)) }
+{
+    Ok(Text::from(format!(in alloc; "Rule {name} has targets.")?))
+}
+
+fn no_statement_message(alloc: Global, sid: &str) -> Result<Text, NoMemory>
+    ensures { IfOk result (λ t. t ≡ message_of (Cause.NoStatement sid.now)) }
+{
+    Ok(Text::from(format!(in alloc; "Statement {sid} does not exist.")?))
+}
+
+fn statement_exists_message(alloc: Global, sid: &str) -> Result<Text, NoMemory>
+    ensures { IfOk result (λ t. t ≡ message_of (Cause.StatementExists sid.now)) }
+{
+    Ok(Text::from(format!(in alloc; "Statement {sid} already exists.")?))
+}
+
+fn policy_message(alloc: Global, why: &str, place: u64) -> Result<Text, NoMemory>
+    ensures { IfOk result (λ t. t ≡ message_of (Cause.NotAPolicy why.now place)) }
+{
+    Ok(Text::from(format!(in alloc; "Policy is not valid. Reason: {why} at {place}")?))
+}
+
+fn denied_message(alloc: Global, statement: &str) -> Result<Text, NoMemory>
+    ensures { IfOk result (λ t. t ≡ message_of (Cause.DeniedBy statement.now)) }
+{
+    Ok(Text::from(format!(in alloc; "Denied by statement {statement}.")?))
 }
 
 fn limit_message(alloc: Global, kind: Kind) -> Result<Text, NoMemory>

@@ -2,11 +2,15 @@
 ghost use Rattle.std.specs.Prelude.{◌≡◌};
 ghost use Rattle.api_replies.specs.Name.{member_name};
 
-/// A member of a request, of an entry or of a target, which a call reads or refuses.
+/// A member of a request, of an entry or of a target, or a header field, which a call reads or refuses.
 #[derive(Clone, Copy, Debug, PartialEq, Eq)]
 pub enum Member {
+    Action,
     Arn,
     Budget,
+    /// The header field `x-caller-account`.
+    CallerAccount,
+    Condition,
     DeadLetterConfig,
     Detail,
     DetailType,
@@ -15,18 +19,25 @@ pub enum Member {
     EventBusName,
     EventPattern,
     Id,
+    Ids,
     Input,
     InputPath,
     InputTransformer,
     Limit,
     Name,
+    NamePrefix,
+    Policy,
+    Principal,
     QueueName,
+    RemoveAllPermissions,
     Resources,
     RetryPolicy,
     Rule,
     ScheduleExpression,
     Source,
     State,
+    StatementId,
+    TargetArn,
     Targets,
     Time,
 }
@@ -37,8 +48,11 @@ impl Member {
         ensures { result.now ≡ member_name self }
     {
         match self {
+            Member::Action => "Action",
             Member::Arn => "Arn",
             Member::Budget => "Budget",
+            Member::CallerAccount => "x-caller-account",
+            Member::Condition => "Condition",
             Member::DeadLetterConfig => "DeadLetterConfig",
             Member::Detail => "Detail",
             Member::DetailType => "DetailType",
@@ -47,18 +61,25 @@ impl Member {
             Member::EventBusName => "EventBusName",
             Member::EventPattern => "EventPattern",
             Member::Id => "Id",
+            Member::Ids => "Ids",
             Member::Input => "Input",
             Member::InputPath => "InputPath",
             Member::InputTransformer => "InputTransformer",
             Member::Limit => "Limit",
             Member::Name => "Name",
+            Member::NamePrefix => "NamePrefix",
+            Member::Policy => "Policy",
+            Member::Principal => "Principal",
             Member::QueueName => "QueueName",
+            Member::RemoveAllPermissions => "RemoveAllPermissions",
             Member::Resources => "Resources",
             Member::RetryPolicy => "RetryPolicy",
             Member::Rule => "Rule",
             Member::ScheduleExpression => "ScheduleExpression",
             Member::Source => "Source",
             Member::State => "State",
+            Member::StatementId => "StatementId",
+            Member::TargetArn => "TargetArn",
             Member::Targets => "Targets",
             Member::Time => "Time",
         }

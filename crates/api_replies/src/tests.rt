@@ -88,6 +88,109 @@ fn each_refusal_has_its_status_and_its_text(rt: HostRuntime) -> Result<(), Fail>
     Ok(())
 }
 
+/// Whether the refusal for the cause has this type and this message.
+fn is_refused(alloc: Global, cause: &Cause, type_name: &str, message: &str) -> Result<bool, Fail> {
+    let text = cause.message(alloc)?;
+    Ok(cause.type_name() == type_name && text.as_str() == message)
+}
+
+#[test]
+fn each_refused_deletion_has_its_type_and_message(rt: HostRuntime) -> Result<(), Fail> {
+    let alloc = rt.alloc();
+    let bus = Text::from_str(alloc, "orders")?;
+    let rule = Text::from_str(alloc, "r")?;
+    let rows = [
+        (
+            Cause::InUse {
+                kind: Kind::EventBus,
+                name: bus,
+            },
+            "ValidationException",
+            "Event bus orders is in use.",
+        ),
+        (
+            Cause::HasTargets { name: rule },
+            "ValidationException",
+            "Rule r has targets.",
+        ),
+        (
+            Cause::DefaultBusStays,
+            "ValidationException",
+            "The default bus stays.",
+        ),
+    ];
+    for (cause, type_name, message) in rows {
+        assert!(rt; is_refused(alloc, &cause, type_name, message)?, "{cause:?}");
+    }
+    Ok(())
+}
+
+#[test]
+fn each_refused_change_of_a_policy_has_its_type_and_message(rt: HostRuntime) -> Result<(), Fail> {
+    let alloc = rt.alloc();
+    let absent = Text::from_str(alloc, "s")?;
+    let there = Text::from_str(alloc, "s")?;
+    let why = Text::from_str(alloc, "BadEffect")?;
+    let rows = [
+        (
+            Cause::NoStatement { sid: absent },
+            "ResourceNotFoundException",
+            "Statement s does not exist.",
+        ),
+        (
+            Cause::StatementExists { sid: there },
+            "ResourceAlreadyExistsException",
+            "Statement s already exists.",
+        ),
+        (
+            Cause::NotAPolicy { why, place: 2 },
+            "ValidationException",
+            "Policy is not valid. Reason: BadEffect at 2",
+        ),
+        (
+            Cause::PolicyTooLong,
+            "PolicyLengthExceededException",
+            "Policy is not valid. Reason: TooLong at 0",
+        ),
+    ];
+    for (cause, type_name, message) in rows {
+        assert!(rt; is_refused(alloc, &cause, type_name, message)?, "{cause:?}");
+    }
+    Ok(())
+}
+
+#[test]
+fn each_refused_caller_has_its_type_and_message(rt: HostRuntime) -> Result<(), Fail> {
+    let alloc = rt.alloc();
+    let statement = Text::from_str(alloc, "no")?;
+    let rows = [
+        (
+            Cause::OwnerOnly,
+            "AccessDeniedException",
+            "Only the owner may call this.",
+        ),
+        (
+            Cause::DeniedBy { statement },
+            "AccessDeniedException",
+            "Denied by statement no.",
+        ),
+        (
+            Cause::NotAllowed,
+            "AccessDeniedException",
+            "No statement allows it.",
+        ),
+        (
+            Cause::NotValid(Member::CallerAccount),
+            "ValidationException",
+            "Member x-caller-account is not valid.",
+        ),
+    ];
+    for (cause, type_name, message) in rows {
+        assert!(rt; is_refused(alloc, &cause, type_name, message)?, "{cause:?}");
+    }
+    Ok(())
+}
+
 #[test]
 fn each_kind_has_its_limit(rt: HostRuntime) -> Result<(), Fail> {
     let alloc = rt.alloc();
