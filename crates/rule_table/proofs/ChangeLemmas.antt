@@ -1,20 +1,21 @@
 -- When the bus is known: is a change allowed, and what does it make? For the answers of `RuleSet::put_rule` (`found_changed`,
--- `rule_allowed`, `rule_full`) and `put_targets` (`bus_there`, `rule_found`, `rule_missing`,
--- `targets_allowed`, `targets_changed`).
-use Rattle.std.proofs.Common.{◌≡◌, ◌≤◌, ℕ, Bool, true, List, length, Some, None, inl, inr, refl, ap, sym, ◌∙◌, subst}
-use Rattle.std.specs.Prelude.{is_some}
+-- `rule_allowed`, `rule_full`) and of the calls that change one rule (`bus_there`, `rule_found`, `rule_missing`, `no_rule`, `for_rule`,
+-- `rule_changed`, `targets_sorted`), and of `put_policy` (`policy_refused`).
+use Rattle.std.proofs.Common.{◌≡◌, ◌≤◌, ◌⊎◌, ℕ, Bool, true, List, length, Option, Some, None, inl, inr, refl, ap, sym, ◌∙◌, subst}
+use Rattle.std.specs.Prelude.{is_some, All}
 use Rattle.std.proofs.lemmas.Bool.{false_from_ne_true}
 use Rattle.std.proofs.lemmas.Bool.Decides.{leb_tells}
 use Rattle.pattern_meaning.specs.Pattern.{Pattern}
 use Rattle.pattern_read.specs.Text.{IsPatternText}
 use Rattle.api_replies.specs.declared.kind.Kind.TheVariants as kind
+use Rattle.api_replies.specs.declared.member.Member.TheVariants as member
 use Rattle.name_rows.specs.Rows.{AreSorted, named, placed, replacing}
-use Rattle.rule_table.specs.Control.{rule_put, targets_put}
-use Rattle.rule_table.specs.RuleSet.{Rule, Bus, RuleSet, changed, applied, put_targets, rules_in, rule_at, has_bus, AreGoodTargets, ForRule, IsAllowed, IsSound}
-use Rattle.rule_table.specs.Refusal.{IsRuleRefused, rule_limit}
+use Rattle.rule_table.specs.Control.{rule_put}
+use Rattle.rule_table.specs.RuleSet.{Rule, Bus, RuleSet, changed, with_rule_changed, rules_in, rule_at, has_bus, IsNoneOrStored, ForRule, IsAllowed, IsSound}
+use Rattle.rule_table.specs.Refusal.{IsRuleRefused, rule_limit, HasNoRule, no_such_rule, IsPolicyRefused, no_policy}
 use Rattle.rule_table.specs.Room.{HasRoom}
-use Rattle.rule_table.specs.declared.control.Target.{Target}
-use Rattle.rule_table.specs.declared.control.ControlFault.TheVariants.{LimitExceeded}
+use Rattle.rule_table.specs.declared.control.ControlFault.{ControlFault}
+use Rattle.rule_table.specs.declared.control.ControlFault.TheVariants.{ResourceNotFound, LimitExceeded, Validation, NoMemory}
 use Rattle.rule_table.proofs.RowLemmas.{changed_placed, All_named}
 use Rattle.rule_table.proofs.RefusalLemmas.{none_of}
 
@@ -43,7 +44,8 @@ rule_full bus name pattern rules old f p is full =
     rule_limit p is (ap is_some f) (ap (λ o. named (λ r. r.name) name (rules_in o)) f ∙ none)
     (subst (λ o. 300 ≤ length (rules_in o)) (sym f) many)
 
-abbrev IsFoundIn : Bus → List ℕ → Rule → Type 0
+-- the bus has this rule of the name
+abbrev pub IsFoundIn : Bus → List ℕ → Rule → Type 0
 IsFoundIn bus name rule = named (λ r. r.name) name bus.rules ≡ Some rule
 
 pub rule_found : (bus rule : List ℕ) (rules : RuleSet) (old : Bus) (r : Rule) → IsFound rules bus old → IsFoundIn old rule r
@@ -57,21 +59,38 @@ rule_missing bus rule rules old f none = ap (λ o. named (λ r. r.name) rule (ru
 pub bus_there : (bus : List ℕ) (rules : RuleSet) (old : Bus) → IsFound rules bus old → has_bus bus rules ≡ true
 bus_there bus rules old f = ap is_some f
 
-pub targets_allowed : (bus rule : List ℕ) (targets : List Target) (rules : RuleSet) (r : Rule) → rule_at bus rule rules ≡ Some r
-    → 1 ≤ length targets → AreGoodTargets rules targets r.targets → IsAllowed (targets_put bus rule targets) rules
-targets_allowed bus rule targets rules r there some good =
-    subst (λ o. ForRule o (λ r. (1 ≤ length targets) × AreGoodTargets rules targets r.targets)) (sym there) (some, good)
+-- the bus exists, and has no rule of this name
+pub no_rule : (bus rule : List ℕ) (rules : RuleSet) (old : Bus) → IsFound rules bus old → named (λ r. r.name) rule old.rules ≡ None
+    → HasNoRule bus rule rules (ResourceNotFound kind.Rule)
+no_rule bus rule rules old f none = no_such_rule (bus_there bus rules old f) (rule_missing bus rule rules old f none)
 
--- the bus with the targets in place of the rule's own is the bus of the set after the change
-pub targets_changed : (bus rule : List ℕ) (targets : List Target) (rules : RuleSet) (old : Bus) (r : Rule) (put : List Target) (new : Bus)
-    → IsFound rules bus old → IsFoundIn old rule r → IsSound rules → put ≡ put_targets targets r.targets
-    → new ≡ record old { rules = placed (λ r. r.name) replacing (record r { targets = put }) old.rules }
-    → placed (λ b. b.name) replacing new rules.buses ≡ (applied (targets_put bus rule targets) rules).buses
-targets_changed bus rule targets rules old r put new f there k same made =
+-- a fact of the rule that is there
+pub for_rule : (bus rule : List ℕ) (rules : RuleSet) (r : Rule) (fact : Rule → Type 0) → rule_at bus rule rules ≡ Some r → fact r
+    → ForRule (rule_at bus rule rules) fact
+for_rule bus rule rules r fact there is = subst (λ o. ForRule o fact) (sym there) is
+
+-- the bus with the changed rule in place of the old one is the bus of the set after the change
+pub rule_changed : (bus rule : List ℕ) (change : Rule → Rule) (rules : RuleSet) (old : Bus) (r made : Rule) (new : Bus)
+    → ((r : Rule) → (change r).name ≡ r.name) → IsFound rules bus old → IsFoundIn old rule r → IsSound rules → made ≡ change r
+    → new ≡ record old { rules = placed (λ r. r.name) replacing made old.rules }
+    → placed (λ b. b.name) replacing new rules.buses ≡ changed (λ b. b.name) bus (with_rule_changed rule change) rules.buses
+rule_changed bus rule change rules old r made new named_so f there k same is =
     let name_of : Rule → List ℕ = λ r. r.name in
-    let change : Rule → Rule = λ r. record r { targets = put_targets targets r.targets } in
     let sorted = All_named (λ (b : Bus). AreSorted name_of b.rules) (λ b. b.name) bus rules.buses old f k.rule_order in
-    let changed_rules = changed_placed name_of rule change old.rules r (λ r. refl) sorted there in
-    let is = made ∙ ap (λ ts. record old { rules = placed name_of replacing (record r { targets = ts }) old.rules }) same
-    ∙ ap (λ rs. record old { rules = rs }) (sym changed_rules) in
-    found_changed rules bus old (λ b. record b { rules = changed name_of rule change b.rules }) new f k (λ b. refl) is
+    let changed_rules = changed_placed name_of rule change old.rules r named_so sorted there in
+    let after = is ∙ ap (λ m. record old { rules = placed name_of replacing m old.rules }) same ∙ ap (λ rs. record old { rules = rs }) (sym changed_rules) in
+    found_changed rules bus old (with_rule_changed rule change) new f k (λ b. refl) after
+
+-- the targets of a rule are in the order of their ids
+pub targets_sorted : (bus rule : List ℕ) (rules : RuleSet) (old : Bus) (r : Rule) → IsFound rules bus old → IsFoundIn old rule r → IsSound rules
+    → AreSorted (λ target. target.id) r.targets
+targets_sorted bus rule rules old r f there k =
+    let InOrder : Rule → Type 0 = λ r. AreSorted (λ target. target.id) r.targets in
+    All_named InOrder (λ r. r.name) rule old.rules r there (All_named (λ (b : Bus). All InOrder b.rules) (λ b. b.name) bus rules.buses old f k.target_order)
+
+-- what a policy's own refusal is to the call
+pub policy_refused : (bus : List ℕ) (policy : Option (List ℕ)) (rules : RuleSet) (fault : ControlFault)
+    → (fault ≡ NoMemory) ⊎ ((fault ≡ Validation member.Policy) × (¬ IsNoneOrStored policy))
+    → (fault ≡ NoMemory) ⊎ IsPolicyRefused bus policy rules fault
+policy_refused bus policy rules fault (inl out) = inl out
+policy_refused bus policy rules fault (inr (is, n)) = inr (subst (IsPolicyRefused bus policy rules) (sym is) (no_policy n))

@@ -3,3 +3,5 @@ pub mod RefusalLemmas
 pub mod SortedLemmas
 pub mod ChangeLemmas
 pub mod LawLemmas
+pub mod LossLemmas
+pub mod FormLemmas

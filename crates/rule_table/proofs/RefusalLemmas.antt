@@ -9,19 +9,25 @@ use Rattle.std.specs.Str.{bytes_eq}
 use Rattle.std.proofs.lemmas.Bool.{false≢true}
 use Rattle.std.proofs.lemmas.Bool.Decides.{leb_tells}
 use Rattle.std.proofs.lemmas.Slice.Eq.{bytes_eq-Decides}
-use Rattle.event_shape.specs.Names.{is_name_byte, is_queue_byte, IsNameOf, IsShortName, IsQueueName, IsQueueArn, queue_arn}
+use Rattle.event_shape.specs.Names.{default_bus, is_name_byte, is_queue_byte, IsNameOf, IsShortName, IsQueueName, IsQueueArn, queue_arn}
 use Rattle.name_rows.specs.Rows.{named, replacing}
 use Rattle.name_rows.proofs.RowLemmas.{by_test, All_placed}
 use Rattle.rule_table.specs.declared.control.Target.{Target}
 use Rattle.rule_table.specs.declared.control.TargetFault.{TargetFault}
 use Rattle.rule_table.specs.declared.control.TargetFault.TheVariants as target_fault
 use Rattle.rule_table.specs.declared.control.ControlFault.{ControlFault}
-use Rattle.rule_table.specs.Control.{Control, rule_put, targets_put, queue_created}
-use Rattle.rule_table.specs.RuleSet.{RuleSet, put_target, put_targets, rules_in, rule_at, has_bus, has_queue, IsQueueThere}
-use Rattle.rule_table.specs.RuleSet.{IsGoodTarget, AreGoodTargets, ForRule, IsAllowed}
+use Rattle.rule_table.specs.Control.{Control, bus_created, bus_deleted, rule_put, rule_deleted, state_put, targets_put, targets_removed, policy_put}
+use Rattle.rule_table.specs.Control.{queue_created}
+use Rattle.rule_table.specs.RuleSet.{Rule, RuleSet, put_target, put_targets, rules_in, rule_at, has_bus, has_queue, IsQueueThere}
+use Rattle.rule_table.specs.RuleSet.{IsGoodTarget, AreGoodTargets, AreRemovable, ForRule, IsAllowed}
 use Rattle.rule_table.specs.Refusal.{HasTargetFault, bad_id, bad_arn, unsupported, no_queue, sixth, HasFaultyTarget}
 use Rattle.rule_table.specs.Refusal.{IsRuleRefused, no_pattern, rule_without_bus, rule_limit}
 use Rattle.rule_table.specs.Refusal.{AreTargetsRefused, targets_without_bus, targets_without_rule, faulty_targets}
+use Rattle.rule_table.specs.Refusal.{IsBusRefused, bus_exists, bus_limit}
+use Rattle.rule_table.specs.Refusal.{IsBusDeletionRefused, default_stays, no_bus_to_delete, bus_in_use}
+use Rattle.rule_table.specs.Refusal.{HasNoRule, no_such_bus, no_such_rule, IsRuleDeletionRefused, no_rule_to_delete, rule_has_targets}
+use Rattle.rule_table.specs.Refusal.{AreRemovalsRefused, no_rule_to_remove_from, faulty_ids}
+use Rattle.rule_table.specs.Refusal.{IsPolicyRefused, no_policy, policy_without_bus}
 use Rattle.rule_table.specs.Refusal.{IsQueueRefused, queue_exists, queue_limit, IsRefused}
 
 -- ---- what can be decided
@@ -78,7 +84,7 @@ queue_decided set targets target id queue arn none =
     (λ there. room_decided set targets target id (queue, arn, there) none)
     (λ absent. inr (target_fault.NoQueue, no_queue id queue arn none absent))
 
-by_option : {A G : Type 0} (o : Option A) → (o ≡ None → G) → ((a : A) → o ≡ Some a → G) → G
+pub by_option : {A G : Type 0} (o : Option A) → (o ≡ None → G) → ((a : A) → o ≡ Some a → G) → G
 by_option None none some = none refl
 by_option (Some a) none some = some a refl
 
@@ -209,9 +215,68 @@ one_of_queue name set a b (queue_exists there) (queue_limit absent full) = absur
 one_of_queue name set a b (queue_limit absent full) (queue_exists there) = absurd (true_and_false (has_queue name set) there absent)
 one_of_queue name set a b (queue_limit absent full) (queue_limit none many) = refl
 
+one_of_bus : (name : List ℕ) (set : RuleSet) (a b : ControlFault) → IsBusRefused name set a → IsBusRefused name set b → a ≡ b
+one_of_bus name set a b (bus_exists there) (bus_exists also) = refl
+one_of_bus name set a b (bus_exists there) (bus_limit absent full) = absurd (true_and_false (has_bus name set) there absent)
+one_of_bus name set a b (bus_limit absent full) (bus_exists there) = absurd (true_and_false (has_bus name set) there absent)
+one_of_bus name set a b (bus_limit absent full) (bus_limit none many) = refl
+
+one_of_bus_deletion : (name : List ℕ) (set : RuleSet) (a b : ControlFault) → IsBusDeletionRefused name set a → IsBusDeletionRefused name set b → a ≡ b
+one_of_bus_deletion name set a b (default_stays is) (default_stays so) = refl
+one_of_bus_deletion name set a b (default_stays is) (no_bus_to_delete other absent) = absurd (true_and_false (bytes_eq name default_bus) is other)
+one_of_bus_deletion name set a b (default_stays is) (bus_in_use other there some) = absurd (true_and_false (bytes_eq name default_bus) is other)
+one_of_bus_deletion name set a b (no_bus_to_delete other absent) (default_stays is) = absurd (true_and_false (bytes_eq name default_bus) is other)
+one_of_bus_deletion name set a b (no_bus_to_delete other absent) (no_bus_to_delete so gone) = refl
+one_of_bus_deletion name set a b (no_bus_to_delete other absent) (bus_in_use so there some) = absurd (true_and_false (has_bus name set) there absent)
+one_of_bus_deletion name set a b (bus_in_use other there some) (default_stays is) = absurd (true_and_false (bytes_eq name default_bus) is other)
+one_of_bus_deletion name set a b (bus_in_use other there some) (no_bus_to_delete so absent) = absurd (true_and_false (has_bus name set) there absent)
+one_of_bus_deletion name set a b (bus_in_use other there some) (bus_in_use so also more) = refl
+
+-- the rule is missing, whichever the reason
+no_rule_there : (bus name : List ℕ) (set : RuleSet) (fault : ControlFault) → HasNoRule bus name set fault → rule_at bus name set ≡ None
+no_rule_there bus name set f (no_such_bus absent) = no_rule_at bus name set absent
+no_rule_there bus name set f (no_such_rule there none) = none
+
+one_of_no_rule : (bus name : List ℕ) (set : RuleSet) (a b : ControlFault) → HasNoRule bus name set a → HasNoRule bus name set b → a ≡ b
+one_of_no_rule bus name set a b (no_such_bus absent) (no_such_bus gone) = refl
+one_of_no_rule bus name set a b (no_such_bus absent) (no_such_rule there none) = absurd (true_and_false (has_bus bus set) there absent)
+one_of_no_rule bus name set a b (no_such_rule there none) (no_such_bus absent) = absurd (true_and_false (has_bus bus set) there absent)
+one_of_no_rule bus name set a b (no_such_rule there none) (no_such_rule also so) = refl
+
+one_of_deletion : (bus name : List ℕ) (set : RuleSet) (a b : ControlFault) → IsRuleDeletionRefused bus name set a
+    → IsRuleDeletionRefused bus name set b → a ≡ b
+one_of_deletion bus name set a b (no_rule_to_delete f p) (no_rule_to_delete g q) = one_of_no_rule bus name set f g p q
+one_of_deletion bus name set a b (no_rule_to_delete f p) (rule_has_targets r is some) =
+    absurd (not_both (rule_at bus name set) r is (no_rule_there bus name set f p))
+one_of_deletion bus name set a b (rule_has_targets r is some) (no_rule_to_delete g q) =
+    absurd (not_both (rule_at bus name set) r is (no_rule_there bus name set g q))
+one_of_deletion bus name set a b (rule_has_targets r is some) (rule_has_targets s so more) = refl
+
+one_of_removals : (bus rule : List ℕ) (ids : List (List ℕ)) (set : RuleSet) (a b : ControlFault) → AreRemovalsRefused bus rule ids set a
+    → AreRemovalsRefused bus rule ids set b → a ≡ b
+one_of_removals bus rule ids set a b (no_rule_to_remove_from f p) (no_rule_to_remove_from g q) = one_of_no_rule bus rule set f g p q
+one_of_removals bus rule ids set a b (no_rule_to_remove_from f p) (faulty_ids r is h) =
+    absurd (not_both (rule_at bus rule set) r is (no_rule_there bus rule set f p))
+one_of_removals bus rule ids set a b (faulty_ids r is h) (no_rule_to_remove_from g q) =
+    absurd (not_both (rule_at bus rule set) r is (no_rule_there bus rule set g q))
+one_of_removals bus rule ids set a b (faulty_ids r is h) (faulty_ids s so k) = refl
+
+one_of_policy : (bus : List ℕ) (policy : Option (List ℕ)) (set : RuleSet) (a b : ControlFault) → IsPolicyRefused bus policy set a
+    → IsPolicyRefused bus policy set b → a ≡ b
+one_of_policy bus policy set a b (no_policy n) (no_policy m) = refl
+one_of_policy bus policy set a b (no_policy n) (policy_without_bus is absent) = absurd (n is)
+one_of_policy bus policy set a b (policy_without_bus is absent) (no_policy n) = absurd (n is)
+one_of_policy bus policy set a b (policy_without_bus is absent) (policy_without_bus so gone) = refl
+
 pub one_refusal : (control : Control) (set : RuleSet) (a b : ControlFault) → IsRefused control set a → IsRefused control set b → a ≡ b
+one_refusal (bus_created name) set a b p q = one_of_bus name set a b p q
+one_refusal (bus_deleted name) set a b p q = one_of_bus_deletion name set a b p q
 one_refusal (rule_put bus name pattern enabled) set a b p q = one_of_rule bus name pattern set a b p q
+one_refusal (rule_deleted bus name) set a b p q = one_of_deletion bus name set a b p q
+one_refusal (state_put bus name enabled) set a b p q = one_of_no_rule bus name set a b p q
 one_refusal (targets_put bus rule targets) set a b p q = one_of_targets bus rule targets set a b p q
+one_refusal (targets_removed bus rule ids) set a b p q = one_of_removals bus rule ids set a b p q
+one_refusal (policy_put bus policy) set a b p q = one_of_policy bus policy set a b p q
 one_refusal (queue_created name) set a b p q = one_of_queue name set a b p q
 
 rule_not_allowed : (bus name pattern : List ℕ) (enabled : Bool) (set : RuleSet) (fault : ControlFault) → IsRuleRefused bus name pattern set fault
@@ -238,7 +303,51 @@ queue_not_allowed : (name : List ℕ) (set : RuleSet) (fault : ControlFault) →
 queue_not_allowed name set f (queue_exists there) (absent, few) = true_and_false (has_queue name set) there absent
 queue_not_allowed name set f (queue_limit absent full) (none, few) = omega (arith, full, few)
 
+bus_not_allowed : (name : List ℕ) (set : RuleSet) (fault : ControlFault) → IsBusRefused name set fault → ¬ IsAllowed (bus_created name) set
+bus_not_allowed name set f (bus_exists there) (absent, few) = true_and_false (has_bus name set) there absent
+bus_not_allowed name set f (bus_limit absent full) (none, few) = omega (arith, full, few)
+
+bus_deletion_not_allowed : (name : List ℕ) (set : RuleSet) (fault : ControlFault) → IsBusDeletionRefused name set fault
+    → ¬ IsAllowed (bus_deleted name) set
+bus_deletion_not_allowed name set f (default_stays is) (other, there, none) = true_and_false (bytes_eq name default_bus) is other
+bus_deletion_not_allowed name set f (no_bus_to_delete so absent) (other, there, none) = true_and_false (has_bus name set) there absent
+bus_deletion_not_allowed name set f (bus_in_use so also some) (other, there, none) = some none
+
+-- a fact of a rule does not hold if there is no rule
+never_without_rule : (bus name : List ℕ) (set : RuleSet) (fault : ControlFault) (fact : Rule → Type 0) → HasNoRule bus name set fault
+    → ¬ ForRule (rule_at bus name set) fact
+never_without_rule bus name set f fact p allowed = subst (λ o. ForRule o fact) (no_rule_there bus name set f p) allowed
+
+deletion_not_allowed : (bus name : List ℕ) (set : RuleSet) (fault : ControlFault) → IsRuleDeletionRefused bus name set fault
+    → ¬ IsAllowed (rule_deleted bus name) set
+deletion_not_allowed bus name set f (no_rule_to_delete g p) allowed = never_without_rule bus name set g (λ r. r.targets ≡ []) p allowed
+deletion_not_allowed bus name set f (rule_has_targets r is some) allowed = some (subst (λ o. ForRule o (λ r. r.targets ≡ [])) is allowed)
+
+abbrev HasThem : List (List ℕ) → Rule → Type 0
+HasThem ids r = (1 ≤ length ids) × AreRemovable ids r.targets
+
+removal_not_allowed : (bus rule : List ℕ) (ids : List (List ℕ)) (set : RuleSet) (fault : ControlFault) → AreRemovalsRefused bus rule ids set fault
+    → ¬ IsAllowed (targets_removed bus rule ids) set
+removal_not_allowed bus rule ids set f (no_rule_to_remove_from g p) allowed = never_without_rule bus rule set g (HasThem ids) p allowed
+removal_not_allowed bus rule ids set f (faulty_ids r is h) allowed =
+    let good : HasThem ids r = subst (λ o. ForRule o (HasThem ids)) is allowed in
+    elim h [
+      | inl none ↦ omega (arith, good.0, ap length none)
+      | inr faulty ↦ faulty good.1
+    ]
+
+policy_not_allowed : (bus : List ℕ) (policy : Option (List ℕ)) (set : RuleSet) (fault : ControlFault) → IsPolicyRefused bus policy set fault
+    → ¬ IsAllowed (policy_put bus policy) set
+policy_not_allowed bus policy set f (no_policy n) (is, there) = n is
+policy_not_allowed bus policy set f (policy_without_bus is absent) (so, there) = true_and_false (has_bus bus set) there absent
+
 pub refused_not_allowed : (control : Control) (set : RuleSet) (fault : ControlFault) → IsRefused control set fault → ¬ IsAllowed control set
+refused_not_allowed (bus_created name) set f p = bus_not_allowed name set f p
+refused_not_allowed (bus_deleted name) set f p = bus_deletion_not_allowed name set f p
 refused_not_allowed (rule_put bus name pattern enabled) set f p = rule_not_allowed bus name pattern enabled set f p
+refused_not_allowed (rule_deleted bus name) set f p = deletion_not_allowed bus name set f p
+refused_not_allowed (state_put bus name enabled) set f p = never_without_rule bus name set f (λ r. Unit {0}) p
 refused_not_allowed (targets_put bus rule targets) set f p = targets_not_allowed bus rule targets set f p
+refused_not_allowed (targets_removed bus rule ids) set f p = removal_not_allowed bus rule ids set f p
+refused_not_allowed (policy_put bus policy) set f p = policy_not_allowed bus policy set f p
 refused_not_allowed (queue_created name) set f p = queue_not_allowed name set f p

@@ -1,10 +1,12 @@
 -- Rows of which one is put or changed: `changed` and a `placed` that joins are a `placed` that replaces (`changed_placed`,
 -- `joined_placed`, `joined_new`); a row put into a `Vec` (`put_here`,
--- `put_before`) and the number of rows then (`length_here`, `length_before`); the place of a name (`here_at`, `before_at`).
-use Rattle.std.proofs.Common.{◌≡◌, ℕ, true, false, List, [], ◌∷◌, ◌++◌, length, Some, None, refl, sym, ap, ◌∙◌, subst, take}
-use Rattle.std.proofs.Common.{drop, suc, ◌<◌, ◌+◌, arith, get_or, length-append}
+-- `put_before`) and the number of rows then (`length_here`, `length_before`); the place of a name (`here_at`, `before_at`). Rows without a
+-- name (`All_without`, `length_without`, `removed_here`), and a row of another name than the one that is put, changed or taken away
+-- (`named_put`, `named_changed`, `named_without`), or of any name after a change (`after_changed`).
+use Rattle.std.proofs.Common.{◌≡◌, ℕ, true, false, List, [], ◌∷◌, ◌++◌, length, Option, Some, None, refl, sym, ap, ◌∙◌, subst, take}
+use Rattle.std.proofs.Common.{drop, suc, ◌<◌, ◌≤◌, ◌+◌, ◌-◌, arith, get_or, length-append}
 use Rattle.std.specs.Prelude.{All}
-use Rattle.std.specs.List.{insert}
+use Rattle.std.specs.List.{insert, remove}
 use Rattle.std.specs.Cmp.Lexicographic.{slice_cmp}
 use Rattle.std.specs.Ordering.{nat_cmp}
 use Rattle.std.specs.Str.{bytes_eq}
@@ -13,12 +15,13 @@ use Rattle.std.proofs.Math.ListN.{set}
 use Rattle.std.proofs.Math.Seq.{set-append_seam, drop-cons}
 use Rattle.std.proofs.lemmas.Cmp.{nat_list_cmp_total, tied_itself}
 use Rattle.std.proofs.lemmas.List.{take_at, drop_at, take-append-drop, length-take}
-use Rattle.std.proofs.lemmas.List.Elements.{All-head, All-tail}
+use Rattle.std.proofs.lemmas.List.Elements.{All-head, All-tail, All-cons}
+use Rattle.std.proofs.lemmas.List.Edits.{remove-append_right}
 use Rattle.std.proofs.lemmas.Slice.Eq.{bytes_eq-Decides}
-use Rattle.name_rows.specs.Rows.{named, placed, replacing, AreSorted}
+use Rattle.name_rows.specs.Rows.{named, placed, replacing, without, AreSorted}
 use Rattle.name_rows.specs.Place.{IsHere, IsBefore}
 use Rattle.name_rows.proofs.NameOrder.{same_name, Greater_from_Less, Less_from_Greater, bytes_eq_itself, bytes_eq_Less}
-use Rattle.name_rows.proofs.RowLemmas.{Other, by_cmp, by_test, named_none, none_greater, others_after, placed_here, placed_before}
+use Rattle.name_rows.proofs.RowLemmas.{Other, by_cmp, by_test, named_none, none_greater, others_after, placed_here, placed_before, without_here}
 use Rattle.rule_table.specs.RuleSet.{changed}
 
 pub changed_none : {A : Type 0} (f : A → List ℕ) (name : List ℕ) (change : A → A) (rows : List A) → All (Other f name) rows → changed f name change rows ≡ rows
@@ -145,3 +148,104 @@ here_at f name rows at row within is smaller equal = record {
   smaller = smaller;
   same = equal;
 }
+
+pub bytes_same : (a b : List ℕ) → bytes_eq a b ≡ true → a ≡ b
+bytes_same a b = (bytes_eq-Decides a b).0
+
+pub bytes_apart : (a b : List ℕ) → ¬ (a ≡ b) → bytes_eq a b ≡ false
+bytes_apart a b apart = by_test (bytes_eq a b) (λ e. absurd (apart (bytes_same a b e))) (λ e. e)
+
+-- ---- rows without a name
+
+pub All_without : {A : Type 0} (P : A → Type 0) (f : A → List ℕ) (name : List ℕ) (rows : List A) → All P rows → All P (without f name rows)
+All_without P f name [] all = all
+All_without P f name (row ∷ rows) all =
+    let rest = All_without P f name rows (All-tail P row rows all) in
+    by_test (bytes_eq (f row) name)
+    (λ e. rw e rest)
+    (λ e. rw e (All-cons P row (without f name rows) (All-head P row rows all) rest))
+
+pub length_without : {A : Type 0} (f : A → List ℕ) (name : List ℕ) (rows : List A) → length (without f name rows) ≤ length rows
+length_without f name [] = omega arith
+length_without f name (row ∷ rows) =
+    let rest = length_without f name rows in
+    by_test (bytes_eq (f row) name)
+    (λ e. rw e (omega (arith, rest)))
+    (λ e. rw e (omega (arith, rest)))
+
+-- ---- a row of another name
+
+pub named_without : {A : Type 0} (f : A → List ℕ) (name other : List ℕ) (rows : List A) → ¬ (name ≡ other)
+    → named f other (without f name rows) ≡ named f other rows
+named_without f name other [] apart = refl
+named_without f name other (row ∷ rows) apart =
+    let rest = named_without f name other rows apart in
+    by_test (bytes_eq (f row) name)
+    (λ e. by_test (bytes_eq (f row) other)
+    (λ o. absurd (apart (sym (bytes_same (f row) name e) ∙ bytes_same (f row) other o)))
+    (λ o. rw (e, o) rest))
+    (λ e. by_test (bytes_eq (f row) other) (λ o. rw (e, o) refl) (λ o. rw (e, o) rest))
+
+pub named_changed : {A : Type 0} (f : A → List ℕ) (name other : List ℕ) (change : A → A) (rows : List A) → ((row : A) → f (change row) ≡ f row)
+    → ¬ (name ≡ other) → named f other (changed f name change rows) ≡ named f other rows
+named_changed f name other change [] c apart = refl
+named_changed f name other change (row ∷ rows) c apart =
+    let rest = named_changed f name other change rows c apart in
+    by_test (bytes_eq (f row) name)
+    (λ e. by_test (bytes_eq (f row) other)
+    (λ o. absurd (apart (sym (bytes_same (f row) name e) ∙ bytes_same (f row) other o)))
+    (λ o. rw (e, c row, o) rest))
+    (λ e. by_test (bytes_eq (f row) other) (λ o. rw (e, o) refl) (λ o. rw (e, o) rest))
+
+pub named_put : {A : Type 0} (f : A → List ℕ) (joined : A → A → A) (new : A) (other : List ℕ) (rows : List A)
+    → ((old : A) → f (joined old new) ≡ f new) → ¬ (f new ≡ other) → named f other (placed f joined new rows) ≡ named f other rows
+named_put f joined new other [] j apart = named_other f other new [] (bytes_apart (f new) other apart)
+named_put f joined new other (old ∷ rest) j apart =
+    let is_other = bytes_apart (f new) other apart in
+    by_cmp (slice_cmp nat_cmp (f new) (f old))
+    (λ e. rw e (named_other f other new (old ∷ rest) is_other))
+    (λ e. let alike : bytes_eq (f old) other ≡ false = ap (λ n. bytes_eq n other) (sym (same_name (f new) (f old) e)) ∙ is_other in
+    let joins : bytes_eq (f (joined old new)) other ≡ false = ap (λ n. bytes_eq n other) (j old) ∙ is_other in
+    rw e (named_other f other (joined old new) rest joins ∙ sym (named_other f other old rest alike)))
+    (λ e. rw e (by_test (bytes_eq (f old) other)
+    (λ o. named_same f other old (placed f joined new rest) o ∙ sym (named_same f other old rest o))
+    (λ o. named_other f other old (placed f joined new rest) o ∙ named_put f joined new other rest j apart ∙ sym (named_other f other old rest o))))
+
+-- ---- the row of the name
+
+pub named_put_same : {A : Type 0} (f : A → List ℕ) (new : A) (rows : List A) → named f (f new) (placed f replacing new rows) ≡ Some new
+named_put_same f new [] = named_same f (f new) new [] (bytes_eq_itself (f new))
+named_put_same f new (old ∷ rest) =
+    by_cmp (slice_cmp nat_cmp (f new) (f old))
+    (λ e. rw e (named_same f (f new) new (old ∷ rest) (bytes_eq_itself (f new))))
+    (λ e. rw e (named_same f (f new) new rest (bytes_eq_itself (f new))))
+    (λ e. let other = bytes_eq_Less (f old) (f new) (Less_from_Greater (f new) (f old) e) in
+    rw e (named_other f (f new) old (placed f replacing new rest) other ∙ named_put_same f new rest))
+
+-- a fact of the row of a name after a change of the row of a name
+pub after_changed : {A : Type 0} (f : A → List ℕ) (name other : List ℕ) (change : A → A) (rows : List A) → ((row : A) → f (change row) ≡ f row)
+    → (P : Option A → Type 0) → P (named f other rows) → ((row : A) → name ≡ other → named f other rows ≡ Some row → P (Some (change row)))
+    → P (named f other (changed f name change rows))
+after_changed f name other change [] c P p t = p
+after_changed f name other change (row ∷ rows) c P p t =
+    by_test (bytes_eq (f row) name)
+    (λ e. by_test (bytes_eq (f row) other)
+    (λ o. rw (e, c row, o) (t row (sym (bytes_same (f row) name e) ∙ bytes_same (f row) other o) (named_same f other row rows o)))
+    (λ o. rw (e, c row, o) (after_changed f name other change rows c P (subst P (named_other f other row rows o) p)
+    (λ r same is. t r same (named_other f other row rows o ∙ is)))))
+    (λ e. by_test (bytes_eq (f row) other)
+    (λ o. rw (e, o) (subst P (named_same f other row rows o) p))
+    (λ o. rw (e, o) (after_changed f name other change rows c P (subst P (named_other f other row rows o) p)
+    (λ r same is. t r same (named_other f other row rows o ∙ is)))))
+
+-- ---- a row that is removed at its place
+
+pub here_within : {A : Type 0} (f : A → List ℕ) (name : List ℕ) (rows : List A) (at : ℕ) → IsHere f name rows at → at < length rows
+here_within f name rows at h = omega (arith, ap length h.parts ∙ length-append h.front (h.old ∷ h.back), h.at)
+
+pub removed_here : {A : Type 0} (f : A → List ℕ) (name : List ℕ) (rows : List A) (at : ℕ) → AreSorted f rows → IsHere f name rows at
+    → remove rows at ≡ without f name rows
+removed_here f name rows at o h =
+    let none : at - at ≡ 0 = omega arith in
+    ap (λ rs. remove rs at) h.parts ∙ remove-append_right h.front (h.old ∷ h.back) at at h.at (omega arith)
+    ∙ ap (λ n. h.front ++ remove (h.old ∷ h.back) n) none ∙ sym (without_here f name rows at o h)

@@ -1,5 +1,5 @@
 -- An allowed change leads from a sound rule set to a sound one: `sound_applied`.
-use Rattle.std.proofs.Common.{◌≡◌, ℕ, ◌+◌, ◌<◌, ◌≤◌, ◌⊎◌, true, false, Bool, List, [], ◌∷◌, length, Some, refl, sym, ap, ◌∙◌}
+use Rattle.std.proofs.Common.{◌≡◌, ℕ, ◌+◌, ◌<◌, ◌≤◌, ◌⊎◌, true, false, Bool, List, [], ◌∷◌, length, Option, Some, None, refl, sym, ap, ◌∙◌}
 use Rattle.std.proofs.Common.{subst, arith, inl, inr, is_some, suc}
 use Rattle.std.specs.Prelude.{All}
 use Rattle.std.specs.Cmp.Lexicographic.{slice_cmp}
@@ -9,15 +9,16 @@ use Rattle.std.specs.declared.cmp.Ordering.TheVariants.{Less}
 use Rattle.std.proofs.lemmas.Bool.{false≢true}
 use Rattle.std.proofs.lemmas.List.{length-map}
 use Rattle.std.proofs.lemmas.List.Elements.{All-head, All-tail, All-cons, All-nil, All-weaker}
-use Rattle.std.proofs.lemmas.Slice.Eq.{bytes_eq-Decides}
-use Rattle.name_rows.specs.Rows.{named, placed, replacing, AreSorted}
+use Rattle.name_rows.specs.Rows.{named, placed, replacing, without, AreSorted}
 use Rattle.name_rows.proofs.NameOrder.{Less_from_Greater, same_name, bytes_eq_Less}
-use Rattle.name_rows.proofs.RowLemmas.{by_cmp, by_test, named_none, none_greater, others_after, All_placed, sorted_placed}
-use Rattle.rule_table.specs.RuleSet.{Rule, Bus, RuleSet, changed, keeping_targets, put_rule, put_target}
-use Rattle.rule_table.specs.RuleSet.{put_targets, rules_in, rules_of, rule_at, applied, IsQueueThere, AreGoodTargets, ForRule, IsAllowed, IsSound}
-use Rattle.rule_table.specs.Control.{Control, rule_put, targets_put, queue_created}
+use Rattle.name_rows.proofs.RowLemmas.{by_cmp, by_test, named_none, none_greater, others_after, All_placed, sorted_placed, sorted_without}
+use Rattle.rule_table.specs.RuleSet.{Rule, Bus, RuleSet, changed, keeping_targets, put_bus, without_bus, put_rule, without_rule, put_target}
+use Rattle.rule_table.specs.RuleSet.{put_targets, without_targets, with_rule_changed, rules_in, rules_of, rule_at, applied, IsQueueThere}
+use Rattle.rule_table.specs.RuleSet.{AreGoodTargets, IsNoneOrStored, ForRule, IsAllowed, IsSound}
+use Rattle.rule_table.specs.Control.{Control, bus_created, bus_deleted, rule_put, rule_deleted, state_put, targets_put, targets_removed, policy_put}
+use Rattle.rule_table.specs.Control.{queue_created}
 use Rattle.rule_table.specs.declared.control.Target.{Target}
-use Rattle.rule_table.proofs.RowLemmas.{changed_none, named_same, named_other, All_named}
+use Rattle.rule_table.proofs.RowLemmas.{changed_none, named_same, named_other, All_named, bytes_same, All_without, length_without}
 use Rattle.rule_table.proofs.RefusalLemmas.{good_few, good_there}
 
 changed_same : {A : Type 0} (f : A → List ℕ) (name : List ℕ) (change : A → A) (row : A) (rows : List A) → bytes_eq (f row) name ≡ true
@@ -37,9 +38,6 @@ All_changed P Q f name change (row ∷ rows) same c all =
     by_test (bytes_eq (f row) name)
     (λ e. subst (All Q) (sym (changed_same f name change row rows e)) (All-cons Q (change row) (changed f name change rows) (c row first) others))
     (λ e. subst (All Q) (sym (changed_other f name change row rows e)) (All-cons Q row (changed f name change rows) (same row first) others))
-
-bytes_same : (a b : List ℕ) → bytes_eq a b ≡ true → a ≡ b
-bytes_same a b = (bytes_eq-Decides a b).0
 
 -- if the rows are sorted, only the row of the name changes
 All_changed_named : {A : Type 0} (P : A → Type 0) (f : A → List ℕ) (name : List ℕ) (change : A → A) (rows : List A)
@@ -88,7 +86,7 @@ length_placed_same f joined new (old ∷ rest) o h =
     rw e (ap suc (length_placed_same f joined new rest o.1 still)))
 
 -- a name that has a row still has one
-named_placed : {A : Type 0} (f : A → List ℕ) (joined : A → A → A) (new : A) (name : List ℕ) (rows : List A)
+pub named_placed : {A : Type 0} (f : A → List ℕ) (joined : A → A → A) (new : A) (name : List ℕ) (rows : List A)
     → ((old : A) → f (joined old new) ≡ f new) → is_some (named f name rows) ≡ true → is_some (named f name (placed f joined new rows)) ≡ true
 named_placed f joined new name [] j h = cc
 named_placed f joined new name (old ∷ rest) j h =
@@ -117,6 +115,21 @@ sorted_put_targets [] targets o = o
 sorted_put_targets (new ∷ news) targets o =
     sorted_put_targets news (put_target new targets) (sorted_placed (λ target. target.id) replacing new targets (λ old. refl) o)
 
+sorted_without_targets : (ids : List (List ℕ)) (targets : List Target) → AreSorted (λ target. target.id) targets
+    → AreSorted (λ target. target.id) (without_targets ids targets)
+sorted_without_targets [] targets o = o
+sorted_without_targets (id ∷ ids) targets o = sorted_without_targets ids (without (λ target. target.id) id targets) (sorted_without (λ target. target.id) id targets o)
+
+All_without_targets : (P : Target → Type 0) (ids : List (List ℕ)) (targets : List Target) → All P targets → All P (without_targets ids targets)
+All_without_targets P [] targets all = all
+All_without_targets P (id ∷ ids) targets all = All_without_targets P ids (without (λ target. target.id) id targets) (All_without P (λ target. target.id) id targets all)
+
+length_without_targets : (ids : List (List ℕ)) (targets : List Target) → length (without_targets ids targets) ≤ length targets
+length_without_targets [] targets = omega arith
+length_without_targets (id ∷ ids) targets =
+    let rest = length_without_targets ids (without (λ target. target.id) id targets) in
+    omega (arith, rest, length_without (λ target. target.id) id targets)
+
 abbrev AreTargets : RuleSet → Rule → Type 0
 AreTargets set rule = (length rule.targets ≤ 5) × All (λ target. IsQueueThere set target.arn) rule.targets
 
@@ -135,17 +148,20 @@ sound_rule bus name pattern enabled set a k =
     let IsInOrder : Bus → Type 0 = λ b. AreSorted rule_name b.rules in
     let IsShort : Bus → Type 0 = λ b. length b.rules ≤ 300 in
     let HaveTargets : Bus → Type 0 = λ b. All (AreTargets set) b.rules in
+    let HasPolicy : Bus → Type 0 = λ b. IsNoneOrStored b.policy in
     let short : (b : Bus) → named bus_name bus set.buses ≡ Some b → IsShort b → length (put_rule new b.rules) ≤ 300 =
     λ b is small.
     let there : rules_of bus set ≡ b.rules = ap rules_in is in
     let sorted = All_named IsInOrder bus_name bus set.buses b is k.rule_order in
     short_put new b.rules sorted small (subst (λ rs. (is_some (named rule_name name rs) ≡ true) ⊎ (length rs < 300)) there a.2) in
     record {
+      buses = rw length-map k.buses;
       rules = All_changed_named IsShort bus_name bus change set.buses k.bus_order short k.rules;
       targets = All_changed HaveTargets HaveTargets bus_name bus change set.buses (λ b h. h)
           (λ b h. All_placed (AreTargets set) rule_name keeping_targets new b.rules
           (omega arith, All-nil (λ target. IsQueueThere set target.arn)) (λ old p. p) h) k.targets;
       queues = k.queues;
+      policies = All_changed HasPolicy HasPolicy bus_name bus change set.buses (λ b h. h) (λ b h. h) k.policies;
       bus_order = sorted_changed bus_name bus change set.buses (λ b. refl) k.bus_order;
       rule_order = All_changed IsInOrder IsInOrder bus_name bus change set.buses (λ b h. h)
           (λ b h. sorted_placed rule_name keeping_targets new b.rules (λ old. refl) h) k.rule_order;
@@ -154,35 +170,134 @@ sound_rule bus name pattern enabled set a k =
       queue_order = k.queue_order;
     }
 
-sound_targets : (bus rule : List ℕ) (targets : List Target) (set : RuleSet) → IsAllowed (targets_put bus rule targets) set → IsSound set
-    → IsSound (applied (targets_put bus rule targets) set)
-sound_targets bus rule targets set a k =
-    let put : Rule → Rule = λ r. record r { targets = put_targets targets r.targets } in
+-- a rule of a bus is changed, and keeps its name and the order of its targets
+sound_rule_changed : (bus rule : List ℕ) (change : Rule → Rule) (set : RuleSet) → ((r : Rule) → (change r).name ≡ r.name)
+    → ((r : Rule) → rule_at bus rule set ≡ Some r → AreTargets set r → AreTargets set (change r)) → ((r : Rule) → RuleInOrder r → RuleInOrder (change r))
+    → IsSound set → IsSound (record set { buses = changed (λ b. b.name) bus (with_rule_changed rule change) set.buses; count = set.count + 1 })
+sound_rule_changed bus rule change set named_so good ordered k =
     let bus_name : Bus → List ℕ = λ b. b.name in
     let rule_name : Rule → List ℕ = λ r. r.name in
-    let change : Bus → Bus = λ b. record b { rules = changed rule_name rule put b.rules } in
+    let with_rule : Bus → Bus = with_rule_changed rule change in
     let IsInOrder : Bus → Type 0 = λ b. AreSorted rule_name b.rules in
     let IsShort : Bus → Type 0 = λ b. length b.rules ≤ 300 in
     let HaveTargets : Bus → Type 0 = λ b. All (AreTargets set) b.rules in
-    let Fact : Rule → Type 0 = λ r. (1 ≤ length targets) × AreGoodTargets set targets r.targets in
-    let have : (b : Bus) → named bus_name bus set.buses ≡ Some b → HaveTargets b → All (AreTargets set) (changed rule_name rule put b.rules) =
+    let HasPolicy : Bus → Type 0 = λ b. IsNoneOrStored b.policy in
+    let have : (b : Bus) → named bus_name bus set.buses ≡ Some b → HaveTargets b → All (AreTargets set) (changed rule_name rule change b.rules) =
     λ b is h.
     let sorted = All_named IsInOrder bus_name bus set.buses b is k.rule_order in
-    All_changed_named (AreTargets set) rule_name rule put b.rules sorted
-    (λ r at p.
-    let there : rule_at bus rule set ≡ Some r = ap (λ o. named rule_name rule (rules_in o)) is ∙ at in
-    let fact = subst (λ o. ForRule o Fact) there a in
-    (good_few set targets r.targets fact.1 p.0, good_there set targets r.targets fact.1 p.1)) h in
+    All_changed_named (AreTargets set) rule_name rule change b.rules sorted
+    (λ r at p. good r (ap (λ o. named rule_name rule (rules_in o)) is ∙ at) p) h in
     record {
-      rules = All_changed IsShort IsShort bus_name bus change set.buses (λ b h. h) (λ b h. rw length-map h) k.rules;
-      targets = All_changed_named HaveTargets bus_name bus change set.buses k.bus_order have k.targets;
+      buses = rw length-map k.buses;
+      rules = All_changed IsShort IsShort bus_name bus with_rule set.buses (λ b h. h) (λ b h. rw length-map h) k.rules;
+      targets = All_changed_named HaveTargets bus_name bus with_rule set.buses k.bus_order have k.targets;
       queues = k.queues;
+      policies = All_changed HasPolicy HasPolicy bus_name bus with_rule set.buses (λ b h. h) (λ b h. h) k.policies;
+      bus_order = sorted_changed bus_name bus with_rule set.buses (λ b. refl) k.bus_order;
+      rule_order = All_changed IsInOrder IsInOrder bus_name bus with_rule set.buses (λ b h. h)
+          (λ b h. sorted_changed rule_name rule change b.rules named_so h) k.rule_order;
+      target_order = All_changed InOrder InOrder bus_name bus with_rule set.buses (λ b h. h)
+          (λ b h. All_changed RuleInOrder RuleInOrder rule_name rule change b.rules (λ r o. o) (λ r o. ordered r o) h) k.target_order;
+      queue_order = k.queue_order;
+    }
+
+sound_targets : (bus rule : List ℕ) (targets : List Target) (set : RuleSet) → IsAllowed (targets_put bus rule targets) set → IsSound set
+    → IsSound (applied (targets_put bus rule targets) set)
+sound_targets bus rule targets set a k =
+    let Fact : Rule → Type 0 = λ r. (1 ≤ length targets) × AreGoodTargets set targets r.targets in
+    sound_rule_changed bus rule (λ r. record r { targets = put_targets targets r.targets }) set (λ r. refl)
+    (λ r there p. let fact = subst (λ o. ForRule o Fact) there a in
+    (good_few set targets r.targets fact.1 p.0, good_there set targets r.targets fact.1 p.1))
+    (λ r o. sorted_put_targets targets r.targets o) k
+
+sound_removal : (bus rule : List ℕ) (ids : List (List ℕ)) (set : RuleSet) → IsSound set → IsSound (applied (targets_removed bus rule ids) set)
+sound_removal bus rule ids set k =
+    sound_rule_changed bus rule (λ r. record r { targets = without_targets ids r.targets }) set (λ r. refl)
+    (λ r there p. (
+      omega (arith, length_without_targets ids r.targets, p.0),
+      All_without_targets (λ target. IsQueueThere set target.arn) ids r.targets p.1,
+    ))
+    (λ r o. sorted_without_targets ids r.targets o) k
+
+sound_state : (bus name : List ℕ) (enabled : Bool) (set : RuleSet) → IsSound set → IsSound (applied (state_put bus name enabled) set)
+sound_state bus name enabled set k =
+    sound_rule_changed bus name (λ r. record r { enabled = enabled }) set (λ r. refl) (λ r there p. p) (λ r o. o) k
+
+sound_deletion : (bus name : List ℕ) (set : RuleSet) → IsSound set → IsSound (applied (rule_deleted bus name) set)
+sound_deletion bus name set k =
+    let bus_name : Bus → List ℕ = λ b. b.name in
+    let rule_name : Rule → List ℕ = λ r. r.name in
+    let change : Bus → Bus = λ b. record b { rules = without_rule name b.rules } in
+    let IsInOrder : Bus → Type 0 = λ b. AreSorted rule_name b.rules in
+    let IsShort : Bus → Type 0 = λ b. length b.rules ≤ 300 in
+    let HaveTargets : Bus → Type 0 = λ b. All (AreTargets set) b.rules in
+    let HasPolicy : Bus → Type 0 = λ b. IsNoneOrStored b.policy in
+    record {
+      buses = rw length-map k.buses;
+      rules = All_changed IsShort IsShort bus_name bus change set.buses (λ b h. h) (λ b h. omega (arith, length_without rule_name name b.rules, h)) k.rules;
+      targets = All_changed HaveTargets HaveTargets bus_name bus change set.buses (λ b h. h)
+          (λ b h. All_without (AreTargets set) rule_name name b.rules h) k.targets;
+      queues = k.queues;
+      policies = All_changed HasPolicy HasPolicy bus_name bus change set.buses (λ b h. h) (λ b h. h) k.policies;
       bus_order = sorted_changed bus_name bus change set.buses (λ b. refl) k.bus_order;
-      rule_order = All_changed IsInOrder IsInOrder bus_name bus change set.buses (λ b h. h)
-          (λ b h. sorted_changed rule_name rule put b.rules (λ r. refl) h) k.rule_order;
+      rule_order = All_changed IsInOrder IsInOrder bus_name bus change set.buses (λ b h. h) (λ b h. sorted_without rule_name name b.rules h) k.rule_order;
       target_order = All_changed InOrder InOrder bus_name bus change set.buses (λ b h. h)
-          (λ b h. All_changed RuleInOrder RuleInOrder rule_name rule put b.rules (λ r o. o) (λ r o. sorted_put_targets targets r.targets o) h)
-          k.target_order;
+          (λ b h. All_without RuleInOrder rule_name name b.rules h) k.target_order;
+      queue_order = k.queue_order;
+    }
+
+sound_policy : (bus : List ℕ) (policy : Option (List ℕ)) (set : RuleSet) → IsAllowed (policy_put bus policy) set → IsSound set
+    → IsSound (applied (policy_put bus policy) set)
+sound_policy bus policy set a k =
+    let bus_name : Bus → List ℕ = λ b. b.name in
+    let change : Bus → Bus = λ b. record b { policy = policy } in
+    let IsInOrder : Bus → Type 0 = λ b. AreSorted (λ rule. rule.name) b.rules in
+    let IsShort : Bus → Type 0 = λ b. length b.rules ≤ 300 in
+    let HaveTargets : Bus → Type 0 = λ b. All (AreTargets set) b.rules in
+    let HasPolicy : Bus → Type 0 = λ b. IsNoneOrStored b.policy in
+    record {
+      buses = rw length-map k.buses;
+      rules = All_changed IsShort IsShort bus_name bus change set.buses (λ b h. h) (λ b h. h) k.rules;
+      targets = All_changed HaveTargets HaveTargets bus_name bus change set.buses (λ b h. h) (λ b h. h) k.targets;
+      queues = k.queues;
+      policies = All_changed HasPolicy HasPolicy bus_name bus change set.buses (λ b h. h) (λ b h. a.0) k.policies;
+      bus_order = sorted_changed bus_name bus change set.buses (λ b. refl) k.bus_order;
+      rule_order = All_changed IsInOrder IsInOrder bus_name bus change set.buses (λ b h. h) (λ b h. h) k.rule_order;
+      target_order = All_changed InOrder InOrder bus_name bus change set.buses (λ b h. h) (λ b h. h) k.target_order;
+      queue_order = k.queue_order;
+    }
+
+sound_creation : (name : List ℕ) (set : RuleSet) → IsAllowed (bus_created name) set → IsSound set → IsSound (applied (bus_created name) set)
+sound_creation name set a k =
+    let bus_name : Bus → List ℕ = λ b. b.name in
+    let new : Bus = record { name = name; policy = None; rules = [] } in
+    let put : (P : Bus → Type 0) → P new → All P set.buses → All P (put_bus name set.buses) =
+    λ P p all. All_placed P bus_name replacing new set.buses p (λ old q. p) all in
+    record {
+      buses = omega (arith, length_placed bus_name replacing new set.buses, a.1);
+      rules = put (λ b. length b.rules ≤ 300) (omega arith) k.rules;
+      targets = put (λ b. All (AreTargets set) b.rules) (All-nil (AreTargets set)) k.targets;
+      queues = k.queues;
+      policies = put (λ b. IsNoneOrStored b.policy) tt k.policies;
+      bus_order = sorted_placed bus_name replacing new set.buses (λ old. refl) k.bus_order;
+      rule_order = put (λ b. AreSorted (λ rule. rule.name) b.rules) tt k.rule_order;
+      target_order = put InOrder (All-nil RuleInOrder) k.target_order;
+      queue_order = k.queue_order;
+    }
+
+sound_bus_deletion : (name : List ℕ) (set : RuleSet) → IsSound set → IsSound (applied (bus_deleted name) set)
+sound_bus_deletion name set k =
+    let bus_name : Bus → List ℕ = λ b. b.name in
+    let rest : (P : Bus → Type 0) → All P set.buses → All P (without_bus name set.buses) = λ P all. All_without P bus_name name set.buses all in
+    record {
+      buses = omega (arith, length_without bus_name name set.buses, k.buses);
+      rules = rest (λ b. length b.rules ≤ 300) k.rules;
+      targets = rest (λ b. All (AreTargets set) b.rules) k.targets;
+      queues = k.queues;
+      policies = rest (λ b. IsNoneOrStored b.policy) k.policies;
+      bus_order = sorted_without bus_name name set.buses k.bus_order;
+      rule_order = rest (λ b. AreSorted (λ rule. rule.name) b.rules) k.rule_order;
+      target_order = rest InOrder k.target_order;
       queue_order = k.queue_order;
     }
 
@@ -195,10 +310,12 @@ sound_queue name set a k =
     let targets : (rule : Rule) → AreTargets set rule → AreTargets next rule =
     λ rule h. (h.0, All-weaker (λ target. IsQueueThere set target.arn) (λ target. IsQueueThere next target.arn) stays rule.targets h.1) in
     record {
+      buses = k.buses;
       rules = k.rules;
       targets = All-weaker (λ b. All (AreTargets set) b.rules) (λ b. All (AreTargets next) b.rules)
           (λ b h. All-weaker (AreTargets set) (AreTargets next) targets b.rules h) set.buses k.targets;
       queues = omega (arith, length_placed itself replacing name set.queues, a.1);
+      policies = k.policies;
       bus_order = k.bus_order;
       rule_order = k.rule_order;
       target_order = k.target_order;
@@ -206,6 +323,12 @@ sound_queue name set a k =
     }
 
 pub sound_applied : (control : Control) (set : RuleSet) → IsAllowed control set → IsSound set → IsSound (applied control set)
+sound_applied (bus_created name) set a k = sound_creation name set a k
+sound_applied (bus_deleted name) set a k = sound_bus_deletion name set k
 sound_applied (rule_put bus name pattern enabled) set a k = sound_rule bus name pattern enabled set a k
+sound_applied (rule_deleted bus name) set a k = sound_deletion bus name set k
+sound_applied (state_put bus name enabled) set a k = sound_state bus name enabled set k
 sound_applied (targets_put bus rule targets) set a k = sound_targets bus rule targets set a k
+sound_applied (targets_removed bus rule ids) set a k = sound_removal bus rule ids set k
+sound_applied (policy_put bus policy) set a k = sound_policy bus policy set a k
 sound_applied (queue_created name) set a k = sound_queue name set a k

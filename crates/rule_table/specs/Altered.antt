@@ -1,12 +1,19 @@
--- What a change may alter: the bus that it names, and what matching reads of a rule set.
-use Rattle.std.specs.Prelude.{ℕ, Bool, List, Option, Some, None, map}
-use Rattle.rule_table.specs.Control.{Control, rule_put, targets_put, queue_created}
-use Rattle.rule_table.specs.RuleSet.{Rule, RuleSet}
+-- What a change may alter: the bus that it names, what matching reads of a rule set, and the rules and targets that are there.
+use Rattle.std.specs.Prelude.{ℕ, Bool, List, Option, Some, None, map, is_some}
+use Rattle.name_rows.specs.Rows.{named}
+use Rattle.rule_table.specs.Control.{Control, bus_created, bus_deleted, rule_put, rule_deleted, state_put, targets_put, targets_removed, policy_put, queue_created}
+use Rattle.rule_table.specs.RuleSet.{Rule, RuleSet, rule_at, targets_in}
 
 -- the bus that the change names, if any
 abbrev pub changed_bus : Control → Option (List ℕ)
+changed_bus (bus_created name) = Some name
+changed_bus (bus_deleted name) = Some name
+changed_bus (rule_deleted bus name) = Some bus
+changed_bus (state_put bus name enabled) = Some bus
+changed_bus (targets_removed bus rule ids) = Some bus
 changed_bus (rule_put bus name pattern enabled) = Some bus
 changed_bus (targets_put bus rule targets) = Some bus
+changed_bus (policy_put bus policy) = Some bus
 changed_bus (queue_created name) = None
 
 -- a rule's name, its pattern's text, and whether it is enabled
@@ -16,3 +23,11 @@ matching_of_rule rule = (rule.name, rule.pattern, rule.enabled)
 -- each bus with what matching reads of its rules
 abbrev pub matching_of : RuleSet → List (List ℕ × List (List ℕ × List ℕ × Bool))
 matching_of set = map (λ bus. (bus.name, map matching_of_rule bus.rules)) set.buses
+
+-- the bus has a rule of this name
+abbrev pub has_rule : List ℕ → List ℕ → RuleSet → Bool
+has_rule bus name set = is_some (rule_at bus name set)
+
+-- the rule of this name on the bus has a target of this id
+abbrev pub has_target : List ℕ → List ℕ → List ℕ → RuleSet → Bool
+has_target bus rule id set = is_some (named (λ target. target.id) id (targets_in (rule_at bus rule set)))

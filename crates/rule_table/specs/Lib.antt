@@ -4,3 +4,4 @@ pub mod Refusal
 pub mod View
 pub mod Altered
 pub mod Room
+pub mod WellFormed

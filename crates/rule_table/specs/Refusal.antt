@@ -1,6 +1,7 @@
 -- Why a target or a change is refused: its first fault, in the order in which the call reports them.
-use Rattle.std.specs.Prelude.{◌≡◌, ◌<◌, ◌≤◌, ◌⊎◌, ℕ, true, false, List, [], ◌∷◌, length, Some, None}
-use Rattle.event_shape.specs.Names.{IsShortName, IsQueueArn}
+use Rattle.std.specs.Prelude.{◌≡◌, ◌<◌, ◌≤◌, ◌⊎◌, ℕ, true, false, List, [], ◌∷◌, length, Option, Some, None}
+use Rattle.std.specs.Str.{bytes_eq}
+use Rattle.event_shape.specs.Names.{default_bus, IsShortName, IsQueueArn}
 use Rattle.pattern_meaning.specs.Pattern.{Pattern}
 use Rattle.pattern_read.specs.Text.{IsPatternText}
 use Rattle.api_replies.specs.declared.kind.Kind.TheVariants as kind
@@ -10,9 +11,9 @@ use Rattle.rule_table.specs.declared.control.Target.{Target}
 use Rattle.rule_table.specs.declared.control.TargetFault.{TargetFault}
 use Rattle.rule_table.specs.declared.control.TargetFault.TheVariants as target_fault
 use Rattle.rule_table.specs.declared.control.ControlFault.{ControlFault}
-use Rattle.rule_table.specs.declared.control.ControlFault.TheVariants.{ResourceNotFound, AlreadyExists, LimitExceeded, Validation}
-use Rattle.rule_table.specs.Control.{Control, rule_put, targets_put, queue_created}
-use Rattle.rule_table.specs.RuleSet.{Rule, RuleSet, put_target, has_bus, has_queue, rule_at, rules_of, IsQueueThere}
+use Rattle.rule_table.specs.declared.control.ControlFault.TheVariants.{ResourceNotFound, AlreadyExists, LimitExceeded, Validation, InUse, HasTargets, DefaultBus}
+use Rattle.rule_table.specs.Control.{Control, bus_created, bus_deleted, rule_put, rule_deleted, state_put, targets_put, targets_removed, policy_put, queue_created}
+use Rattle.rule_table.specs.RuleSet.{Rule, RuleSet, put_target, has_bus, has_queue, rule_at, rules_of, IsQueueThere, AreRemovable, IsNoneOrStored}
 
 -- the first fault of a target that is put to a rule which has these targets
 pub data HasTargetFault (set : RuleSet) (targets : List Target) (target : Target) : TargetFault → Type 0 where
@@ -57,8 +58,46 @@ pub data IsQueueRefused (name : List ℕ) (set : RuleSet) : ControlFault → Typ
   queue_exists : has_queue name set ≡ true → IsQueueRefused name set (AlreadyExists kind.Queue)
   queue_limit : has_queue name set ≡ false → 1000 ≤ length set.queues → IsQueueRefused name set (LimitExceeded kind.Queue)
 
+-- the first refusal of a bus that is created (CreateEventBus)
+pub data IsBusRefused (name : List ℕ) (set : RuleSet) : ControlFault → Type 0 where
+  bus_exists : has_bus name set ≡ true → IsBusRefused name set (AlreadyExists kind.EventBus)
+  bus_limit : has_bus name set ≡ false → 100 ≤ length set.buses → IsBusRefused name set (LimitExceeded kind.EventBus)
+
+-- the first refusal of a bus that is deleted (DeleteEventBus)
+pub data IsBusDeletionRefused (name : List ℕ) (set : RuleSet) : ControlFault → Type 0 where
+  default_stays : bytes_eq name default_bus ≡ true → IsBusDeletionRefused name set DefaultBus
+  no_bus_to_delete : bytes_eq name default_bus ≡ false → has_bus name set ≡ false → IsBusDeletionRefused name set (ResourceNotFound kind.EventBus)
+  bus_in_use : bytes_eq name default_bus ≡ false → has_bus name set ≡ true → ¬ (rules_of name set ≡ []) → IsBusDeletionRefused name set (InUse kind.EventBus)
+
+-- no rule: its bus does not exist, or has no rule of this name
+pub data HasNoRule (bus name : List ℕ) (set : RuleSet) : ControlFault → Type 0 where
+  no_such_bus : has_bus bus set ≡ false → HasNoRule bus name set (ResourceNotFound kind.EventBus)
+  no_such_rule : has_bus bus set ≡ true → rule_at bus name set ≡ None → HasNoRule bus name set (ResourceNotFound kind.Rule)
+
+-- the first refusal of a rule that is deleted (DeleteRule)
+pub data IsRuleDeletionRefused (bus name : List ℕ) (set : RuleSet) : ControlFault → Type 0 where
+  no_rule_to_delete : (fault : ControlFault) → HasNoRule bus name set fault → IsRuleDeletionRefused bus name set fault
+  rule_has_targets : (r : Rule) → rule_at bus name set ≡ Some r → ¬ (r.targets ≡ []) → IsRuleDeletionRefused bus name set HasTargets
+
+-- the first refusal of targets that are removed (RemoveTargets)
+pub data AreRemovalsRefused (bus rule : List ℕ) (ids : List (List ℕ)) (set : RuleSet) : ControlFault → Type 0 where
+  no_rule_to_remove_from : (fault : ControlFault) → HasNoRule bus rule set fault → AreRemovalsRefused bus rule ids set fault
+  faulty_ids : (r : Rule) → rule_at bus rule set ≡ Some r → (ids ≡ []) ⊎ (¬ AreRemovable ids r.targets)
+      → AreRemovalsRefused bus rule ids set (Validation member.Ids)
+
+-- the first refusal of a policy that is put or taken away (PutPermission, RemovePermission)
+pub data IsPolicyRefused (bus : List ℕ) (policy : Option (List ℕ)) (set : RuleSet) : ControlFault → Type 0 where
+  no_policy : ¬ IsNoneOrStored policy → IsPolicyRefused bus policy set (Validation member.Policy)
+  policy_without_bus : IsNoneOrStored policy → has_bus bus set ≡ false → IsPolicyRefused bus policy set (ResourceNotFound kind.EventBus)
+
 -- the first refusal of a change
 abbrev pub IsRefused : Control → RuleSet → ControlFault → Type 0
+IsRefused (bus_created name) set fault = IsBusRefused name set fault
+IsRefused (bus_deleted name) set fault = IsBusDeletionRefused name set fault
+IsRefused (rule_deleted bus name) set fault = IsRuleDeletionRefused bus name set fault
+IsRefused (state_put bus name enabled) set fault = HasNoRule bus name set fault
+IsRefused (targets_removed bus rule ids) set fault = AreRemovalsRefused bus rule ids set fault
+IsRefused (policy_put bus policy) set fault = IsPolicyRefused bus policy set fault
 IsRefused (rule_put bus name pattern enabled) set fault = IsRuleRefused bus name pattern set fault
 IsRefused (targets_put bus rule targets) set fault = AreTargetsRefused bus rule targets set fault
 IsRefused (queue_created name) set fault = IsQueueRefused name set fault

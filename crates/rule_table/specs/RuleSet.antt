@@ -3,11 +3,14 @@
 use Rattle.std.specs.Prelude.{◌≡◌, ℕ, ◌+◌, ◌<◌, ◌≤◌, ◌⊎◌, Bool, true, false, if◌then◌else◌, List, [], ◌∷◌, length, map, Option, Some, None, All, is_some}
 use Rattle.std.specs.Str.{bytes_eq}
 use Rattle.event_shape.specs.Names.{default_bus, IsShortName, IsQueueArn}
-use Rattle.name_rows.specs.Rows.{AreSorted, named, placed, replacing}
+use Rattle.name_rows.specs.Rows.{AreSorted, named, placed, replacing, without}
 use Rattle.pattern_meaning.specs.Pattern.{Pattern}
 use Rattle.pattern_read.specs.Text.{IsPatternText}
+use Rattle.json_text.specs.Tree.{Tree}
+use Rattle.json_text.specs.Compact.{compact_text}
+use Rattle.bus_policy.specs.Text.{IsPolicyText}
 use Rattle.rule_table.specs.declared.control.Target.{Target}
-use Rattle.rule_table.specs.Control.{Control, rule_put, targets_put, queue_created}
+use Rattle.rule_table.specs.Control.{Control, bus_created, bus_deleted, rule_put, rule_deleted, state_put, targets_put, targets_removed, policy_put, queue_created}
 
 -- a rule: its name, its pattern's text, whether it is enabled, and its targets in the byte order of their ids
 pub record Rule : Type 0 where
@@ -16,9 +19,10 @@ pub record Rule : Type 0 where
   pub enabled : Bool
   pub targets : List Target
 
--- a bus, with its rules in the byte order of their names
+-- a bus: its name, its policy's text if it has a policy, and its rules in the byte order of their names
 pub record Bus : Type 0 where
   pub name : List ℕ
+  pub policy : Option (List ℕ)
   pub rules : List Rule
 
 -- buses and queues in the byte order of their names
@@ -29,7 +33,7 @@ pub record RuleSet : Type 0 where
 
 -- the bus `default` alone
 abbrev pub first_set : RuleSet
-first_set = record { buses = record { name = default_bus; rules = [] } ∷ []; queues = []; count = 0 }
+first_set = record { buses = record { name = default_bus; policy = None; rules = [] } ∷ []; queues = []; count = 0 }
 
 -- the rows, with each row of the name changed
 abbrev pub changed : {A : Type 0} → (A → List ℕ) → List ℕ → (A → A) → List A → List A
@@ -51,6 +55,23 @@ put_target = placed (λ target. target.id) replacing
 abbrev pub put_targets : List Target → List Target → List Target
 put_targets [] targets = targets
 put_targets (new ∷ news) targets = put_targets news (put_target new targets)
+
+-- the targets without those of these ids
+abbrev pub without_targets : List (List ℕ) → List Target → List Target
+without_targets [] targets = targets
+without_targets (id ∷ ids) targets = without_targets ids (without (λ target. target.id) id targets)
+
+-- the buses with one more, which has no policy and no rule
+abbrev pub put_bus : List ℕ → List Bus → List Bus
+put_bus name = placed (λ bus. bus.name) replacing (record { name = name; policy = None; rules = [] })
+
+-- the buses without the one of this name
+abbrev pub without_bus : List ℕ → List Bus → List Bus
+without_bus = without (λ bus. bus.name)
+
+-- the rules without the one of this name
+abbrev pub without_rule : List ℕ → List Rule → List Rule
+without_rule = without (λ rule. rule.name)
 
 -- the queues with one more
 abbrev pub put_queue : List ℕ → List (List ℕ) → List (List ℕ)
@@ -82,8 +103,30 @@ has_bus bus set = is_some (named (λ b. b.name) bus set.buses)
 abbrev pub has_queue : List ℕ → RuleSet → Bool
 has_queue name set = is_some (named (λ queue. queue) name set.queues)
 
+-- the bus with a change of its rule of this name
+abbrev pub with_rule_changed : List ℕ → (Rule → Rule) → Bus → Bus
+with_rule_changed rule change b = record b { rules = changed (λ r. r.name) rule change b.rules }
+
 -- the rule set after a change
 abbrev pub applied : Control → RuleSet → RuleSet
+applied (bus_created name) set = record set { buses = put_bus name set.buses; count = set.count + 1 }
+applied (bus_deleted name) set = record set { buses = without_bus name set.buses; count = set.count + 1 }
+applied (rule_deleted bus name) set = record set {
+  buses = changed (λ b. b.name) bus (λ b. record b { rules = without_rule name b.rules }) set.buses;
+  count = set.count + 1;
+}
+applied (state_put bus name enabled) set = record set {
+  buses = changed (λ b. b.name) bus (with_rule_changed name (λ r. record r { enabled = enabled })) set.buses;
+  count = set.count + 1;
+}
+applied (targets_removed bus rule ids) set = record set {
+  buses = changed (λ b. b.name) bus (with_rule_changed rule (λ r. record r { targets = without_targets ids r.targets })) set.buses;
+  count = set.count + 1;
+}
+applied (policy_put bus policy) set = record set {
+  buses = changed (λ b. b.name) bus (λ b. record b { policy = policy }) set.buses;
+  count = set.count + 1;
+}
 applied (rule_put bus name pattern enabled) set = record set {
   buses = changed (λ b. b.name) bus (λ b. record b
       { rules = put_rule (record { name = name; pattern = pattern; enabled = enabled; targets = [] }) b.rules }) set.buses;
@@ -113,15 +156,38 @@ abbrev pub AreGoodTargets : RuleSet → List Target → List Target → Type 0
 AreGoodTargets set [] targets = Unit {0}
 AreGoodTargets set (new ∷ news) targets = IsGoodTarget set targets new × AreGoodTargets set news (put_target new targets)
 
+-- the text is that of a policy as it is stored: read again, the policy has this text
+abbrev pub IsStoredPolicy : List ℕ → Type 0
+IsStoredPolicy t = (policy : Tree) × IsPolicyText t policy × (t ≡ compact_text policy)
+
+-- there is no policy, or its text is that of a policy as it is stored
+abbrev pub IsNoneOrStored : Option (List ℕ) → Type 0
+IsNoneOrStored None = Unit {0}
+IsNoneOrStored (Some t) = IsStoredPolicy t
+
 -- there is a rule, and the fact holds of it
 abbrev pub ForRule : Option Rule → (Rule → Type 0) → Type 0
 ForRule None fact = ⊥
 ForRule (Some rule) fact = fact rule
 
--- The change is allowed. A rule: its text is a pattern, its bus exists, and the bus has the rule already or has fewer than 300.
--- Targets: their rule exists, there is at least one, and each is accepted after those before it. A queue: no queue has its name,
--- and there are fewer than 1,000.
+-- each of the ids is that of a target, and none comes twice
+abbrev pub AreRemovable : List (List ℕ) → List Target → Type 0
+AreRemovable [] targets = Unit {0}
+AreRemovable (id ∷ ids) targets =
+    (is_some (named (λ target. target.id) id targets) ≡ true) × AreRemovable ids (without (λ target. target.id) id targets)
+
+-- The change is allowed. A bus that is created: no bus has its name, and there are fewer than 100. One that is deleted: it exists, is not
+-- `default`, and has no rule. A rule that is deleted: it exists and has no target. A state: its rule exists. Targets that are removed: their
+-- rule exists, there is at least one, and each is there, once. A policy: its text is as it is stored, and its bus exists. A rule: its text is
+-- a pattern, its bus exists, and the bus has the rule already or has fewer than 300. Targets: their rule exists, there is at least one, and
+-- each is accepted after those before it. A queue: no queue has its name, and there are fewer than 1,000.
 abbrev pub IsAllowed : Control → RuleSet → Type 0
+IsAllowed (bus_created name) set = (has_bus name set ≡ false) × (length set.buses < 100)
+IsAllowed (bus_deleted name) set = (bytes_eq name default_bus ≡ false) × (has_bus name set ≡ true) × (rules_of name set ≡ [])
+IsAllowed (rule_deleted bus name) set = ForRule (rule_at bus name set) (λ r. r.targets ≡ [])
+IsAllowed (state_put bus name enabled) set = ForRule (rule_at bus name set) (λ r. Unit {0})
+IsAllowed (targets_removed bus rule ids) set = ForRule (rule_at bus rule set) (λ r. (1 ≤ length ids) × AreRemovable ids r.targets)
+IsAllowed (policy_put bus policy) set = IsNoneOrStored policy × (has_bus bus set ≡ true)
 IsAllowed (rule_put bus name pattern enabled) set =
     ((p : Pattern) × IsPatternText pattern p) × (has_bus bus set ≡ true)
     × ((is_some (rule_at bus name set) ≡ true) ⊎ (length (rules_of bus set) < 300))
@@ -129,12 +195,14 @@ IsAllowed (targets_put bus rule targets) set =
     ForRule (rule_at bus rule set) (λ r. (1 ≤ length targets) × AreGoodTargets set targets r.targets)
 IsAllowed (queue_created name) set = (has_queue name set ≡ false) × (length set.queues < 1000)
 
--- What holds of every rule set that allowed changes made from the first one: the limits, and the order of buses, rules, targets and
--- queues by the bytes of their names, which are distinct.
+-- What holds of every rule set that allowed changes made from the first one: the limits, policies as they are stored, and the order of
+-- buses, rules, targets and queues by the bytes of their names, which are distinct.
 pub record IsSound (set : RuleSet) : Type 0 where
+  pub buses : length set.buses ≤ 100
   pub rules : All (λ bus. length bus.rules ≤ 300) set.buses
   pub targets : All (λ bus. All (λ rule. (length rule.targets ≤ 5) × All (λ target. IsQueueThere set target.arn) rule.targets) bus.rules) set.buses
   pub queues : length set.queues ≤ 1000
+  pub policies : All (λ bus. IsNoneOrStored bus.policy) set.buses
   pub bus_order : AreSorted (λ bus. bus.name) set.buses
   pub rule_order : All (λ bus. AreSorted (λ rule. rule.name) bus.rules) set.buses
   pub target_order : All (λ bus. All (λ rule. AreSorted (λ target. target.id) rule.targets) bus.rules) set.buses

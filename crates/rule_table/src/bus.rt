@@ -1,9 +1,11 @@
 //! Buses, with their rules.
-ghost use Rattle.std.specs.Prelude.{◌≡◌, [], None, Some, IfOk, IfSome, MatchOption};
+ghost use Rattle.std.specs.Prelude.{◌≡◌, ◌↔◌, [], None, Some, IfOk, IfSome, MatchOption, IsFalse};
+ghost use Rattle.std.specs.Option.{option_copied};
 ghost use Rattle.name_rows.specs.Rows.{named, placed, replacing};
 ghost use Rattle.rule_table.specs.RuleSet as spec;
 ghost use Rattle.rule_table.specs.Room.{HasRoom};
 
+use crate::policy::{SharedPolicy, share_policy};
 use crate::rule::Rule;
 use crate::targets::copies;
 use json_text::{NoMemory, Text};
@@ -19,6 +21,7 @@ const MOST_RULES: usize = 300;
 #[derive(Debug, Drop)]
 pub struct Bus {
     pub(crate) name: Text,
+    pub(crate) policy: Option<SharedPolicy>,
     pub(crate) rules: Rows<Rule>,
 }
 
@@ -27,7 +30,7 @@ impl Model for Bus {
 
     ghost Value = { View };
 
-    ghost view = { λ b. record { name = b.name; rules = b.rules } };
+    ghost view = { λ b. record { name = b.name; policy = b.policy; rules = b.rules } };
 }
 
 impl Row for Bus {
@@ -43,6 +46,13 @@ impl Bus {
         ensures { result.now ≡ self.now.name }
     {
         self.name.as_str()
+    }
+
+    /// The policy, if the bus has one.
+    pub fn policy(&self) -> Option<&SharedPolicy>
+        ensures { option_copied result ≡ self.now.policy }
+    {
+        self.policy.as_ref()
     }
 
     /// The rules in the byte order of their names.
@@ -90,12 +100,46 @@ impl Bus {
         }
     }
 
+    /// Whether the bus has a rule.
+    pub(crate) fn has_rules(&self) -> bool
+        ensures { IsFalse result ↔ (self.now.rules ≡ []) }
+    {
+        self.rules.reach(1)
+    }
+
+    /// The bus without the rule of this name.
+    pub(crate) fn without(&self, alloc: Global, name: &str) -> Result<Bus, NoMemory>
+        ensures { IfOk result (λ bus. bus ≡ record self.now { rules = spec.without_rule name.now self.now.rules }) }
+    {
+        Ok(Bus {
+            name: self.name.copy(alloc)?,
+            policy: share_policy(&self.policy)?,
+            rules: self.rules.without(alloc, name)?,
+        })
+    }
+
+    /// The bus with this policy, or without one.
+    pub(crate) fn with_policy(
+        &self,
+        alloc: Global,
+        policy: Option<SharedPolicy>,
+    ) -> Result<Bus, NoMemory>
+        ensures { IfOk result (λ bus. bus ≡ record self.now { policy = policy }) }
+    {
+        Ok(Bus {
+            name: self.name.copy(alloc)?,
+            policy,
+            rules: self.rules.share()?,
+        })
+    }
+
     /// The bus with this rule in place of the one of its name, if any.
     pub(crate) fn with(&self, alloc: Global, rule: Rule) -> Result<Bus, NoMemory>
         ensures { IfOk result (λ bus. bus ≡ record self.now { rules = placed (λ r. r.name) replacing rule self.now.rules }) }
     {
         Ok(Bus {
             name: self.name.copy(alloc)?,
+            policy: share_policy(&self.policy)?,
             rules: self.rules.with(alloc, rule)?,
         })
     }

@@ -31,6 +31,14 @@ impl Target {
 /// A change of the configuration.
 #[derive(Debug, Drop)]
 pub enum Control {
+    /// Creates a bus, without a rule.
+    BusCreated {
+        name: Text,
+    },
+    /// Deletes a bus, which has no rule.
+    BusDeleted {
+        name: Text,
+    },
     /// Creates a rule on a bus, or replaces its pattern and state.
     RulePut {
         bus: Text,
@@ -38,11 +46,33 @@ pub enum Control {
         pattern: Text,
         enabled: bool,
     },
+    /// Deletes a rule, which has no target.
+    RuleDeleted {
+        bus: Text,
+        name: Text,
+    },
+    /// Enables a rule, or disables it.
+    StatePut {
+        bus: Text,
+        name: Text,
+        enabled: bool,
+    },
     /// Adds targets to a rule, or replaces those with the same ids.
     TargetsPut {
         bus: Text,
         rule: Text,
         targets: Vec<Target>,
+    },
+    /// Removes the targets of these ids from a rule.
+    TargetsRemoved {
+        bus: Text,
+        rule: Text,
+        ids: Vec<Text>,
+    },
+    /// Gives the bus this policy, by its text as it is stored, or takes its policy away.
+    PolicyPut {
+        bus: Text,
+        policy: Option<Text>,
     },
     /// Creates a queue.
     QueueCreated {
@@ -70,6 +100,12 @@ pub enum ControlFault {
     AlreadyExists(Kind),
     #[error("the limit of such things is reached")]
     LimitExceeded(Kind),
+    #[error("what the change deletes is in use")]
+    InUse(Kind),
+    #[error("the rule that the change deletes has targets")]
+    HasTargets,
+    #[error("the bus `default` is never deleted")]
+    DefaultBus,
     #[error("a member is not valid")]
     Validation(Member),
     #[error("out of memory")]

@@ -4,15 +4,22 @@
 mod bus;
 mod control;
 mod laws;
+mod policy;
 mod rule;
 mod rule_set;
 mod targets;
 #[cfg(test)]
 mod tests;
+mod well_formed;
 
 pub use bus::Bus;
 pub use control::{Control, ControlFault, Target, TargetFault};
-pub use laws::{matching_stays, one_refusal_of_a_change, one_target_fault, other_buses_stay};
+pub use laws::{
+    matching_stays, one_refusal_of_a_change, one_target_fault, only_its_call_removes,
+    other_buses_stay,
+};
+pub use policy::SharedPolicy;
 pub use rule::Rule;
 pub use rule_set::RuleSet;
 pub use targets::put_target;
+pub use well_formed::is_well_formed;

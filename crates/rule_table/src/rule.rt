@@ -4,6 +4,7 @@ ghost use Rattle.pattern_meaning.specs.Pattern.{Pattern as Meaning};
 ghost use Rattle.pattern_read.specs.Text.{IsPatternText};
 
 use crate::control::Target;
+use crate::targets::copies;
 use json_text::{NoMemory, Text};
 use name_rows::Row;
 use pattern_read::{PatternFault, PatternText};
@@ -107,6 +108,18 @@ impl Rule {
             pattern: Arc::try_clone(&self.pattern)?,
             enabled: self.enabled,
             targets,
+        })
+    }
+
+    /// The rule with this state. Shares the pattern.
+    pub(crate) fn with_state(&self, alloc: Global, enabled: bool) -> Result<Rule, NoMemory>
+        ensures { IfOk result (λ rule. rule ≡ record self.now { enabled = enabled }) }
+    {
+        Ok(Rule {
+            name: self.name.copy(alloc)?,
+            pattern: Arc::try_clone(&self.pattern)?,
+            enabled,
+            targets: copies(alloc, self.targets.as_slice())?,
         })
     }
 }

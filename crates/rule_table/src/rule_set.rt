@@ -1,24 +1,32 @@
 //! Rule sets, and the rule set after a change.
 ghost use Rattle.std.specs.Prelude.{◌≡◌, ◌⊎◌, ◌+◌, ◌^◌, ◌<◌, ◌≤◌, [], None, false, Some, IfOk, IfErr, MatchOption, length};
+ghost use Rattle.std.specs.Str.{bytes_eq};
+ghost use Rattle.event_shape.specs.Names.{default_bus};
 ghost use Rattle.name_rows.specs.Rows.{named, placed, replacing};
-ghost use Rattle.rule_table.specs.Control.{rule_put, targets_put, queue_created};
+ghost use Rattle.rule_table.specs.Control.{bus_created, bus_deleted, rule_put, rule_deleted, state_put, targets_put, targets_removed, policy_put};
+ghost use Rattle.rule_table.specs.Control.{queue_created};
 ghost use Rattle.rule_table.specs.RuleSet as spec;
-ghost use Rattle.rule_table.specs.Refusal.{HasTargetFault, HasFaultyTarget, IsRuleRefused, AreTargetsRefused, IsQueueRefused, IsRefused};
+ghost use Rattle.rule_table.specs.Refusal.{HasTargetFault, HasFaultyTarget, IsBusRefused, IsBusDeletionRefused, IsRuleRefused, HasNoRule};
+ghost use Rattle.rule_table.specs.Refusal.{IsRuleDeletionRefused, AreTargetsRefused, AreRemovalsRefused, IsPolicyRefused, IsQueueRefused, IsRefused};
 ghost use Rattle.rule_table.specs.View.{control_of};
 
 use crate::bus::Bus;
 use crate::control::{Control, ControlFault, Target, TargetFault};
+use crate::policy::read_policy;
 use crate::rule::{Rule, read_rule_pattern};
-use crate::targets::{copies, is_sixth, put_target};
+use crate::targets::{after_removal, copies, is_sixth, put_target};
 use api_replies::{Kind, Member};
 use event_shape::{DEFAULT_BUS, is_target_id, queue_of};
 use json_text::{NoMemory, Text};
-use name_rows::Rows;
+use name_rows::{Rows, RowsFrom};
 use std::alloc::Global;
 use std::marker::Model;
 
 /// The greatest number of queues.
 const MOST_QUEUES: usize = 1000;
+
+/// The greatest number of buses.
+const MOST_BUSES: usize = 100;
 
 /// Buses with their rules, and queues. A change makes a new rule set, which shares unchanged parts with the old one.
 #[derive(Debug, Drop)]
@@ -45,6 +53,7 @@ impl RuleSet {
     {
         let bus = Bus {
             name: Text::from_str(alloc, DEFAULT_BUS)?,
+            policy: None,
             rules: Rows::new(alloc)?,
         };
         Ok(RuleSet {
@@ -82,8 +91,23 @@ impl RuleSet {
             Control::TargetsPut { bus, rule, targets } => self.put_targets(
                 alloc, bus, rule, targets,
             ),
+            Control::BusCreated { name } => self.create_bus(alloc, name),
+            Control::BusDeleted { name } => self.delete_bus(alloc, name),
+            Control::RuleDeleted { bus, name } => self.delete_rule(alloc, bus, name),
+            Control::StatePut { bus, name, enabled } => self.put_state(alloc, bus, name, *enabled),
+            Control::TargetsRemoved { bus, rule, ids } => {
+                self.remove_targets(alloc, bus, rule, ids)
+            }
+            Control::PolicyPut { bus, policy } => self.put_policy(alloc, bus, policy),
             Control::QueueCreated { name } => self.create_queue(alloc, name),
         }
+    }
+
+    /// The buses in the byte order of their names.
+    pub fn buses(&self) -> RowsFrom<'_, Bus>
+        ensures { result ≡ self.now.buses }
+    {
+        self.buses.iter()
     }
 
     /// The bus with this name.
@@ -231,6 +255,127 @@ impl RuleSet {
         Ok(Some(others))
     }
 
+    fn create_bus(&self, alloc: Global, name: &Text) -> Result<RuleSet, ControlFault>
+        requires { self.now.count < 2 ^ 63 }
+        ensures applied { IfOk result (λ set. spec.IsAllowed (bus_created name.now) self.now × (set ≡ spec.applied (bus_created name.now) self.now)) }
+        ensures refused { IfErr result (λ fault. (fault ≡ ControlFault.NoMemory) ⊎ IsBusRefused name.now self.now fault) }
+    {
+        if self.has_bus(name.as_str()) {
+            return Err(ControlFault::AlreadyExists(Kind::EventBus));
+        }
+        if self.buses.reach(MOST_BUSES) {
+            return Err(ControlFault::LimitExceeded(Kind::EventBus));
+        }
+        let bus = Bus {
+            name: name.copy(alloc)?,
+            policy: None,
+            rules: Rows::new(alloc)?,
+        };
+        Ok(self.with_bus(alloc, bus)?)
+    }
+
+    fn delete_bus(&self, alloc: Global, name: &Text) -> Result<RuleSet, ControlFault>
+        requires { self.now.count < 2 ^ 63 }
+        ensures applied { IfOk result (λ set. spec.IsAllowed (bus_deleted name.now) self.now × (set ≡ spec.applied (bus_deleted name.now) self.now)) }
+        ensures refused { IfErr result (λ fault. (fault ≡ ControlFault.NoMemory) ⊎ IsBusDeletionRefused name.now self.now fault) }
+    {
+        if is_default(name.as_str()) {
+            return Err(ControlFault::DefaultBus);
+        }
+        let Some(bus) = self.found(name.as_str()) else {
+            return Err(ControlFault::ResourceNotFound(Kind::EventBus));
+        };
+        if bus.has_rules() {
+            return Err(ControlFault::InUse(Kind::EventBus));
+        }
+        Ok(self.without_bus(alloc, name)?)
+    }
+
+    fn delete_rule(&self, alloc: Global, bus: &Text, name: &Text) -> Result<RuleSet, ControlFault>
+        requires { self.now.count < 2 ^ 63 }
+        ensures applied { IfOk result (λ set. spec.IsAllowed (rule_deleted bus.now name.now) self.now
+            × (set ≡ spec.applied (rule_deleted bus.now name.now) self.now)) }
+        ensures refused { IfErr result (λ fault. (fault ≡ ControlFault.NoMemory) ⊎ IsRuleDeletionRefused bus.now name.now self.now fault) }
+    {
+        let Some(old) = self.found(bus.as_str()) else {
+            return Err(ControlFault::ResourceNotFound(Kind::EventBus));
+        };
+        let Some(rule) = old.rule(name.as_str()) else {
+            return Err(ControlFault::ResourceNotFound(Kind::Rule));
+        };
+        if !rule.targets().is_empty() {
+            return Err(ControlFault::HasTargets);
+        }
+        let new = old.without(alloc, name.as_str())?;
+        Ok(self.with_bus(alloc, new)?)
+    }
+
+    fn put_state(
+        &self,
+        alloc: Global,
+        bus: &Text,
+        name: &Text,
+        enabled: bool,
+    ) -> Result<RuleSet, ControlFault>
+        requires { self.now.count < 2 ^ 63 }
+        ensures applied { IfOk result (λ set. spec.IsAllowed (state_put bus.now name.now enabled) self.now
+            × (set ≡ spec.applied (state_put bus.now name.now enabled) self.now)) }
+        ensures refused { IfErr result (λ fault. (fault ≡ ControlFault.NoMemory) ⊎ HasNoRule bus.now name.now self.now fault) }
+    {
+        let Some(old) = self.found(bus.as_str()) else {
+            return Err(ControlFault::ResourceNotFound(Kind::EventBus));
+        };
+        let Some(rule) = old.rule(name.as_str()) else {
+            return Err(ControlFault::ResourceNotFound(Kind::Rule));
+        };
+        let new = old.with(alloc, rule.with_state(alloc, enabled)?)?;
+        Ok(self.with_bus(alloc, new)?)
+    }
+
+    fn remove_targets(
+        &self,
+        alloc: Global,
+        bus: &Text,
+        rule: &Text,
+        ids: &[Text],
+    ) -> Result<RuleSet, ControlFault>
+        requires { self.now.count < 2 ^ 63 }
+        ensures applied { IfOk result (λ set. spec.IsAllowed (targets_removed bus.now rule.now ids.now) self.now
+            × (set ≡ spec.applied (targets_removed bus.now rule.now ids.now) self.now)) }
+        ensures refused { IfErr result (λ fault. (fault ≡ ControlFault.NoMemory) ⊎ AreRemovalsRefused bus.now rule.now ids.now self.now fault) }
+    {
+        let Some(old) = self.found(bus.as_str()) else {
+            return Err(ControlFault::ResourceNotFound(Kind::EventBus));
+        };
+        let Some(rule) = old.rule(rule.as_str()) else {
+            return Err(ControlFault::ResourceNotFound(Kind::Rule));
+        };
+        let Some(targets) = after_removal(alloc, rule.targets(), ids)? else {
+            return Err(ControlFault::Validation(Member::Ids));
+        };
+        let new = old.with(alloc, rule.with_targets(alloc, targets)?)?;
+        Ok(self.with_bus(alloc, new)?)
+    }
+
+    fn put_policy(
+        &self,
+        alloc: Global,
+        bus: &Text,
+        policy: &Option<Text>,
+    ) -> Result<RuleSet, ControlFault>
+        requires { self.now.count < 2 ^ 63 }
+        ensures applied { IfOk result (λ set. spec.IsAllowed (policy_put bus.now policy.now) self.now
+            × (set ≡ spec.applied (policy_put bus.now policy.now) self.now)) }
+        ensures refused { IfErr result (λ fault. (fault ≡ ControlFault.NoMemory) ⊎ IsPolicyRefused bus.now policy.now self.now fault) }
+    {
+        let policy = read_policy(alloc, policy)?;
+        let Some(old) = self.found(bus.as_str()) else {
+            return Err(ControlFault::ResourceNotFound(Kind::EventBus));
+        };
+        let new = old.with_policy(alloc, policy)?;
+        Ok(self.with_bus(alloc, new)?)
+    }
+
     fn create_queue(&self, alloc: Global, name: &Text) -> Result<RuleSet, ControlFault>
         requires { self.now.count < 2 ^ 63 }
         ensures applied { IfOk result (λ set. spec.IsAllowed (queue_created name.now) self.now × (set ≡ spec.applied (queue_created name.now) self.now)) }
@@ -255,6 +400,12 @@ impl RuleSet {
         self.buses.find(name)
     }
 
+    fn has_bus(&self, name: &str) -> bool
+        ensures { result ≡ spec.has_bus name.now self.now }
+    {
+        self.found(name).is_some()
+    }
+
     /// The set with this bus in place of the one of its name.
     fn with_bus(&self, alloc: Global, bus: Bus) -> Result<RuleSet, NoMemory>
         requires count { self.now.count < 2 ^ 63 }
@@ -266,6 +417,19 @@ impl RuleSet {
     {
         Ok(RuleSet {
             buses: self.buses.with(alloc, bus)?,
+            queues: self.queues.share()?,
+            count: self.next_count(),
+        })
+    }
+
+    /// The set without the bus of this name.
+    fn without_bus(&self, alloc: Global, name: &Text) -> Result<RuleSet, NoMemory>
+        requires count { self.now.count < 2 ^ 63 }
+        requires sound { spec.IsSound (record self.now { buses = spec.without_bus name.now self.now.buses; count = self.now.count + 1 }) }
+        ensures { IfOk result (λ set. set ≡ record self.now { buses = spec.without_bus name.now self.now.buses; count = self.now.count + 1 }) }
+    {
+        Ok(RuleSet {
+            buses: self.buses.without(alloc, name.as_str())?,
             queues: self.queues.share()?,
             count: self.next_count(),
         })
@@ -290,4 +454,11 @@ impl RuleSet {
     {
         self.count + 1
     }
+}
+
+/// Whether this is the name of the bus that is never deleted.
+fn is_default(name: &str) -> bool
+    ensures { result ≡ bytes_eq name.now default_bus }
+{
+    name == DEFAULT_BUS
 }

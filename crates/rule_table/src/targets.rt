@@ -1,10 +1,11 @@
 //! Targets of one rule, in the byte order of their ids.
-ghost use Rattle.std.specs.Prelude.{◌≡◌, ◌↔◌, ◌<◌, IfOk, OnOk, OnErr, IsTrue, length};
+ghost use Rattle.std.specs.Prelude.{◌≡◌, ◌↔◌, ◌<◌, ◌≤◌, ◌⊎◌, [], IfOk, OnOk, OnErr, MatchOption, IsTrue, length};
 ghost use Rattle.name_rows.specs.Place.{IsPlace};
+ghost use Rattle.name_rows.specs.Rows.{AreSorted};
 ghost use Rattle.rule_table.specs.RuleSet as spec;
 
 use crate::control::Target;
-use json_text::NoMemory;
+use json_text::{NoMemory, Text};
 use name_rows::Place;
 use std::alloc::Global;
 use std::cmp::Ordering;
@@ -58,4 +59,32 @@ pub fn put_target(targets: &mut Vec<Target>, new: Target) -> Result<(), NoMemory
         Place::Before(at) => targets.insert(at, new)?,
     }
     Ok(())
+}
+
+/// The targets, which are in the byte order of their ids, without those of these ids. `None` if there is no id, or one is no target's, or
+/// comes twice.
+pub(crate) fn after_removal(
+    alloc: Global,
+    targets: &[Target],
+    ids: &[Text],
+) -> Result<Option<Vec<Target>>, NoMemory>
+    requires { AreSorted (λ target. target.id) targets.now }
+    ensures { IfOk result (λ found. MatchOption found
+        ((ids.now ≡ []) ⊎ (¬ spec.AreRemovable ids.now targets.now))
+        (λ others. (1 ≤ length ids.now) × spec.AreRemovable ids.now targets.now
+        × (others.items ≡ spec.without_targets ids.now targets.now))) }
+{
+    if ids.is_empty() {
+        return Ok(None);
+    }
+    let mut others = copies(alloc, targets)?;
+    for id in ids {
+        match place_of(others.as_slice(), id.as_str()) {
+            Place::Here(at) => {
+                let _removed = others.remove(at);
+            }
+            Place::Before(_) => return Ok(None),
+        }
+    }
+    Ok(Some(others))
 }

@@ -1,4 +1,6 @@
-use crate::{Control, ControlFault, Rule, RuleSet, Target, TargetFault, put_target};
+use crate::{
+    Control, ControlFault, Rule, RuleSet, Target, TargetFault, is_well_formed, put_target,
+};
 use api_replies::Member;
 use event_shape::{queue_arn, queue_of};
 use json_text::{NoMemory, Text};
@@ -15,6 +17,17 @@ enum Step {
     Off(&'static str),
     /// A rule of the bus `default`, a target's id and its queue.
     Put(&'static str, &'static str, &'static str),
+    /// A bus, a rule and its new state.
+    State(&'static str, &'static str, bool),
+    /// A bus, a rule and the ids of the targets that are removed.
+    Remove(&'static str, &'static str, &'static [&'static str]),
+    /// A bus, and the rule that is deleted.
+    NoRule(&'static str, &'static str),
+    Bus(&'static str),
+    /// The bus that is deleted.
+    NoBus(&'static str),
+    /// A bus and its policy.
+    Policy(&'static str, Option<&'static str>),
     Queue(&'static str),
 }
 
@@ -80,11 +93,59 @@ fn one_target(alloc: Global, id: &str, queue: &str) -> Result<Vec<Target>, Fail>
     Ok(targets)
 }
 
+fn targets_removed(alloc: Global, bus: &str, rule: &str, ids: &[&str]) -> Result<Control, Fail> {
+    let mut texts = Vec::new(alloc);
+    for id in ids {
+        texts.push(text(alloc, id)?)?;
+    }
+    Ok(Control::TargetsRemoved {
+        bus: text(alloc, bus)?,
+        rule: text(alloc, rule)?,
+        ids: texts,
+    })
+}
+
+fn state_put(alloc: Global, bus: &str, name: &str, enabled: bool) -> Result<Control, Fail> {
+    Ok(Control::StatePut {
+        bus: text(alloc, bus)?,
+        name: text(alloc, name)?,
+        enabled,
+    })
+}
+
+fn rule_deleted(alloc: Global, bus: &str, name: &str) -> Result<Control, Fail> {
+    Ok(Control::RuleDeleted {
+        bus: text(alloc, bus)?,
+        name: text(alloc, name)?,
+    })
+}
+
+fn policy_put(alloc: Global, bus: &str, policy: Option<&str>) -> Result<Control, Fail> {
+    let policy = match policy {
+        Some(policy) => Some(text(alloc, policy)?),
+        None => None,
+    };
+    Ok(Control::PolicyPut {
+        bus: text(alloc, bus)?,
+        policy,
+    })
+}
+
 fn control(alloc: Global, step: Step) -> Result<Control, Fail> {
     match step {
         Step::Rule(bus, name, pattern) => rule_put(alloc, bus, name, pattern, true),
         Step::Off(name) => rule_put(alloc, "default", name, X, false),
         Step::Put(rule, id, queue) => targets_put(alloc, rule, id, queue),
+        Step::State(bus, name, enabled) => state_put(alloc, bus, name, enabled),
+        Step::Remove(bus, rule, ids) => targets_removed(alloc, bus, rule, ids),
+        Step::NoRule(bus, name) => rule_deleted(alloc, bus, name),
+        Step::Policy(bus, policy) => policy_put(alloc, bus, policy),
+        Step::Bus(name) => Ok(Control::BusCreated {
+            name: text(alloc, name)?,
+        }),
+        Step::NoBus(name) => Ok(Control::BusDeleted {
+            name: text(alloc, name)?,
+        }),
         Step::Queue(name) => Ok(Control::QueueCreated {
             name: text(alloc, name)?,
         }),
@@ -97,6 +158,9 @@ fn words(fault: &ControlFault) -> (&'static str, &'static str) {
         ControlFault::ResourceNotFound(kind) => ("no", kind.word()),
         ControlFault::AlreadyExists(kind) => ("exists", kind.word()),
         ControlFault::LimitExceeded(kind) => ("limit", kind.word()),
+        ControlFault::InUse(kind) => ("in use", kind.word()),
+        ControlFault::HasTargets => ("in use", "Targets"),
+        ControlFault::DefaultBus => ("stays", "default"),
         ControlFault::Validation(member) => ("not valid", member.name()),
         ControlFault::NoMemory => ("no", "memory"),
     }
@@ -195,6 +259,325 @@ fn each_change_is_made_or_refused(rt: HostRuntime) -> Result<(), Fail> {
     let mut set = RuleSet::first(rt.alloc())?;
     assert_eq!(rt; made_otherwise(rt.alloc(), &mut set)?, None);
     assert!(rt; set.control_count() == 6);
+    Ok(())
+}
+
+/// Changes in turn of the rule `r`, which has the targets `a` and `b`, as in `STEPS`. Worked by hand.
+const REMOVALS: [(Step, &str, &str, &str); 19] = [
+    (
+        Step::State("nope", "r", false),
+        "no",
+        "Event bus",
+        "r+ a=q b=q;",
+    ),
+    (
+        Step::State("default", "s", false),
+        "no",
+        "Rule",
+        "r+ a=q b=q;",
+    ),
+    (Step::State("default", "r", false), "", "", "r- a=q b=q;"),
+    (Step::State("default", "r", false), "", "", "r- a=q b=q;"),
+    (
+        Step::Remove("nope", "r", &[]),
+        "no",
+        "Event bus",
+        "r- a=q b=q;",
+    ),
+    (
+        Step::Remove("default", "s", &[]),
+        "no",
+        "Rule",
+        "r- a=q b=q;",
+    ),
+    (
+        Step::Remove("default", "r", &[]),
+        "not valid",
+        "Ids",
+        "r- a=q b=q;",
+    ),
+    (
+        Step::Remove("default", "r", &["a", "c"]),
+        "not valid",
+        "Ids",
+        "r- a=q b=q;",
+    ),
+    (
+        Step::Remove("default", "r", &["b", "b"]),
+        "not valid",
+        "Ids",
+        "r- a=q b=q;",
+    ),
+    (
+        Step::NoRule("default", "r"),
+        "in use",
+        "Targets",
+        "r- a=q b=q;",
+    ),
+    (Step::Remove("default", "r", &["a"]), "", "", "r- b=q;"),
+    (Step::State("default", "r", true), "", "", "r+ b=q;"),
+    (
+        Step::Remove("default", "r", &["a"]),
+        "not valid",
+        "Ids",
+        "r+ b=q;",
+    ),
+    (Step::Put("r", "a", "q"), "", "", "r+ a=q b=q;"),
+    (Step::Remove("default", "r", &["b", "a"]), "", "", "r+;"),
+    (Step::NoRule("nope", "r"), "no", "Event bus", "r+;"),
+    (Step::NoRule("default", "s"), "no", "Rule", "r+;"),
+    (Step::NoRule("default", "r"), "", "", ""),
+    (Step::NoRule("default", "r"), "no", "Rule", ""),
+];
+
+/// The first set with the queue `q`, and the rule `r` with the targets `a` and `b`.
+fn with_targets(alloc: Global) -> Result<RuleSet, Fail> {
+    let queue = with_queue(alloc, "q")?;
+    let rule = after(alloc, &queue, Step::Rule("default", "r", X))?;
+    let one = after(alloc, &rule, Step::Put("r", "a", "q"))?;
+    after(alloc, &one, Step::Put("r", "b", "q"))
+}
+
+/// The index of the first step that differs from its row.
+fn removed_otherwise(alloc: Global, set: &mut RuleSet) -> Result<Option<usize>, Fail> {
+    for (place, (step, kind, object, rules)) in REMOVALS.iter().enumerate() {
+        if !is_made(alloc, set, *step, kind, object)? || !is_shown(alloc, set, rules)? {
+            return Ok(Some(place));
+        }
+    }
+    Ok(None)
+}
+
+#[test]
+fn each_removal_is_made_or_refused(rt: HostRuntime) -> Result<(), Fail> {
+    let mut set = with_targets(rt.alloc())?;
+    assert_eq!(rt; removed_otherwise(rt.alloc(), &mut set)?, None);
+    Ok(())
+}
+
+/// Changes in turn, the refusal of each as in `STEPS`, and the names of the buses afterwards. Worked by hand.
+const BUSES: [(Step, &str, &str, &str); 11] = [
+    (Step::Bus("default"), "exists", "Event bus", "default;"),
+    (Step::NoBus("default"), "stays", "default", "default;"),
+    (Step::NoBus("b"), "no", "Event bus", "default;"),
+    (Step::Bus("b"), "", "", "b;default;"),
+    (Step::Bus("b"), "exists", "Event bus", "b;default;"),
+    (Step::Bus("e"), "", "", "b;default;e;"),
+    (Step::Rule("b", "r", X), "", "", "b;default;e;"),
+    (Step::NoBus("b"), "in use", "Event bus", "b;default;e;"),
+    (Step::NoRule("b", "r"), "", "", "b;default;e;"),
+    (Step::NoBus("b"), "", "", "default;e;"),
+    (Step::NoRule("b", "r"), "no", "Event bus", "default;e;"),
+];
+
+/// Whether the names of the buses are as in the text.
+fn are_buses(alloc: Global, set: &RuleSet, names: &str) -> Result<bool, Fail> {
+    let mut out = String::new(alloc);
+    for bus in set.buses() {
+        out.push_str(bus.name())?;
+        out.push_str(";")?;
+    }
+    Ok(out.as_str() == names)
+}
+
+/// The index of the first step that differs from its row.
+fn listed_otherwise(alloc: Global, set: &mut RuleSet) -> Result<Option<usize>, Fail> {
+    for (place, (step, kind, object, names)) in BUSES.iter().enumerate() {
+        if !is_made(alloc, set, *step, kind, object)? || !are_buses(alloc, set, names)? {
+            return Ok(Some(place));
+        }
+    }
+    Ok(None)
+}
+
+#[test]
+fn each_bus_is_made_or_refused(rt: HostRuntime) -> Result<(), Fail> {
+    let mut set = RuleSet::first(rt.alloc())?;
+    assert_eq!(rt; listed_otherwise(rt.alloc(), &mut set)?, None);
+    Ok(())
+}
+
+/// The set after 99 buses more than `default`.
+fn with_all_buses(alloc: Global) -> Result<RuleSet, Fail> {
+    let mut set = RuleSet::first(alloc)?;
+    for number in 1..100u8 {
+        let next = with_bus(alloc, &set, number)?;
+        set = next;
+    }
+    Ok(set)
+}
+
+/// The set after a bus with this number is created.
+fn with_bus(alloc: Global, set: &RuleSet, number: u8) -> Result<RuleSet, Fail> {
+    if set.control_count() >= 1000 {
+        return Err(Fail::from("too many changes"));
+    }
+    let name = Text::from(format!(in alloc; "bus.{number}")?);
+    match set.apply(alloc, &Control::BusCreated { name }) {
+        Ok(next) => Ok(next),
+        Err(_) => Err(Fail::from("a bus is refused")),
+    }
+}
+
+/// Whether no bus can be created.
+fn is_full(alloc: Global, set: &RuleSet) -> Result<bool, Fail> {
+    Ok(
+        is_refused(alloc, set, Step::Bus("e"), "limit", "Event bus")?
+            && is_refused(alloc, set, Step::Bus("bus.7"), "exists", "Event bus")?,
+    )
+}
+
+/// Whether a bus can be created in place of one that is deleted.
+fn takes_another(alloc: Global, set: &RuleSet) -> Result<bool, Fail> {
+    let fewer = after(alloc, set, Step::NoBus("bus.7"))?;
+    let again = after(alloc, &fewer, Step::Bus("e"))?;
+    Ok(again.bus("e").is_some())
+}
+
+#[test]
+fn there_are_100_buses(rt: HostRuntime) -> Result<(), Fail> {
+    let set = with_all_buses(rt.alloc())?;
+    assert!(rt; is_full(rt.alloc(), &set)?);
+    assert!(rt; takes_another(rt.alloc(), &set)?);
+    Ok(())
+}
+
+/// A policy as it is stored.
+const P: &str =
+    r#"{"Version":"2012-10-17","Statement":[{"Effect":"Allow","Principal":"*","Action":"*","Resource":"*"}]}"#;
+
+/// A policy, whose version is stored too.
+const GIVEN: &str =
+    r#"{"Statement":[{"Effect":"Allow","Principal":"*","Action":"*","Resource":"*"}]}"#;
+
+/// Changes in turn, the refusal of each as in `STEPS`, and whether the bus `default` has the policy `P` afterwards; if not, it has
+/// none. Worked by hand.
+const POLICIES: [(Step, &str, &str, bool); 10] = [
+    (
+        Step::Policy("nope", Some(GIVEN)),
+        "not valid",
+        "Policy",
+        false,
+    ),
+    (Step::Policy("nope", Some(P)), "no", "Event bus", false),
+    (Step::Policy("nope", None), "no", "Event bus", false),
+    (
+        Step::Policy("default", Some("{}")),
+        "not valid",
+        "Policy",
+        false,
+    ),
+    (Step::Policy("default", None), "", "", false),
+    (Step::Policy("default", Some(P)), "", "", true),
+    (
+        Step::Policy("default", Some(GIVEN)),
+        "not valid",
+        "Policy",
+        true,
+    ),
+    (Step::Rule("default", "r", X), "", "", true),
+    (Step::NoRule("default", "r"), "", "", true),
+    (Step::Policy("default", None), "", "", false),
+];
+
+/// The text of the policy of the bus `default`.
+fn policy_text(set: &RuleSet) -> Option<&str> {
+    match set.bus("default") {
+        Some(bus) => match bus.policy() {
+            Some(policy) => Some(policy.as_str()),
+            None => None,
+        },
+        None => None,
+    }
+}
+
+/// Whether the bus `default` has the policy `P`, or none, as in the row.
+fn has_policy(set: &RuleSet, expected: bool) -> bool {
+    match policy_text(set) {
+        Some(text) => expected && text == P,
+        None => !expected,
+    }
+}
+
+/// The index of the first step that differs from its row.
+fn allowed_otherwise(alloc: Global, set: &mut RuleSet) -> Result<Option<usize>, Fail> {
+    for (place, (step, kind, object, expected)) in POLICIES.iter().enumerate() {
+        if !is_made(alloc, set, *step, kind, object)? || !has_policy(set, *expected) {
+            return Ok(Some(place));
+        }
+    }
+    Ok(None)
+}
+
+#[test]
+fn each_policy_is_put_or_refused(rt: HostRuntime) -> Result<(), Fail> {
+    let mut set = RuleSet::first(rt.alloc())?;
+    assert_eq!(rt; allowed_otherwise(rt.alloc(), &mut set)?, None);
+    Ok(())
+}
+
+/// Changes, and whether they are well formed, whatever the rule set is. Worked by hand from the syntax of names.
+const FORMS: [(Step, bool); 21] = [
+    (Step::Bus("a.B-c_9"), true),
+    (Step::Bus("a/b"), false),
+    (Step::Bus(""), false),
+    (Step::NoBus("default"), true),
+    (Step::NoBus("a b"), false),
+    (Step::Rule("b", "r", X), true),
+    (Step::Rule("b", "r", "[\"x\"]"), false),
+    (Step::Rule("b", "a b", X), false),
+    (Step::Rule("", "r", X), false),
+    (Step::NoRule("b", "r"), true),
+    (Step::NoRule("b", ""), false),
+    (Step::State("b", "r", true), true),
+    (Step::State("b/", "r", true), false),
+    (Step::Put("r", "t", "none"), true),
+    (Step::Put("r", "t", "a.b"), false),
+    (Step::Put("r", "a b", "q"), false),
+    (Step::Remove("b", "r", &["a", "a"]), true),
+    (Step::Remove("b", "r", &[]), false),
+    (Step::Remove("b", "r", &["a b"]), false),
+    (Step::Queue("q-1_A"), true),
+    (Step::Queue("q.1"), false),
+];
+
+/// The same of policies.
+const POLICY_FORMS: [(Step, bool); 4] = [
+    (Step::Policy("b", Some(P)), true),
+    (Step::Policy("b", Some(GIVEN)), false),
+    (Step::Policy("b", None), true),
+    (Step::Policy("a b", None), false),
+];
+
+fn has_form(alloc: Global, step: Step, expected: bool) -> Result<bool, Fail> {
+    let control = control(alloc, step)?;
+    Ok(is_well_formed(alloc, &control)? == expected)
+}
+
+/// The index of the first change whose form differs from its row.
+fn formed_otherwise(alloc: Global) -> Result<Option<usize>, Fail> {
+    for (place, (step, expected)) in FORMS.iter().enumerate() {
+        if !has_form(alloc, *step, *expected)? {
+            return Ok(Some(place));
+        }
+    }
+    Ok(None)
+}
+
+/// The same of policies.
+fn policy_formed_otherwise(alloc: Global) -> Result<Option<usize>, Fail> {
+    for (place, (step, expected)) in POLICY_FORMS.iter().enumerate() {
+        if !has_form(alloc, *step, *expected)? {
+            return Ok(Some(place));
+        }
+    }
+    Ok(None)
+}
+
+#[test]
+fn changes_are_well_formed(rt: HostRuntime) -> Result<(), Fail> {
+    assert_eq!(rt; formed_otherwise(rt.alloc())?, None);
+    assert_eq!(rt; policy_formed_otherwise(rt.alloc())?, None);
     Ok(())
 }
 

@@ -1,10 +1,10 @@
-use Rattle.std.proofs.Common.{◌≡◌, ◌⊎◌, ◌+◌, [], false, None, Some, inr, ap, sym, ◌∙◌, subst}
-use Rattle.name_rows.specs.Rows.{named, placed, replacing}
+use Rattle.std.proofs.Common.{◌≡◌, ◌⊎◌, ◌+◌, ◌≤◌, length, refl, [], false, None, Some, inr, ap, sym, ◌∙◌, subst}
+use Rattle.name_rows.specs.Rows.{named}
 use Rattle.rule_table.specs.Control.{targets_put}
 use Rattle.rule_table.specs.RuleSet.{Rule, has_bus, put_targets, AreGoodTargets, IsSound}
 use Rattle.rule_table.specs.Refusal.{HasFaultyTarget, targets_without_bus, targets_without_rule, faulty_targets}
 use Rattle.rule_table.proofs.SortedLemmas.{sound_applied}
-use Rattle.rule_table.proofs.ChangeLemmas.{IsFound, bus_there, rule_found, rule_missing, targets_allowed, targets_changed}
+use Rattle.rule_table.proofs.ChangeLemmas.{IsFound, IsFoundIn, bus_there, rule_found, rule_missing, for_rule, rule_changed}
 use Rattle.rule_table.proofs.rule_set.RuleSet.put_targets.Goals as goal
 
 pub returns-in_default-clause-refused : goal.returns-in_default-clause-refused
@@ -39,16 +39,18 @@ with_bus-requires-clause-sound c =
     let set = c.args.self.now in
     let old = c.in-Some.old.now in
     let r = c.in-Some-rule.rule.now in
+    let change : Rule → Rule = λ r. record r { targets = put_targets news r.targets } in
+    let Fact : Rule → Type 0 = λ r. (1 ≤ length news) × AreGoodTargets set news r.targets in
     let sound = c.in-Some.ensures.sound in
     let found = subst (λ name. IsFound set name old) c.as_str.ensures c.in-Some.ensures.found in
-    let there = subst (λ name. named (λ (r : Rule). r.name) name old.rules ≡ Some r) c.as_str-2.ensures c.in-Some-rule.ensures.found in
+    let there = subst (λ name. IsFoundIn old name r) c.as_str-2.ensures c.in-Some-rule.ensures.found in
     let put = rw c.in-Some-2.is at c.in_ok-targets.ensures in
     let good = subst (AreGoodTargets set news) c.targets.ensures put.1 in
-    let same = put.2 ∙ ap (put_targets news) c.targets.ensures in
-    let made = c.in_ok-new.ensures ∙ ap (λ (x : Rule). record old { rules = placed (λ r. r.name) replacing x old.rules }) c.in_ok-with_targets.ensures in
-    let allowed = targets_allowed bus rule news set r (rule_found bus rule set old r found there) put.0 good in
+    let made : c.in_ok-with_targets.field-0 ≡ change r =
+    c.in_ok-with_targets.ensures ∙ ap (λ ts. record r { targets = ts }) (put.2 ∙ ap (put_targets news) c.targets.ensures) in
+    let allowed = for_rule bus rule set r Fact (rule_found bus rule set old r found there) (put.0, good) in
     subst (λ buses. IsSound (record set { buses = buses; count = set.count + 1 }))
-    (sym (targets_changed bus rule news set old r c.in-Some-2.targets.items c.in_ok-new.new found there sound same made))
+    (sym (rule_changed bus rule change set old r c.in_ok-with_targets.field-0 c.in_ok-new.new (λ r. refl) found there sound made c.in_ok-new.ensures))
     (sound_applied (targets_put bus rule news) set allowed sound)
 
 pub returns-clause-applied : goal.returns-clause-applied
@@ -59,13 +61,16 @@ returns-clause-applied c =
     let set = c.args.self.now in
     let old = c.in-Some.old.now in
     let r = c.in-Some-rule.rule.now in
+    let change : Rule → Rule = λ r. record r { targets = put_targets news r.targets } in
+    let Fact : Rule → Type 0 = λ r. (1 ≤ length news) × AreGoodTargets set news r.targets in
     let found = subst (λ name. IsFound set name old) c.as_str.ensures c.in-Some.ensures.found in
-    let there = subst (λ name. named (λ (r : Rule). r.name) name old.rules ≡ Some r) c.as_str-2.ensures c.in-Some-rule.ensures.found in
+    let there = subst (λ name. IsFoundIn old name r) c.as_str-2.ensures c.in-Some-rule.ensures.found in
     let put = rw c.in-Some-2.is at c.in_ok-targets.ensures in
     let good = subst (AreGoodTargets set news) c.targets.ensures put.1 in
-    let same = put.2 ∙ ap (put_targets news) c.targets.ensures in
-    let made = c.in_ok-new.ensures ∙ ap (λ (x : Rule). record old { rules = placed (λ r. r.name) replacing x old.rules }) c.in_ok-with_targets.ensures in (
-      targets_allowed bus rule news set r (rule_found bus rule set old r found there) put.0 good,
-      c.in_ok-with_bus.ensures ∙ ap (λ buses. record set { buses = buses; count = set.count + 1 })
-          (targets_changed bus rule news set old r c.in-Some-2.targets.items c.in_ok-new.new found there c.in-Some.ensures.sound same made),
+    let made : c.in_ok-with_targets.field-0 ≡ change r =
+    c.in_ok-with_targets.ensures ∙ ap (λ ts. record r { targets = ts }) (put.2 ∙ ap (put_targets news) c.targets.ensures) in
+    let same = rule_changed bus rule change set old r c.in_ok-with_targets.field-0 c.in_ok-new.new (λ r. refl) found there c.in-Some.ensures.sound made
+    c.in_ok-new.ensures in (
+      for_rule bus rule set r Fact (rule_found bus rule set old r found there) (put.0, good),
+      c.in_ok-with_bus.ensures ∙ ap (λ buses. record set { buses = buses; count = set.count + 1 }) same,
     )

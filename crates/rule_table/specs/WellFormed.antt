@@ -1,0 +1,43 @@
+-- What a change has to be whatever the rule set is: the syntax of its names, its pattern, its policy and its targets. The syntax and the
+-- numbers are the public API Reference's.
+use Rattle.std.specs.Prelude.{◌≡◌, ◌≤◌, ℕ, List, length, None, All}
+use Rattle.event_shape.specs.Names.{IsBusName, IsShortName, IsQueueName, IsQueueArn}
+use Rattle.pattern_meaning.specs.Pattern.{Pattern}
+use Rattle.pattern_read.specs.Text.{IsPatternText}
+use Rattle.rule_table.specs.declared.control.Target.{Target}
+use Rattle.rule_table.specs.Control.{Control, bus_created, bus_deleted, rule_put, rule_deleted, state_put, targets_put, targets_removed, policy_put, queue_created}
+use Rattle.rule_table.specs.RuleSet.{IsNoneOrStored}
+
+-- the names of a bus and of a rule
+abbrev pub NamesRule : List ℕ → List ℕ → Type 0
+NamesRule bus name = IsBusName bus × IsShortName name
+
+-- a pattern's text
+abbrev pub IsSomePattern : List ℕ → Type 0
+IsSomePattern text = (p : Pattern) × IsPatternText text p
+
+-- a target with the ARN of a queue, which may be missing, and without a member that is not supported yet
+pub record IsWellFormedTarget (target : Target) : Type 0 where
+  pub id : IsShortName target.id
+  pub arn : (queue : List ℕ) × IsQueueArn target.arn queue
+  pub supported : target.unbuilt ≡ None
+
+-- from 1 to 100 targets
+abbrev pub AreWellFormedTargets : List Target → Type 0
+AreWellFormedTargets targets = (1 ≤ length targets) × (length targets ≤ 100) × All IsWellFormedTarget targets
+
+-- from 1 to 100 ids of targets
+abbrev pub AreWellFormedIds : List (List ℕ) → Type 0
+AreWellFormedIds ids = (1 ≤ length ids) × (length ids ≤ 100) × All IsShortName ids
+
+-- the change is well formed
+abbrev pub IsWellFormed : Control → Type 0
+IsWellFormed (bus_created name) = IsBusName name
+IsWellFormed (bus_deleted name) = IsBusName name
+IsWellFormed (rule_put bus name pattern enabled) = NamesRule bus name × IsSomePattern pattern
+IsWellFormed (rule_deleted bus name) = NamesRule bus name
+IsWellFormed (state_put bus name enabled) = NamesRule bus name
+IsWellFormed (targets_put bus rule targets) = NamesRule bus rule × AreWellFormedTargets targets
+IsWellFormed (targets_removed bus rule ids) = NamesRule bus rule × AreWellFormedIds ids
+IsWellFormed (policy_put bus policy) = IsBusName bus × IsNoneOrStored policy
+IsWellFormed (queue_created name) = IsQueueName name
