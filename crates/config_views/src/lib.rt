@@ -1,0 +1,13 @@
+//! What replies show of the configuration: the six calls that describe and list buses, rules and targets.
+#![tactic(auto)]
+
+mod buses;
+mod parts;
+mod rules;
+mod targets;
+#[cfg(test)]
+mod tests;
+
+pub use buses::{describe_event_bus, list_event_buses};
+pub use rules::{describe_rule, list_rules};
+pub use targets::{list_rule_names_by_target, list_targets_by_rule};
