@@ -1,2 +1,3 @@
 pub mod ReadyLemmas
 pub mod MatchingLemmas
+pub mod CrossingLemmas

@@ -10,7 +10,7 @@ use Rattle.std.proofs.lemmas.Bool.Decides.{nat_tests}
 use Rattle.std.proofs.lemmas.Slice.Eq.{bytes_eq-Decides}
 use Rattle.delivery_duties.proofs.AnyLemmas.{any_here, any_there, any_cases}
 use Rattle.event_shape.specs.Names.{queue_arn}
-use Rattle.rule_table.specs.Control.{Control, rule_put, targets_put, queue_created}
+use Rattle.rule_table.specs.Control.{Control, bus_created, bus_deleted, rule_put, rule_deleted, state_put, targets_put, targets_removed, policy_put, queue_created}
 use Rattle.name_rows.specs.Rows.{by_order, named}
 use Rattle.rule_table.specs.RuleSet.{RuleSet, put_queue, has_queue, applied}
 use Rattle.delivery_duties.specs.Duties.{Queue, Duties, HasEndpoint}
@@ -117,8 +117,14 @@ has_put name new (row ∷ rows) is =
 pub queues_of_allowed : (c : Control) (new_queue : Option (List ℕ)) (set : RuleSet) → HasPlace c new_queue
     → (queue : List ℕ) → has_queue queue (applied c set) ≡ true → (has_queue queue set ≡ true) ⊎ (new_queue ≡ Some queue)
 unfolding has
+queues_of_allowed (bus_created name) new_queue set place queue there = inl there
+queues_of_allowed (bus_deleted name) new_queue set place queue there = inl there
 queues_of_allowed (rule_put bus name pattern enabled) new_queue set place queue there = inl there
+queues_of_allowed (rule_deleted bus name) new_queue set place queue there = inl there
+queues_of_allowed (state_put bus name enabled) new_queue set place queue there = inl there
 queues_of_allowed (targets_put bus rule targets) new_queue set place queue there = inl there
+queues_of_allowed (targets_removed bus rule ids) new_queue set place queue there = inl there
+queues_of_allowed (policy_put bus policy) new_queue set place queue there = inl there
 queues_of_allowed (queue_created name) new_queue set place queue there = elim (has_put queue name set.queues there) [
   | inl same ↦ inr (place ∙ ap Some (sym same))
   | inr before ↦ inl before

@@ -2,7 +2,7 @@
 use Rattle.std.specs.Prelude.{◌≡◌, ℕ, ◌+◌, ◌^◌, ◌<◌, ◌≤◌, true, false, List, [], ◌∷◌, length, map, Option, Some, None, All}
 use Rattle.json_text.specs.Moment.{IsMoment}
 use Rattle.event_shape.specs.Names.{queue_arn}
-use Rattle.rule_table.specs.Control.{Control, rule_put, targets_put, queue_created}
+use Rattle.rule_table.specs.Control.{Control, queue_created}
 use Rattle.rule_table.specs.View.{control_of}
 use Rattle.rule_table.specs.RuleSet.{has_queue, IsAllowed, applied}
 use Rattle.delivery_duties.specs.Duties.{Queue, Duties, HasEndpoint, added, with_queue}
@@ -38,9 +38,8 @@ added_all (e ∷ es) moment duties = added_all es moment (added e.duties moment 
 
 -- a change that creates a queue comes with the new queue, and any other change with none
 abbrev pub HasPlace : Control → Option (List ℕ) → Type 0
-HasPlace (rule_put bus name pattern enabled) new_queue = new_queue ≡ None
-HasPlace (targets_put bus rule targets) new_queue = new_queue ≡ None
 HasPlace (queue_created name) new_queue = new_queue ≡ Some name
+HasPlace _ new_queue = new_queue ≡ None
 
 -- each event has at most 1,500 duties (five targets of each of 300 rules), and each duty goes to one of these queues
 abbrev pub AreDeliverable : List Queue → List AcceptedEvent → Type 0

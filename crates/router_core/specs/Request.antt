@@ -1,32 +1,65 @@
 -- The view of a request in contracts.
-use Rattle.std.specs.Prelude.{ℕ, Bool, List, Result}
+use Rattle.std.specs.Prelude.{◌≡◌, ℕ, ◌⊎◌, Bool, List, Option, Result, Ok, Err, All}
 use Rattle.json_text.specs.Tree.{Tree}
+use Rattle.event_shape.specs.Names.{owner}
 use Rattle.event_shape.specs.Unnumbered.{Unnumbered}
 use Rattle.event_shape.specs.declared.entry.EntryFault.{EntryFault}
 use Rattle.rule_table.specs.declared.control.Target.{Target}
 
 -- What a request asks for. An entry of a PutEvents is an event without its number, or has a fault; `size` is the number of bytes of all
--- entries together.
+-- entries together. `put_policy` has the policy's text as it would be stored. Of a `put_statement` the statement allows this account, or
+-- everyone. A `remove_statement` that gives no StatementId is refused.
 pub data Action : Type 0 where
-  create_queue : (name : List ℕ) → Action
+  create_event_bus : (name : List ℕ) → Action
+  delete_event_bus : (name : List ℕ) → Action
+  describe_event_bus : (name : List ℕ) → Action
+  list_event_buses : (prefix : Option (List ℕ)) → Action
   put_rule : (bus name pattern : List ℕ) (enabled : Bool) → Action
+  delete_rule : (bus name : List ℕ) → Action
+  put_rule_state : (bus name : List ℕ) (enabled : Bool) → Action
+  describe_rule : (bus name : List ℕ) → Action
+  list_rules : (bus : List ℕ) (prefix : Option (List ℕ)) → Action
   put_targets : (bus rule : List ℕ) (targets : List Target) → Action
+  remove_targets : (bus rule : List ℕ) (ids : List (List ℕ)) → Action
+  list_targets_by_rule : (bus rule : List ℕ) → Action
+  list_rule_names_by_target : (arn bus : List ℕ) → Action
+  put_policy : (bus policy : List ℕ) → Action
+  put_statement : (bus sid : List ℕ) (account : Option (List ℕ)) → Action
+  remove_policy : (bus : List ℕ) → Action
+  remove_statement : (bus : List ℕ) (sid : Option (List ℕ)) → Action
   put_events : (entries : List (Result Unnumbered EntryFault)) (size : ℕ) → Action
-  peek_messages : (queue : List ℕ) (limit : ℕ) → Action
   test_event_pattern : (pattern : List ℕ) (event : Tree) → Action
+  create_queue : (name : List ℕ) → Action
+  peek_messages : (queue : List ℕ) (limit : ℕ) → Action
   deliver_due : (budget : ℕ) → Action
 
 -- the action is made by one turn; the steps of a DeliverDue are turns of their own
 abbrev pub IsOneTurn : Action → Type 0
-IsOneTurn (create_queue name) = Unit {0}
-IsOneTurn (put_rule bus name pattern enabled) = Unit {0}
-IsOneTurn (put_targets bus rule targets) = Unit {0}
-IsOneTurn (put_events entries size) = Unit {0}
-IsOneTurn (peek_messages queue limit) = Unit {0}
-IsOneTurn (test_event_pattern pattern event) = Unit {0}
 IsOneTurn (deliver_due budget) = ⊥
+IsOneTurn _ = Unit {0}
 
--- an action, and the clock's reading when the request had been read whole
+-- the action publishes events
+abbrev pub IsPublishing : Action → Type 0
+IsPublishing (put_events entries size) = Unit {0}
+IsPublishing _ = ⊥
+
+-- the entry has this account: it is that of its event; a faulty entry has no event
+abbrev pub IsEntryOf : List ℕ → Result Unnumbered EntryFault → Type 0
+IsEntryOf account (Ok event) = event.event.account ≡ account
+IsEntryOf account (Err fault) = Unit {0}
+
+-- each entry of the action has this account
+abbrev pub AreEntriesOf : List ℕ → Action → Type 0
+AreEntriesOf account (put_events entries size) = All (IsEntryOf account) entries
+AreEntriesOf account _ = Unit {0}
+
+-- an action, the account that asks for it, and the clock's reading when the request had been read whole
 pub record Request : Type 0 where
   pub action : Action
+  pub caller : List ℕ
   pub reading : ℕ
+
+-- the request is one that a caller may make: only the owner asks for anything but to publish events, and events have their caller's account
+pub record IsEntitled (request : Request) : Type 0 where
+  pub allowed : (request.caller ≡ owner) ⊎ IsPublishing request.action
+  pub own : AreEntriesOf request.caller request.action

@@ -1,6 +1,6 @@
 -- The tables of the router, as a fold over batches.
 use Rattle.std.specs.Prelude.{ℕ, ◌+◌, ◌^◌, Bool, ◌||◌, nat_le, List, [], ◌∷◌}
-use Rattle.rule_table.specs.Control.{Control, rule_put, targets_put, queue_created}
+use Rattle.rule_table.specs.Control.{Control, queue_created}
 use Rattle.rule_table.specs.RuleSet.{RuleSet, first_set, applied}
 use Rattle.delivery_duties.specs.Duties.{Duties, no_duties, with_queue, added, settled}
 use Rattle.router_core.specs.Batch.{Entry, control, accepted, attempt, Batch}
@@ -20,9 +20,8 @@ first_tables = record { set = first_set; duties = no_duties; events = 0; entries
 
 -- the duties after a change of the configuration: a created queue is added, with no message
 abbrev pub duties_after : Control → Duties → Duties
-duties_after (rule_put bus name pattern enabled) duties = duties
-duties_after (targets_put bus rule targets) duties = duties
 duties_after (queue_created name) duties = with_queue name duties
+duties_after _ duties = duties
 
 -- the tables after an entry at the moment; the duties of an event are due at once
 abbrev pub after_entry : ℕ → Entry → Tables → Tables

@@ -1,20 +1,35 @@
 -- The views of requests in contracts.
 use Rattle.json_text.specs.View.{tree_of}
 use Rattle.router_core.specs.declared.request.Action.{Action}
-use Rattle.router_core.specs.declared.request.Action.TheVariants.{CreateQueue, PutRule, PutTargets, PutEvents, PeekMessages, TestEventPattern, DeliverDue}
+use Rattle.router_core.specs.declared.request.Action.TheVariants as action
 use Rattle.router_core.specs.declared.request.Request.{Request}
 use Rattle.router_core.specs.Request as request
 
 -- the action, with its vectors as lists
 abbrev pub action_of : Action → request.Action
-action_of (CreateQueue name) = request.create_queue name
-action_of (PutRule bus name pattern enabled) = request.put_rule bus name pattern enabled
-action_of (PutTargets bus rule targets) = request.put_targets bus rule targets.items
-action_of (PutEvents entries size) = request.put_events entries.items size
-action_of (PeekMessages queue limit) = request.peek_messages queue limit
-action_of (TestEventPattern pattern event) = request.test_event_pattern pattern (tree_of event)
-action_of (DeliverDue budget) = request.deliver_due budget
+action_of (action.CreateEventBus name) = request.create_event_bus name
+action_of (action.DeleteEventBus name) = request.delete_event_bus name
+action_of (action.DescribeEventBus name) = request.describe_event_bus name
+action_of (action.ListEventBuses prefix) = request.list_event_buses prefix
+action_of (action.PutRule bus name pattern enabled) = request.put_rule bus name pattern enabled
+action_of (action.DeleteRule bus name) = request.delete_rule bus name
+action_of (action.PutRuleState bus name enabled) = request.put_rule_state bus name enabled
+action_of (action.DescribeRule bus name) = request.describe_rule bus name
+action_of (action.ListRules bus prefix) = request.list_rules bus prefix
+action_of (action.PutTargets bus rule targets) = request.put_targets bus rule targets.items
+action_of (action.RemoveTargets bus rule ids) = request.remove_targets bus rule ids.items
+action_of (action.ListTargetsByRule bus rule) = request.list_targets_by_rule bus rule
+action_of (action.ListRuleNamesByTarget arn bus) = request.list_rule_names_by_target arn bus
+action_of (action.PutPolicy bus policy) = request.put_policy bus policy
+action_of (action.PutStatement bus sid account) = request.put_statement bus sid account
+action_of (action.RemovePolicy bus) = request.remove_policy bus
+action_of (action.RemoveStatement bus sid) = request.remove_statement bus sid
+action_of (action.PutEvents entries size) = request.put_events entries.items size
+action_of (action.TestEventPattern pattern event) = request.test_event_pattern pattern (tree_of event)
+action_of (action.CreateQueue name) = request.create_queue name
+action_of (action.PeekMessages queue limit) = request.peek_messages queue limit
+action_of (action.DeliverDue budget) = request.deliver_due budget
 
 -- the request, with the view of its action
 abbrev pub request_of : Request → request.Request
-request_of r = record { action = action_of r.action; reading = r.reading }
+request_of r = record { action = action_of r.action; caller = r.caller; reading = r.reading }

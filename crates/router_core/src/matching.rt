@@ -1,21 +1,23 @@
 //! Which rules match an event, and the duties of the event.
-ghost use Rattle.std.specs.Prelude.{◌≡◌, ◌↔◌, ◌++◌, ℕ, None, map, IsTrue, IsFalse, IfOk, OnOk};
+ghost use Rattle.std.specs.Prelude.{◌≡◌, ◌↔◌, ◌++◌, ℕ, None, Some, map, IsTrue, IsFalse, IfOk, OnOk};
 ghost use Rattle.std.specs.Option.{option_copied};
 ghost use Rattle.json_text.specs.View.{tree_of};
 ghost use Rattle.json_text.specs.Compact.{IsValue};
 ghost use Rattle.event_shape.specs.Event.{event_tree};
 ghost use Rattle.event_shape.specs.Unnumbered.{with_number};
 ghost use Rattle.rule_table.specs.RuleSet.{rules_of};
-ghost use Rattle.router_core.specs.Verdict.{verdict_of};
+ghost use Rattle.bus_policy.specs.View.{verdict_of as policy_verdict_of};
+ghost use Rattle.router_core.specs.Verdict.{IsVerdict, IsVerdictOn, seen_verdict};
 ghost use Rattle.router_core.specs.Matching.{TextMatches, Matches, seen_target, AreMatched, IsSeen, duty_of};
 
 use crate::seen::{Seen, SeenEntry, SeenTarget, SeenTargets, SeenVerdict};
+use bus_policy::{Asker, Verdict, bus_verdict};
 use delivery_duties::{NewDuties, NewDuty};
 use event_shape::{EntryFault, Event, Unnumbered, rule_arn};
 use json_text::{Json, NoMemory, Text};
 use pattern_meaning::plain_holds;
 use pattern_read::PatternText;
-use rule_table::{Rule, RuleSet, Target};
+use rule_table::{Bus, Rule, RuleSet, Target};
 use std::alloc::Global;
 use std::collections::VecDeque;
 
@@ -48,19 +50,53 @@ pub fn see_plain_event(
     })
 }
 
-/// The verdict on an entry, on this rule set.
-pub fn verdict_of(set: &RuleSet, entry: &Result<Unnumbered, EntryFault>) -> SeenVerdict
-    ensures { result ≡ verdict_of set.now entry.now }
+/// The verdict on an entry of this caller, on this rule set.
+pub fn verdict_of(
+    alloc: Global,
+    set: &RuleSet,
+    caller: &str,
+    entry: &Result<Unnumbered, EntryFault>,
+) -> Result<SeenVerdict, NoMemory>
+    ensures { IfOk result (λ seen. IsVerdict set.now caller.now entry.now seen) }
 {
     match entry {
-        Ok(event) => {
-            if set.bus(event.bus()).is_some() {
-                SeenVerdict::Allowed
-            } else {
-                SeenVerdict::NoBus
-            }
-        }
-        Err(fault) => SeenVerdict::Fault(*fault),
+        Ok(event) => match set.bus(event.bus()) {
+            Some(bus) => policy_verdict(alloc, bus, caller, event),
+            None => Ok(SeenVerdict::NoBus),
+        },
+        Err(fault) => Ok(SeenVerdict::Fault(*fault)),
+    }
+}
+
+/// The verdict on an event for this bus.
+fn policy_verdict(
+    alloc: Global,
+    bus: &Bus,
+    caller: &str,
+    event: &Unnumbered,
+) -> Result<SeenVerdict, NoMemory>
+    ensures { IfOk result (λ seen. IsVerdictOn (Some bus.now) caller.now event.now seen) }
+{
+    let asker = Asker {
+        account: caller,
+        bus: event.bus(),
+        source: event.source(),
+        detail_type: event.detail_type(),
+    };
+    match bus.policy() {
+        Some(policy) => owned(alloc, policy.policy().decide(&asker)),
+        None => owned(alloc, bus_verdict(None, &asker)),
+    }
+}
+
+/// The verdict, with its text copied.
+fn owned(alloc: Global, verdict: Verdict) -> Result<SeenVerdict, NoMemory>
+    ensures { IfOk result (λ seen. seen ≡ seen_verdict (policy_verdict_of verdict.entry)) }
+{
+    match verdict {
+        Verdict::Allowed => Ok(SeenVerdict::Allowed),
+        Verdict::DeniedBy(name) => Ok(SeenVerdict::DeniedBy(Text::from_str(alloc, name)?)),
+        Verdict::NoAllow => Ok(SeenVerdict::NotAllowed),
     }
 }
 

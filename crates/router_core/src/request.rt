@@ -4,12 +4,24 @@ use json_text::{Json, Text};
 use pattern_read::PatternText;
 use rule_table::Target;
 
-/// What a request asks for.
+/// What a request asks for. Each bus is given by its name.
 #[derive(Drop)]
 pub enum Action {
-    /// Create a queue.
-    CreateQueue {
+    /// Create a bus, without a rule and without a policy.
+    CreateEventBus {
         name: Text,
+    },
+    /// Delete a bus that has no rule.
+    DeleteEventBus {
+        name: Text,
+    },
+    /// Show a bus.
+    DescribeEventBus {
+        name: Text,
+    },
+    /// Show the buses whose names begin with the prefix, or all buses.
+    ListEventBuses {
+        prefix: Option<Text>,
     },
     /// Create or replace a rule of the bus, with the text of its pattern and its state.
     PutRule {
@@ -18,11 +30,68 @@ pub enum Action {
         pattern: Text,
         enabled: bool,
     },
+    /// Delete a rule that has no target. A rule that does not exist is no fault.
+    DeleteRule {
+        bus: Text,
+        name: Text,
+    },
+    /// Enable a rule, or disable it.
+    PutRuleState {
+        bus: Text,
+        name: Text,
+        enabled: bool,
+    },
+    /// Show a rule.
+    DescribeRule {
+        bus: Text,
+        name: Text,
+    },
+    /// Show the rules of the bus whose names begin with the prefix, or all its rules.
+    ListRules {
+        bus: Text,
+        prefix: Option<Text>,
+    },
     /// Add targets to a rule of the bus, or replace them.
     PutTargets {
         bus: Text,
         rule: Text,
         targets: Vec<Target>,
+    },
+    /// Remove the targets of these ids from a rule of the bus.
+    RemoveTargets {
+        bus: Text,
+        rule: Text,
+        ids: Vec<Text>,
+    },
+    /// Show the targets of a rule.
+    ListTargetsByRule {
+        bus: Text,
+        rule: Text,
+    },
+    /// Show the names of the bus's rules that have a target with this ARN.
+    ListRuleNamesByTarget {
+        arn: Text,
+        bus: Text,
+    },
+    /// Give the bus this policy. The text is the policy's as it would be stored, and may have more bytes than a policy may.
+    PutPolicy {
+        bus: Text,
+        policy: Text,
+    },
+    /// Add a statement to the bus's policy that lets this account put events on the bus, or everyone if there is none.
+    PutStatement {
+        bus: Text,
+        sid: Text,
+        account: Option<Text>,
+    },
+    /// Take the bus's policy away.
+    RemovePolicy {
+        bus: Text,
+    },
+    /// Remove the statement of this StatementId from the bus's policy. Without one the request is refused.
+    RemoveStatement {
+        bus: Text,
+        sid: Option<Text>,
     },
     /// Publish events. Each entry was checked when it was read: it is an event without its number, or has a fault. `size` is the
     /// number of bytes of all entries together, faulty ones included.
@@ -30,15 +99,19 @@ pub enum Action {
         entries: Vec<Result<Unnumbered, EntryFault>>,
         size: u64,
     },
-    /// Show the oldest messages of a queue, at most `limit`.
-    PeekMessages {
-        queue: Text,
-        limit: u32,
-    },
     /// Test a pattern on an event, a value that has the members of an event. Nothing is kept.
     TestEventPattern {
         pattern: PatternText,
         event: Json,
+    },
+    /// Create a queue.
+    CreateQueue {
+        name: Text,
+    },
+    /// Show the oldest messages of a queue, at most `limit`.
+    PeekMessages {
+        queue: Text,
+        limit: u32,
     },
     /// Make at most `budget` steps of delivery.
     DeliverDue {
@@ -50,6 +123,8 @@ pub enum Action {
 #[derive(Drop)]
 pub struct Request {
     pub action: Action,
+    /// The account that asks, of 12 digits.
+    pub caller: Text,
     /// The clock's reading when the request had been read whole, in seconds since 1970-01-01T00:00:00Z.
     pub reading: u64,
 }

@@ -12,12 +12,16 @@ pub struct SeenTarget {
 }
 
 /// The verdict on an entry of a PutEvents, on a rule set.
-#[derive(Clone, Copy, Debug, PartialEq, Eq)]
+#[derive(Debug, Drop)]
 pub enum SeenVerdict {
     /// The entry's own fault.
     Fault(EntryFault),
     /// The entry's bus does not exist.
     NoBus,
+    /// The statement of this name of the bus's policy denies it: its Sid, or `#` and its place.
+    DeniedBy(Text),
+    /// No statement of the bus's policy allows it.
+    NotAllowed,
     Allowed,
 }
 

@@ -2,11 +2,13 @@ ghost use Rattle.std.specs.Prelude.{◌≡◌, IfOk, codes};
 ghost use Rattle.event_shape.specs.Names as arns;
 
 use crate::{
-    AcceptedEvent, Change, Ready, Seen, SeenTarget, SeenTargets, Tables, duties_of,
-    see_plain_entry, see_plain_event,
+    AcceptedEvent, Change, Ready, Seen, SeenTarget, SeenTargets, SeenVerdict, Tables, duties_of,
+    see_plain_entry, see_plain_event, verdict_of,
 };
 use delivery_duties::{NewDuties, NewDuty, NewQueue, Outcome};
-use event_shape::{Checked, DEFAULT_BUS, Event, EventEntry, OWNER, Unnumbered, check, queue_arn};
+use event_shape::{
+    Checked, DEFAULT_BUS, EntryFault, Event, EventEntry, OWNER, Unnumbered, check, queue_arn,
+};
 use json_text::{NoMemory, Text};
 use rule_table::{Control, RuleSet, Target};
 use std::alloc::Global;
@@ -354,5 +356,100 @@ fn the_targets_of_the_rules_that_match_are_seen(rt: HostRuntime) -> Result<(), F
 fn each_target_is_owed_one_duty(rt: HostRuntime) -> Result<(), Fail> {
     let targets = targets_seen(rt.alloc(), DEFAULT_BUS, None)?;
     assert!(rt; duties_of(rt.alloc(), targets, "{}")?.len() == 4);
+    Ok(())
+}
+
+/// Accepts only values that threads may share and pass on.
+fn crosses_threads<T: Send + Sync>(_value: &T) {}
+
+#[test]
+fn a_rule_set_crosses_threads(rt: HostRuntime) -> Result<(), Fail> {
+    crosses_threads(&RuleSet::first(rt.alloc())?);
+    Ok(())
+}
+
+/// Account 444455556666 may put events on `default`, but for those with the source `shop.secret`.
+const POLICY: &str =
+    "{\"Version\":\"2012-10-17\",\"Statement\":[{\"Sid\":\"ok\",\"Effect\":\"Allow\",\"Principal\":{\"AWS\":\"444455556666\"},\"Action\":\"events:PutEvents\",\"Resource\":\"arn:aws:events:us-east-1:111122223333:event-bus/default\"},{\"Sid\":\"no\",\"Effect\":\"Deny\",\"Principal\":{\"AWS\":\"444455556666\"},\"Action\":\"events:PutEvents\",\"Resource\":\"arn:aws:events:us-east-1:111122223333:event-bus/default\",\"Condition\":{\"StringEquals\":{\"events:source\":\"shop.secret\"}}}]}";
+
+/// The set with the bus `orders`, which has no policy, and the policy of `default`.
+fn with_policy(alloc: Global) -> Result<RuleSet, Fail> {
+    let created = Control::BusCreated {
+        name: Text::from_str(alloc, "orders")?,
+    };
+    let put = Control::PolicyPut {
+        bus: Text::from_str(alloc, DEFAULT_BUS)?,
+        policy: Some(Text::from_str(alloc, POLICY)?),
+    };
+    let set = changed(alloc, RuleSet::first(alloc)?, created)?;
+    changed(alloc, set, put)
+}
+
+/// Who asks, the bus, the event's source, and the verdict: `no` is the name of a statement.
+const VERDICTS: [(&str, &str, &str, &str); 8] = [
+    ("444455556666", DEFAULT_BUS, "shop.orders", "allowed"),
+    ("444455556666", DEFAULT_BUS, "shop.secret", "no"),
+    ("777788889999", DEFAULT_BUS, "shop.orders", "not allowed"),
+    (OWNER, DEFAULT_BUS, "shop.secret", "allowed"),
+    (OWNER, "orders", "shop.orders", "allowed"),
+    ("444455556666", "orders", "shop.orders", "not allowed"),
+    (OWNER, "returns", "shop.orders", "no bus"),
+    ("777788889999", "returns", "shop.secret", "no bus"),
+];
+
+fn word_of(verdict: &SeenVerdict) -> &str {
+    match verdict {
+        SeenVerdict::Fault(_) => "fault",
+        SeenVerdict::NoBus => "no bus",
+        SeenVerdict::DeniedBy(name) => name.as_str(),
+        SeenVerdict::NotAllowed => "not allowed",
+        SeenVerdict::Allowed => "allowed",
+    }
+}
+
+/// An event of this caller for the bus.
+fn event_for(alloc: Global, caller: &str, bus: &str, source: &str) -> Result<Unnumbered, Fail> {
+    let entry = EventEntry {
+        time: None,
+        source: Some(Text::from_str(alloc, source)?),
+        resources: Vec::new(alloc),
+        detail_type: Some(Text::from_str(alloc, "Order")?),
+        detail: Some(Text::from_str(alloc, "{}")?),
+        bus: Some(Text::from_str(alloc, bus)?),
+    };
+    match check(alloc, &entry) {
+        Ok(checked) => Ok(Unnumbered::make(alloc, checked, 1000, caller)?),
+        Err(_) => Err(Fail::from("the entry has a fault")),
+    }
+}
+
+fn is_verdict(
+    alloc: Global,
+    set: &RuleSet,
+    caller: &str,
+    entry: &Result<Unnumbered, EntryFault>,
+    want: &str,
+) -> Result<bool, Fail> {
+    let verdict = verdict_of(alloc, set, caller, entry)?;
+    Ok(word_of(&verdict) == want)
+}
+
+/// The index of the first row with another verdict.
+fn decided_otherwise(alloc: Global, set: &RuleSet) -> Result<Option<usize>, Fail> {
+    for (place, (caller, bus, source, want)) in VERDICTS.iter().enumerate() {
+        let event = event_for(alloc, caller, bus, source)?;
+        if !is_verdict(alloc, set, caller, &Ok(event), want)? {
+            return Ok(Some(place));
+        }
+    }
+    Ok(None)
+}
+
+#[test]
+fn a_policy_decides_who_publishes(rt: HostRuntime) -> Result<(), Fail> {
+    let set = with_policy(rt.alloc())?;
+    assert_eq!(rt; decided_otherwise(rt.alloc(), &set)?, None);
+    let fault = Err(EntryFault::Source);
+    assert!(rt; is_verdict(rt.alloc(), &set, "777788889999", &fault, "fault")?);
     Ok(())
 }

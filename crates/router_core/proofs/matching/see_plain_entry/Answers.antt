@@ -1,8 +1,4 @@
-use Rattle.std.proofs.Common.{None, List, subst}
-use Rattle.json_text.specs.Tree.{Tree}
-use Rattle.event_shape.specs.Event.{event_tree}
 use Rattle.rule_table.specs.RuleSet.{rules_of}
-use Rattle.router_core.specs.Matching.{AreMatched}
 use Rattle.router_core.proofs.MatchingLemmas.{matched_numbered}
 use Rattle.router_core.proofs.matching.see_plain_entry.Goals as goal
 

@@ -1,0 +1,55 @@
+-- A rule set may go to another thread, and be read by several: `set_send`, `set_sync`. One lemma for each type, since one search over
+-- the whole type stops at its limit.
+use denote.Param.Send.{IsSend, IsSync, sendable}
+use Rattle.std.proofs.Crossing.{crosses}
+use Rattle.json_text.proofs.base.Text.TheSendSync as text
+use Rattle.json_text.proofs.value.Json.TheLaws.TheKnot as json
+use Rattle.leaf_match.proofs.wildcard.Wild.TheSendSync as wild
+use Rattle.leaf_match.proofs.cidr.Cidr.TheSendSync as cidr
+use Rattle.pattern_meaning.proofs.comparison.Comparison.TheSendSync as comparison
+use Rattle.pattern_meaning.proofs.pattern.Field.TheLaws.TheKnot as field
+use Rattle.pattern_meaning.proofs.pattern.LeafTest.TheLaws.TheKnot as leaf_test
+use Rattle.pattern_read.specs.contracts.pattern_text.PatternText as pattern
+use Rattle.bus_policy.specs.contracts.policy.Policy as policy
+use Rattle.name_rows.proofs.rows.Rows.TheSendSync as rows
+use Rattle.rule_table.proofs.control.Target.TheSendSync as target
+use Rattle.rule_table.specs.contracts.rule.Rule as rule
+use Rattle.rule_table.specs.contracts.policy.SharedPolicy as shared
+use Rattle.rule_table.specs.contracts.bus.Bus as bus
+use Rattle.rule_table.specs.contracts.rule_set.RuleSet as rule_set
+
+pattern_send : IsSend pattern.the_row
+pattern_send = search (sendable, crosses, text.the_send, json.crosses, field.crosses, leaf_test.crosses, wild.the_send, cidr.the_send, comparison.the_send) depth 20
+
+pattern_sync : IsSync pattern.the_row
+pattern_sync = search (sendable, crosses, text.the_sync, json.crosses, field.crosses, leaf_test.crosses, wild.the_sync, cidr.the_sync, comparison.the_sync) depth 20
+
+rule_send : IsSend rule.the_row
+rule_send = search (sendable, crosses, text.the_send, pattern_send, pattern_sync, target.the_send) depth 20
+
+rule_sync : IsSync rule.the_row
+rule_sync = search (sendable, crosses, text.the_sync, pattern_send, pattern_sync, target.the_sync) depth 20
+
+policy_send : IsSend policy.the_row
+policy_send = search (sendable, crosses, text.the_send, json.crosses) depth 20
+
+policy_sync : IsSync policy.the_row
+policy_sync = search (sendable, crosses, text.the_sync, json.crosses) depth 20
+
+shared_send : IsSend shared.the_row
+shared_send = search (sendable, crosses, policy_send, policy_sync) depth 20
+
+shared_sync : IsSync shared.the_row
+shared_sync = search (sendable, crosses, policy_send, policy_sync) depth 20
+
+bus_send : IsSend bus.the_row
+bus_send = search (sendable, crosses, text.the_send, rule_send, rule_sync, shared_send, rows.the_send) depth 20
+
+bus_sync : IsSync bus.the_row
+bus_sync = search (sendable, crosses, text.the_sync, rule_send, rule_sync, shared_sync, rows.the_sync) depth 20
+
+pub set_send : IsSend rule_set.the_row
+set_send = search (sendable, crosses, text.the_send, text.the_sync, bus_send, bus_sync, rows.the_send) depth 20
+
+pub set_sync : IsSync rule_set.the_row
+set_sync = search (sendable, crosses, text.the_send, text.the_sync, bus_send, bus_sync, rows.the_sync) depth 20
