@@ -14,7 +14,6 @@ use Rattle.api_replies.specs.Reply.{Reply}
 use Rattle.router_core.specs.Request.{Action}
 use Rattle.router_core.specs.Ready.{IsConsistent}
 use Rattle.router_core.specs.Matching.{AreMatched, AreDuties, duty_of}
-use Rattle.api_replies.specs.View.{reply_of}
 use Rattle.router_core.specs.declared.seen.SeenTarget.{SeenTarget}
 use Rattle.router_core.specs.Tables.{Tables}
 use Rattle.router_core.specs.declared.ready.Ready.{Ready}
@@ -42,12 +41,11 @@ controlled_so (Ok p) t moment {c} {d} {reply} {other} same is h =
     subst (λ (x : Control). IsControlled t moment x other (answer_of p)) same (subst (λ (x : Reply). IsControlled t moment c x (answer_of p)) is h)
 controlled_so (Err e) t moment same is h = tt
 
--- what is answered at the turn's moment is the machine's answer
-pub answered : {E : Type 0} (r : Result (Option Ready × CodeReply) E) (t : Tables) (moment at : ℕ) {seen action : Action} → moment ≡ at → seen ≡ action
-    → IfOk r (λ p. IsAnswerAt t moment action (answer_of p)) → IfOk r (λ p. IsAnswerAt t at seen (answer_of p))
-answered (Ok p) t moment at {seen} {action} same is h =
-    subst (λ (a : Action). IsAnswerAt t at a (answer_of p)) (sym is) (subst (λ (m : ℕ). IsAnswerAt t m action (answer_of p)) same h)
-answered (Err e) t moment at same is h = tt
+-- what is answered to an action
+pub answered : {E : Type 0} (r : Result (Option Ready × CodeReply) E) (t : Tables) (caller : List ℕ) (moment : ℕ) {seen action : Action} → seen ≡ action
+    → IfOk r (λ p. IsAnswerAt t caller moment action (answer_of p)) → IfOk r (λ p. IsAnswerAt t caller moment seen (answer_of p))
+answered (Ok p) t caller moment {seen} {action} is h = subst (λ (a : Action). IsAnswerAt t caller moment a (answer_of p)) (sym is) h
+answered (Err e) t caller moment is h = tt
 
 -- ---- the duties of one event
 

@@ -1,6 +1,6 @@
 -- The entries of a PutEvents: `adds_none`, `adds_event` and `adds_refusal` (one entry and those after it), `published` (the events are written),
 -- `unpublished` (there is none) and `limited` (the number limit is reached).
-use Rattle.std.proofs.Common.{◌≡◌, ℕ, ◌+◌, ◌≤◌, ◌<◌, ◌⊎◌, inl, inr, true, false, List, [], ◌∷◌, ◌++◌, length, map, Some, Ok, Err, sym, refl, ap, ◌∙◌, subst}
+use Rattle.std.proofs.Common.{◌≡◌, ℕ, ◌+◌, ◌≤◌, ◌<◌, inr, true, false, List, [], ◌∷◌, ◌++◌, length, map, Some, Ok, Err, sym, refl, ap, ◌∙◌, subst}
 use Rattle.std.proofs.Common.{arith, append_assoc, append-nil, length-append}
 use Rattle.std.specs.Prelude.{All, codes}
 use Rattle.std.proofs.lemmas.Bool.{cond-true, cond-false}
@@ -15,13 +15,13 @@ use Rattle.router_core.specs.Batch as batch
 use Rattle.router_core.specs.Ready.{accepted_of, AreDeliverable}
 use Rattle.router_core.specs.Tables.{Tables, is_full}
 use Rattle.router_core.specs.declared.ready.AcceptedEvent.{AcceptedEvent}
-use Rattle.router_calls.specs.Accepted.{Given, IsPlaced, ArePlaced, events_in, failures_in}
-use Rattle.router_calls.specs.Answer.{Answer, IsPublished, entry_report, entries_reply, events_answer, items_reply, reply_alone, writes}
+use Rattle.router_calls.specs.Accepted.{Given, IsPlaced, events_in, failures_in}
+use Rattle.router_calls.specs.Answer.{Answer, IsPublished, entry_report, entries_reply, events_answer, items_reply, reply_alone}
 use Rattle.router_calls.specs.Steps.{AddsEntries, IsEventAdded, IsRefusalAdded}
 use Rattle.router_calls.specs.declared.put_events.PlacedEntries.{PlacedEntries}
 
-pub adds_none : (t : Tables) (n : ℕ) (old : PlacedEntries) → AddsEntries t n [] old old
-adds_none t n old = record {
+pub adds_none : (t : Tables) (caller : List ℕ) (n : ℕ) (old : PlacedEntries) → AddsEntries t caller n [] old old
+adds_none t caller n old = record {
   all = [];
   are = refl;
   events = sym (append-nil (map accepted_of old.events.items));
@@ -36,10 +36,10 @@ deliverable_more : (queues : List Queue) (events : List AcceptedEvent) (e : Acce
 deliverable_more queues [] e h few there = (few, there, tt)
 deliverable_more queues (x ∷ events) e h few there = (h.0, h.1, deliverable_more queues events e h.2 few there)
 
-pub adds_event : (t : Tables) (n : ℕ) (entry : Given) (rest : List Given) (old mid new : PlacedEntries) (e : AcceptedEvent)
-    → IsPlaced t.set n entry (Ok (accepted_of e)) → length e.duties ≤ 1500 → All (λ (d : NewDuty). HasEndpoint d.endpoint t.duties.queues) e.duties
-    → IsEventAdded e old mid → AddsEntries t (n + 1) rest mid new → AddsEntries t n (entry ∷ rest) old new
-adds_event t n entry rest old mid new e placed few there added more =
+pub adds_event : (t : Tables) (caller : List ℕ) (n : ℕ) (entry : Given) (rest : List Given) (old mid new : PlacedEntries) (e : AcceptedEvent)
+    → IsPlaced t.set caller n entry (Ok (accepted_of e)) → length e.duties ≤ 1500 → All (λ (d : NewDuty). HasEndpoint d.endpoint t.duties.queues) e.duties
+    → IsEventAdded e old mid → AddsEntries t caller (n + 1) rest mid new → AddsEntries t caller n (entry ∷ rest) old new
+adds_event t caller n entry rest old mid new e placed few there added more =
     let one = entry_report (Ok (accepted_of e)) ∷ [] in
     let first : map accepted_of mid.events.items ≡ map accepted_of old.events.items ++ accepted_of e ∷ [] =
     ap (map accepted_of) added.events ∙ map-append accepted_of old.events.items (e ∷ []) in
@@ -56,9 +56,9 @@ adds_event t n entry rest old mid new e placed few there added more =
           (deliverable_more t.duties.queues old.events.items e d few there));
     }
 
-pub adds_refusal : (t : Tables) (n : ℕ) (entry : Given) (rest : List Given) (old mid new : PlacedEntries) (c : Cause)
-    → IsPlaced t.set n entry (Err c) → IsRefusalAdded c old mid → AddsEntries t n rest mid new → AddsEntries t n (entry ∷ rest) old new
-adds_refusal t n entry rest old mid new c placed added more =
+pub adds_refusal : (t : Tables) (caller : List ℕ) (n : ℕ) (entry : Given) (rest : List Given) (old mid new : PlacedEntries) (c : Cause)
+    → IsPlaced t.set caller n entry (Err c) → IsRefusalAdded c old mid → AddsEntries t caller n rest mid new → AddsEntries t caller n (entry ∷ rest) old new
+adds_refusal t caller n entry rest old mid new c placed added more =
     let one = entry_report (Err c) ∷ [] in
     record {
       all = Err c ∷ more.all;
@@ -77,16 +77,16 @@ pub record IsFresh (old : PlacedEntries) : Type 0 where
   pub reports : old.reports.items ≡ []
   pub failed : old.failed ≡ 0
 
-reply_so : (t : Tables) (n : ℕ) (entries : List Given) (old new : PlacedEntries) (p : AddsEntries t n entries old new) → IsFresh old → (reply : Reply)
+reply_so : (t : Tables) (caller : List ℕ) (n : ℕ) (entries : List Given) (old new : PlacedEntries) (p : AddsEntries t caller n entries old new) → IsFresh old → (reply : Reply)
     → reply ≡ items_reply new.failed (codes "Entries") (trees_of new.reports.items) → reply ≡ entries_reply p.all
-reply_so t n entries old new p fresh reply is =
+reply_so t caller n entries old new p fresh reply is =
     let count : new.failed ≡ failures_in p.all = omega (arith, p.failed, fresh.failed) in
     let reports = p.reports ∙ ap (λ js. trees_of js ++ map entry_report p.all) fresh.reports in
     is ∙ ap (λ k. items_reply k (codes "Entries") (trees_of new.reports.items)) count ∙ ap (items_reply (failures_in p.all) (codes "Entries")) reports
 
-events_so : (t : Tables) (n : ℕ) (entries : List Given) (old new : PlacedEntries) (p : AddsEntries t n entries old new) → IsFresh old
+events_so : (t : Tables) (caller : List ℕ) (n : ℕ) (entries : List Given) (old new : PlacedEntries) (p : AddsEntries t caller n entries old new) → IsFresh old
     → map accepted_of new.events.items ≡ events_in p.all
-events_so t n entries old new p fresh = p.events ∙ ap (λ es. map accepted_of es ++ events_in p.all) fresh.events
+events_so t caller n entries old new p fresh = p.events ∙ ap (λ es. map accepted_of es ++ events_in p.all) fresh.events
 
 none_answer : (t : Tables) (moment : ℕ) (events : List AcceptedEvent) (reply : Reply) → length events ≡ 0
     → reply_alone reply ≡ events_answer t moment (map accepted_of events) reply
@@ -115,32 +115,32 @@ some_answer t moment (e ∷ es) reply some free =
     ap (written moment reply) (entries_of_events (e ∷ es)) ∙ sym (cond-false (is_full t) _ _ free)
 
 -- the answer for the events that were placed
-answered : (t : Tables) (moment : ℕ) (entries : List Given) (size : ℕ) (old new : PlacedEntries) (reply : Reply) (a : Answer) → size ≤ 262144
-    → IsFresh old → AddsEntries t (t.events + 1) entries old new → reply ≡ items_reply new.failed (codes "Entries") (trees_of new.reports.items)
-    → a ≡ events_answer t moment (map accepted_of new.events.items) reply → IsPublished t moment entries size a
-answered t moment entries size old new reply a small fresh p is so =
-    let events = events_so t (t.events + 1) entries old new p fresh in
-    let replies = reply_so t (t.events + 1) entries old new p fresh reply is in
+answered : (t : Tables) (caller : List ℕ) (moment : ℕ) (entries : List Given) (size : ℕ) (old new : PlacedEntries) (reply : Reply) (a : Answer) → size ≤ 262144
+    → IsFresh old → AddsEntries t caller (t.events + 1) entries old new → reply ≡ items_reply new.failed (codes "Entries") (trees_of new.reports.items)
+    → a ≡ events_answer t moment (map accepted_of new.events.items) reply → IsPublished t caller moment entries size a
+answered t caller moment entries size old new reply a small fresh p is so =
+    let events = events_so t caller (t.events + 1) entries old new p fresh in
+    let replies = reply_so t caller (t.events + 1) entries old new p fresh reply is in
     inr (small, (p.all, p.are, so ∙ ap (λ es. events_answer t moment es reply) events ∙ ap (events_answer t moment (events_in p.all)) replies))
 
-pub unpublished : (t : Tables) (moment : ℕ) (entries : List Given) (size : ℕ) (old new : PlacedEntries) (reply : Reply) → size ≤ 262144
-    → IsFresh old → AddsEntries t (t.events + 1) entries old new → reply ≡ items_reply new.failed (codes "Entries") (trees_of new.reports.items)
-    → length new.events.items ≡ 0 → IsPublished t moment entries size (reply_alone reply)
-unpublished t moment entries size old new reply small fresh p is none =
-    answered t moment entries size old new reply (reply_alone reply) small fresh p is (none_answer t moment new.events.items reply none)
+pub unpublished : (t : Tables) (caller : List ℕ) (moment : ℕ) (entries : List Given) (size : ℕ) (old new : PlacedEntries) (reply : Reply) → size ≤ 262144
+    → IsFresh old → AddsEntries t caller (t.events + 1) entries old new → reply ≡ items_reply new.failed (codes "Entries") (trees_of new.reports.items)
+    → length new.events.items ≡ 0 → IsPublished t caller moment entries size (reply_alone reply)
+unpublished t caller moment entries size old new reply small fresh p is none =
+    answered t caller moment entries size old new reply (reply_alone reply) small fresh p is (none_answer t moment new.events.items reply none)
 
-pub limited : (t : Tables) (moment : ℕ) (entries : List Given) (size : ℕ) (old new : PlacedEntries) (reply : Reply) (a : Answer) → size ≤ 262144
-    → IsFresh old → AddsEntries t (t.events + 1) entries old new → reply ≡ items_reply new.failed (codes "Entries") (trees_of new.reports.items)
-    → 0 < length new.events.items → is_full t ≡ true → a ≡ reply_alone (refused cause.NumberLimit) → IsPublished t moment entries size a
-limited t moment entries size old new reply a small fresh p is some full so =
-    answered t moment entries size old new reply a small fresh p is (so ∙ full_answer t moment new.events.items reply some full)
+pub limited : (t : Tables) (caller : List ℕ) (moment : ℕ) (entries : List Given) (size : ℕ) (old new : PlacedEntries) (reply : Reply) (a : Answer) → size ≤ 262144
+    → IsFresh old → AddsEntries t caller (t.events + 1) entries old new → reply ≡ items_reply new.failed (codes "Entries") (trees_of new.reports.items)
+    → 0 < length new.events.items → is_full t ≡ true → a ≡ reply_alone (refused cause.NumberLimit) → IsPublished t caller moment entries size a
+limited t caller moment entries size old new reply a small fresh p is some full so =
+    answered t caller moment entries size old new reply a small fresh p is (so ∙ full_answer t moment new.events.items reply some full)
 
-pub published : (t : Tables) (moment : ℕ) (entries : List Given) (size : ℕ) (old new : PlacedEntries) (reply : Reply) → size ≤ 262144
-    → IsFresh old → AddsEntries t (t.events + 1) entries old new → reply ≡ items_reply new.failed (codes "Entries") (trees_of new.reports.items)
+pub published : (t : Tables) (caller : List ℕ) (moment : ℕ) (entries : List Given) (size : ℕ) (old new : PlacedEntries) (reply : Reply) → size ≤ 262144
+    → IsFresh old → AddsEntries t caller (t.events + 1) entries old new → reply ≡ items_reply new.failed (codes "Entries") (trees_of new.reports.items)
     → 0 < length new.events.items → is_full t ≡ false
-    → IsPublished t moment entries size (record {
+    → IsPublished t caller moment entries size (record {
       batch = Some (record { moment = moment; entries = map (λ (e : AcceptedEvent). batch.accepted (accepted_of e)) new.events.items });
       reply = reply;
     })
-published t moment entries size old new reply small fresh p is some free =
-    answered t moment entries size old new reply _ small fresh p is (some_answer t moment new.events.items reply some free)
+published t caller moment entries size old new reply small fresh p is some free =
+    answered t caller moment entries size old new reply _ small fresh p is (some_answer t moment new.events.items reply some free)

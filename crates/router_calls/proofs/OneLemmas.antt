@@ -1,22 +1,24 @@
 -- A request has at most one answer: `one_answer`, which the law of src/laws.rt cites. The other lemmas lead to it.
-use Rattle.std.proofs.Common.{◌≡◌, ℕ, ◌+◌, ◌<◌, ◌≤◌, ◌⊎◌, inl, inr, true, false, List, [], ◌∷◌, ◌++◌, map, drop, Some, None, Ok, Err, sym, refl, ap, ◌∙◌}
+use Rattle.std.proofs.Common.{◌≡◌, ℕ, ◌+◌, inl, inr, false, List, [], ◌∷◌, ◌++◌, map, drop, Option, Some, None, is_some, Ok, Err, sym, refl, ap, ◌∙◌}
 use Rattle.std.proofs.Common.{subst, arith}
 use Rattle.std.proofs.lemmas.Bool.{false≢true}
-use Rattle.json_text.specs.Tree.{Tree}
-use Rattle.event_time.specs.Time.{IsIso}
+use Rattle.json_text.specs.Tree.{Tree, no_items}
 use Rattle.event_time.proofs.ClockLemmas.{time_once, iso_is_time}
 use Rattle.event_shape.specs.Names.{queue_arn}
 use Rattle.event_shape.specs.Event.{event_tree}
 use Rattle.event_shape.specs.Unnumbered.{Unnumbered, with_number}
-use Rattle.event_shape.specs.declared.entry.EntryFault.{EntryFault}
 use Rattle.rule_table.specs.declared.control.Target.{Target}
 use Rattle.rule_table.specs.declared.control.TargetFault.{TargetFault}
 use Rattle.rule_table.specs.declared.control.TargetFault.TheVariants as target_fault
 use Rattle.rule_table.specs.declared.control.ControlFault.{ControlFault}
 use Rattle.rule_table.specs.declared.control.ControlFault.TheVariants as fault
-use Rattle.rule_table.specs.Control.{Control, targets_put}
-use Rattle.rule_table.specs.RuleSet.{Rule, RuleSet, put_target, rules_of, rule_at, has_bus}
-use Rattle.rule_table.specs.Refusal.{IsRefused, HasTargetFault}
+use Rattle.rule_table.specs.Control.{Control}
+use Rattle.name_rows.specs.Rows.{named}
+use Rattle.bus_policy.specs.Verdict.{Asker, Verdict as PolicyVerdict, IsBusVerdict}
+use Rattle.bus_policy.specs.Parts.{statements_of}
+use Rattle.bus_policy.proofs.LawLemmas.{verdict_once as policy_verdict_once}
+use Rattle.bus_policy.proofs.ReadLemmas.{one_policy}
+use Rattle.rule_table.specs.RuleSet.{Rule, Bus, RuleSet, put_target, rules_of, rule_at, has_bus}
 use Rattle.rule_table.proofs.RefusalLemmas.{one_fault, faulty_not_good, no_rule_at, one_refusal, refused_not_allowed}
 use Rattle.delivery_duties.specs.declared.duty.NewDuty.{NewDuty}
 use Rattle.api_replies.specs.declared.kind.Kind.TheVariants as kind
@@ -24,19 +26,23 @@ use Rattle.api_replies.specs.declared.cause.Cause.{Cause}
 use Rattle.api_replies.specs.declared.cause.Cause.TheVariants as cause
 use Rattle.api_replies.specs.Reply.{Reply, refused}
 use Rattle.router_core.specs.Batch as batch
-use Rattle.router_core.specs.Matching.{TextMatches, AreMatched, AreDuties, seen_target, duty_of}
-use Rattle.router_core.specs.Verdict.{verdict_of}
+use Rattle.router_core.specs.Matching.{AreMatched, AreDuties, seen_target, duty_of}
+use Rattle.router_core.specs.Verdict.{IsPolicyOf, asker_for, seen_verdict, IsVerdictOn, IsVerdict}
 use Rattle.router_core.specs.declared.seen.SeenTarget.{SeenTarget}
 use Rattle.router_core.specs.declared.seen.SeenVerdict.{SeenVerdict}
 use Rattle.router_core.specs.declared.seen.SeenVerdict.TheVariants as verdict
-use Rattle.router_core.specs.Request.{Action, create_queue, put_rule, put_targets, put_events, peek_messages, test_event_pattern, deliver_due, Request}
+use Rattle.router_core.specs.Request.{Action, create_event_bus, delete_event_bus, describe_event_bus, list_event_buses, put_rule, delete_rule, put_rule_state}
+use Rattle.router_core.specs.Request.{describe_rule, list_rules, put_targets, remove_targets, list_targets_by_rule, list_rule_names_by_target, put_policy}
+use Rattle.router_core.specs.Request.{put_statement, remove_policy, remove_statement, put_events, test_event_pattern, create_queue, peek_messages, deliver_due}
+use Rattle.router_core.specs.Request.{Request}
 use Rattle.router_core.specs.Tables.{Tables}
 use Rattle.router_calls.specs.Causes.{IsCause, IsTargetCause}
-use Rattle.router_calls.specs.Accepted.{Given, Placed, IsAcceptedAs, IsPlacedBy, ArePlaced, number_after, events_in}
+use Rattle.router_calls.specs.Accepted.{Given, Placed, IsAcceptedAs, IsPlacedBy, IsPlaced, ArePlaced, number_after, events_in}
 use Rattle.router_calls.specs.Targets.{AreSplit}
 use Rattle.router_calls.specs.Answer.{Answer, IsAnswer, IsAnswerAt, IsControlled, IsPublished, IsTargetsPut, IsTested, targets_answer, events_answer}
-use Rattle.router_calls.specs.Answer.{entries_reply}
-use Rattle.router_calls.specs.Answer.{reply_alone, moment_at}
+use Rattle.router_calls.specs.Answer.{entries_reply, reply_alone, moment_at, IsRuleDeleted, AreTargetsRemoved, removals_answer, IsOnBus, IsPolicyPut}
+use Rattle.router_calls.specs.Answer.{policy_answer, IsStatementPut, statement_answer, IsStatementRemovedFrom, IsStatementRemoved, removal_answer}
+use Rattle.router_calls.specs.Removals.{removed_ids, failed_ids}
 
 -- ---- the targets that match
 
@@ -73,28 +79,57 @@ accepted_once set n u a b p q =
     (time_once u.event.time a.time b.time (iso_is_time u.event.time a.time p.time) (iso_is_time u.event.time b.time q.time)) (sym texts)
     (duties_once u.bus (rules_of u.bus set) event a.text a.duties b.duties p.duties owed)
 
-placed_once : (v : SeenVerdict) (set : RuleSet) (n : ℕ) (entry : Given) (a b : Placed) → IsPlacedBy v set n entry a → IsPlacedBy v set n entry b → a ≡ b
-placed_once (verdict.Fault f) set n entry a b p q = p ∙ sym q
-placed_once verdict.NoBus set n entry a b p q = p ∙ sym q
-placed_once verdict.Allowed set n entry a b (u, x, e, is, p) (v, y, f, so, q) =
+policy_once : (o : Option (List ℕ)) (p q : Option Tree) → IsPolicyOf o p → IsPolicyOf o q → p ≡ q
+policy_once None p q a b = a ∙ sym b
+policy_once (Some t) p q (x, is, e) (y, so, f) = e ∙ ap Some (one_policy t x y is so) ∙ sym f
+
+bus_verdict_once : (policy : Option Tree) (asker : Asker) (v w : PolicyVerdict) → IsBusVerdict policy asker v → IsBusVerdict policy asker w → v ≡ w
+bus_verdict_once None asker v w p q = policy_verdict_once no_items asker v w p q
+bus_verdict_once (Some policy) asker v w p q = policy_verdict_once (statements_of policy) asker v w p q
+
+verdict_on_once : (bus : Option Bus) (caller : List ℕ) (event : Unnumbered) (v w : SeenVerdict) → IsVerdictOn bus caller event v
+    → IsVerdictOn bus caller event w → v ≡ w
+verdict_on_once None caller event v w p q = p ∙ sym q
+verdict_on_once (Some bus) caller event v w (policy, x, is, says, e) (other, y, so, also, f) =
+    let same : other ≡ policy = policy_once bus.policy other policy so is in
+    let there = subst (λ (o : Option Tree). IsBusVerdict o (asker_for caller event) y) same also in
+    e ∙ ap seen_verdict (bus_verdict_once policy (asker_for caller event) x y says there) ∙ sym f
+
+verdict_once : (set : RuleSet) (caller : List ℕ) (entry : Given) (v w : SeenVerdict) → IsVerdict set caller entry v → IsVerdict set caller entry w → v ≡ w
+verdict_once set caller (Ok event) v w p q = verdict_on_once (named (λ b. b.name) event.bus set.buses) caller event v w p q
+verdict_once set caller (Err f) v w p q = p ∙ sym q
+
+placed_by_once : (v : SeenVerdict) (set : RuleSet) (n : ℕ) (entry : Given) (a b : Placed) → IsPlacedBy v set n entry a → IsPlacedBy v set n entry b → a ≡ b
+placed_by_once (verdict.Fault f) set n entry a b p q = p ∙ sym q
+placed_by_once verdict.NoBus set n entry a b p q = p ∙ sym q
+placed_by_once (verdict.DeniedBy name) set n entry a b p q = p ∙ sym q
+placed_by_once verdict.NotAllowed set n entry a b p q = p ∙ sym q
+placed_by_once verdict.Allowed set n entry a b (u, x, e, is, p) (v, y, f, so, q) =
     let both : Ok u ≡ Ok v = sym e ∙ f in
     let events : v ≡ u = cc in
     is ∙ ap Ok (accepted_once set n u x y p (subst (λ (w : Unnumbered). IsAcceptedAs set n w y) events q)) ∙ sym so
 
-all_once : (set : RuleSet) (n : ℕ) (entries : List Given) (xs ys : List Placed) → ArePlaced set n entries xs → ArePlaced set n entries ys → xs ≡ ys
-all_once set n [] xs ys p q = p ∙ sym q
-all_once set n (entry ∷ entries) xs ys (a, rest, e, one, more) (b, other, f, also, others) =
-    let first : a ≡ b = placed_once (verdict_of set entry) set n entry a b one also in
-    let so = subst (λ (x : Placed). ArePlaced set (number_after n x) entries other) (sym first) others in
-    e ∙ ap (λ (x : Placed). x ∷ rest) first ∙ ap (λ (xs : List Placed). b ∷ xs) (all_once set (number_after n a) entries rest other more so) ∙ sym f
+placed_once : (set : RuleSet) (caller : List ℕ) (n : ℕ) (entry : Given) (a b : Placed) → IsPlaced set caller n entry a → IsPlaced set caller n entry b
+    → a ≡ b
+placed_once set caller n entry a b (v, has, p) (w, also, q) =
+    let same : w ≡ v = verdict_once set caller entry w v also has in
+    placed_by_once v set n entry a b p (subst (λ (x : SeenVerdict). IsPlacedBy x set n entry b) same q)
 
-published_once : (t : Tables) (moment : ℕ) (entries : List Given) (size : ℕ) (a b : Answer) → IsPublished t moment entries size a
-    → IsPublished t moment entries size b → a ≡ b
-published_once t moment entries size a b (inl (large, e)) (inl (also, f)) = e ∙ sym f
-published_once t moment entries size a b (inl (large, e)) (inr (small, rest)) = absurd (omega (arith, large, small))
-published_once t moment entries size a b (inr (small, rest)) (inl (large, f)) = absurd (omega (arith, large, small))
-published_once t moment entries size a b (inr (small, (xs, are, e))) (inr (low, (ys, so, f))) =
-    e ∙ ap (λ (all : List Placed). events_answer t moment (events_in all) (entries_reply all)) (all_once t.set (t.events + 1) entries xs ys are so) ∙ sym f
+all_once : (set : RuleSet) (caller : List ℕ) (n : ℕ) (entries : List Given) (xs ys : List Placed) → ArePlaced set caller n entries xs
+    → ArePlaced set caller n entries ys → xs ≡ ys
+all_once set caller n [] xs ys p q = p ∙ sym q
+all_once set caller n (entry ∷ entries) xs ys (a, rest, e, one, more) (b, other, f, also, others) =
+    let first : a ≡ b = placed_once set caller n entry a b one also in
+    let so = subst (λ (x : Placed). ArePlaced set caller (number_after n x) entries other) (sym first) others in
+    e ∙ ap (λ (x : Placed). x ∷ rest) first ∙ ap (λ (xs : List Placed). b ∷ xs) (all_once set caller (number_after n a) entries rest other more so) ∙ sym f
+
+published_once : (t : Tables) (caller : List ℕ) (moment : ℕ) (entries : List Given) (size : ℕ) (a b : Answer) → IsPublished t caller moment entries size a
+    → IsPublished t caller moment entries size b → a ≡ b
+published_once t caller moment entries size a b (inl (large, e)) (inl (also, f)) = e ∙ sym f
+published_once t caller moment entries size a b (inl (large, e)) (inr (small, rest)) = absurd (omega (arith, large, small))
+published_once t caller moment entries size a b (inr (small, rest)) (inl (large, f)) = absurd (omega (arith, large, small))
+published_once t caller moment entries size a b (inr (small, (xs, are, e))) (inr (low, (ys, so, f))) =
+    e ∙ ap (λ (all : List Placed). events_answer t moment (events_in all) (entries_reply all)) (all_once t.set caller (t.events + 1) entries xs ys are so) ∙ sym f
 
 -- ---- the targets of a PutTargets
 
@@ -161,6 +196,9 @@ cause_once : (control : Control) (f : ControlFault) (c d : Cause) → IsCause co
 cause_once control (fault.ResourceNotFound kind) c d p q = p ∙ sym q
 cause_once control (fault.AlreadyExists kind) c d p q = p ∙ sym q
 cause_once control (fault.LimitExceeded kind) c d p q = p ∙ sym q
+cause_once control (fault.InUse kind) c d p q = p ∙ sym q
+cause_once control fault.HasTargets c d p q = p ∙ sym q
+cause_once control fault.DefaultBus c d p q = p ∙ sym q
 cause_once control (fault.Validation member) c d p q = p ∙ sym q
 cause_once control fault.NoMemory c d p q = absurd p
 
@@ -180,14 +218,96 @@ tested_once pattern event a b (inl (holds, e)) (inr (not, f)) = absurd (not hold
 tested_once pattern event a b (inr (not, e)) (inl (holds, f)) = absurd (not holds)
 tested_once pattern event a b (inr (not, e)) (inr (also, f)) = e ∙ sym f
 
-answer_once : (t : Tables) (moment : ℕ) (action : Action) (a b : Answer) → IsAnswerAt t moment action a → IsAnswerAt t moment action b → a ≡ b
-answer_once t moment (create_queue name) a b p q = controlled_once t moment _ _ a b p q
-answer_once t moment (put_rule bus name pattern enabled) a b p q = controlled_once t moment _ _ a b p q
-answer_once t moment (put_targets bus rule targets) a b p q = targets_once t moment bus rule targets a b p q
-answer_once t moment (put_events entries size) a b p q = published_once t moment entries size a b p q
-answer_once t moment (peek_messages queue limit) a b p q = p ∙ sym q
-answer_once t moment (test_event_pattern pattern event) a b p q = tested_once pattern event a b p q
-answer_once t moment (deliver_due budget) a b p q = absurd p
+-- ---- rules that are deleted, targets that are removed, policies
+
+deleted_once : (t : Tables) (moment : ℕ) (bus name : List ℕ) (a b : Answer) → IsRuleDeleted t moment bus name a → IsRuleDeleted t moment bus name b
+    → a ≡ b
+deleted_once t moment bus name a b (inl (lacks, e)) (inl (also, f)) = e ∙ sym f
+deleted_once t moment bus name a b (inl (lacks, e)) (inr (has, so)) = absurd (false≢true (sym has ∙ lacks))
+deleted_once t moment bus name a b (inr (has, is)) (inl (lacks, f)) = absurd (false≢true (sym has ∙ lacks))
+deleted_once t moment bus name a b (inr (has, is)) (inr (also, so)) = controlled_once t moment _ _ a b is so
+
+removed_once : (t : Tables) (moment : ℕ) (bus rule : List ℕ) (ids : List (List ℕ)) (a b : Answer) → AreTargetsRemoved t moment bus rule ids a
+    → AreTargetsRemoved t moment bus rule ids b → a ≡ b
+removed_once t moment bus rule ids a b (inl (none, e)) (inl (also, f)) = e ∙ sym f
+removed_once t moment bus rule ids a b (inl (none, e)) (inr (inl (there, lacks, f))) = absurd (false≢true (sym none ∙ there))
+removed_once t moment bus rule ids a b (inl (none, e)) (inr (inr (r, found, f))) = absurd (no_rule t.set bus rule r none found)
+removed_once t moment bus rule ids a b (inr (inl (there, lacks, e))) (inl (none, f)) = absurd (false≢true (sym none ∙ there))
+removed_once t moment bus rule ids a b (inr (inl (there, lacks, e))) (inr (inl (also, so, f))) = e ∙ sym f
+removed_once t moment bus rule ids a b (inr (inl (there, lacks, e))) (inr (inr (r, found, f))) =
+    let both : None ≡ Some r = sym lacks ∙ found in
+    cc
+removed_once t moment bus rule ids a b (inr (inr (r, found, e))) (inl (none, f)) = absurd (no_rule t.set bus rule r none found)
+removed_once t moment bus rule ids a b (inr (inr (r, found, e))) (inr (inl (there, lacks, f))) =
+    let both : None ≡ Some r = sym lacks ∙ found in
+    cc
+removed_once t moment bus rule ids a b (inr (inr (r, found, e))) (inr (inr (s, also, f))) =
+    let both : Some r ≡ Some s = sym found ∙ also in
+    let rules : r ≡ s = cc in
+    e ∙ ap (λ (x : Rule). removals_answer t moment bus rule (removed_ids ids x.targets) (failed_ids ids x.targets)) rules ∙ sym f
+
+no_bus : (t : Tables) (bus : List ℕ) (b : Bus) → has_bus bus t.set ≡ false → named (λ (other : Bus). other.name) bus t.set.buses ≡ Some b → ⊥
+no_bus t bus b none found = false≢true (sym none ∙ ap is_some found)
+
+on_bus_once : (t : Tables) (bus : List ℕ) (IsChanged : Bus → Answer → Type 0) → ((b : Bus) (x y : Answer) → IsChanged b x → IsChanged b y → x ≡ y)
+    → (a b : Answer) → IsOnBus t bus IsChanged a → IsOnBus t bus IsChanged b → a ≡ b
+on_bus_once t bus IsChanged once a b (inl (none, e)) (inl (also, f)) = e ∙ sym f
+on_bus_once t bus IsChanged once a b (inl (none, e)) (inr (x, found, is)) = absurd (no_bus t bus x none found)
+on_bus_once t bus IsChanged once a b (inr (x, found, is)) (inl (none, f)) = absurd (no_bus t bus x none found)
+on_bus_once t bus IsChanged once a b (inr (x, found, is)) (inr (y, also, so)) =
+    let both : Some x ≡ Some y = sym found ∙ also in
+    let same : y ≡ x = cc in
+    once x a b is (subst (λ (o : Bus). IsChanged o b) same so)
+
+policy_put_once : (t : Tables) (moment : ℕ) (bus policy : List ℕ) (a b : Answer) → IsPolicyPut t moment bus policy a → IsPolicyPut t moment bus policy b
+    → a ≡ b
+policy_put_once t moment bus policy a b p q =
+    on_bus_once t bus (λ o answer. answer ≡ policy_answer t moment bus policy) (λ o x y is so. is ∙ sym so) a b p q
+
+-- an answer that a bus's policy determines
+by_policy_once : (o : Option (List ℕ)) (answer : Option Tree → Answer) (a b : Answer)
+    → ((policy : Option Tree) × IsPolicyOf o policy × (a ≡ answer policy)) → ((policy : Option Tree) × IsPolicyOf o policy × (b ≡ answer policy)) → a ≡ b
+by_policy_once o answer a b (x, is, e) (y, so, f) = e ∙ ap answer (policy_once o x y is so) ∙ sym f
+
+statement_put_once : (t : Tables) (moment : ℕ) (bus sid : List ℕ) (account : Option (List ℕ)) (a b : Answer)
+    → IsStatementPut t moment bus sid account a → IsStatementPut t moment bus sid account b → a ≡ b
+statement_put_once t moment bus sid account a b p q = on_bus_once t bus _
+    (λ o x y is so. by_policy_once o.policy (statement_answer t moment bus sid account) x y is so) a b p q
+
+removed_from_once : (t : Tables) (moment : ℕ) (bus : List ℕ) (sid : Option (List ℕ)) (o : Bus) (a b : Answer)
+    → IsStatementRemovedFrom t moment bus sid o a → IsStatementRemovedFrom t moment bus sid o b → a ≡ b
+removed_from_once t moment bus None o a b p q = p ∙ sym q
+removed_from_once t moment bus (Some sid) o a b p q = by_policy_once o.policy (removal_answer t moment bus sid) a b p q
+
+statement_removed_once : (t : Tables) (moment : ℕ) (bus : List ℕ) (sid : Option (List ℕ)) (a b : Answer)
+    → IsStatementRemoved t moment bus sid a → IsStatementRemoved t moment bus sid b → a ≡ b
+statement_removed_once t moment bus sid a b p q =
+    on_bus_once t bus (IsStatementRemovedFrom t moment bus sid) (removed_from_once t moment bus sid) a b p q
+
+answer_once : (t : Tables) (caller : List ℕ) (moment : ℕ) (action : Action) (a b : Answer) → IsAnswerAt t caller moment action a
+    → IsAnswerAt t caller moment action b → a ≡ b
+answer_once t caller moment (create_event_bus name) a b p q = controlled_once t moment _ _ a b p q
+answer_once t caller moment (delete_event_bus name) a b p q = controlled_once t moment _ _ a b p q
+answer_once t caller moment (describe_event_bus name) a b p q = p ∙ sym q
+answer_once t caller moment (list_event_buses prefix) a b p q = p ∙ sym q
+answer_once t caller moment (put_rule bus name pattern enabled) a b p q = controlled_once t moment _ _ a b p q
+answer_once t caller moment (delete_rule bus name) a b p q = deleted_once t moment bus name a b p q
+answer_once t caller moment (put_rule_state bus name enabled) a b p q = controlled_once t moment _ _ a b p q
+answer_once t caller moment (describe_rule bus name) a b p q = p ∙ sym q
+answer_once t caller moment (list_rules bus prefix) a b p q = p ∙ sym q
+answer_once t caller moment (put_targets bus rule targets) a b p q = targets_once t moment bus rule targets a b p q
+answer_once t caller moment (remove_targets bus rule ids) a b p q = removed_once t moment bus rule ids a b p q
+answer_once t caller moment (list_targets_by_rule bus rule) a b p q = p ∙ sym q
+answer_once t caller moment (list_rule_names_by_target arn bus) a b p q = p ∙ sym q
+answer_once t caller moment (put_policy bus policy) a b p q = policy_put_once t moment bus policy a b p q
+answer_once t caller moment (put_statement bus sid account) a b p q = statement_put_once t moment bus sid account a b p q
+answer_once t caller moment (remove_policy bus) a b p q = controlled_once t moment _ _ a b p q
+answer_once t caller moment (remove_statement bus sid) a b p q = statement_removed_once t moment bus sid a b p q
+answer_once t caller moment (put_events entries size) a b p q = published_once t caller moment entries size a b p q
+answer_once t caller moment (test_event_pattern pattern event) a b p q = tested_once pattern event a b p q
+answer_once t caller moment (create_queue name) a b p q = controlled_once t moment _ _ a b p q
+answer_once t caller moment (peek_messages queue limit) a b p q = p ∙ sym q
+answer_once t caller moment (deliver_due budget) a b p q = absurd p
 
 pub one_answer : (t : Tables) (r : Request) (a b : Answer) → IsAnswer t r a → IsAnswer t r b → a ≡ b
-one_answer t r a b p q = answer_once t (moment_at t r.reading) r.action a b p q
+one_answer t r a b p q = answer_once t r.caller (moment_at t r.reading) r.action a b p.answers q.answers

@@ -1,13 +1,11 @@
 -- The targets of a PutTargets: `queue_named` (a queue that does not exist has a name), `adds_none`, `adds_target` (one target and those after
 -- it) and `all_split`; `targets_answered` (the accepted ones are an allowed change) `put_answered` (of a result) and `targets_unwritten` (there is none).
-use Rattle.std.proofs.Common.{◌≡◌, ℕ, ◌≤◌, ◌<◌, ◌⊎◌, inl, inr, List, [], ◌∷◌, ◌++◌, length, map, Some, sym, refl, ap, ◌∙◌, subst, arith, append_assoc}
+use Rattle.std.proofs.Common.{◌≡◌, ℕ, ◌≤◌, ◌<◌, inl, inr, List, [], ◌∷◌, ◌++◌, length, map, Some, sym, refl, ap, ◌∙◌, subst, arith, append_assoc}
 use Rattle.std.proofs.Common.{append-nil}
 use Rattle.std.specs.Prelude.{codes, Option, Result, Ok, Err, IfOk}
 use Rattle.std.proofs.lemmas.List.{length-map}
-use Rattle.json_text.specs.Tree.{Tree}
 use Rattle.json_text.specs.View.{tree_of, trees_of}
 use Rattle.rule_table.specs.declared.control.Target.{Target}
-use Rattle.rule_table.specs.declared.control.ControlFault.{ControlFault}
 use Rattle.rule_table.specs.Control.{targets_put}
 use Rattle.event_shape.specs.Names.{queue_arn}
 use Rattle.rule_table.specs.declared.control.TargetFault.{TargetFault}

@@ -11,7 +11,7 @@ use Rattle.api_replies.specs.declared.cause.Cause.{Cause}
 use Rattle.api_replies.specs.declared.cause.Cause.TheVariants as cause
 use Rattle.router_core.specs.Batch as batch
 use Rattle.router_core.specs.Matching.{AreDuties}
-use Rattle.router_core.specs.Verdict.{verdict_of}
+use Rattle.router_core.specs.Verdict.{IsVerdict}
 use Rattle.router_core.specs.declared.seen.SeenVerdict.{SeenVerdict}
 use Rattle.router_core.specs.declared.seen.SeenVerdict.TheVariants as verdict
 use Rattle.router_calls.specs.Causes.{entry_cause}
@@ -38,24 +38,26 @@ pub record IsAcceptedAs (set : RuleSet) (n : ℕ) (event : Unnumbered) (a : batc
 abbrev pub IsPlacedBy : SeenVerdict → RuleSet → ℕ → Given → Placed → Type 0
 IsPlacedBy (verdict.Fault fault) set n entry placed = placed ≡ Err (entry_cause fault)
 IsPlacedBy verdict.NoBus set n entry placed = placed ≡ Err (cause.Parameter member.EventBusName)
+IsPlacedBy (verdict.DeniedBy statement_name) set n entry placed = placed ≡ Err (cause.DeniedBy statement_name)
+IsPlacedBy verdict.NotAllowed set n entry placed = placed ≡ Err cause.NotAllowed
 IsPlacedBy verdict.Allowed set n entry placed =
     (event : Unnumbered) × (a : batch.Accepted) × (entry ≡ Ok event) × (placed ≡ Ok a) × IsAcceptedAs set n event a
 
--- what becomes of an entry on this rule set, by its verdict
-abbrev pub IsPlaced : RuleSet → ℕ → Given → Placed → Type 0
-IsPlaced set n entry placed = IsPlacedBy (verdict_of set entry) set n entry placed
+-- what becomes of an entry of this caller on this rule set, by its verdict
+abbrev pub IsPlaced : RuleSet → List ℕ → ℕ → Given → Placed → Type 0
+IsPlaced set caller n entry placed = (v : SeenVerdict) × IsVerdict set caller entry v × IsPlacedBy v set n entry placed
 
 -- the number of the next event
 abbrev pub number_after : ℕ → Placed → ℕ
 number_after n (Ok a) = n + 1
 number_after n (Err c) = n
 
--- what becomes of entries, in their order; only accepted events take numbers, from this one on
-abbrev pub ArePlaced : RuleSet → ℕ → List Given → List Placed → Type 0
-ArePlaced set n [] all = all ≡ []
-ArePlaced set n (entry ∷ entries) all =
-    (placed : Placed) × (rest : List Placed) × (all ≡ placed ∷ rest) × IsPlaced set n entry placed
-    × ArePlaced set (number_after n placed) entries rest
+-- what becomes of entries of this caller, in their order; only accepted events take numbers, from this one on
+abbrev pub ArePlaced : RuleSet → List ℕ → ℕ → List Given → List Placed → Type 0
+ArePlaced set caller n [] all = all ≡ []
+ArePlaced set caller n (entry ∷ entries) all =
+    (placed : Placed) × (rest : List Placed) × (all ≡ placed ∷ rest) × IsPlaced set caller n entry placed
+    × ArePlaced set caller (number_after n placed) entries rest
 
 -- the accepted events
 abbrev pub events_in : List Placed → List batch.Accepted

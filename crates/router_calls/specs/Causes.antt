@@ -8,14 +8,12 @@ use Rattle.api_replies.specs.declared.kind.Kind.TheVariants as kind
 use Rattle.api_replies.specs.declared.member.Member.TheVariants as member
 use Rattle.api_replies.specs.declared.cause.Cause.{Cause}
 use Rattle.api_replies.specs.declared.cause.Cause.TheVariants as cause
-use Rattle.rule_table.specs.Control.{Control, rule_put, targets_put, queue_created}
+use Rattle.rule_table.specs.Control.{Control, bus_created, bus_deleted, rule_put, rule_deleted, state_put, targets_put, targets_removed, policy_put, queue_created}
 use Rattle.rule_table.specs.declared.control.Target.{Target}
 use Rattle.rule_table.specs.declared.control.TargetFault.{TargetFault}
 use Rattle.rule_table.specs.declared.control.TargetFault.TheVariants as target_fault
 use Rattle.rule_table.specs.declared.control.ControlFault.{ControlFault}
 use Rattle.rule_table.specs.declared.control.ControlFault.TheVariants as fault
-use Rattle.router_core.specs.declared.seen.SeenVerdict.{SeenVerdict}
-use Rattle.router_core.specs.declared.seen.SeenVerdict.TheVariants as verdict
 
 -- the name that the change has for a thing of this kind
 abbrev pub name_in : Control → Kind → List ℕ
@@ -23,6 +21,15 @@ name_in (rule_put bus name pattern enabled) kind.EventBus = bus
 name_in (rule_put bus name pattern enabled) _ = name
 name_in (targets_put bus rule targets) kind.EventBus = bus
 name_in (targets_put bus rule targets) _ = rule
+name_in (rule_deleted bus name) kind.EventBus = bus
+name_in (rule_deleted bus name) _ = name
+name_in (state_put bus name enabled) kind.EventBus = bus
+name_in (state_put bus name enabled) _ = name
+name_in (targets_removed bus rule ids) kind.EventBus = bus
+name_in (targets_removed bus rule ids) _ = rule
+name_in (bus_created name) _ = name
+name_in (bus_deleted name) _ = name
+name_in (policy_put bus policy) _ = bus
 name_in (queue_created name) _ = name
 
 -- the change's refusal for this fault
@@ -30,6 +37,9 @@ abbrev pub IsCause : Control → ControlFault → Cause → Type 0
 IsCause control (fault.ResourceNotFound kind) c = c ≡ cause.NotFound kind (name_in control kind)
 IsCause control (fault.AlreadyExists kind) c = c ≡ cause.Exists kind (name_in control kind)
 IsCause control (fault.LimitExceeded kind) c = c ≡ cause.LimitReached kind
+IsCause control (fault.InUse kind) c = c ≡ cause.InUse kind (name_in control kind)
+IsCause control fault.HasTargets c = c ≡ cause.HasTargets (name_in control kind.Rule)
+IsCause control fault.DefaultBus c = c ≡ cause.DefaultBusStays
 IsCause control (fault.Validation member) c = c ≡ cause.NotValid member
 IsCause control fault.NoMemory c = ⊥
 

@@ -1,6 +1,10 @@
 pub mod Causes
 pub mod Accepted
 pub mod Targets
+pub mod Removals
+pub mod Permission
+pub mod Bounds
 pub mod Answer
 pub mod Decided
+pub mod Allowed
 pub mod Steps

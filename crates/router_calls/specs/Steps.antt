@@ -22,9 +22,9 @@ placed_of (Ok e) = Ok (accepted_of e)
 placed_of (Err c) = Err c
 
 -- the entries, of which the first event gets this number, add these events and reports
-pub record AddsEntries (t : Tables) (n : ℕ) (entries : List Given) (old new : PlacedEntries) : Type 0 where
+pub record AddsEntries (t : Tables) (caller : List ℕ) (n : ℕ) (entries : List Given) (old new : PlacedEntries) : Type 0 where
   pub all : List Placed
-  pub are : ArePlaced t.set n entries all
+  pub are : ArePlaced t.set caller n entries all
   pub events : map accepted_of new.events.items ≡ map accepted_of old.events.items ++ events_in all
   pub reports : trees_of new.reports.items ≡ trees_of old.reports.items ++ map entry_report all
   pub failed : new.failed ≡ old.failed + failures_in all

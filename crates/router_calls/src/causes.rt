@@ -29,6 +29,15 @@ pub(crate) fn change_cause(
             Ok(Cause::Exists { kind, name })
         }
         ControlFault::LimitExceeded(kind) => Ok(Cause::LimitReached(kind)),
+        ControlFault::InUse(kind) => {
+            let name = name_in(control, kind).copy(alloc)?;
+            Ok(Cause::InUse { kind, name })
+        }
+        ControlFault::HasTargets => {
+            let name = name_in(control, Kind::Rule).copy(alloc)?;
+            Ok(Cause::HasTargets { name })
+        }
+        ControlFault::DefaultBus => Ok(Cause::DefaultBusStays),
         ControlFault::Validation(member) => Ok(Cause::NotValid(member)),
         ControlFault::NoMemory => Err(NoMemory),
     }
@@ -39,15 +48,21 @@ fn name_in(control: &Control, kind: Kind) -> &Text
     ensures { result.now ≡ spec.name_in (control_of control.now) kind }
 {
     match control {
-        Control::RulePut { bus, name, .. } => match kind {
+        Control::RulePut { bus, name, .. }
+        | Control::RuleDeleted { bus, name }
+        | Control::StatePut { bus, name, .. } => match kind {
             Kind::EventBus => bus,
             Kind::Rule | Kind::Target | Kind::Queue => name,
         },
-        Control::TargetsPut { bus, rule, .. } => match kind {
-            Kind::EventBus => bus,
-            Kind::Rule | Kind::Target | Kind::Queue => rule,
-        },
-        Control::QueueCreated { name } => name,
+        Control::TargetsPut { bus, rule, .. } | Control::TargetsRemoved { bus, rule, .. } =>
+            match kind {
+                Kind::EventBus => bus,
+                Kind::Rule | Kind::Target | Kind::Queue => rule,
+            },
+        Control::PolicyPut { bus, .. } => bus,
+        Control::BusCreated { name }
+        | Control::BusDeleted { name }
+        | Control::QueueCreated { name } => name,
     }
 }
 

@@ -1,9 +1,12 @@
 //! CreateQueue.
-ghost use Rattle.std.specs.Prelude.{◌≤◌, IfOk, IfSome};
+ghost use Rattle.std.specs.Prelude.{◌≤◌, ◌∷◌, [], IfOk, IfSome, codes};
 ghost use Rattle.json_text.specs.Moment.{IsMoment};
-ghost use Rattle.router_core.specs.Request as request;
+ghost use Rattle.json_text.specs.Tree.{text};
+ghost use Rattle.event_shape.specs.Names.{queue_arn};
+ghost use Rattle.rule_table.specs.Control.{queue_created};
+ghost use Rattle.api_replies.specs.Reply as replies;
 ghost use Rattle.router_core.specs.Ready.{IsReadyAt};
-ghost use Rattle.router_calls.specs.Answer.{IsAnswerAt};
+ghost use Rattle.router_calls.specs.Answer.{IsControlled};
 ghost use Rattle.router_calls.specs.Decided.{answer_of};
 
 use crate::configure::configure;
@@ -23,7 +26,8 @@ pub(crate) fn create_queue(
 ) -> Result<(Option<Ready>, Reply), NoMemory>
     requires moment { IsMoment moment }
     requires later { tables.now.moment ≤ moment }
-    ensures answer { IfOk result (λ p. IsAnswerAt tables.now moment (request.create_queue name.now) (answer_of p)) }
+    ensures answer { IfOk result (λ p. IsControlled tables.now moment (queue_created name.now)
+        (replies.served ((codes "QueueArn", text (queue_arn name.now)) ∷ [])) (answer_of p)) }
     ensures ready { IfOk result (λ p. IfSome p.0 (λ r. IsReadyAt tables.now r)) }
 {
     let arn = queue_arn(alloc, name.as_str())?;

@@ -3,17 +3,25 @@
 
 mod causes;
 mod configure;
+mod create_event_bus;
 mod create_queue;
+mod delete_event_bus;
+mod delete_rule;
 mod laws;
 mod peek_messages;
+mod policy_change;
 mod put_events;
+mod put_permission;
 mod put_rule;
+mod put_rule_state;
 mod put_targets;
+mod remove_permission;
+mod remove_targets;
 mod reply;
 mod requests;
 mod test_event_pattern;
 #[cfg(test)]
 mod tests;
 
-pub use laws::one_answer;
+pub use laws::{a_stranger_only_publishes, one_answer};
 pub use requests::decide;

@@ -34,6 +34,7 @@ const SIZE_LIMIT: u64 = 262_144;
 pub(crate) fn put_events(
     alloc: Global,
     tables: &Tables,
+    caller: &str,
     moment: u64,
     entries: &[Result<Unnumbered, EntryFault>],
     size: u64,
@@ -41,7 +42,7 @@ pub(crate) fn put_events(
     requires moment { IsMoment moment }
     requires later { tables.now.moment ≤ moment }
     requires few { length entries.now ≤ 10 }
-    ensures answer { IfOk result (λ p. IsPublished tables.now moment entries.now size (answer_of p)) }
+    ensures answer { IfOk result (λ p. IsPublished tables.now caller.now moment entries.now size (answer_of p)) }
     ensures ready { IfOk result (λ p. IfSome p.0 (λ r. IsReadyAt tables.now r)) }
 {
     if size > SIZE_LIMIT {
@@ -53,7 +54,14 @@ pub(crate) fn put_events(
         reports: Vec::with_capacity(alloc, entries.len())?,
         failed: 0,
     };
-    place_all(alloc, tables, entries, tables.events() + 1, &mut all)?;
+    place_all(
+        alloc,
+        tables,
+        caller,
+        entries,
+        tables.events() + 1,
+        &mut all,
+    )?;
     let PlacedEntries {
         events,
         reports,
@@ -84,23 +92,24 @@ pub(crate) struct PlacedEntries {
 fn place_all(
     alloc: Global,
     tables: &Tables,
+    caller: &str,
     entries: &[Result<Unnumbered, EntryFault>],
     number: u64,
     all: &mut PlacedEntries,
 ) -> Result<(), NoMemory>
     requires number { number + length entries.now < 2 ^ 63 }
     requires failed { all.old.failed + length entries.now < 2 ^ 63 }
-    ensures { OnOk result (AddsEntries tables.now number entries.now all.old all.new) }
+    ensures { OnOk result (AddsEntries tables.now caller.now number entries.now all.old all.new) }
 {
     match entries {
-        [entry, rest @ ..] => match place(alloc, tables, entry, number)? {
+        [entry, rest @ ..] => match place(alloc, tables, caller, entry, number)? {
             Ok(event) => {
                 push_event(alloc, event, all)?;
-                place_all(alloc, tables, rest, number + 1, all)
+                place_all(alloc, tables, caller, rest, number + 1, all)
             }
             Err(cause) => {
                 push_refusal(alloc, &cause, all)?;
-                place_all(alloc, tables, rest, number, all)
+                place_all(alloc, tables, caller, rest, number, all)
             }
         },
         [] => Ok(()),
@@ -132,16 +141,19 @@ fn push_refusal(alloc: Global, cause: &Cause, all: &mut PlacedEntries) -> Result
 fn place(
     alloc: Global,
     tables: &Tables,
+    caller: &str,
     entry: &Result<Unnumbered, EntryFault>,
     number: u64,
 ) -> Result<Result<AcceptedEvent, Cause>, NoMemory>
-    ensures placed { IfOk result (λ p. IsPlaced tables.now.set number entry.now (placed_of p)) }
+    ensures placed { IfOk result (λ p. IsPlaced tables.now.set caller.now number entry.now (placed_of p)) }
     ensures few { IfOk result (λ p. IfOk p (λ e. length e.duties ≤ 1500)) }
     ensures there { IfOk result (λ p. IfOk p (λ e. All (λ d. HasEndpoint d.endpoint tables.now.duties.queues) e.duties)) }
 {
-    match verdict_of(tables.set(), entry) {
+    match verdict_of(alloc, tables.set(), caller, entry)? {
         SeenVerdict::Fault(fault) => Ok(Err(entry_cause(fault))),
         SeenVerdict::NoBus => Ok(Err(Cause::Parameter(Member::EventBusName))),
+        SeenVerdict::DeniedBy(statement) => Ok(Err(Cause::DeniedBy { statement })),
+        SeenVerdict::NotAllowed => Ok(Err(Cause::NotAllowed)),
         SeenVerdict::Allowed => match entry {
             Ok(event) => Ok(Ok(accept(alloc, tables, event, number)?)),
             Err(_) => unreachable!(),

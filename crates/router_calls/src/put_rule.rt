@@ -1,11 +1,13 @@
 //! PutRule.
-ghost use Rattle.std.specs.Prelude.{◌≡◌, ◌≤◌, None, IfOk, IfSome};
+ghost use Rattle.std.specs.Prelude.{◌≡◌, ◌≤◌, ◌∷◌, [], None, IfOk, IfSome, codes};
 ghost use Rattle.json_text.specs.Moment.{IsMoment};
-ghost use Rattle.router_core.specs.Request as request;
+ghost use Rattle.json_text.specs.Tree.{text};
+ghost use Rattle.event_shape.specs.Names.{rule_arn};
 ghost use Rattle.rule_table.specs.Control.{rule_put};
+ghost use Rattle.api_replies.specs.Reply as replies;
 ghost use Rattle.rule_table.specs.View.{control_of};
 ghost use Rattle.router_core.specs.Ready.{HasPlace, IsReadyAt};
-ghost use Rattle.router_calls.specs.Answer.{IsAnswerAt};
+ghost use Rattle.router_calls.specs.Answer.{IsControlled};
 ghost use Rattle.router_calls.specs.Decided.{answer_of};
 
 use crate::configure::configure;
@@ -27,7 +29,8 @@ pub(crate) fn put_rule(
 ) -> Result<(Option<Ready>, Reply), NoMemory>
     requires moment { IsMoment moment }
     requires later { tables.now.moment ≤ moment }
-    ensures answer { IfOk result (λ p. IsAnswerAt tables.now moment (request.put_rule bus.now name.now pattern.now enabled) (answer_of p)) }
+    ensures answer { IfOk result (λ p. IsControlled tables.now moment (rule_put bus.now name.now pattern.now enabled)
+        (replies.served ((codes "RuleArn", text (rule_arn bus.now name.now)) ∷ [])) (answer_of p)) }
     ensures ready { IfOk result (λ p. IfSome p.0 (λ r. IsReadyAt tables.now r)) }
 {
     let arn = rule_arn(alloc, bus.as_str(), name.as_str())?;

@@ -86,7 +86,7 @@ fn split_all(
     Ok(all)
 }
 
-fn copies(alloc: Global, targets: &[Target]) -> Result<Vec<Target>, NoMemory>
+pub(crate) fn copies(alloc: Global, targets: &[Target]) -> Result<Vec<Target>, NoMemory>
     ensures { IfOk result (λ others. others.items ≡ targets.now) }
 {
     let mut others = Vec::with_capacity(alloc, targets.len())?;
@@ -136,7 +136,7 @@ fn split_one(
     Ok(())
 }
 
-fn target_json(alloc: Global, id: &str, cause: &Cause) -> Result<Json, NoMemory>
+pub(crate) fn target_json(alloc: Global, id: &str, cause: &Cause) -> Result<Json, NoMemory>
     ensures { IfOk result (λ j. tree_of j ≡ target_report (id.now, cause.now)) }
 {
     let mut members: Members = Vec::with_capacity(alloc, 3)?;

@@ -4,7 +4,7 @@ ghost use Rattle.json_text.specs.Tree.{text, number};
 ghost use Rattle.json_text.specs.View.{tree_of, trees_of};
 ghost use Rattle.api_replies.specs.Reply as replies;
 ghost use Rattle.api_replies.specs.View.{reply_of};
-ghost use Rattle.router_calls.specs.Answer.{reply_alone, items_reply};
+ghost use Rattle.router_calls.specs.Answer.{reply_alone, empty_reply, items_reply};
 ghost use Rattle.router_calls.specs.Decided.{answer_of};
 
 use json_text::{Items, Json, Members, NoMemory, Text, push_member};
@@ -51,6 +51,24 @@ pub(crate) fn items_reply(
         status: 200,
         body: Json::Obj(members),
     })
+}
+
+/// A reply without a member. Takes no memory.
+pub(crate) fn empty_reply(alloc: Global) -> Reply
+    ensures { reply_of result ≡ empty_reply }
+{
+    Reply {
+        status: 200,
+        body: Json::Obj(Vec::new(alloc)),
+    }
+}
+
+/// A reply without a change.
+pub(crate) fn shown(reply: Reply) -> (Option<Ready>, Reply)
+    ensures answer { answer_of result ≡ reply_alone (reply_of reply) }
+    ensures ready { result.0 ≡ None }
+{
+    (None, reply)
 }
 
 /// A refusal, without a change.

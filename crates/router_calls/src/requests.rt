@@ -1,20 +1,34 @@
 //! What each request changes, and its reply.
-ghost use Rattle.std.specs.Prelude.{◌≡◌, IfOk, IfSome};
+ghost use Rattle.std.specs.Prelude.{◌≡◌, ◌≤◌, IfOk, IfSome};
+ghost use Rattle.std.specs.Option.{option_copied};
 ghost use Rattle.json_text.specs.Moment.{IsMoment};
 ghost use Rattle.rule_table.specs.RuleSet.{IsSound};
-ghost use Rattle.router_core.specs.Request.{IsOneTurn};
+ghost use Rattle.router_core.specs.Request.{IsOneTurn, IsEntitled};
 ghost use Rattle.router_core.specs.View.{action_of, request_of};
 ghost use Rattle.router_core.specs.Ready.{IsReadyAt, IsConsistent};
-ghost use Rattle.router_calls.specs.Answer.{IsAnswer, moment_at};
-ghost use Rattle.router_calls.specs.Decided.{IsBounded, answer_of};
+ghost use Rattle.router_calls.specs.Answer.{IsAnswer, IsAnswerAt, moment_at};
+ghost use Rattle.router_calls.specs.Bounds.{IsBounded};
+ghost use Rattle.router_calls.specs.Decided.{answer_of};
 
+use crate::create_event_bus::create_event_bus;
 use crate::create_queue::create_queue;
+use crate::delete_event_bus::delete_event_bus;
+use crate::delete_rule::delete_rule;
 use crate::peek_messages::peek_messages;
 use crate::put_events::put_events;
+use crate::put_permission::{put_policy, put_statement};
 use crate::put_rule::put_rule;
+use crate::put_rule_state::put_rule_state;
 use crate::put_targets::put_targets;
+use crate::remove_permission::{remove_policy, remove_statement};
+use crate::remove_targets::remove_targets;
+use crate::reply::shown;
 use crate::test_event_pattern::test_event_pattern;
-use json_text::NoMemory;
+use config_views::{
+    describe_event_bus, describe_rule, list_event_buses, list_rule_names_by_target, list_rules,
+    list_targets_by_rule,
+};
+use json_text::{NoMemory, Text};
 use router_core::{Action, Ready, Reply, Request, Tables};
 use std::alloc::Global;
 
@@ -29,28 +43,109 @@ pub fn decide(
     requires reading { IsMoment request.now.reading }
     requires at { moment ≡ moment_at tables.now request.now.reading }
     requires few { IsBounded (action_of request.now.action) }
+    requires entitled { IsEntitled (request_of request.now) }
     requires one_turn { IsOneTurn (action_of request.now.action) }
     ensures answer { IfOk result (λ p. IsAnswer tables.now (request_of request.now) (answer_of p)) }
     ensures ready { IfOk result (λ p. IfSome p.0 (λ r. IsReadyAt tables.now r)) }
 {
     read_tables(tables);
-    match &request.action {
-        Action::CreateQueue { name } => create_queue(alloc, tables, moment, name),
+    answer(
+        alloc,
+        tables,
+        request.caller.as_str(),
+        moment,
+        &request.action,
+    )
+}
+
+/// The change that the action of this caller makes, if any, and the reply.
+fn answer(
+    alloc: Global,
+    tables: &Tables,
+    caller: &str,
+    moment: u64,
+    action: &Action,
+) -> Result<(Option<Ready>, Reply), NoMemory>
+    requires moment { IsMoment moment }
+    requires later { tables.now.moment ≤ moment }
+    requires few { IsBounded (action_of action.now) }
+    requires one_turn { IsOneTurn (action_of action.now) }
+    ensures answer { IfOk result (λ p. IsAnswerAt tables.now caller.now moment (action_of action.now) (answer_of p)) }
+    ensures ready { IfOk result (λ p. IfSome p.0 (λ r. IsReadyAt tables.now r)) }
+{
+    match action {
+        Action::CreateEventBus { name } => create_event_bus(alloc, tables, moment, name),
+        Action::DeleteEventBus { name } => delete_event_bus(alloc, tables, moment, name),
         Action::PutRule {
             bus,
             name,
             pattern,
             enabled,
         } => put_rule(alloc, tables, moment, bus, name, pattern, *enabled),
+        Action::DeleteRule { bus, name } => delete_rule(alloc, tables, moment, bus, name),
+        Action::PutRuleState { bus, name, enabled } => {
+            put_rule_state(alloc, tables, moment, bus, name, *enabled)
+        }
         Action::PutTargets { bus, rule, targets } => {
             put_targets(alloc, tables, moment, bus, rule, targets)
         }
-        Action::PutEvents { entries, size } => put_events(alloc, tables, moment, entries, *size),
+        Action::RemoveTargets { bus, rule, ids } => {
+            remove_targets(alloc, tables, moment, bus, rule, ids)
+        }
+        Action::PutPolicy { bus, policy } => put_policy(alloc, tables, moment, bus, policy),
+        Action::PutStatement { bus, sid, account } => {
+            put_statement(alloc, tables, moment, bus, sid, account)
+        }
+        Action::RemovePolicy { bus } => remove_policy(alloc, tables, moment, bus),
+        Action::RemoveStatement { bus, sid } => remove_statement(alloc, tables, moment, bus, sid),
+        Action::PutEvents { entries, size } => {
+            put_events(alloc, tables, caller, moment, entries, *size)
+        }
+        Action::CreateQueue { name } => create_queue(alloc, tables, moment, name),
         Action::PeekMessages { queue, limit } => {
             peek_messages(alloc, tables, queue.as_str(), *limit)
         }
         Action::TestEventPattern { pattern, event } => test_event_pattern(alloc, pattern, event),
         Action::DeliverDue { .. } => unreachable!(),
+        Action::DescribeEventBus { name } => {
+            Ok(shown(describe_event_bus(alloc, tables.set(), name.as_str())?))
+        }
+        Action::ListEventBuses { prefix } => {
+            Ok(shown(list_event_buses(alloc, tables.set(), text_in(prefix))?))
+        }
+        Action::DescribeRule { bus, name } => Ok(shown(describe_rule(
+            alloc,
+            tables.set(),
+            bus.as_str(),
+            name.as_str(),
+        )?)),
+        Action::ListRules { bus, prefix } => Ok(shown(list_rules(
+            alloc,
+            tables.set(),
+            bus.as_str(),
+            text_in(prefix),
+        )?)),
+        Action::ListTargetsByRule { bus, rule } => Ok(shown(list_targets_by_rule(
+            alloc,
+            tables.set(),
+            bus.as_str(),
+            rule.as_str(),
+        )?)),
+        Action::ListRuleNamesByTarget { arn, bus } => Ok(shown(list_rule_names_by_target(
+            alloc,
+            tables.set(),
+            arn.as_str(),
+            bus.as_str(),
+        )?)),
+    }
+}
+
+fn text_in(text: &Option<Text>) -> Option<&str>
+    ensures { option_copied result ≡ text.now }
+{
+    match text {
+        Some(text) => Some(text.as_str()),
+        None => None,
     }
 }
 

@@ -1,14 +1,18 @@
-ghost use Rattle.std.specs.Prelude.{◌≡◌, ◌≤◌, IfOk, length};
+ghost use Rattle.std.specs.Prelude.{◌≡◌, ◌≤◌, ◌⊎◌, All, IfOk, length, true};
 ghost use Rattle.json_text.specs.View.{tree_of};
 ghost use Rattle.json_text.specs.Compact.{IsValue};
-ghost use Rattle.router_core.specs.Request.{IsOneTurn};
-ghost use Rattle.router_core.specs.View.{action_of};
-ghost use Rattle.router_calls.specs.Decided.{IsBounded};
+ghost use Rattle.event_shape.specs.Names.{is_account, owner};
+ghost use Rattle.router_core.specs.Request.{AreEntriesOf, IsEntitled, IsEntryOf, IsOneTurn, IsPublishing};
+ghost use Rattle.router_core.specs.View.{action_of, request_of};
+ghost use Rattle.router_calls.specs.Bounds.{IsBounded};
 
 use crate::decide;
 use api_replies::Reply;
+use bus_policy::Policy;
 use delivery_duties::Outcome;
-use event_shape::{CheckFault, EntryFault, EventEntry, OWNER, Unnumbered, check, queue_arn};
+use event_shape::{
+    CheckFault, EntryFault, EventEntry, OWNER, Unnumbered, check, is_account, queue_arn,
+};
 use json_text::{Bytes, Json, Text, read, write};
 use pattern_read::PatternText;
 use router_core::{Action, Request, Tables};
@@ -20,12 +24,30 @@ use std::test::Fail;
 #[derive(Clone, Copy)]
 enum Step {
     Queue(&'static str),
+    Bus(&'static str),
+    ShowBus(&'static str),
+    DeleteBus(&'static str),
     /// A bus, a rule and its pattern.
     Rule(&'static str, &'static str, &'static str),
-    /// A rule, a target's id and its queue.
-    Put(&'static str, &'static str, &'static str),
+    /// A bus and a rule, which is disabled.
+    Off(&'static str, &'static str),
+    ShowRule(&'static str, &'static str),
+    DeleteRule(&'static str, &'static str),
+    /// A bus, a rule, a target's id and its queue.
+    Put(&'static str, &'static str, &'static str, &'static str),
+    /// A bus, a rule and ids of targets.
+    Remove(&'static str, &'static str, &'static [&'static str]),
+    /// A StatementId for the account of the stranger, on the bus `default`.
+    Allow(&'static str),
+    /// A StatementId, or none, on the bus `default`.
+    Revoke(Option<&'static str>),
+    /// A policy for the bus `default`.
+    Policy(&'static str),
+    RevokeAll,
     /// The sources of entries that differ in nothing else.
     Events(&'static [&'static str]),
+    /// The same, of the stranger.
+    Stranger(&'static [&'static str]),
     Peek(&'static str),
     /// A pattern, which is tested on an event with source `a`.
     Test(&'static str),
@@ -33,6 +55,9 @@ enum Step {
 
 /// The clock's reading at each request: 2023-11-14T22:13:20Z.
 const READING: u64 = 1_700_000_000;
+
+/// The account of a caller that is not the owner.
+const STRANGER: &str = "444455556666";
 
 const PATTERN: &str = "{\"source\":[\"shop.orders\"]}";
 
@@ -85,7 +110,7 @@ const STEPS: [(Step, &str, u64, u64); 14] = [
         0,
         0,
     ),
-    (Step::Put("r", "t", "q"), NO_RULE, 0, 0),
+    (Step::Put("default", "r", "t", "q"), NO_RULE, 0, 0),
     (Step::Rule("b", "r", PATTERN), NO_BUS, 0, 0),
     (
         Step::Rule("default", "r", "{}"),
@@ -100,13 +125,13 @@ const STEPS: [(Step, &str, u64, u64); 14] = [
         0,
     ),
     (
-        Step::Put("r", "t", "p"),
+        Step::Put("default", "r", "t", "p"),
         "200 {\"FailedEntryCount\":1,\"FailedEntries\":[{\"TargetId\":\"t\",\"ErrorCode\":\"ResourceNotFoundException\",\"ErrorMessage\":\"Queue p does not exist.\"}]}",
         0,
         0,
     ),
     (
-        Step::Put("r", "t", "q"),
+        Step::Put("default", "r", "t", "q"),
         "200 {\"FailedEntryCount\":0,\"FailedEntries\":[]}",
         0,
         0,
@@ -134,7 +159,109 @@ const STEPS: [(Step, &str, u64, u64); 14] = [
     (Step::Peek("q"), "200 {\"Messages\":[]}", 12, 4),
 ];
 
-fn entry(alloc: Global, source: &str) -> Result<Result<Unnumbered, EntryFault>, Fail> {
+/// Requests on the configuration in turn, each reply, and the number of changes after it. Worked out by hand.
+const CHANGES: [(Step, &str, u64); 28] = [
+    (
+        Step::Queue("q"),
+        "200 {\"QueueArn\":\"arn:aws:sqs:us-east-1:111122223333:q\"}",
+        1,
+    ),
+    (
+        Step::Bus("orders"),
+        "200 {\"EventBusArn\":\"arn:aws:events:us-east-1:111122223333:event-bus/orders\"}",
+        2,
+    ),
+    (
+        Step::Bus("default"),
+        "400 {\"__type\":\"ResourceAlreadyExistsException\",\"message\":\"Event bus default already exists.\"}",
+        2,
+    ),
+    (
+        Step::Rule("orders", "r", PATTERN),
+        "200 {\"RuleArn\":\"arn:aws:events:us-east-1:111122223333:rule/orders/r\"}",
+        3,
+    ),
+    (
+        Step::Put("orders", "r", "5", "q"),
+        "200 {\"FailedEntryCount\":0,\"FailedEntries\":[]}",
+        4,
+    ),
+    (
+        Step::DeleteBus("orders"),
+        "400 {\"__type\":\"ValidationException\",\"message\":\"Event bus orders is in use.\"}",
+        4,
+    ),
+    (
+        Step::DeleteBus("default"),
+        "400 {\"__type\":\"ValidationException\",\"message\":\"The default bus stays.\"}",
+        4,
+    ),
+    (
+        Step::DeleteRule("orders", "r"),
+        "400 {\"__type\":\"ValidationException\",\"message\":\"Rule r has targets.\"}",
+        4,
+    ),
+    (Step::DeleteRule("orders", "n"), "200 {}", 4),
+    (Step::DeleteRule("b", "r"), NO_BUS, 4),
+    (Step::Off("orders", "r"), "200 {}", 5),
+    (
+        Step::ShowRule("orders", "r"),
+        "200 {\"Name\":\"r\",\"Arn\":\"arn:aws:events:us-east-1:111122223333:rule/orders/r\",\"EventPattern\":\"{\\\"source\\\":[\\\"shop.orders\\\"]}\",\"State\":\"DISABLED\",\"EventBusName\":\"orders\"}",
+        5,
+    ),
+    (Step::Remove("orders", "r", &["5", "5"]), FIVE_FAILED, 6),
+    (Step::Remove("orders", "r", &["5"]), FIVE_FAILED, 6),
+    (Step::DeleteRule("orders", "r"), "200 {}", 7),
+    (Step::DeleteBus("orders"), "200 {}", 8),
+    (Step::Stranger(&["a"]), NOT_ALLOWED, 8),
+    (Step::Allow("s"), "200 {}", 9),
+    (Step::ShowBus("default"), ALLOWING, 9),
+    (
+        Step::Allow("s"),
+        "400 {\"__type\":\"ResourceAlreadyExistsException\",\"message\":\"Statement s already exists.\"}",
+        9,
+    ),
+    (
+        Step::Revoke(None),
+        "400 {\"__type\":\"ValidationException\",\"message\":\"Member StatementId is required.\"}",
+        9,
+    ),
+    (Step::Revoke(Some("s")), "200 {}", 10),
+    (
+        Step::Revoke(Some("s")),
+        "400 {\"__type\":\"ResourceNotFoundException\",\"message\":\"Statement s does not exist.\"}",
+        10,
+    ),
+    (
+        Step::ShowBus("default"),
+        "200 {\"Name\":\"default\",\"Arn\":\"arn:aws:events:us-east-1:111122223333:event-bus/default\"}",
+        10,
+    ),
+    (Step::Policy(DENYING), "200 {}", 11),
+    (
+        Step::Stranger(&["a"]),
+        "200 {\"FailedEntryCount\":1,\"Entries\":[{\"ErrorCode\":\"AccessDeniedException\",\"ErrorMessage\":\"Denied by statement no.\"}]}",
+        11,
+    ),
+    (Step::RevokeAll, "200 {}", 12),
+    (Step::Stranger(&["a"]), NOT_ALLOWED, 12),
+];
+
+const DENYING: &str =
+    "{\"Version\":\"2012-10-17\",\"Statement\":[{\"Sid\":\"no\",\"Effect\":\"Deny\",\"Principal\":\"*\",\"Action\":\"events:PutEvents\",\"Resource\":\"arn:aws:events:us-east-1:111122223333:event-bus/default\"}]}";
+
+const FIVE_FAILED: &str =
+    "200 {\"FailedEntryCount\":1,\"FailedEntries\":[{\"TargetId\":\"5\",\"ErrorCode\":\"ResourceNotFoundException\",\"ErrorMessage\":\"Target 5 does not exist.\"}]}";
+
+const NOT_ALLOWED: &str =
+    "200 {\"FailedEntryCount\":1,\"Entries\":[{\"ErrorCode\":\"AccessDeniedException\",\"ErrorMessage\":\"No statement allows it.\"}]}";
+
+const ALLOWING: &str =
+    "200 {\"Name\":\"default\",\"Arn\":\"arn:aws:events:us-east-1:111122223333:event-bus/default\",\"Policy\":\"{\\\"Version\\\":\\\"2012-10-17\\\",\\\"Statement\\\":[{\\\"Sid\\\":\\\"s\\\",\\\"Effect\\\":\\\"Allow\\\",\\\"Principal\\\":{\\\"AWS\\\":\\\"arn:aws:iam::444455556666:root\\\"},\\\"Action\\\":\\\"events:PutEvents\\\",\\\"Resource\\\":\\\"arn:aws:events:us-east-1:111122223333:event-bus/default\\\"}]}\"}";
+
+fn entry(alloc: Global, account: &str, source: &str) -> Result<Result<Unnumbered, EntryFault>, Fail>
+    ensures { IfOk result (λ entry. IsEntryOf account.now entry) }
+{
     let entry = EventEntry {
         time: None,
         source: Some(Text::from_str(alloc, source)?),
@@ -144,23 +271,40 @@ fn entry(alloc: Global, source: &str) -> Result<Result<Unnumbered, EntryFault>, 
         bus: None,
     };
     match check(alloc, &entry) {
-        Ok(checked) => Ok(Ok(Unnumbered::make(alloc, checked, READING, OWNER)?)),
+        Ok(checked) => Ok(Ok(Unnumbered::make(alloc, checked, READING, account)?)),
         Err(CheckFault::Entry(fault)) => Ok(Err(fault)),
         Err(CheckFault::NoMemory) => Err(Fail::from("out of memory")),
     }
 }
 
-fn entries(alloc: Global, sources: &[&str]) -> Result<Vec<Result<Unnumbered, EntryFault>>, Fail>
-    ensures { IfOk result (λ v. (1 ≤ length v.items) × (length v.items ≤ 10)) }
+fn entries(
+    alloc: Global,
+    account: &str,
+    sources: &[&str],
+) -> Result<Vec<Result<Unnumbered, EntryFault>>, Fail>
+    ensures few { IfOk result (λ v. (1 ≤ length v.items) × (length v.items ≤ 10)) }
+    ensures own { IfOk result (λ v. All (IsEntryOf account.now) v.items) }
 {
     let mut entries = Vec::new(alloc);
     for source in sources {
-        entries.push(entry(alloc, source)?)?;
+        entries.push(entry(alloc, account, source)?)?;
     }
     if entries.is_empty() || entries.len() > 10 {
         return Err(Fail::from("no entry, or too many"));
     }
     Ok(entries)
+}
+
+fn put_events(alloc: Global, account: &str, sources: &[&str]) -> Result<Action, Fail>
+    ensures few { IfOk result (λ a. IsBounded (action_of a)) }
+    ensures one_turn { IfOk result (λ a. IsOneTurn (action_of a)) }
+    ensures own { IfOk result (λ a. AreEntriesOf account.now (action_of a)) }
+    ensures publishing { IfOk result (λ a. IsPublishing (action_of a)) }
+{
+    Ok(Action::PutEvents {
+        entries: entries(alloc, account, sources)?,
+        size: 100,
+    })
 }
 
 fn targets(alloc: Global, id: &str, queue: &str) -> Result<Vec<Target>, Fail>
@@ -173,6 +317,34 @@ fn targets(alloc: Global, id: &str, queue: &str) -> Result<Vec<Target>, Fail>
         unbuilt: None,
     })?;
     Ok(targets)
+}
+
+fn ids(alloc: Global, given: &[&str]) -> Result<Vec<Text>, Fail>
+    ensures { IfOk result (λ v. (1 ≤ length v.items) × (length v.items ≤ 100)) }
+{
+    let mut ids = Vec::new(alloc);
+    for id in given {
+        ids.push(Text::from_str(alloc, id)?)?;
+    }
+    if ids.is_empty() || ids.len() > 100 {
+        return Err(Fail::from("no id, or too many"));
+    }
+    Ok(ids)
+}
+
+fn stranger(alloc: Global) -> Result<Text, Fail>
+    ensures { IfOk result (λ account. is_account account ≡ true) }
+{
+    if !is_account(STRANGER) {
+        return Err(Fail::from("no account"));
+    }
+    Ok(Text::from_str(alloc, STRANGER)?)
+}
+
+fn text(alloc: Global, text: &str) -> Result<Text, Fail>
+    ensures { IfOk result (λ t. t ≡ text.now) }
+{
+    Ok(Text::from_str(alloc, text)?)
 }
 
 fn pattern_of(alloc: Global, text: &str) -> Result<PatternText, Fail> {
@@ -191,46 +363,162 @@ fn event(alloc: Global) -> Result<Json, Fail>
     }
 }
 
-fn action(alloc: Global, step: Step) -> Result<Action, Fail>
+fn policy_action(alloc: Global, policy: &str) -> Result<Action, Fail>
     ensures few { IfOk result (λ a. IsBounded (action_of a)) }
     ensures one_turn { IfOk result (λ a. IsOneTurn (action_of a)) }
+    ensures own { IfOk result (λ a. AreEntriesOf owner (action_of a)) }
+{
+    let policy = match Policy::read(alloc, policy.as_bytes()) {
+        Ok(policy) => policy,
+        Err(_fault) => return Err(Fail::from("the policy is not read")),
+    };
+    let bus = text(alloc, "default")?;
+    let policy = text(alloc, policy.text())?;
+    Ok(Action::PutPolicy { bus, policy })
+}
+
+fn bus_action(alloc: Global, step: Step) -> Result<Action, Fail>
+    ensures few { IfOk result (λ a. IsBounded (action_of a)) }
+    ensures one_turn { IfOk result (λ a. IsOneTurn (action_of a)) }
+    ensures own { IfOk result (λ a. AreEntriesOf owner (action_of a)) }
 {
     match step {
         Step::Queue(name) => Ok(Action::CreateQueue {
-            name: Text::from_str(alloc, name)?,
+            name: text(alloc, name)?,
         }),
-        Step::Rule(bus, name, pattern) => Ok(Action::PutRule {
-            bus: Text::from_str(alloc, bus)?,
-            name: Text::from_str(alloc, name)?,
-            pattern: Text::from_str(alloc, pattern)?,
-            enabled: true,
+        Step::Bus(name) => Ok(Action::CreateEventBus {
+            name: text(alloc, name)?,
         }),
-        Step::Put(rule, id, queue) => Ok(Action::PutTargets {
-            bus: Text::from_str(alloc, "default")?,
-            rule: Text::from_str(alloc, rule)?,
-            targets: targets(alloc, id, queue)?,
+        Step::ShowBus(name) => Ok(Action::DescribeEventBus {
+            name: text(alloc, name)?,
         }),
-        Step::Events(sources) => Ok(Action::PutEvents {
-            entries: entries(alloc, sources)?,
-            size: 100,
+        Step::DeleteBus(name) => Ok(Action::DeleteEventBus {
+            name: text(alloc, name)?,
+        }),
+        Step::Allow(sid) => Ok(Action::PutStatement {
+            bus: text(alloc, "default")?,
+            sid: text(alloc, sid)?,
+            account: Some(stranger(alloc)?),
+        }),
+        Step::Revoke(Some(sid)) => Ok(Action::RemoveStatement {
+            bus: text(alloc, "default")?,
+            sid: Some(text(alloc, sid)?),
+        }),
+        Step::Revoke(None) => Ok(Action::RemoveStatement {
+            bus: text(alloc, "default")?,
+            sid: None,
         }),
         Step::Peek(queue) => Ok(Action::PeekMessages {
-            queue: Text::from_str(alloc, queue)?,
+            queue: text(alloc, queue)?,
             limit: 10,
+        }),
+        Step::RevokeAll => Ok(Action::RemovePolicy {
+            bus: text(alloc, "default")?,
+        }),
+        Step::Policy(policy) => policy_action(alloc, policy),
+        _ => Err(Fail::from("another step")),
+    }
+}
+
+fn rule_action(alloc: Global, step: Step) -> Result<Action, Fail>
+    ensures few { IfOk result (λ a. IsBounded (action_of a)) }
+    ensures one_turn { IfOk result (λ a. IsOneTurn (action_of a)) }
+    ensures own { IfOk result (λ a. AreEntriesOf owner (action_of a)) }
+{
+    match step {
+        Step::Rule(bus, name, pattern) => Ok(Action::PutRule {
+            bus: text(alloc, bus)?,
+            name: text(alloc, name)?,
+            pattern: text(alloc, pattern)?,
+            enabled: true,
+        }),
+        Step::Off(bus, name) => Ok(Action::PutRuleState {
+            bus: text(alloc, bus)?,
+            name: text(alloc, name)?,
+            enabled: false,
+        }),
+        Step::ShowRule(bus, name) => Ok(Action::DescribeRule {
+            bus: text(alloc, bus)?,
+            name: text(alloc, name)?,
+        }),
+        Step::DeleteRule(bus, name) => Ok(Action::DeleteRule {
+            bus: text(alloc, bus)?,
+            name: text(alloc, name)?,
+        }),
+        Step::Put(bus, rule, id, queue) => Ok(Action::PutTargets {
+            bus: text(alloc, bus)?,
+            rule: text(alloc, rule)?,
+            targets: targets(alloc, id, queue)?,
+        }),
+        Step::Remove(bus, rule, given) => Ok(Action::RemoveTargets {
+            bus: text(alloc, bus)?,
+            rule: text(alloc, rule)?,
+            ids: ids(alloc, given)?,
         }),
         Step::Test(pattern) => Ok(Action::TestEventPattern {
             pattern: pattern_of(alloc, pattern)?,
             event: event(alloc)?,
         }),
+        Step::Events(sources) => put_events(alloc, OWNER, sources),
+        _ => bus_action(alloc, step),
     }
+}
+
+/// A request of this account.
+fn asked(alloc: Global, account: &str, action: Action) -> Result<Request, Fail>
+    requires few { IsBounded (action_of action) }
+    requires one_turn { IsOneTurn (action_of action) }
+    requires allowed { (account.now ≡ owner) ⊎ IsPublishing (action_of action) }
+    requires own { AreEntriesOf account.now (action_of action) }
+    ensures few { IfOk result (λ r. IsBounded (action_of r.action)) }
+    ensures one_turn { IfOk result (λ r. IsOneTurn (action_of r.action)) }
+    ensures entitled { IfOk result (λ r. IsEntitled (request_of r)) }
+    ensures reading { IfOk result (λ r. r.reading ≡ 1700000000) }
+{
+    let caller = Text::from_str(alloc, account)?;
+    Ok(Request {
+        action,
+        caller,
+        reading: READING,
+    })
+}
+
+/// A request of the owner; of a `Step::Stranger`, of the stranger.
+fn request(alloc: Global, step: Step) -> Result<Request, Fail>
+    ensures few { IfOk result (λ r. IsBounded (action_of r.action)) }
+    ensures one_turn { IfOk result (λ r. IsOneTurn (action_of r.action)) }
+    ensures entitled { IfOk result (λ r. IsEntitled (request_of r)) }
+    ensures reading { IfOk result (λ r. r.reading ≡ 1700000000) }
+{
+    match step {
+        Step::Stranger(sources) => strangers(alloc, sources),
+        _ => owners(alloc, step),
+    }
+}
+
+fn strangers(alloc: Global, sources: &[&str]) -> Result<Request, Fail>
+    ensures few { IfOk result (λ r. IsBounded (action_of r.action)) }
+    ensures one_turn { IfOk result (λ r. IsOneTurn (action_of r.action)) }
+    ensures entitled { IfOk result (λ r. IsEntitled (request_of r)) }
+    ensures reading { IfOk result (λ r. r.reading ≡ 1700000000) }
+{
+    let action = put_events(alloc, STRANGER, sources)?;
+    asked(alloc, STRANGER, action)
+}
+
+fn owners(alloc: Global, step: Step) -> Result<Request, Fail>
+    ensures few { IfOk result (λ r. IsBounded (action_of r.action)) }
+    ensures one_turn { IfOk result (λ r. IsOneTurn (action_of r.action)) }
+    ensures entitled { IfOk result (λ r. IsEntitled (request_of r)) }
+    ensures reading { IfOk result (λ r. r.reading ≡ 1700000000) }
+{
+    let action = rule_action(alloc, step)?;
+    asked(alloc, OWNER, action)
 }
 
 /// One turn: decides the request and applies its change. Returns the status and text of the reply.
 fn turn(alloc: Global, tables: &mut Tables, step: Step) -> Result<String, Fail> {
-    let request = Request {
-        action: action(alloc, step)?,
-        reading: READING,
-    };
+    let request = request(alloc, step)?;
     let moment = request.reading.max(tables.moment());
     let (ready, reply) = decide(alloc, tables, &request, moment)?;
     if let Some(ready) = ready {
@@ -278,6 +566,16 @@ fn answered_otherwise(alloc: Global, tables: &mut Tables) -> Result<Option<usize
     Ok(None)
 }
 
+/// The index of the first step on the configuration that differs from its row.
+fn changed_otherwise(alloc: Global, tables: &mut Tables) -> Result<Option<usize>, Fail> {
+    for (place, (step, reply, changes)) in CHANGES.iter().enumerate() {
+        if !is_replied(alloc, tables, *step, reply)? || tables.set().control_count() != *changes {
+            return Ok(Some(place));
+        }
+    }
+    Ok(None)
+}
+
 /// Whether each message of the queue `q` has the text of the first event.
 fn has_body(alloc: Global, tables: &Tables) -> Result<bool, Fail> {
     let messages = tables.duties().peek(alloc, "q", 2)?;
@@ -305,6 +603,13 @@ fn each_request_is_answered(rt: HostRuntime) -> Result<(), Fail> {
     assert!(rt; is_delivered(&mut tables));
     assert!(rt; is_replied(rt.alloc(), &mut tables, Step::Peek("q"), PEEKED)?);
     assert!(rt; has_body(rt.alloc(), &tables)?);
+    Ok(())
+}
+
+#[test]
+fn each_change_is_answered(rt: HostRuntime) -> Result<(), Fail> {
+    let mut tables = Tables::first(rt.alloc())?;
+    assert_eq!(rt; changed_otherwise(rt.alloc(), &mut tables)?, None);
     Ok(())
 }
 

@@ -1,0 +1,131 @@
+-- The ids of a RemoveTargets: `without_keep`, `without_drop`, `removals_answered` (the removed ids are an allowed change), and `removals_unwritten` (there
+-- is none).
+use Rattle.std.proofs.Common.{◌≡◌, ℕ, ◌≤◌, ◌<◌, inl, inr, Bool, true, false, ◌||◌, List, [], ◌∷◌, ◌++◌, length, map, Option, Some, is_some}
+use Rattle.std.proofs.Common.{sym, refl, ap, ◌∙◌, subst, arith, append-nil}
+use Rattle.std.specs.Prelude.{codes, cond, Result, Ok, Err, IfOk}
+use Rattle.std.specs.List.{list_any}
+use Rattle.std.specs.Str.{bytes_eq}
+use Rattle.std.proofs.lemmas.List.{length-map}
+use Rattle.json_text.specs.View.{tree_of, trees_of}
+use Rattle.json_text.specs.declared.value.Json.{Json}
+use Rattle.name_rows.specs.Rows.{named}
+use Rattle.rule_table.specs.declared.control.Target.{Target}
+use Rattle.rule_table.specs.Control.{targets_removed}
+use Rattle.rule_table.specs.RuleSet.{Rule, rule_at, AreRemovable, ForRule, IsAllowed}
+use Rattle.rule_table.proofs.RefusalLemmas.{refused_not_allowed}
+use Rattle.api_replies.specs.declared.cause.Cause.{Cause}
+use Rattle.api_replies.specs.Reply.{Reply}
+use Rattle.api_replies.specs.declared.reply.Reply.{Reply as CodeReply}
+use Rattle.router_core.specs.Batch as batch
+use Rattle.router_core.specs.Tables.{Tables}
+use Rattle.router_core.specs.declared.ready.Ready.{Ready}
+use Rattle.router_calls.specs.Decided.{answer_of}
+use Rattle.router_calls.specs.Removals.{has_target, without_target, removed_ids, failed_ids}
+use Rattle.router_calls.specs.Answer.{Answer, IsControlled, AreTargetsRemoved, target_report, targets_reply, removals_answer, items_reply, reply_alone, writes}
+
+any_step : (b : Bool) (rest : Bool) (target : Target) (o : Option Target) → rest ≡ is_some o → (b || rest) ≡ is_some (cond b (Some target) o)
+any_step true rest target o is = refl
+any_step false rest target o is = is
+
+any_named : (id : List ℕ) (targets : List Target) → has_target id targets ≡ is_some (named (λ (t : Target). t.id) id targets)
+any_named id [] = refl
+any_named id (t ∷ ts) =
+    any_step (bytes_eq t.id id) (list_any (λ (t : Target). bytes_eq t.id id) ts) t (named (λ (t : Target). t.id) id ts) (any_named id ts)
+
+without_step : (b : Bool) (target : Target) (xs ys zs : List Target) → xs ≡ ys ++ zs → cond b xs (target ∷ xs) ≡ cond b ys (target ∷ ys) ++ zs
+without_step true target xs ys zs is = is
+without_step false target xs ys zs is = ap (λ ts. target ∷ ts) is
+
+pub without_append : (id : List ℕ) (xs ys : List Target) → without_target id (xs ++ ys) ≡ without_target id xs ++ without_target id ys
+without_append id [] ys = refl
+without_append id (t ∷ xs) ys =
+    without_step (bytes_eq t.id id) t (without_target id (xs ++ ys)) (without_target id xs) (without_target id ys) (without_append id xs ys)
+
+keep_step : (b : Bool) (target : Target) → b ≡ false → cond b [] (target ∷ []) ≡ target ∷ []
+keep_step true target is = cc
+keep_step false target is = refl
+
+drop_step : (b : Bool) (target : Target) → b ≡ true → cond b [] (target ∷ []) ≡ []
+drop_step true target is = refl
+drop_step false target is = cc
+
+-- one target more stays
+pub without_keep : (id : List ℕ) (xs : List Target) (x : Target) → bytes_eq x.id id ≡ false → without_target id (xs ++ x ∷ []) ≡ without_target id xs ++ x ∷ []
+without_keep id xs x other = without_append id xs (x ∷ []) ∙ ap (λ ts. without_target id xs ++ ts) (keep_step (bytes_eq x.id id) x other)
+
+-- one target more goes
+pub without_drop : (id : List ℕ) (xs : List Target) (x : Target) → bytes_eq x.id id ≡ true → without_target id (xs ++ x ∷ []) ≡ without_target id xs
+without_drop id xs x same =
+    without_append id xs (x ∷ []) ∙ ap (λ ts. without_target id xs ++ ts) (drop_step (bytes_eq x.id id) x same) ∙ append-nil (without_target id xs)
+
+-- the removed ids can be removed one after the other
+removable_step : (id : List ℕ) (targets : List Target) (b : Bool) (xs ys : List (List ℕ)) → has_target id targets ≡ b
+    → AreRemovable xs (without_target id targets) → AreRemovable ys targets → AreRemovable (cond b (id ∷ xs) ys) targets
+removable_step id targets true xs ys is left others = (sym (any_named id targets) ∙ is, left)
+removable_step id targets false xs ys is left others = others
+
+removable : (ids : List (List ℕ)) (targets : List Target) → AreRemovable (removed_ids ids targets) targets
+removable [] targets = tt
+removable (id ∷ ids) targets =
+    removable_step id targets (has_target id targets) (removed_ids ids (without_target id targets)) (removed_ids ids targets) refl
+    (removable ids (without_target id targets)) (removable ids targets)
+
+-- the change of the removed ids is allowed
+removal_allowed : (t : Tables) (bus rule : List ℕ) (r : Rule) (ids : List (List ℕ)) → rule_at bus rule t.set ≡ Some r
+    → 0 < length (removed_ids ids r.targets) → IsAllowed (targets_removed bus rule (removed_ids ids r.targets)) t.set
+removal_allowed t bus rule r ids found some =
+    subst (λ o. ForRule o (λ x. (1 ≤ length (removed_ids ids r.targets)) × AreRemovable (removed_ids ids r.targets) x.targets)) (sym found)
+    (omega (arith, some), removable ids r.targets)
+
+-- the reply counts the reports
+reply_so : (failed : List (List ℕ × Cause)) (reports : List Json) (n : ℕ) (reply : Reply) → trees_of reports ≡ map target_report failed
+    → n ≡ length reports → reply ≡ items_reply n (codes "FailedEntries") (trees_of reports) → reply ≡ targets_reply failed
+reply_so failed reports n reply are count is =
+    let counted : n ≡ length failed = omega (arith, count, ap length are, length-map failed target_report, length-map reports tree_of) in
+    is ∙ ap (λ k. items_reply k (codes "FailedEntries") (trees_of reports)) counted
+    ∙ ap (items_reply (length failed) (codes "FailedEntries")) are
+
+some_answer : (t : Tables) (moment : ℕ) (bus rule : List ℕ) (removed : List (List ℕ)) (failed : List (List ℕ × Cause)) (reply : Reply) (a : Answer)
+    → 0 < length removed → reply ≡ targets_reply failed → IsAllowed (targets_removed bus rule removed) t.set
+    → IsControlled t moment (targets_removed bus rule removed) reply a → a ≡ removals_answer t moment bus rule removed failed
+some_answer t moment bus rule [] failed reply a some is allowed controlled = absurd (omega arith)
+some_answer t moment bus rule (x ∷ xs) failed reply a some is allowed (inl (_, writes_so)) =
+    writes_so ∙ ap (λ (r : Reply). writes t moment (batch.control (targets_removed bus rule (x ∷ xs)) ∷ []) r) is
+some_answer t moment bus rule (x ∷ xs) failed reply a some is allowed (inr (fault, c, refused, _, _)) =
+    absurd (refused_not_allowed (targets_removed bus rule (x ∷ xs)) t.set fault refused allowed)
+
+answer_so : (t : Tables) (moment : ℕ) (bus rule : List ℕ) (r : Rule) (ids removed : List (List ℕ)) (reports : List Json) (n : ℕ) (reply : Reply) (a : Answer)
+    → rule_at bus rule t.set ≡ Some r → removed ≡ removed_ids ids r.targets → trees_of reports ≡ map target_report (failed_ids ids r.targets)
+    → n ≡ length reports → 0 < length removed → reply ≡ items_reply n (codes "FailedEntries") (trees_of reports)
+    → IsControlled t moment (targets_removed bus rule removed) reply a → AreTargetsRemoved t moment bus rule ids a
+answer_so t moment bus rule r ids removed reports n reply a found is are count some so controlled =
+    let all = removed_ids ids r.targets in
+    let replies = reply_so (failed_ids ids r.targets) reports n reply are count so in
+    let left : 0 < length all = omega (arith, some, ap length is) in
+    let there = subst (λ (xs : List (List ℕ)). IsControlled t moment (targets_removed bus rule xs) reply a) is controlled in
+    inr (inr (r, found, some_answer t moment bus rule all (failed_ids ids r.targets) reply a left replies (removal_allowed t bus rule r ids found left) there))
+
+-- what the change of the removed ids is answered
+pub removals_answered : {E : Type 0} (result : Result (Option Ready × CodeReply) E) (t : Tables) (moment : ℕ) (bus rule : List ℕ) (r : Rule)
+    (ids removed : List (List ℕ)) (reports : List Json) (n : ℕ) (reply : Reply) → rule_at bus rule t.set ≡ Some r → removed ≡ removed_ids ids r.targets
+    → trees_of reports ≡ map target_report (failed_ids ids r.targets) → n ≡ length reports → 0 < length removed
+    → reply ≡ items_reply n (codes "FailedEntries") (trees_of reports)
+    → IfOk result (λ p. IsControlled t moment (targets_removed bus rule removed) reply (answer_of p))
+    → IfOk result (λ p. AreTargetsRemoved t moment bus rule ids (answer_of p))
+removals_answered (Ok p) t moment bus rule r ids removed reports n reply found is are count some so controlled =
+    answer_so t moment bus rule r ids removed reports n reply (answer_of p) found is are count some so controlled
+removals_answered (Err e) t moment bus rule r ids removed reports n reply found is are count some so controlled = tt
+
+none_answer : (t : Tables) (moment : ℕ) (bus rule : List ℕ) (removed : List (List ℕ)) (failed : List (List ℕ × Cause)) (reply : Reply)
+    → length removed ≡ 0 → reply ≡ targets_reply failed → reply_alone reply ≡ removals_answer t moment bus rule removed failed
+none_answer t moment bus rule [] failed reply none is = ap reply_alone is
+none_answer t moment bus rule (x ∷ xs) failed reply none is = absurd (omega arith)
+
+pub removals_unwritten : (t : Tables) (moment : ℕ) (bus rule : List ℕ) (r : Rule) (ids removed : List (List ℕ)) (reports : List Json) (n : ℕ) (reply : Reply)
+    → rule_at bus rule t.set ≡ Some r → removed ≡ removed_ids ids r.targets → trees_of reports ≡ map target_report (failed_ids ids r.targets)
+    → n ≡ length reports → length removed ≡ 0 → reply ≡ items_reply n (codes "FailedEntries") (trees_of reports)
+    → AreTargetsRemoved t moment bus rule ids (reply_alone reply)
+removals_unwritten t moment bus rule r ids removed reports n reply found is are count none so =
+    let none_left : length (removed_ids ids r.targets) ≡ 0 = omega (arith, none, ap length is) in
+    let replies = reply_so (failed_ids ids r.targets) reports n reply are count so in
+    inr (inr (r, found, none_answer t moment bus rule (removed_ids ids r.targets) (failed_ids ids r.targets) reply none_left replies))

@@ -1,0 +1,25 @@
+-- What PutPermission and RemovePermission make of a bus's policy.
+use Rattle.std.specs.Prelude.{ℕ, Bool, false, List, Option, Some, None}
+use Rattle.json_text.specs.Tree.{Tree, Items, no_items, item}
+use Rattle.json_text.specs.Compact.{compact_text}
+use Rattle.bus_policy.specs.Parts.{statements_of}
+use Rattle.bus_policy.specs.Change.{allow_for, first_policy, with_statement, some_has_sid, without_sid, without_statement}
+
+-- some statement of the policy has this StatementId as its Sid; without a policy there is no statement
+abbrev pub has_statement : List ℕ → Option Tree → Bool
+has_statement sid None = false
+has_statement sid (Some policy) = some_has_sid sid (statements_of policy)
+
+-- the policy with one more statement, which lets the account, or everyone, put events on the bus
+abbrev pub granting : List ℕ → List ℕ → Option (List ℕ) → Option Tree → Tree
+granting bus sid account None = first_policy (allow_for sid account bus)
+granting bus sid account (Some policy) = with_statement policy (allow_for sid account bus)
+
+-- the text of the policy if statements are left in it; with its last statement the policy goes
+abbrev pub unless_empty : Items → Tree → Option (List ℕ)
+unless_empty no_items policy = None
+unless_empty (item statement_value statements) policy = Some (compact_text policy)
+
+-- the policy without the statements of this StatementId
+abbrev pub revoking : List ℕ → Tree → Option (List ℕ)
+revoking sid policy = unless_empty (without_sid sid (statements_of policy)) (without_statement policy sid)

@@ -1,0 +1,51 @@
+//! Changes of the policy of a bus.
+ghost use Rattle.std.specs.Prelude.{◌≡◌, ◌≤◌, ◌∷◌, [], None, true, IfOk, IfSome};
+ghost use Rattle.json_text.specs.Moment.{IsMoment};
+ghost use Rattle.rule_table.specs.Control.{policy_put};
+ghost use Rattle.rule_table.specs.RuleSet.{IsNoneOrStored, has_bus};
+ghost use Rattle.api_replies.specs.declared.kind.Kind.TheVariants as kind_is;
+ghost use Rattle.api_replies.specs.declared.cause.Cause.TheVariants as cause_is;
+ghost use Rattle.api_replies.specs.Reply as replies;
+ghost use Rattle.router_core.specs.Batch as batch;
+ghost use Rattle.router_core.specs.Ready.{IsReadyAt};
+ghost use Rattle.router_calls.specs.Answer.{empty_reply, reply_alone, writes};
+ghost use Rattle.router_calls.specs.Decided.{answer_of};
+
+use crate::configure::configure;
+use crate::reply::{empty_reply, refused};
+use json_text::{NoMemory, Text};
+use router_core::{Cause, Kind, Ready, Reply, Tables};
+use rule_table::Control;
+use std::alloc::Global;
+
+/// Gives the bus, which exists, this policy, or takes its policy away.
+pub(crate) fn change_policy(
+    alloc: Global,
+    tables: &Tables,
+    moment: u64,
+    bus: &Text,
+    policy: Option<Text>,
+) -> Result<(Option<Ready>, Reply), NoMemory>
+    requires moment { IsMoment moment }
+    requires later { tables.now.moment ≤ moment }
+    requires there { has_bus bus.now tables.now.set ≡ true }
+    requires stored { IsNoneOrStored policy }
+    ensures answer { IfOk result (λ p. answer_of p ≡ writes tables.now moment (batch.control (policy_put bus.now policy) ∷ []) empty_reply) }
+    ensures ready { IfOk result (λ p. IfSome p.0 (λ r. IsReadyAt tables.now r)) }
+{
+    let control = Control::PolicyPut {
+        bus: bus.copy(alloc)?,
+        policy,
+    };
+    configure(alloc, tables, moment, control, None, empty_reply(alloc))
+}
+
+/// The refusal that the bus does not exist.
+pub(crate) fn no_bus(alloc: Global, bus: &Text) -> Result<(Option<Ready>, Reply), NoMemory>
+    ensures answer { IfOk result (λ p. answer_of p ≡ reply_alone (replies.refused (cause_is.NotFound kind_is.EventBus bus.now))) }
+    ensures ready { IfOk result (λ p. p.0 ≡ None) }
+{
+    let name = bus.copy(alloc)?;
+    let kind = Kind::EventBus;
+    refused(alloc, &Cause::NotFound { kind, name })
+}

@@ -1,0 +1,112 @@
+//! RemoveTargets.
+ghost use Rattle.std.specs.Prelude.{◌≡◌, ◌≤◌, IfOk, IfSome, map};
+ghost use Rattle.json_text.specs.Moment.{IsMoment};
+ghost use Rattle.json_text.specs.View.{tree_of, trees_of};
+ghost use Rattle.api_replies.specs.declared.kind.Kind.TheVariants as kind_is;
+ghost use Rattle.api_replies.specs.declared.cause.Cause.TheVariants as cause_is;
+ghost use Rattle.router_core.specs.Ready.{IsReadyAt};
+ghost use Rattle.router_calls.specs.Removals.{failed_ids, has_target, removed_ids, without_target};
+ghost use Rattle.router_calls.specs.Answer.{AreTargetsRemoved, target_report};
+ghost use Rattle.router_calls.specs.Decided.{answer_of};
+
+use crate::configure::configure;
+use crate::put_targets::{copies, target_json};
+use crate::reply::{items_reply, refused};
+use json_text::{Items, Json, NoMemory, Text};
+use router_core::{Cause, Kind, Ready, Reply, Tables};
+use rule_table::{Control, Target};
+use std::alloc::Global;
+
+/// Removes the target of each id from the rule, as one change. If no id is a target's, nothing is changed.
+pub(crate) fn remove_targets(
+    alloc: Global,
+    tables: &Tables,
+    moment: u64,
+    bus: &Text,
+    rule: &Text,
+    ids: &[Text],
+) -> Result<(Option<Ready>, Reply), NoMemory>
+    requires moment { IsMoment moment }
+    requires later { tables.now.moment ≤ moment }
+    ensures answer { IfOk result (λ p. AreTargetsRemoved tables.now moment bus.now rule.now ids.now (answer_of p)) }
+    ensures ready { IfOk result (λ p. IfSome p.0 (λ r. IsReadyAt tables.now r)) }
+{
+    let set = tables.set();
+    if set.bus(bus.as_str()).is_none() {
+        let name = bus.copy(alloc)?;
+        let kind = Kind::EventBus;
+        return refused(alloc, &Cause::NotFound { kind, name });
+    }
+    let Some(old) = set.rule(bus.as_str(), rule.as_str()) else {
+        let name = rule.copy(alloc)?;
+        let kind = Kind::Rule;
+        return refused(alloc, &Cause::NotFound { kind, name });
+    };
+    let Removals { removed, reports } = remove_all(alloc, old.targets(), ids)?;
+    let reply = items_reply(alloc, reports.len() as u64, "FailedEntries", reports)?;
+    if removed.is_empty() {
+        return Ok((None, reply));
+    }
+    let control = Control::TargetsRemoved {
+        bus: bus.copy(alloc)?,
+        rule: rule.copy(alloc)?,
+        ids: removed,
+    };
+    configure(alloc, tables, moment, control, None, reply)
+}
+
+/// What ids became.
+#[derive(Drop)]
+pub(crate) struct Removals {
+    removed: Vec<Text>,
+    /// The items of the ids that are no target's.
+    reports: Items,
+}
+
+/// Removes the targets of these ids from those of a rule, one after the other.
+fn remove_all(alloc: Global, targets: &[Target], ids: &[Text]) -> Result<Removals, NoMemory>
+    ensures removed { IfOk result (λ all. all.removed.items ≡ removed_ids ids.now targets.now) }
+    ensures reports { IfOk result (λ all. trees_of all.reports.items ≡ map target_report (failed_ids ids.now targets.now)) }
+{
+    let mut left = copies(alloc, targets)?;
+    let mut removed = Vec::new(alloc);
+    let mut reports: Items = Vec::new(alloc);
+    for id in ids {
+        if has_target(left.as_slice(), id.as_str()) {
+            left = without_target(alloc, left, id.as_str())?;
+            removed.push(id.copy(alloc)?)?;
+        } else {
+            reports.push(missing_json(alloc, id)?)?;
+        }
+    }
+    Ok(Removals { removed, reports })
+}
+
+/// Whether one of the targets has this id.
+fn has_target(targets: &[Target], id: &str) -> bool
+    ensures { result ≡ has_target id.now targets.now }
+{
+    targets.iter().any(|target| target.id.as_str() == id)
+}
+
+/// The targets without the one of this id.
+fn without_target(alloc: Global, targets: Vec<Target>, id: &str) -> Result<Vec<Target>, NoMemory>
+    ensures { IfOk result (λ left. left.items ≡ without_target id.now targets.items) }
+{
+    let mut left = Vec::with_capacity(alloc, targets.len())?;
+    for target in targets {
+        if target.id.as_str() != id {
+            left.push(target)?;
+        }
+    }
+    Ok(left)
+}
+
+/// The item of an id that is no target's.
+fn missing_json(alloc: Global, id: &Text) -> Result<Json, NoMemory>
+    ensures { IfOk result (λ j. tree_of j ≡ target_report (id.now, cause_is.NotFound kind_is.Target id.now)) }
+{
+    let name = id.copy(alloc)?;
+    let kind = Kind::Target;
+    target_json(alloc, id.as_str(), &Cause::NotFound { kind, name })
+}
