@@ -1,7 +1,7 @@
 -- Sound members have no refusal, and members have at most one first refusal. Other files cite `sound_no_first` and `one_first`, and
 -- `one_bus` and `one_count` (what is given is read in one way).
 use Rattle.std.proofs.Common.{◌≡◌, ℕ, ◌<◌, ◌^◌, ◌≤◌, inl, inr, ◌⊎◌, List, [], ◌∷◌, ◌++◌, Some, None, sym, ◌∙◌, arith}
-use Rattle.std.specs.Prelude.{Option, decimal}
+use Rattle.std.specs.Prelude.{Option}
 use Rattle.std.proofs.lemmas.Fmt.{decimal_injective}
 use Rattle.json_text.specs.Tree.{Tree, number, text, Members}
 use Rattle.event_shape.proofs.CheckedOnce.{bus_once}
@@ -15,15 +15,19 @@ use Rattle.api_members.specs.declared.asked.Asked.TheVariants.{Required, Optiona
 use Rattle.pattern_read.specs.Refusal.{path_text}
 use Rattle.pattern_read.proofs.RefusalLemmas.{never_refused}
 use Rattle.api_members.proofs.PatternLemmas.{one_pattern_refusal}
+use Rattle.api_members.proofs.PolicyLemmas.{never_faulty, one_fault}
 use Rattle.api_members.specs.Why.{why_name}
 use Rattle.api_members.specs.Given.{given}
 use Rattle.api_members.specs.Value.{IsValid, IsCount, HasCount, HasBus, GivesOr}
-use Rattle.api_members.specs.Refusal.{IsValueRefused, ValidOr, RefusedOr, IsSound, IsMemberRefused, AreSound, IsFirstRefusal}
+use Rattle.api_members.specs.Refusal.{policy_cause, IsValueRefused, ValidOr, RefusedOr, IsSound, IsMemberRefused, AreSound, IsFirstRefusal}
 
 valid_not_refused : (s : Syntax) (m : Member) (t : Tree) (c : Cause) → IsValid s t → IsValueRefused s m t c → ⊥
 valid_not_refused syntax.QueueName m t c v r = r.0 v
 valid_not_refused syntax.RuleName m t c v r = r.0 v
+valid_not_refused syntax.BusName m t c v r = r.0 v
 valid_not_refused syntax.Bus m t c v r = r.0 v
+valid_not_refused syntax.AnyText m t c v r = r.0 v
+valid_not_refused syntax.QueueArn m t c v r = r.0 v
 valid_not_refused syntax.Pattern m (text b) c v r = never_refused b v.0 r.0 r.1 v.1 r.2
 valid_not_refused syntax.Pattern m _ c v r = absurd v
 valid_not_refused syntax.Event m t c v r = r.0 v
@@ -31,6 +35,13 @@ valid_not_refused syntax.State m t c v r = r.0 v
 valid_not_refused (syntax.Count most) m t c v r = r.0 v
 valid_not_refused syntax.Entries m t c v r = r.0 v
 valid_not_refused syntax.Targets m t c v r = r.0 v
+valid_not_refused syntax.Ids m t c v r = r.0 v
+valid_not_refused syntax.Policy m (text b) c v r = never_faulty b v.0 r.0 r.1 v.1 r.2
+valid_not_refused syntax.Policy m _ c v r = absurd v
+valid_not_refused syntax.StatementId m t c v r = r.0 v
+valid_not_refused syntax.PutEventsAction m t c v r = r.0 v
+valid_not_refused syntax.Principal m t c v r = r.0 v
+valid_not_refused syntax.Truth m t c v r = r.0 v
 valid_not_refused syntax.Unserved m t c v r = r.0 v
 
 given_not_refused : (fine missing : Type 0) (s : Syntax) (m : Member) (v : Option Tree) (c : Cause) → (fine → missing → ⊥)
@@ -45,7 +56,10 @@ sound_not_refused (Optional m s) ms c = given_not_refused (Unit {0}) ⊥ s m (gi
 one_value_refusal : (s : Syntax) (m : Member) (t : Tree) (c d : Cause) → IsValueRefused s m t c → IsValueRefused s m t d → c ≡ d
 one_value_refusal syntax.QueueName m t c d p q = p.1 ∙ sym q.1
 one_value_refusal syntax.RuleName m t c d p q = p.1 ∙ sym q.1
+one_value_refusal syntax.BusName m t c d p q = p.1 ∙ sym q.1
 one_value_refusal syntax.Bus m t c d p q = p.1 ∙ sym q.1
+one_value_refusal syntax.AnyText m t c d p q = p.1 ∙ sym q.1
+one_value_refusal syntax.QueueArn m t c d p q = p.1 ∙ sym q.1
 one_value_refusal syntax.Pattern m (text b) c d p q =
     let same = one_pattern_refusal b p.0 q.0 p.1 q.1 p.2 q.2 in
     p.3 ∙ (λ i. cause.NotAPattern (why_name (same.0 i)) (path_text (same.1 i))) ∙ sym q.3
@@ -55,6 +69,15 @@ one_value_refusal syntax.State m t c d p q = p.1 ∙ sym q.1
 one_value_refusal (syntax.Count most) m t c d p q = p.1 ∙ sym q.1
 one_value_refusal syntax.Entries m t c d p q = p.1 ∙ sym q.1
 one_value_refusal syntax.Targets m t c d p q = p.1 ∙ sym q.1
+one_value_refusal syntax.Ids m t c d p q = p.1 ∙ sym q.1
+one_value_refusal syntax.Policy m (text b) c d p q =
+    let same = one_fault b p.0 q.0 p.1 q.1 p.2 q.2 in
+    p.3 ∙ (λ i. policy_cause (same.0 i) (same.1 i)) ∙ sym q.3
+one_value_refusal syntax.Policy m _ c d p q = p.1 ∙ sym q.1
+one_value_refusal syntax.StatementId m t c d p q = p.1 ∙ sym q.1
+one_value_refusal syntax.PutEventsAction m t c d p q = p.1 ∙ sym q.1
+one_value_refusal syntax.Principal m t c d p q = p.1 ∙ sym q.1
+one_value_refusal syntax.Truth m t c d p q = p.1 ∙ sym q.1
 one_value_refusal syntax.Unserved m t c d p q = p.1 ∙ sym q.1
 
 one_given : (missing : Cause → Type 0) → ((c d : Cause) → missing c → missing d → c ≡ d) → (s : Syntax) (m : Member) (v : Option Tree) (c d : Cause)

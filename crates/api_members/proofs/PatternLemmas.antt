@@ -1,5 +1,5 @@
--- A text is refused as a pattern for one reason, at one place: `one_pattern_refusal`.
-use Rattle.std.proofs.Common.{◌≡◌, ℕ, ◌<◌, ◌≤◌, ◌⊎◌, inl, inr, true, List, [], ◌∷◌, length, Some, None, sym, ap, ◌∙◌, refl, arith}
+-- A text is refused as a pattern for one reason, at one place: `one_pattern_refusal`. A text has one place at which it is no JSON: `one_place`.
+use Rattle.std.proofs.Common.{◌≡◌, ℕ, ◌<◌, ◌≤◌, ◌⊎◌, inl, inr, true, List, [], ◌∷◌, length, Some, None, sym, ◌∙◌, refl, arith}
 use Rattle.std.proofs.lemmas.Bool.{cases_order}
 use Rattle.json_text.specs.Node.{Node, value_of, first_repeat}
 use Rattle.json_text.specs.Grammar.{IsText}
@@ -46,7 +46,7 @@ sorted text why keys (too_many node p short spelled once is many) = inr (short, 
 abbrev Same : Why → Why → Keys → Keys → Type 0
 Same v w ks ls = (v ≡ w) × (ks ≡ ls)
 
-one_place : (text : List ℕ) (a b : ℕ) → FailsAt 100 text a → FailsAt 100 text b → a ≡ b
+pub one_place : (text : List ℕ) (a b : ℕ) → FailsAt 100 text a → FailsAt 100 text b → a ≡ b
 one_place text a b f g = elim (cases_order a b) [
   | inl e ↦ e
   | inr h ↦ elim h [

@@ -1,15 +1,18 @@
--- The first refusal of a list of members. Other files cite `IsSoFar`, `sound_so_far`, `refused_so_far`; `text_refused`.
-use Rattle.std.proofs.Common.{◌≡◌, ℕ, List, [], ◌∷◌, refl, ap, ◌∙◌}
+-- The first refusal of a list of members. Other files cite `IsSoFar`, `sound_so_far`, `refused_so_far`; `text_refused`, `policy_refused`.
+use Rattle.std.proofs.Common.{ℕ, List, [], ◌∷◌, refl, ap, ◌∙◌}
 use Rattle.json_text.specs.Tree.{Members}
 use Rattle.pattern_read.specs.Refusal.{IsFault}
 use Rattle.pattern_read.specs.declared.fault.PatternFault.{PatternFault}
 use Rattle.pattern_read.specs.declared.fault.PatternFault.TheVariants as pattern
+use Rattle.bus_policy.specs.Fault.{IsFirstFaultOrMemory}
+use Rattle.bus_policy.specs.declared.fault.PolicyFault.{PolicyFault}
+use Rattle.bus_policy.specs.declared.fault.PolicyFault.TheVariants as policy
 use Rattle.api_replies.specs.declared.cause.Cause.{Cause}
 use Rattle.api_replies.specs.declared.cause.Cause.TheVariants as cause
 use Rattle.api_members.specs.declared.asked.Asked.{Asked}
 use Rattle.api_members.specs.declared.fault.CallFault.{CallFault}
 use Rattle.api_members.specs.declared.fault.CallFault.TheVariants.{Refused, NoMemory}
-use Rattle.api_members.specs.Refusal.{IsSound, IsMemberRefused, AreSound, IsFirstRefusal, FirstFault, MemberFault, IsTextRefused}
+use Rattle.api_members.specs.Refusal.{IsSound, IsMemberRefused, AreSound, IsFirstRefusal, FirstFault, MemberFault, IsTextRefused, IsPolicyRefused, IsPolicyFault}
 use Rattle.api_members.specs.Why.{why_name}
 use Rattle.api_members.specs.Fault.{IsCallFault}
 
@@ -47,3 +50,8 @@ pub text_refused : (t : List ℕ) (f : PatternFault) (e : CallFault) → IsFault
 text_refused t (pattern.Refused why path) (Refused c) is so = (why, is.0, is.1, so ∙ ap (cause.NotAPattern (why_name why)) is.2)
 text_refused t pattern.NoMemory (Refused c) is so = absurd so
 text_refused t f NoMemory is so = tt
+
+pub policy_refused : (t : List ℕ) (f : PolicyFault) (e : CallFault) → IsFirstFaultOrMemory t f → IsPolicyFault f e → IsPolicyRefused t e
+policy_refused t (policy.Bad why place) (Refused c) is so = (why, place, is, so)
+policy_refused t policy.NoMemory (Refused c) is so = absurd so
+policy_refused t f NoMemory is so = tt

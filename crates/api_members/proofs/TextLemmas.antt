@@ -1,4 +1,4 @@
--- The text of a sound member: other files cite `pattern_text` and `event_text`. A text is one event (`one_event`), which is a value (`event_is_value`).
+-- The text of a sound member: other files cite `valid_text`, `pattern_text` and `event_text`. A text is one event (`one_event`), which is a value (`event_is_value`).
 use Rattle.std.proofs.Common.{◌≡◌, ℕ, List, [], Option, Some, None, sym, ap, ◌∙◌, subst}
 use Rattle.std.specs.Prelude.{unwrap_or, option_and_then}
 use Rattle.json_text.specs.Tree.{Tree, text, Members}
@@ -20,7 +20,7 @@ text_that : (P : List ℕ → Type 0) (t : Tree) → IsTextThat P t → P (unwra
 text_that P (text t) is = is
 text_that P _ is = absurd is
 
-valid_text : (P : List ℕ → Type 0) (s : Syntax) (v : Option Tree) → ((t : Tree) → IsValid s t → IsTextThat P t) → ValidOr ⊥ s v
+pub valid_text : (P : List ℕ → Type 0) (s : Syntax) (v : Option Tree) → ((t : Tree) → IsValid s t → IsTextThat P t) → ValidOr ⊥ s v
     → P (unwrap_or (option_and_then text_in v) [])
 valid_text P s None is valid = absurd valid
 valid_text P s (Some t) is valid = text_that P t (is t valid)

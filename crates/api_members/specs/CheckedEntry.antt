@@ -1,22 +1,21 @@
 -- Entries of a PutEvents, checked once.
 use Rattle.std.specs.Prelude.{◌≡◌, ℕ, List, [], ◌∷◌, sum_by, Result, Ok, Err}
-use Rattle.event_shape.specs.Names.{owner}
 use Rattle.event_shape.specs.Entry.{Entry, size_of}
 use Rattle.event_shape.specs.Event.{Checked, IsCheckedOf, IsMade}
 use Rattle.event_shape.specs.Fault.{IsFirstFault}
 use Rattle.event_shape.specs.Unnumbered.{Unnumbered}
 use Rattle.event_shape.specs.declared.entry.EntryFault.{EntryFault}
 
--- an entry without a fault gives its event, whose number is open; another gives its first fault
-abbrev pub IsChecked : ℕ → Entry → Result Unnumbered EntryFault → Type 0
-IsChecked reading entry (Ok u) = (c : Checked) × IsCheckedOf entry c × IsMade c 0 reading owner u.event × (u.bus ≡ c.bus)
-IsChecked reading entry (Err fault) = IsFirstFault entry fault
+-- an entry of this caller without a fault gives its event, whose number is open; another gives its first fault
+abbrev pub IsChecked : ℕ → List ℕ → Entry → Result Unnumbered EntryFault → Type 0
+IsChecked reading caller entry (Ok u) = (c : Checked) × IsCheckedOf entry c × IsMade c 0 reading caller u.event × (u.bus ≡ c.bus)
+IsChecked reading caller entry (Err fault) = IsFirstFault entry fault
 
 -- each entry gives this, in order
-abbrev pub AreChecked : ℕ → List Entry → List (Result Unnumbered EntryFault) → Type 0
-AreChecked reading [] all = all ≡ []
-AreChecked reading (entry ∷ entries) all = (one : Result Unnumbered EntryFault) × (rest : List (Result Unnumbered EntryFault))
-    × (all ≡ one ∷ rest) × IsChecked reading entry one × AreChecked reading entries rest
+abbrev pub AreChecked : ℕ → List ℕ → List Entry → List (Result Unnumbered EntryFault) → Type 0
+AreChecked reading caller [] all = all ≡ []
+AreChecked reading caller (entry ∷ entries) all = (one : Result Unnumbered EntryFault) × (rest : List (Result Unnumbered EntryFault))
+    × (all ≡ one ∷ rest) × IsChecked reading caller entry one × AreChecked reading caller entries rest
 
 -- the number of bytes that the entries have together, faulty ones included
 abbrev pub total_size : List Entry → ℕ

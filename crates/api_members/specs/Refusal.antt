@@ -3,6 +3,11 @@ use Rattle.std.specs.Prelude.{◌≡◌, ℕ, List, [], ◌∷◌, ◌++◌, Opt
 use Rattle.json_text.specs.Tree.{Tree, text, Members}
 use Rattle.pattern_read.specs.Refusal.{IsRefused, path_text}
 use Rattle.pattern_read.specs.declared.fault.Why.{Why}
+use Rattle.bus_policy.specs.Text.{IsTextFault}
+use Rattle.bus_policy.specs.declared.fault.PolicyCause.{PolicyCause}
+use Rattle.bus_policy.specs.declared.fault.PolicyCause.TheVariants as policy
+use Rattle.bus_policy.specs.declared.fault.PolicyFault.{PolicyFault}
+use Rattle.bus_policy.specs.declared.fault.PolicyFault.TheVariants as fault
 use Rattle.api_replies.specs.declared.member.Member.{Member}
 use Rattle.api_replies.specs.declared.cause.Cause.{Cause}
 use Rattle.api_replies.specs.declared.cause.Cause.TheVariants as cause
@@ -13,7 +18,7 @@ use Rattle.api_members.specs.declared.asked.Asked.TheVariants.{Required, Optiona
 use Rattle.api_members.specs.declared.fault.CallFault.{CallFault}
 use Rattle.api_members.specs.declared.fault.CallFault.TheVariants.{Refused, NoMemory}
 use Rattle.api_members.specs.Given.{given}
-use Rattle.api_members.specs.Why.{why_name}
+use Rattle.api_members.specs.Why.{why_name, policy_why_name}
 use Rattle.api_members.specs.Event.{GivesEvent}
 use Rattle.api_members.specs.Value.{IsValid}
 
@@ -21,9 +26,19 @@ use Rattle.api_members.specs.Value.{IsValid}
 abbrev pub IsPatternRefusal : List ℕ → Cause → Type 0
 IsPatternRefusal t c = (why : Why) × (keys : List (List ℕ)) × IsRefused t why keys × (c ≡ cause.NotAPattern (why_name why) (path_text keys))
 
--- the value is refused: a text as a pattern for its own reason, any other value as not valid
+-- the refusal of a text that has this fault as a policy
+abbrev pub policy_cause : PolicyCause → ℕ → Cause
+policy_cause policy.TooLong place = cause.PolicyTooLong
+policy_cause why place = cause.NotAPolicy (policy_why_name why) place
+
+-- a text that is no policy is refused for its own reason, with the place of its statement
+abbrev pub IsPolicyRefusal : List ℕ → Cause → Type 0
+IsPolicyRefusal t c = (why : PolicyCause) × (place : ℕ) × IsTextFault t why place × (c ≡ policy_cause why place)
+
+-- the value is refused: a text as a pattern or a policy for its own reason, any other value as not valid
 abbrev pub IsValueRefused : Syntax → Member → Tree → Cause → Type 0
 IsValueRefused syntax.Pattern m (text t) c = IsPatternRefusal t c
+IsValueRefused syntax.Policy m (text t) c = IsPolicyRefusal t c
 IsValueRefused s m tree c = (¬ IsValid s tree) × (c ≡ cause.NotValid m)
 
 -- the value is valid; an absent one as `absent` says
@@ -84,3 +99,14 @@ IsTextRefused t NoMemory = Unit {0}
 abbrev pub IsEventRefused : Member → List ℕ → CallFault → Type 0
 IsEventRefused m t (Refused c) = (¬ GivesEvent t) × (c ≡ cause.NotValid m)
 IsEventRefused m t NoMemory = Unit {0}
+
+-- the fault of a text that is no policy
+abbrev pub IsPolicyRefused : List ℕ → CallFault → Type 0
+IsPolicyRefused t (Refused c) = IsPolicyRefusal t c
+IsPolicyRefused t NoMemory = Unit {0}
+
+-- the fault of a request whose policy has this fault
+abbrev pub IsPolicyFault : PolicyFault → CallFault → Type 0
+IsPolicyFault (fault.Bad why place) (Refused c) = c ≡ policy_cause why place
+IsPolicyFault fault.NoMemory (Refused c) = ⊥
+IsPolicyFault f NoMemory = Unit {0}

@@ -1,14 +1,16 @@
 -- Which values are valid for a member.
-use Rattle.std.specs.Prelude.{◌≡◌, ℕ, ◌≤◌, nat_le, ◌⊎◌, Bool, ◌&&◌, List, length, Option, Some, None, codes, decimal, IsTrue}
+use Rattle.std.specs.Prelude.{◌≡◌, ℕ, ◌≤◌, nat_le, ◌⊎◌, Bool, true, false, ◌&&◌, List, length, Option, Some, None, codes, decimal, IsTrue, All}
 use Rattle.std.specs.List.{list_all}
-use Rattle.json_text.specs.Tree.{Tree, number, text}
-use Rattle.event_shape.specs.Names.{IsQueueName, IsShortName, IsBusGiven}
+use Rattle.json_text.specs.Tree.{Tree, truth, number, text}
+use Rattle.event_shape.specs.Names.{IsQueueName, IsShortName, IsBusName, IsQueueArn, IsBusGiven, is_account}
+use Rattle.bus_policy.specs.Text.{IsPolicyText}
+use Rattle.bus_policy.specs.StatementId.{IsStatementId}
 use Rattle.pattern_meaning.specs.Pattern.{Pattern}
 use Rattle.pattern_read.specs.Text.{IsPatternText}
 use Rattle.api_members.specs.declared.asked.Syntax.{Syntax}
 use Rattle.api_members.specs.declared.asked.Syntax.TheVariants as syntax
 use Rattle.api_members.specs.Given.{list_in}
-use Rattle.api_members.specs.JsonType.{must_pass}
+use Rattle.api_members.specs.JsonType.{is_text, must_pass}
 use Rattle.api_members.specs.Entry.{is_entry}
 use Rattle.api_members.specs.Target.{is_target}
 use Rattle.api_members.specs.Event.{GivesEvent}
@@ -39,6 +41,27 @@ abbrev pub IsCount : ℕ → Tree → ℕ → Type 0
 IsCount most (number spelling) n = IsSpelled most spelling n
 IsCount most _ n = ⊥
 
+-- the text is a queue's ARN
+abbrev pub GivesQueueArn : List ℕ → Type 0
+GivesQueueArn t = (queue : List ℕ) × IsQueueArn t queue
+
+-- the text is some policy
+abbrev pub GivesPolicy : List ℕ → Type 0
+GivesPolicy t = (policy : Tree) × IsPolicyText t policy
+
+-- `*` for everyone, or an account
+abbrev pub IsGrantee : List ℕ → Type 0
+IsGrantee t = (t ≡ codes "*") ⊎ IsTrue (is_account t)
+
+-- a list of 1 to 100 texts, each with the syntax of a target's id
+abbrev pub AreIds : Tree → Type 0
+AreIds tree = (values : List Tree) × (list_in tree ≡ Some values) × (1 ≤ length values) × (length values ≤ 100) × All (IsTextThat IsShortName) values
+
+-- `true` or `false`
+abbrev pub is_truth : Tree → Bool
+is_truth (truth b) = true
+is_truth _ = false
+
 -- what is given, or else `default`
 abbrev pub GivesOr : {X : Type 0} → (X → Type 0) → X → X → Type 0
 GivesOr {X} Gives default x = Gives x ⊎ ((x ≡ default) × ((other : X) → ¬ Gives other))
@@ -65,11 +88,20 @@ is_list_of test most tree = must_pass (are_few test most) (list_in tree)
 abbrev pub IsValid : Syntax → Tree → Type 0
 IsValid syntax.QueueName tree = IsTextThat IsQueueName tree
 IsValid syntax.RuleName tree = IsTextThat IsShortName tree
+IsValid syntax.BusName tree = IsTextThat IsBusName tree
 IsValid syntax.Bus tree = IsTextThat GivesBus tree
+IsValid syntax.AnyText tree = IsTrue (is_text tree)
+IsValid syntax.QueueArn tree = IsTextThat GivesQueueArn tree
 IsValid syntax.Pattern tree = IsTextThat IsPattern tree
 IsValid syntax.Event tree = IsTextThat GivesEvent tree
 IsValid syntax.State tree = IsTextThat IsState tree
 IsValid (syntax.Count most) tree = (n : ℕ) × IsCount most tree n
 IsValid syntax.Entries tree = IsTrue (is_list_of is_entry 10 tree)
 IsValid syntax.Targets tree = IsTrue (is_list_of is_target 100 tree)
+IsValid syntax.Ids tree = AreIds tree
+IsValid syntax.Policy tree = IsTextThat GivesPolicy tree
+IsValid syntax.StatementId tree = IsTextThat IsStatementId tree
+IsValid syntax.PutEventsAction tree = IsTextThat (λ t. t ≡ codes "events:PutEvents") tree
+IsValid syntax.Principal tree = IsTextThat IsGrantee tree
+IsValid syntax.Truth tree = IsTrue (is_truth tree)
 IsValid syntax.Unserved tree = ⊥

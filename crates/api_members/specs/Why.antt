@@ -1,7 +1,9 @@
--- The names of the reasons why a text is no event pattern, as messages have them. This project's own.
+-- The names of the reasons why a text is no event pattern or no policy, as messages have them. This project's own.
 use Rattle.std.specs.Prelude.{ℕ, List, codes}
 use Rattle.pattern_read.specs.declared.fault.Why.{Why}
 use Rattle.pattern_read.specs.declared.fault.Why.TheVariants as why
+use Rattle.bus_policy.specs.declared.fault.PolicyCause.{PolicyCause}
+use Rattle.bus_policy.specs.declared.fault.PolicyCause.TheVariants as policy
 
 -- the name of the reason
 abbrev pub why_name : Why → List ℕ
@@ -20,3 +22,19 @@ why_name why.BadNumeric = codes "BadNumeric"
 why_name why.BadCidr = codes "BadCidr"
 why_name why.BadWildcard = codes "BadWildcard"
 why_name why.TooMany = codes "TooMany"
+
+-- the name of the reason why a text is no policy
+abbrev pub policy_why_name : PolicyCause → List ℕ
+policy_why_name policy.TooLong = codes "TooLong"
+policy_why_name policy.NotJson = codes "NotJson"
+policy_why_name policy.TooDeep = codes "TooDeep"
+policy_why_name policy.KeyTwice = codes "KeyTwice"
+policy_why_name policy.NotObject = codes "NotObject"
+policy_why_name policy.BadVersion = codes "BadVersion"
+policy_why_name policy.BadSid = codes "BadSid"
+policy_why_name policy.BadEffect = codes "BadEffect"
+policy_why_name policy.BadPrincipal = codes "BadPrincipal"
+policy_why_name policy.BadAction = codes "BadAction"
+policy_why_name policy.BadResource = codes "BadResource"
+policy_why_name policy.BadCondition = codes "BadCondition"
+policy_why_name policy.UnknownMember = codes "UnknownMember"

@@ -8,8 +8,14 @@ pub enum Syntax {
     QueueName,
     /// The name of a rule.
     RuleName,
+    /// The name of an event bus.
+    BusName,
     /// The name of an event bus, or its ARN.
     Bus,
+    /// Any text.
+    AnyText,
+    /// The ARN of a queue.
+    QueueArn,
     /// The text of an event pattern.
     Pattern,
     /// The text of an event.
@@ -22,6 +28,18 @@ pub enum Syntax {
     Entries,
     /// 1 to 100 targets of a PutTargets.
     Targets,
+    /// 1 to 100 ids of targets.
+    Ids,
+    /// The text of a policy.
+    Policy,
+    /// The Sid of a statement: 1 to 64 of `A-Z a-z 0-9 - _`.
+    StatementId,
+    /// `events:PutEvents`, the only action that a statement lets others do.
+    PutEventsAction,
+    /// An account of 12 digits, or `*`.
+    Principal,
+    /// `true` or `false`.
+    Truth,
     /// No value is served.
     Unserved,
 }

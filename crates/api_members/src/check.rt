@@ -3,18 +3,23 @@ ghost use Rattle.std.specs.Prelude.{◌≡◌, IsTrue, MatchResult};
 ghost use Rattle.json_text.specs.Tree.{members_of};
 ghost use Rattle.json_text.specs.View.{tree_of, pairs_of};
 ghost use Rattle.api_members.specs.Fault.{IsCallFault};
-ghost use Rattle.api_members.specs.Value.{IsValid, IsPattern};
-ghost use Rattle.api_members.specs.Refusal.{IsSound, AreSound, FirstFault, MemberFault, ValueFault, IsTextRefused, IsEventRefused};
+ghost use Rattle.api_members.specs.Value.{IsValid, IsPattern, GivesPolicy};
+ghost use Rattle.api_members.specs.Refusal.{IsSound, AreSound, FirstFault, MemberFault, ValueFault, IsTextRefused, IsEventRefused, IsPolicyRefused, IsPolicyFault};
 ghost use Rattle.api_members.specs.Event.{GivesEvent};
 
 use crate::asked::{Asked, Syntax};
 use crate::count::count_of;
 use crate::event::read_event;
 use crate::fault::CallFault;
+use crate::json_type::is_text;
 use crate::members::given;
-use crate::value::{are_entries, are_targets, is_bus, is_queue, is_rule, is_state};
-use crate::why::why_name;
+use crate::value::{
+    are_entries, are_ids, are_targets, is_arn, is_bus, is_named_bus, is_principal, is_put_events,
+    is_queue, is_rule, is_sid, is_state, is_truth,
+};
+use crate::why::{policy_why_name, why_name};
 use api_replies::{Cause, Member};
+use bus_policy::{Policy, PolicyCause, PolicyFault};
 use json_text::{Json, NoMemory, Text};
 use pattern_read::{PatternFault, read_pattern};
 use std::alloc::Global;
@@ -61,13 +66,22 @@ fn check_value(alloc: Global, member: Member, syntax: Syntax, value: &Json) -> R
     match syntax {
         Syntax::QueueName => valid_if(is_queue(value), member),
         Syntax::RuleName => valid_if(is_rule(value), member),
+        Syntax::BusName => valid_if(is_named_bus(value), member),
         Syntax::Bus => valid_if(is_bus(value), member),
+        Syntax::AnyText => valid_if(is_text(value), member),
+        Syntax::QueueArn => valid_if(is_arn(value), member),
         Syntax::Pattern => check_pattern(alloc, member, value),
         Syntax::Event => check_event(alloc, member, value),
         Syntax::State => valid_if(is_state(value), member),
         Syntax::Count(most) => valid_if(count_of(value, most).is_some(), member),
         Syntax::Entries => valid_if(are_entries(value), member),
         Syntax::Targets => valid_if(are_targets(value), member),
+        Syntax::Ids => valid_if(are_ids(value), member),
+        Syntax::Policy => check_policy(alloc, member, value),
+        Syntax::StatementId => valid_if(is_sid(value), member),
+        Syntax::PutEventsAction => valid_if(is_put_events(value), member),
+        Syntax::Principal => valid_if(is_principal(value), member),
+        Syntax::Truth => valid_if(is_truth(value), member),
         Syntax::Unserved => valid_if(false, member),
     }
 }
@@ -140,5 +154,52 @@ fn pattern_fault(alloc: Global, fault: PatternFault) -> CallFault
             Err(NoMemory) => CallFault::NoMemory,
         },
         PatternFault::NoMemory => CallFault::NoMemory,
+    }
+}
+
+fn check_policy(alloc: Global, member: Member, value: &Json) -> Result<(), CallFault>
+    ensures { MatchResult result
+        (λ _. IsValid Syntax.Policy (tree_of value.now))
+        (ValueFault Syntax.Policy member (tree_of value.now)) }
+{
+    match value {
+        Json::Str(text) => check_policy_text(alloc, text.as_str()),
+        Json::Null | Json::Truth(_) | Json::Num(_) | Json::List(_) | Json::Obj(_) => {
+            Err(CallFault::Refused(Cause::NotValid(member)))
+        }
+    }
+}
+
+/// Checks the policy. The value that is read is dropped, as that of a pattern.
+fn check_policy_text(alloc: Global, text: &str) -> Result<(), CallFault>
+    ensures { MatchResult result (λ _. GivesPolicy text.now) (IsPolicyRefused text.now) }
+{
+    match Policy::read(alloc, text.as_bytes()) {
+        Ok(_policy) => Ok(()),
+        Err(fault) => Err(policy_fault(alloc, fault)),
+    }
+}
+
+fn policy_fault(alloc: Global, fault: PolicyFault) -> CallFault
+    ensures { IsPolicyFault fault result }
+{
+    match fault {
+        PolicyFault::Bad { cause, place } => refused_policy(alloc, cause, place),
+        PolicyFault::NoMemory => CallFault::NoMemory,
+    }
+}
+
+fn refused_policy(alloc: Global, cause: PolicyCause, place: usize) -> CallFault
+    ensures { IsPolicyFault (PolicyFault.Bad cause place) result }
+{
+    match cause {
+        PolicyCause::TooLong => CallFault::Refused(Cause::PolicyTooLong),
+        why => match Text::from_str(alloc, policy_why_name(why)) {
+            Ok(why) => CallFault::Refused(Cause::NotAPolicy {
+                why,
+                place: place as u64,
+            }),
+            Err(NoMemory) => CallFault::NoMemory,
+        },
     }
 }

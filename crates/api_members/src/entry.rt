@@ -66,7 +66,8 @@ fn read_entry(alloc: Global, members: &[(Text, Json)]) -> Result<EventEntry, NoM
     })
 }
 
-fn read_text(
+/// The member's text, in memory of its own. `None` if it is absent or no text.
+pub fn read_text(
     alloc: Global,
     members: &[(Text, Json)],
     member: Member,
@@ -93,7 +94,7 @@ fn read_value(
 }
 
 /// The texts of the values, without those that are no texts.
-fn read_texts(alloc: Global, values: &[Json]) -> Result<Vec<Text>, NoMemory>
+pub fn read_texts(alloc: Global, values: &[Json]) -> Result<Vec<Text>, NoMemory>
     ensures { IfOk result (λ texts. texts.items ≡ spec.texts_of (trees_of values.now)) }
 {
     let mut texts = Vec::with_capacity(alloc, values.len())?;

@@ -53,7 +53,8 @@ fn has_type(value: &Json, json_type: JsonType) -> bool
     }
 }
 
-fn is_text(value: &Json) -> bool
+/// Whether the value is a text.
+pub(crate) fn is_text(value: &Json) -> bool
     ensures { result ≡ spec.is_text (tree_of value.now) }
 {
     match value {

@@ -1,10 +1,11 @@
 //! Which values are valid for a member.
-ghost use Rattle.std.specs.Prelude.{◌≡◌, ◌↔◌, ◌&&◌, nat_le, IsTrue, IfOk, length};
+ghost use Rattle.std.specs.Prelude.{◌≡◌, ◌↔◌, ◌&&◌, nat_le, All, IsTrue, IfOk, codes, length};
 ghost use Rattle.std.specs.List.{list_all};
 ghost use Rattle.std.specs.Option.{option_copied};
 ghost use Rattle.json_text.specs.Tree.{members_of};
 ghost use Rattle.json_text.specs.View.{tree_of, trees_of, pairs_of};
-ghost use Rattle.event_shape.specs.Names.{IsQueueName, IsShortName, default_bus};
+ghost use Rattle.event_shape.specs.Names.{IsBusName, IsQueueName, IsShortName, default_bus};
+ghost use Rattle.bus_policy.specs.StatementId.{IsStatementId};
 ghost use Rattle.api_members.specs.Given.{text_given};
 ghost use Rattle.api_members.specs.Entry.{is_entry};
 ghost use Rattle.api_members.specs.Target.{is_target};
@@ -14,7 +15,11 @@ use crate::entry::is_entry;
 use crate::members::{list_in, text_given};
 use crate::target::is_target;
 use api_replies::Member;
-use event_shape::{DEFAULT_BUS, bus_of, is_queue_name, is_rule_name};
+use bus_policy::is_statement_id;
+use event_shape::{
+    DEFAULT_BUS, bus_of, is_account, is_bus_name, is_queue_name, is_rule_name, is_target_id,
+    queue_of,
+};
 use json_text::{Json, NoMemory, Text};
 use std::alloc::Global;
 
@@ -32,6 +37,16 @@ pub(crate) fn is_rule(value: &Json) -> bool
 {
     match value {
         Json::Str(text) => is_rule_name(text.as_str()),
+        Json::Null | Json::Truth(_) | Json::Num(_) | Json::List(_) | Json::Obj(_) => false,
+    }
+}
+
+/// Whether the value is the name of a bus; an ARN is none.
+pub(crate) fn is_named_bus(value: &Json) -> bool
+    ensures { IsTrue result ↔ spec.IsTextThat IsBusName (tree_of value.now) }
+{
+    match value {
+        Json::Str(text) => is_bus_name(text.as_str()),
         Json::Null | Json::Truth(_) | Json::Num(_) | Json::List(_) | Json::Obj(_) => false,
     }
 }
@@ -70,6 +85,68 @@ fn bus_name(text: Option<&str>) -> &str
             None => DEFAULT_BUS,
         },
         None => DEFAULT_BUS,
+    }
+}
+
+/// Whether the value is the ARN of a queue.
+pub(crate) fn is_arn(value: &Json) -> bool
+    ensures { IsTrue result ↔ spec.IsTextThat spec.GivesQueueArn (tree_of value.now) }
+{
+    match value {
+        Json::Str(text) => gives_queue(text.as_str()),
+        Json::Null | Json::Truth(_) | Json::Num(_) | Json::List(_) | Json::Obj(_) => false,
+    }
+}
+
+fn gives_queue(text: &str) -> bool
+    ensures { IsTrue result ↔ spec.GivesQueueArn text.now }
+{
+    match queue_of(text) {
+        Some(_) => true,
+        None => false,
+    }
+}
+
+/// Whether the value has the syntax of a StatementId.
+pub(crate) fn is_sid(value: &Json) -> bool
+    ensures { IsTrue result ↔ spec.IsTextThat IsStatementId (tree_of value.now) }
+{
+    match value {
+        Json::Str(text) => is_statement_id(text.as_str()),
+        Json::Null | Json::Truth(_) | Json::Num(_) | Json::List(_) | Json::Obj(_) => false,
+    }
+}
+
+pub(crate) fn is_put_events(value: &Json) -> bool
+    ensures { IsTrue result ↔ spec.IsTextThat (λ t. t ≡ codes "events:PutEvents") (tree_of value.now) }
+{
+    match value {
+        Json::Str(text) => text.as_str() == "events:PutEvents",
+        Json::Null | Json::Truth(_) | Json::Num(_) | Json::List(_) | Json::Obj(_) => false,
+    }
+}
+
+pub(crate) fn is_principal(value: &Json) -> bool
+    ensures { IsTrue result ↔ spec.IsTextThat spec.IsGrantee (tree_of value.now) }
+{
+    match value {
+        Json::Str(text) => is_grantee(text.as_str()),
+        Json::Null | Json::Truth(_) | Json::Num(_) | Json::List(_) | Json::Obj(_) => false,
+    }
+}
+
+fn is_grantee(text: &str) -> bool
+    ensures { IsTrue result ↔ spec.IsGrantee text.now }
+{
+    text == "*" || is_account(text)
+}
+
+pub(crate) fn is_truth(value: &Json) -> bool
+    ensures { result ≡ spec.is_truth (tree_of value.now) }
+{
+    match value {
+        Json::Truth(_) => true,
+        Json::Null | Json::Num(_) | Json::Str(_) | Json::List(_) | Json::Obj(_) => false,
     }
 }
 
@@ -135,4 +212,34 @@ fn all_targets(values: &[Json]) -> bool
         }
     }
     true
+}
+
+/// Whether the value is a list of 1 to 100 ids of targets.
+pub(crate) fn are_ids(value: &Json) -> bool
+    ensures { IsTrue result ↔ spec.AreIds (tree_of value.now) }
+{
+    match list_in(value) {
+        Some(values) => is_few(values, 100) && all_ids(values),
+        None => false,
+    }
+}
+
+fn all_ids(values: &[Json]) -> bool
+    ensures { IsTrue result ↔ All (spec.IsTextThat IsShortName) (trees_of values.now) }
+{
+    for value in values {
+        if !is_id(value) {
+            return false;
+        }
+    }
+    true
+}
+
+fn is_id(value: &Json) -> bool
+    ensures { IsTrue result ↔ spec.IsTextThat IsShortName (tree_of value.now) }
+{
+    match value {
+        Json::Str(text) => is_target_id(text.as_str()),
+        Json::Null | Json::Truth(_) | Json::Num(_) | Json::List(_) | Json::Obj(_) => false,
+    }
 }
