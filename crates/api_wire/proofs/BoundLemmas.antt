@@ -1,25 +1,34 @@
--- The bounds of what sound members ask for. bus_server cites `target_bounds`, `entry_bounds` and `count_bounds`.
-use Rattle.std.proofs.Common.{◌≡◌, ℕ, ◌≤◌, Bool, true, inl, inr, List, [], length, Option, Some, None, arith}
-use Rattle.std.specs.Prelude.{◌&&◌, nat_le, unwrap_or, option_and_then, IsTrue, Result}
-use Rattle.std.specs.List.{list_all}
+-- The bounds of what sound members ask for. bus_server cites `target_bounds`, `id_bounds`, `entry_bounds`, `count_bounds`, `policy_bounds` and
+-- `grantee_bounds`.
+use Rattle.std.proofs.Common.{◌≡◌, ℕ, ◌≤◌, Bool, true, false, inl, inr, List, [], ◌∷◌, length, Option, Some, None, suc, refl, ap, subst, arith}
+use Rattle.std.specs.Prelude.{if◌then◌else◌, codes, All, unwrap_or, option_and_then, IsTrue, Result}
+use Rattle.std.specs.Str.{bytes_eq}
 use Rattle.std.proofs.lemmas.Bool.Decides.{nat_tests}
 use Rattle.std.proofs.lemmas.List.{length-map}
-use Rattle.json_text.specs.Tree.{Tree, number, Members}
+use Rattle.std.proofs.lemmas.List.Elements.{All-head, All-tail}
+use Rattle.json_text.specs.Tree.{Tree, number, text, Members}
+use Rattle.json_text.specs.Compact.{IsValue, compact_text}
+use Rattle.json_text.proofs.ValueLemmas.{text_is_value}
+use Rattle.event_shape.specs.Names.{IsShortName, is_account}
 use Rattle.event_shape.specs.Unnumbered.{Unnumbered}
 use Rattle.event_shape.specs.declared.entry.EntryFault.{EntryFault}
+use Rattle.bus_policy.specs.Change.{IsAccountGiven}
+use Rattle.bus_policy.specs.Stored.{IsStored}
+use Rattle.bus_policy.proofs.ReadLemmas.{read_stored}
 use Rattle.api_replies.specs.declared.member.Member.TheVariants as member
 use Rattle.api_members.specs.declared.asked.Asked.TheVariants.{Required}
 use Rattle.api_members.specs.declared.asked.Syntax.{Syntax}
 use Rattle.api_members.specs.declared.asked.Syntax.TheVariants as syntax
-use Rattle.api_members.specs.Given.{given, list_in, values_in, members_in}
+use Rattle.api_members.specs.Given.{given, text_of, list_in, values_in, members_in}
 use Rattle.api_members.specs.JsonType.{must_pass}
-use Rattle.api_members.specs.Entry.{is_entry, entry_with, entries_of}
+use Rattle.api_members.specs.Entry.{is_entry, texts_of, entry_with, entries_of}
 use Rattle.api_members.specs.CheckedEntry.{AreChecked}
 use Rattle.api_members.specs.Target.{is_target}
-use Rattle.api_members.specs.Value.{are_few, is_list_of, IsCount, HasCount, GivesOr, IsValid}
+use Rattle.api_members.specs.Value.{IsTextThat, IsGrantee, are_few, is_list_of, IsCount, HasCount, GivesOr, IsValid}
 use Rattle.api_members.specs.Refusal.{ValidOr, IsSound}
 use Rattle.api_members.proofs.CheckedLemmas.{checked_len}
-use Rattle.api_wire.specs.Call.{target_with, targets_of}
+use Rattle.api_members.proofs.TextLemmas.{valid_text}
+use Rattle.api_wire.specs.Call.{account_in, IsStoredAs, target_with, targets_of}
 
 few : (test : Tree → Bool) (most : ℕ) (values : Option (List Tree)) → IsTrue (must_pass (are_few test most) values)
     → (1 ≤ length (unwrap_or values [])) × (length (unwrap_or values []) ≤ most)
@@ -45,13 +54,13 @@ target_bounds ms sound =
     (omega (arith, some.0, same), omega (arith, some.1, same))
 
 -- 1 to 10 entries
-pub entry_bounds : (ms : Members) (reading : ℕ) (all : List (Result Unnumbered EntryFault)) → IsSound (Required member.Entries syntax.Entries) ms
-    → AreChecked reading (entries_of (values_in member.Entries ms)) all → (1 ≤ length all) × (length all ≤ 10)
-entry_bounds ms reading all sound checked =
+pub entry_bounds : (ms : Members) (reading : ℕ) (caller : List ℕ) (all : List (Result Unnumbered EntryFault)) → IsSound (Required member.Entries syntax.Entries) ms
+    → AreChecked reading caller (entries_of (values_in member.Entries ms)) all → (1 ≤ length all) × (length all ≤ 10)
+entry_bounds ms reading caller all sound checked =
     let values = values_in member.Entries ms in
     let some = valid_values syntax.Entries is_entry 10 (given member.Entries ms) (λ tree is. is) sound in
     let same = length-map values (λ tree. entry_with (members_in tree)) in
-    let each = checked_len reading (entries_of values) all checked in
+    let each = checked_len reading caller (entries_of values) all checked in
     (omega (arith, some.0, same, each), omega (arith, some.1, same, each))
 
 count_in : (most : ℕ) (tree : Tree) (n : ℕ) → IsCount most tree n → (1 ≤ n) × (n ≤ most)
@@ -66,3 +75,40 @@ pub count_bounds : (most default : ℕ) (v : Option Tree) (n : ℕ) → 1 ≤ de
     → (1 ≤ n) × (n ≤ most)
 count_bounds most default v n some fits (inl is) = count_given most v n is
 count_bounds most default v n some fits (inr is) = (omega (arith, is.0), omega (arith, is.0))
+
+-- each of the values is a text
+texts_len : (values : List Tree) → All (IsTextThat IsShortName) values → length (texts_of values) ≡ length values
+texts_len [] each = refl
+texts_len (text t ∷ values) each = ap suc (texts_len values (All-tail (IsTextThat IsShortName) (text t) values each))
+texts_len (other ∷ values) each = absurd (All-head (IsTextThat IsShortName) other values each)
+
+few_ids : (v : Option Tree) → ValidOr ⊥ syntax.Ids v → (1 ≤ length (texts_of (unwrap_or (option_and_then list_in v) [])))
+    × (length (texts_of (unwrap_or (option_and_then list_in v) [])) ≤ 100)
+few_ids None valid = absurd valid
+few_ids (Some tree) valid =
+    let same = texts_len valid.0 valid.4 in
+    rw valid.1 (omega (arith, valid.2, same), omega (arith, valid.3, same))
+
+-- 1 to 100 ids
+pub id_bounds : (ms : Members) → IsSound (Required member.Ids syntax.Ids) ms
+    → (1 ≤ length (texts_of (values_in member.Ids ms))) × (length (texts_of (values_in member.Ids ms)) ≤ 100)
+id_bounds ms sound = few_ids (given member.Ids ms) sound
+
+-- what is stored of a policy's text is a policy as it is stored
+pub policy_bounds : (t stored : List ℕ) → IsStoredAs t stored → (value : Tree) × IsStored value × (stored ≡ compact_text value)
+policy_bounds t stored p =
+    let spelled = p.1.spelled in
+    let is_value = subst IsValue spelled.spelled.stands_for (text_is_value 100 t spelled.spelled.node spelled.spelled.spelled) in
+    (p.0, read_stored p.1.value p.0 is_value spelled.is_policy p.1.is_stored, p.2)
+
+given_or_everyone : (t : List ℕ) → IsTrue (is_account t) → (all : Bool) → IsAccountGiven (if all then None else Some t)
+given_or_everyone t account true = tt
+given_or_everyone t account false = account
+
+grantee_in : (t : List ℕ) → IsGrantee t → IsAccountGiven (account_in t)
+grantee_in t (inl all) = rw all tt
+grantee_in t (inr account) = given_or_everyone t account (bytes_eq t (codes "*"))
+
+-- a statement is for an account or for everyone
+pub grantee_bounds : (ms : Members) → IsSound (Required member.Principal syntax.Principal) ms → IsAccountGiven (account_in (text_of member.Principal ms))
+grantee_bounds ms sound = grantee_in (text_of member.Principal ms) (valid_text IsGrantee syntax.Principal (given member.Principal ms) (λ t is. is) sound)

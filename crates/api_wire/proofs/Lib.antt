@@ -1,2 +1,4 @@
+pub mod ActionLemmas
 pub mod CallLemmas
+pub mod EntitledLemmas
 pub mod BoundLemmas

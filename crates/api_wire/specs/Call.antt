@@ -1,12 +1,17 @@
 -- Which request a message asks for, and its first refusal.
-use Rattle.std.specs.Prelude.{◌≡◌, ℕ, ◌-◌, ◌^◌, min, Bool, true, not, List, [], ◌∷◌, Option, Some, None, IsSome, is_some, if◌then◌else◌, codes, map}
+use Rattle.std.specs.Prelude.{◌≡◌, ℕ, ◌-◌, ◌^◌, min, Bool, true, false, not, List, [], ◌∷◌, Option, Some, None, IsSome, is_some, if◌then◌else◌, codes, map, IsTrue}
 use Rattle.std.specs.Str.{bytes_eq}
-use Rattle.json_text.specs.Tree.{Tree, object, Members, no_members}
+use Rattle.json_text.specs.Tree.{Tree, truth, object, Members, no_members}
+use Rattle.json_text.specs.Compact.{compact_text}
 use Rattle.json_text.specs.Node.{Node, value_of}
 use Rattle.json_text.specs.Grammar.{IsText}
-use Rattle.event_shape.specs.Names.{default_bus}
+use Rattle.event_shape.specs.Names.{default_bus, owner, is_account}
+use Rattle.bus_policy.specs.Text.{IsPolicyText}
 use Rattle.rule_table.specs.declared.control.Target.{Target}
-use Rattle.router_core.specs.Request.{Action, create_queue, put_rule, put_targets, put_events, peek_messages, test_event_pattern, deliver_due, Request}
+use Rattle.router_core.specs.Request.{Action, Request, create_event_bus, delete_event_bus, describe_event_bus, list_event_buses, put_rule, delete_rule}
+use Rattle.router_core.specs.Request.{put_rule_state, describe_rule, list_rules, put_targets, remove_targets, list_targets_by_rule}
+use Rattle.router_core.specs.Request.{list_rule_names_by_target, put_policy, put_statement, remove_policy, remove_statement, put_events}
+use Rattle.router_core.specs.Request.{test_event_pattern, create_queue, peek_messages, deliver_due}
 use Rattle.api_replies.specs.declared.member.Member.{Member}
 use Rattle.api_replies.specs.declared.member.Member.TheVariants as member
 use Rattle.api_replies.specs.declared.cause.Cause.{Cause}
@@ -15,46 +20,102 @@ use Rattle.api_members.specs.declared.asked.Asked.{Asked}
 use Rattle.api_members.specs.declared.asked.Asked.TheVariants.{Required, Optional}
 use Rattle.api_members.specs.declared.asked.Syntax.TheVariants as syntax
 use Rattle.api_members.specs.Given.{given, text_given, text_of, values_in, members_in}
-use Rattle.api_members.specs.Entry.{entries_of}
+use Rattle.api_members.specs.Entry.{texts_of, entries_of}
 use Rattle.api_members.specs.CheckedEntry.{AreChecked, total_size}
 use Rattle.api_members.specs.Event.{IsEventGiven}
 use Rattle.api_members.specs.Value.{GivesOr, HasCount, HasBus}
 use Rattle.api_members.specs.Refusal.{AreSound, IsFirstRefusal}
 use Rattle.api_wire.specs.declared.call.operation.Operation.{Operation}
-use Rattle.api_wire.specs.declared.call.operation.Operation.TheVariants.{CreateQueue, PutRule, PutTargets, PutEvents, PeekMessages, TestEventPattern}
-use Rattle.api_wire.specs.declared.call.operation.Operation.TheVariants.{DeliverDue}
+use Rattle.api_wire.specs.declared.call.operation.Operation.TheVariants.{CreateEventBus, DeleteEventBus, DescribeEventBus, ListEventBuses}
+use Rattle.api_wire.specs.declared.call.operation.Operation.TheVariants.{PutRule, DeleteRule, EnableRule, DisableRule, DescribeRule, ListRules}
+use Rattle.api_wire.specs.declared.call.operation.Operation.TheVariants.{PutTargets, RemoveTargets, ListTargetsByRule, ListRuleNamesByTarget}
+use Rattle.api_wire.specs.declared.call.operation.Operation.TheVariants.{PutPermission, RemovePermission, PutEvents, TestEventPattern}
+use Rattle.api_wire.specs.declared.call.operation.Operation.TheVariants.{CreateQueue, PeekMessages, DeliverDue}
 use Rattle.api_messages.specs.declared.message.Message.{Message}
 
 -- the operation of an X-Amz-Target, which is compared exactly
 abbrev pub named_operation : List ℕ → Option Operation
 named_operation name =
-    if bytes_eq name (codes "RouterLocal.CreateQueue") then Some CreateQueue else (
+    if bytes_eq name (codes "AWSEvents.CreateEventBus") then Some CreateEventBus else (
+    if bytes_eq name (codes "AWSEvents.DeleteEventBus") then Some DeleteEventBus else (
+    if bytes_eq name (codes "AWSEvents.DescribeEventBus") then Some DescribeEventBus else (
+    if bytes_eq name (codes "AWSEvents.ListEventBuses") then Some ListEventBuses else (
     if bytes_eq name (codes "AWSEvents.PutRule") then Some PutRule else (
+    if bytes_eq name (codes "AWSEvents.DeleteRule") then Some DeleteRule else (
+    if bytes_eq name (codes "AWSEvents.EnableRule") then Some EnableRule else (
+    if bytes_eq name (codes "AWSEvents.DisableRule") then Some DisableRule else (
+    if bytes_eq name (codes "AWSEvents.DescribeRule") then Some DescribeRule else (
+    if bytes_eq name (codes "AWSEvents.ListRules") then Some ListRules else (
     if bytes_eq name (codes "AWSEvents.PutTargets") then Some PutTargets else (
+    if bytes_eq name (codes "AWSEvents.RemoveTargets") then Some RemoveTargets else (
+    if bytes_eq name (codes "AWSEvents.ListTargetsByRule") then Some ListTargetsByRule else (
+    if bytes_eq name (codes "AWSEvents.ListRuleNamesByTarget") then Some ListRuleNamesByTarget else (
+    if bytes_eq name (codes "AWSEvents.PutPermission") then Some PutPermission else (
+    if bytes_eq name (codes "AWSEvents.RemovePermission") then Some RemovePermission else (
     if bytes_eq name (codes "AWSEvents.PutEvents") then Some PutEvents else (
-    if bytes_eq name (codes "RouterLocal.PeekMessages") then Some PeekMessages else (
     if bytes_eq name (codes "AWSEvents.TestEventPattern") then Some TestEventPattern else (
-    if bytes_eq name (codes "RouterLocal.DeliverDue") then Some DeliverDue else None))))))
+    if bytes_eq name (codes "RouterLocal.CreateQueue") then Some CreateQueue else (
+    if bytes_eq name (codes "RouterLocal.PeekMessages") then Some PeekMessages else (
+    if bytes_eq name (codes "RouterLocal.DeliverDue") then Some DeliverDue else None))))))))))))))))))))
 
 -- the operation of a message; a message without the field has none
 abbrev pub operation_of : Option (List ℕ) → Option Operation
 operation_of None = None
 operation_of (Some name) = named_operation name
 
--- what an operation asks of its members, in the order in which they are checked
-abbrev pub asked : Operation → List Asked
-asked CreateQueue = Required member.QueueName syntax.QueueName ∷ []
-asked PutRule = Required member.Name syntax.RuleName ∷ Required member.EventPattern syntax.Pattern
-    ∷ Optional member.ScheduleExpression syntax.Unserved ∷ Optional member.State syntax.State ∷ Optional member.EventBusName syntax.Bus ∷ []
-asked PutTargets = Required member.Rule syntax.RuleName ∷ Optional member.EventBusName syntax.Bus ∷ Required member.Targets syntax.Targets ∷ []
-asked PutEvents = Required member.Entries syntax.Entries ∷ []
-asked PeekMessages = Required member.QueueName syntax.QueueName ∷ Optional member.Limit (syntax.Count 1000) ∷ []
-asked TestEventPattern = Required member.EventPattern syntax.Pattern ∷ Required member.Event syntax.Event ∷ []
-asked DeliverDue = Optional member.Budget (syntax.Count 1000) ∷ []
+-- what a PutPermission asks: with a Policy nothing of a statement. A Condition is refused after the other members, but before a fault of
+-- the policy.
+abbrev pub permission_asked : Option Tree → List Asked
+permission_asked None = Optional member.EventBusName syntax.Bus ∷ Required member.StatementId syntax.StatementId
+    ∷ Required member.Action syntax.PutEventsAction ∷ Required member.Principal syntax.Principal ∷ Optional member.Condition syntax.Unserved ∷ []
+permission_asked (Some policy) = Optional member.EventBusName syntax.Bus ∷ Required member.Policy syntax.AnyText
+    ∷ Optional member.Condition syntax.Unserved ∷ Required member.Policy syntax.Policy ∷ []
 
--- the bus whose name or ARN is given, or else `default`
+-- what an operation asks of its members, in the order in which they are checked
+abbrev pub asked : Operation → Members → List Asked
+asked CreateEventBus ms = Required member.Name syntax.BusName ∷ []
+asked DeleteEventBus ms = Required member.Name syntax.BusName ∷ []
+asked DescribeEventBus ms = Optional member.Name syntax.Bus ∷ []
+asked ListEventBuses ms = Optional member.NamePrefix syntax.AnyText ∷ []
+asked PutRule ms = Required member.Name syntax.RuleName ∷ Required member.EventPattern syntax.Pattern
+    ∷ Optional member.ScheduleExpression syntax.Unserved ∷ Optional member.State syntax.State ∷ Optional member.EventBusName syntax.Bus ∷ []
+asked DeleteRule ms = Required member.Name syntax.RuleName ∷ Optional member.EventBusName syntax.Bus ∷ []
+asked EnableRule ms = Required member.Name syntax.RuleName ∷ Optional member.EventBusName syntax.Bus ∷ []
+asked DisableRule ms = Required member.Name syntax.RuleName ∷ Optional member.EventBusName syntax.Bus ∷ []
+asked DescribeRule ms = Required member.Name syntax.RuleName ∷ Optional member.EventBusName syntax.Bus ∷ []
+asked ListRules ms = Optional member.NamePrefix syntax.AnyText ∷ Optional member.EventBusName syntax.Bus ∷ []
+asked PutTargets ms = Required member.Rule syntax.RuleName ∷ Optional member.EventBusName syntax.Bus ∷ Required member.Targets syntax.Targets ∷ []
+asked RemoveTargets ms = Required member.Rule syntax.RuleName ∷ Optional member.EventBusName syntax.Bus ∷ Required member.Ids syntax.Ids ∷ []
+asked ListTargetsByRule ms = Required member.Rule syntax.RuleName ∷ Optional member.EventBusName syntax.Bus ∷ []
+asked ListRuleNamesByTarget ms = Required member.TargetArn syntax.QueueArn ∷ Optional member.EventBusName syntax.Bus ∷ []
+asked PutPermission ms = permission_asked (given member.Policy ms)
+asked RemovePermission ms = Optional member.EventBusName syntax.Bus ∷ Optional member.RemoveAllPermissions syntax.Truth
+    ∷ Optional member.StatementId syntax.StatementId ∷ []
+asked PutEvents ms = Required member.Entries syntax.Entries ∷ []
+asked TestEventPattern ms = Required member.EventPattern syntax.Pattern ∷ Required member.Event syntax.Event ∷ []
+asked CreateQueue ms = Required member.QueueName syntax.QueueName ∷ []
+asked PeekMessages ms = Required member.QueueName syntax.QueueName ∷ Optional member.Limit (syntax.Count 1000) ∷ []
+asked DeliverDue ms = Optional member.Budget (syntax.Count 1000) ∷ []
+
+-- the bus whose name or ARN this member gives, or else `default`
+abbrev pub IsBusIn : Member → Members → List ℕ → Type 0
+IsBusIn m ms bus = GivesOr (HasBus (text_given m ms)) default_bus bus
+
 abbrev pub IsBus : Members → List ℕ → Type 0
-IsBus ms bus = GivesOr (HasBus (text_given member.EventBusName ms)) default_bus bus
+IsBus ms bus = IsBusIn member.EventBusName ms bus
+
+-- whom a Principal names: `*` is everyone, and any other text an account
+abbrev pub account_in : List ℕ → Option (List ℕ)
+account_in principal = if bytes_eq principal (codes "*") then None else Some principal
+
+-- the text as which the policy of this text is stored
+abbrev pub IsStoredAs : List ℕ → List ℕ → Type 0
+IsStoredAs given_text stored = (policy : Tree) × IsPolicyText given_text policy × (stored ≡ compact_text policy)
+
+-- RemoveAllPermissions is given as `true`
+abbrev pub removes_all : Option Tree → Bool
+removes_all (Some (truth b)) = b
+removes_all _ = false
 
 -- a rule is enabled unless its state is `DISABLED`
 abbrev pub is_enabled : Option (List ℕ) → Bool
@@ -78,40 +139,80 @@ target_with ms = record { id = text_of member.Id ms; arn = text_of member.Arn ms
 abbrev pub targets_of : List Tree → List Target
 targets_of values = map (λ tree. target_with (members_in tree)) values
 
--- the members of an operation make this action, if they are sound; `reading` is the reading of the clock
-abbrev pub IsAction : Operation → Members → ℕ → Action → Type 0
-IsAction CreateQueue ms reading (create_queue name) = name ≡ text_of member.QueueName ms
-IsAction PutRule ms reading (put_rule bus name pattern enabled) = IsBus ms bus × (name ≡ text_of member.Name ms)
+-- The members of an operation make this action of the caller, if they are sound; `reading` is the reading of the clock.
+abbrev pub IsAction : Operation → List ℕ → Members → ℕ → Action → Type 0
+IsAction CreateEventBus caller ms reading (create_event_bus name) = name ≡ text_of member.Name ms
+IsAction DeleteEventBus caller ms reading (delete_event_bus name) = name ≡ text_of member.Name ms
+IsAction DescribeEventBus caller ms reading (describe_event_bus name) = IsBusIn member.Name ms name
+IsAction ListEventBuses caller ms reading (list_event_buses prefix) = prefix ≡ text_given member.NamePrefix ms
+IsAction PutRule caller ms reading (put_rule bus name pattern enabled) = IsBus ms bus × (name ≡ text_of member.Name ms)
     × (pattern ≡ text_of member.EventPattern ms) × (enabled ≡ is_enabled (text_given member.State ms))
-IsAction PutTargets ms reading (put_targets bus rule targets) = IsBus ms bus × (rule ≡ text_of member.Rule ms)
+IsAction DeleteRule caller ms reading (delete_rule bus name) = IsBus ms bus × (name ≡ text_of member.Name ms)
+IsAction EnableRule caller ms reading (put_rule_state bus name enabled) = IsBus ms bus × (name ≡ text_of member.Name ms) × (enabled ≡ true)
+IsAction DisableRule caller ms reading (put_rule_state bus name enabled) = IsBus ms bus × (name ≡ text_of member.Name ms) × (enabled ≡ false)
+IsAction DescribeRule caller ms reading (describe_rule bus name) = IsBus ms bus × (name ≡ text_of member.Name ms)
+IsAction ListRules caller ms reading (list_rules bus prefix) = IsBus ms bus × (prefix ≡ text_given member.NamePrefix ms)
+IsAction PutTargets caller ms reading (put_targets bus rule targets) = IsBus ms bus × (rule ≡ text_of member.Rule ms)
     × (targets ≡ targets_of (values_in member.Targets ms))
-IsAction PutEvents ms reading (put_events entries size) = AreChecked reading (entries_of (values_in member.Entries ms)) entries
+IsAction RemoveTargets caller ms reading (remove_targets bus rule ids) = IsBus ms bus × (rule ≡ text_of member.Rule ms)
+    × (ids ≡ texts_of (values_in member.Ids ms))
+IsAction ListTargetsByRule caller ms reading (list_targets_by_rule bus rule) = IsBus ms bus × (rule ≡ text_of member.Rule ms)
+IsAction ListRuleNamesByTarget caller ms reading (list_rule_names_by_target arn bus) = (arn ≡ text_of member.TargetArn ms) × IsBus ms bus
+IsAction PutPermission caller ms reading (put_policy bus policy) =
+    IsSome (given member.Policy ms) × IsBus ms bus × IsStoredAs (text_of member.Policy ms) policy
+IsAction PutPermission caller ms reading (put_statement bus sid account) = (given member.Policy ms ≡ None) × IsBus ms bus
+    × (sid ≡ text_of member.StatementId ms) × (account ≡ account_in (text_of member.Principal ms))
+IsAction RemovePermission caller ms reading (remove_policy bus) =
+    (removes_all (given member.RemoveAllPermissions ms) ≡ true) × IsBus ms bus
+IsAction RemovePermission caller ms reading (remove_statement bus sid) =
+    (removes_all (given member.RemoveAllPermissions ms) ≡ false) × IsBus ms bus × (sid ≡ text_given member.StatementId ms)
+IsAction PutEvents caller ms reading (put_events entries size) =
+    AreChecked reading caller (entries_of (values_in member.Entries ms)) entries
     × (size ≡ min (total_size (entries_of (values_in member.Entries ms))) (2 ^ 64 - 1))
-IsAction PeekMessages ms reading (peek_messages queue limit) = (queue ≡ text_of member.QueueName ms)
-    × GivesOr (HasCount 1000 (given member.Limit ms)) 10 limit
-IsAction TestEventPattern ms reading (test_event_pattern pattern event) = (pattern ≡ text_of member.EventPattern ms)
+IsAction TestEventPattern caller ms reading (test_event_pattern pattern event) = (pattern ≡ text_of member.EventPattern ms)
     × IsEventGiven (text_of member.Event ms) event
-IsAction DeliverDue ms reading (deliver_due budget) = GivesOr (HasCount 1000 (given member.Budget ms)) 100 budget
-IsAction _ _ _ _ = ⊥
+IsAction CreateQueue caller ms reading (create_queue name) = name ≡ text_of member.QueueName ms
+IsAction PeekMessages caller ms reading (peek_messages queue limit) = (queue ≡ text_of member.QueueName ms)
+    × GivesOr (HasCount 1000 (given member.Limit ms)) 10 limit
+IsAction DeliverDue caller ms reading (deliver_due budget) = GivesOr (HasCount 1000 (given member.Budget ms)) 100 budget
+IsAction _ _ _ _ _ = ⊥
 
 -- the body is an object of at most 100 levels; an empty one counts as `{}`
 abbrev pub IsBody : List ℕ → Members → Type 0
 IsBody [] members = members ≡ no_members
 IsBody (b ∷ bytes) members = (node : Node) × IsText 100 (b ∷ bytes) node × (value_of node ≡ object members)
 
+-- the account that asks: the one of the field `x-caller-account`, or the owner if there is no such field
+abbrev pub caller_of : Option (List ℕ) → List ℕ
+caller_of None = owner
+caller_of (Some account) = account
+
+-- only the owner calls any operation but PutEvents
+abbrev pub MayCall : Operation → List ℕ → Type 0
+MayCall PutEvents caller = Unit {0}
+MayCall _ caller = caller ≡ owner
+
 -- the message asks for this request
 pub record IsAsked (m : Message) (reading : ℕ) (request : Request) : Type 0 where
   pub operation : Operation
   pub named : operation_of m.target ≡ Some operation
+  pub caller : request.caller ≡ caller_of m.caller
+  pub is_account : IsTrue (is_account (caller_of m.caller))
   pub members : Members
   pub body : IsBody m.body members
-  pub sound : AreSound (asked operation) members
-  pub action : IsAction operation members reading request.action
+  pub entitled : MayCall operation (caller_of m.caller)
+  pub sound : AreSound (asked operation members) members
+  pub action : IsAction operation (caller_of m.caller) members reading request.action
   pub read_at : request.reading ≡ reading
 
--- the message's first refusal: of its operation, of its body, of its members
+-- the message's first refusal: of its operation, of its caller, of its body, of what the caller may call, of its members
 pub data IsCallRefused (m : Message) (c : Cause) : Type 0 where
   unknown : operation_of m.target ≡ None → c ≡ cause.UnknownOperation → IsCallRefused m c
-  no_object : IsSome (operation_of m.target) → ((ms : Members) → ¬ IsBody m.body ms) → c ≡ cause.NoObject → IsCallRefused m c
-  members : (operation : Operation) (ms : Members) → operation_of m.target ≡ Some operation → IsBody m.body ms
-      → IsFirstRefusal (asked operation) ms c → IsCallRefused m c
+  no_account : IsSome (operation_of m.target) → ¬ IsTrue (is_account (caller_of m.caller)) → c ≡ cause.NotValid member.CallerAccount
+      → IsCallRefused m c
+  no_object : IsSome (operation_of m.target) → IsTrue (is_account (caller_of m.caller)) → ((ms : Members) → ¬ IsBody m.body ms)
+      → c ≡ cause.NoObject → IsCallRefused m c
+  not_entitled : (operation : Operation) (ms : Members) → operation_of m.target ≡ Some operation → IsTrue (is_account (caller_of m.caller))
+      → IsBody m.body ms → ¬ MayCall operation (caller_of m.caller) → c ≡ cause.OwnerOnly → IsCallRefused m c
+  members : (operation : Operation) (ms : Members) → operation_of m.target ≡ Some operation → IsTrue (is_account (caller_of m.caller))
+      → IsBody m.body ms → MayCall operation (caller_of m.caller) → IsFirstRefusal (asked operation ms) ms c → IsCallRefused m c

@@ -3,35 +3,62 @@ ghost use Rattle.std.specs.Prelude.{◌≡◌, IfOk, IfErr, MatchResult};
 ghost use Rattle.json_text.specs.Moment.{IsMoment};
 ghost use Rattle.json_text.specs.Tree.{members_of};
 ghost use Rattle.json_text.specs.View.{pairs_of};
-ghost use Rattle.router_core.specs.Request.{Request as RequestView};
+ghost use Rattle.router_core.specs.Request.{Request as RequestView, IsEntitled};
 ghost use Rattle.router_core.specs.View.{request_of, action_of};
 ghost use Rattle.api_members.specs.Refusal.{AreSound};
-ghost use Rattle.api_wire.specs.Call.{asked, IsAction, IsAsked};
+ghost use Rattle.api_wire.specs.Call.{asked, IsAction, IsAsked, caller_of};
 ghost use Rattle.api_wire.specs.CallAnswers.{IsFault};
 
 mod body;
+mod create_event_bus;
 mod create_queue;
+mod delete_event_bus;
+mod delete_rule;
 mod deliver_due;
+mod describe_event_bus;
+mod describe_rule;
+mod list_event_buses;
+mod list_rule_names_by_target;
+mod list_rules;
+mod list_targets_by_rule;
 mod operation;
 mod peek_messages;
 mod put_events;
+mod put_permission;
 mod put_rule;
 mod put_targets;
+mod remove_permission;
+mod remove_targets;
+mod rule_state;
 mod test_event_pattern;
 
 use api_members::CallFault;
 use api_messages::Message;
-use api_replies::Cause;
+use api_replies::{Cause, Member};
 use body::read_body;
+use create_event_bus::create_event_bus;
 use create_queue::create_queue;
+use delete_event_bus::delete_event_bus;
+use delete_rule::delete_rule;
 use deliver_due::deliver_due;
+use describe_event_bus::describe_event_bus;
+use describe_rule::describe_rule;
+use event_shape::{OWNER, is_account};
 use json_text::{Json, NoMemory, Text};
+use list_event_buses::list_event_buses;
+use list_rule_names_by_target::list_rule_names_by_target;
+use list_rules::list_rules;
+use list_targets_by_rule::list_targets_by_rule;
 use operation::{Operation, check_asked, operation_of};
 use peek_messages::peek_messages;
 use put_events::put_events;
+use put_permission::put_permission;
 use put_rule::put_rule;
 use put_targets::put_targets;
+use remove_permission::remove_permission;
+use remove_targets::remove_targets;
 use router_core::{Action, Request};
+use rule_state::{disable_rule, enable_rule};
 use std::alloc::Global;
 use test_event_pattern::test_event_pattern;
 
@@ -43,33 +70,71 @@ pub fn read_call(alloc: Global, message: &Message, reading: u64) -> Result<Reque
     ensures only { (q : RequestView) → IsAsked message.now reading q
         → MatchResult result (λ p. request_of p ≡ q) (λ e. e ≡ CallFault.NoMemory) }
     ensures refused { IfErr result (IsFault message.now) }
+    ensures entitled { IfOk result (λ q. IsEntitled (request_of q)) }
 {
     let Some(operation) = operation_of(&message.target) else {
         return Err(CallFault::Refused(Cause::UnknownOperation));
     };
+    let caller = caller_of(&message.caller);
+    if !is_account(caller) {
+        return Err(CallFault::Refused(Cause::NotValid(Member::CallerAccount)));
+    }
     let members = read_body(alloc, message.body.as_slice())?;
+    if !operation.may_call(caller) {
+        return Err(CallFault::Refused(Cause::OwnerOnly));
+    }
     check_asked(alloc, operation, members.as_slice())?;
-    let action = read_action(alloc, operation, members.as_slice(), reading)?;
-    Ok(Request { action, reading })
+    let action = read_action(alloc, operation, caller, members.as_slice(), reading)?;
+    let caller = Text::from_str(alloc, caller)?;
+    Ok(Request {
+        action,
+        caller,
+        reading,
+    })
+}
+
+/// The account that asks: that of the field `x-caller-account`, or the owner.
+fn caller_of(field: &Option<Text>) -> &str
+    ensures { result.now ≡ caller_of field.now }
+{
+    match field {
+        Some(account) => account.as_str(),
+        None => OWNER,
+    }
 }
 
 fn read_action(
     alloc: Global,
     operation: Operation,
+    caller: &str,
     members: &[(Text, Json)],
     reading: u64,
 ) -> Result<Action, NoMemory>
     requires reading { IsMoment reading }
-    requires sound { AreSound (asked operation) (members_of (pairs_of members.now)) }
-    ensures { IfOk result (λ a. IsAction operation (members_of (pairs_of members.now)) reading (action_of a)) }
+    requires sound { AreSound (asked operation (members_of (pairs_of members.now))) (members_of (pairs_of members.now)) }
+    ensures { IfOk result (λ a. IsAction operation caller.now (members_of (pairs_of members.now)) reading (action_of a)) }
 {
     match operation {
-        Operation::CreateQueue => create_queue(alloc, members),
+        Operation::CreateEventBus => create_event_bus(alloc, members),
+        Operation::DeleteEventBus => delete_event_bus(alloc, members),
+        Operation::DescribeEventBus => describe_event_bus(alloc, members),
+        Operation::ListEventBuses => list_event_buses(alloc, members),
         Operation::PutRule => put_rule(alloc, members),
+        Operation::DeleteRule => delete_rule(alloc, members),
+        Operation::EnableRule => enable_rule(alloc, members),
+        Operation::DisableRule => disable_rule(alloc, members),
+        Operation::DescribeRule => describe_rule(alloc, members),
+        Operation::ListRules => list_rules(alloc, members),
         Operation::PutTargets => put_targets(alloc, members),
-        Operation::PutEvents => put_events(alloc, members, reading),
-        Operation::PeekMessages => peek_messages(alloc, members),
+        Operation::RemoveTargets => remove_targets(alloc, members),
+        Operation::ListTargetsByRule => list_targets_by_rule(alloc, members),
+        Operation::ListRuleNamesByTarget => list_rule_names_by_target(alloc, members),
+        Operation::PutPermission => put_permission(alloc, members),
+        Operation::RemovePermission => remove_permission(alloc, members),
+        Operation::PutEvents => put_events(alloc, members, caller, reading),
         Operation::TestEventPattern => test_event_pattern(alloc, members),
+        Operation::CreateQueue => create_queue(alloc, members),
+        Operation::PeekMessages => peek_messages(alloc, members),
         Operation::DeliverDue => Ok(deliver_due(members)),
     }
 }

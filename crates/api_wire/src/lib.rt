@@ -14,7 +14,7 @@ pub use api_replies::{
     not_post_head, not_post_reply, too_large_reply, write_reply,
 };
 pub use call::read_call;
-pub use laws::one_call;
+pub use laws::{entitled, one_call};
 
 #[cfg(test)]
 mod tests;

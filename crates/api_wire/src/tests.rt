@@ -1,7 +1,7 @@
 use crate::{CallFault, Message, WireIn, read_call};
 use api_members::CheckedEntry;
 use event_shape::EntryFault;
-use json_text::Text;
+use json_text::{Json, Text};
 use router_core::{Action, Request};
 use rule_table::Target;
 use std::alloc::Global;
@@ -25,6 +25,12 @@ fn message(alloc: Global, fields: &str, body: &str) -> Result<Message, Fail> {
 fn call(alloc: Global, operation: &str, body: &str) -> Result<Message, Fail> {
     let field = format!(in alloc; "X-Amz-Target: {operation}\r\n")?;
     message(alloc, field.as_str(), body)
+}
+
+/// The message of this caller.
+fn call_by(alloc: Global, caller: &str, operation: &str, body: &str) -> Result<Message, Fail> {
+    let fields = format!(in alloc; "X-Amz-Target: {operation}\r\nx-caller-account: {caller}\r\n")?;
+    message(alloc, fields.as_str(), body)
 }
 
 /// The message of the refusal; empty if there is none.
@@ -137,6 +143,309 @@ fn a_message_has_its_first_refusal(rt: HostRuntime) -> Result<(), Fail> {
     let message = message(rt.alloc(), "", r#"{"QueueName":"q"}"#)?;
     let text = refusal(rt.alloc(), read_call(rt.alloc(), &message, 0))?;
     assert_eq!(rt; text.as_str(), "Unknown operation.", "no operation");
+    Ok(())
+}
+
+/// A caller, an operation, a body, and the message of the refusal: the caller before the body, and the body before what the caller
+/// may call.
+const CALLERS: [(&str, &str, &str, &str); 11] = [
+    ("1", "AWSEvents.ListRule", "[", "Unknown operation."),
+    (
+        "11112222333",
+        "AWSEvents.ListRules",
+        "[",
+        "Member x-caller-account is not valid.",
+    ),
+    (
+        "44445555666x",
+        "AWSEvents.PutEvents",
+        "{}",
+        "Member x-caller-account is not valid.",
+    ),
+    (
+        "444455556666",
+        "AWSEvents.ListRules",
+        "[",
+        "The body is not a JSON object.",
+    ),
+    (
+        "444455556666",
+        "AWSEvents.ListRules",
+        "{}",
+        "Only the owner may call this.",
+    ),
+    (
+        "444455556666",
+        "AWSEvents.DeleteRule",
+        r#"{"Name":1}"#,
+        "Only the owner may call this.",
+    ),
+    (
+        "444455556666",
+        "RouterLocal.DeliverDue",
+        "",
+        "Only the owner may call this.",
+    ),
+    (
+        "444455556666",
+        "AWSEvents.PutEvents",
+        "{}",
+        "Member Entries is required.",
+    ),
+    (
+        "444455556666",
+        "AWSEvents.PutEvents",
+        r#"{"Entries":[{}]}"#,
+        "",
+    ),
+    ("111122223333", "AWSEvents.ListRules", "{}", ""),
+    (
+        "111122223333",
+        "AWSEvents.DeleteRule",
+        r#"{"Name":1}"#,
+        "Member Name is not valid.",
+    ),
+];
+
+#[test]
+fn a_caller_is_refused_before_the_members(rt: HostRuntime) -> Result<(), Fail> {
+    for (caller, operation, body, want) in CALLERS {
+        let message = call_by(rt.alloc(), caller, operation, body)?;
+        let text = refusal(rt.alloc(), read_call(rt.alloc(), &message, 0))?;
+        assert_eq!(rt; text.as_str(), want, "{caller} {operation} {body}");
+    }
+    Ok(())
+}
+
+/// Calls on buses and rules. Worked by hand from the public API Reference.
+const BUSES: [(&str, &str, &str); 20] = [
+    ("AWSEvents.CreateEventBus", r#"{"Name":"orders"}"#, ""),
+    (
+        "AWSEvents.CreateEventBus",
+        r#"{"Name":"arn:aws:events:us-east-1:111122223333:event-bus/orders"}"#,
+        "Member Name is not valid.",
+    ),
+    ("AWSEvents.CreateEventBus", "{}", "Member Name is required."),
+    ("AWSEvents.DeleteEventBus", r#"{"Name":"orders"}"#, ""),
+    (
+        "AWSEvents.DeleteEventBus",
+        r#"{"Name":"a/b"}"#,
+        "Member Name is not valid.",
+    ),
+    ("AWSEvents.DescribeEventBus", "", ""),
+    (
+        "AWSEvents.DescribeEventBus",
+        r#"{"Name":"arn:aws:events:us-east-1:111122223333:event-bus/orders"}"#,
+        "",
+    ),
+    (
+        "AWSEvents.DescribeEventBus",
+        r#"{"Name":""}"#,
+        "Member Name is not valid.",
+    ),
+    ("AWSEvents.ListEventBuses", r#"{"NamePrefix":""}"#, ""),
+    (
+        "AWSEvents.ListEventBuses",
+        r#"{"NamePrefix":1}"#,
+        "Member NamePrefix is not valid.",
+    ),
+    (
+        "AWSEvents.DeleteRule",
+        r#"{"EventBusName":"a/b"}"#,
+        "Member Name is required.",
+    ),
+    (
+        "AWSEvents.DeleteRule",
+        r#"{"Name":"r","EventBusName":"b","Force":true}"#,
+        "",
+    ),
+    (
+        "AWSEvents.EnableRule",
+        r#"{"Name":"r","EventBusName":"a/b"}"#,
+        "Member EventBusName is not valid.",
+    ),
+    ("AWSEvents.EnableRule", r#"{"Name":"r"}"#, ""),
+    (
+        "AWSEvents.DisableRule",
+        r#"{"Name":"r/1"}"#,
+        "Member Name is not valid.",
+    ),
+    ("AWSEvents.DisableRule", r#"{"Name":"r"}"#, ""),
+    ("AWSEvents.DescribeRule", "{}", "Member Name is required."),
+    ("AWSEvents.DescribeRule", r#"{"Name":"r"}"#, ""),
+    (
+        "AWSEvents.ListRules",
+        r#"{"NamePrefix":1,"EventBusName":1}"#,
+        "Member NamePrefix is not valid.",
+    ),
+    (
+        "AWSEvents.ListRules",
+        r#"{"EventBusName":1}"#,
+        "Member EventBusName is not valid.",
+    ),
+];
+
+/// Calls on targets and a RemovePermission. Worked by hand from the public API Reference.
+const REMOVALS: [(&str, &str, &str); 16] = [
+    (
+        "AWSEvents.RemoveTargets",
+        r#"{"Rule":"r","Ids":["1","2"]}"#,
+        "",
+    ),
+    (
+        "AWSEvents.RemoveTargets",
+        r#"{"Rule":"r","EventBusName":"a/b","Ids":[]}"#,
+        "Member EventBusName is not valid.",
+    ),
+    (
+        "AWSEvents.RemoveTargets",
+        r#"{"Rule":"r","Ids":[]}"#,
+        "Member Ids is not valid.",
+    ),
+    (
+        "AWSEvents.RemoveTargets",
+        r#"{"Rule":"r"}"#,
+        "Member Ids is required.",
+    ),
+    ("AWSEvents.ListTargetsByRule", r#"{"Rule":"r"}"#, ""),
+    (
+        "AWSEvents.ListTargetsByRule",
+        "{}",
+        "Member Rule is required.",
+    ),
+    (
+        "AWSEvents.ListRuleNamesByTarget",
+        r#"{"TargetArn":"arn:aws:sqs:us-east-1:111122223333:q"}"#,
+        "",
+    ),
+    (
+        "AWSEvents.ListRuleNamesByTarget",
+        r#"{"TargetArn":"q","EventBusName":1}"#,
+        "Member TargetArn is not valid.",
+    ),
+    (
+        "AWSEvents.ListRuleNamesByTarget",
+        r#"{"EventBusName":1}"#,
+        "Member TargetArn is required.",
+    ),
+    ("AWSEvents.RemovePermission", "{}", ""),
+    ("AWSEvents.RemovePermission", r#"{"StatementId":"a"}"#, ""),
+    (
+        "AWSEvents.RemovePermission",
+        r#"{"StatementId":"a.b","RemoveAllPermissions":true}"#,
+        "Member StatementId is not valid.",
+    ),
+    (
+        "AWSEvents.RemovePermission",
+        r#"{"RemoveAllPermissions":"true","StatementId":1}"#,
+        "Member RemoveAllPermissions is not valid.",
+    ),
+    (
+        "AWSEvents.RemovePermission",
+        r#"{"EventBusName":1,"RemoveAllPermissions":1}"#,
+        "Member EventBusName is not valid.",
+    ),
+    (
+        "AWSEvents.RemovePermission",
+        r#"{"RemoveAllPermissions":false}"#,
+        "",
+    ),
+    (
+        "AWSEvents.RemovePermission",
+        r#"{"RemoveAllPermissions":null,"StatementId":null}"#,
+        "",
+    ),
+];
+
+#[test]
+fn a_call_on_a_bus_has_its_first_refusal(rt: HostRuntime) -> Result<(), Fail> {
+    for (operation, body, want) in BUSES {
+        let message = call(rt.alloc(), operation, body)?;
+        let text = refusal(rt.alloc(), read_call(rt.alloc(), &message, 0))?;
+        assert_eq!(rt; text.as_str(), want, "{operation} {body}");
+    }
+    Ok(())
+}
+
+#[test]
+fn a_removal_has_its_first_refusal(rt: HostRuntime) -> Result<(), Fail> {
+    for (operation, body, want) in REMOVALS {
+        let message = call(rt.alloc(), operation, body)?;
+        let text = refusal(rt.alloc(), read_call(rt.alloc(), &message, 0))?;
+        assert_eq!(rt; text.as_str(), want, "{operation} {body}");
+    }
+    Ok(())
+}
+
+/// Bodies of a PutPermission, and the message of the refusal, in the order of the members: with a Policy the statement's
+/// members are not looked at.
+const PERMISSIONS: [(&str, &str); 15] = [
+    (
+        r#"{"EventBusName":"a/b"}"#,
+        "Member EventBusName is not valid.",
+    ),
+    ("{}", "Member StatementId is required."),
+    (
+        r#"{"StatementId":"a.b","Action":1}"#,
+        "Member StatementId is not valid.",
+    ),
+    (
+        r#"{"StatementId":"a","Principal":1}"#,
+        "Member Action is required.",
+    ),
+    (
+        r#"{"StatementId":"a","Action":"events:*"}"#,
+        "Member Action is not valid.",
+    ),
+    (
+        r#"{"StatementId":"a","Action":"events:PutEvents","Condition":1}"#,
+        "Member Principal is required.",
+    ),
+    (
+        r#"{"StatementId":"a","Action":"events:PutEvents","Principal":"444","Condition":1}"#,
+        "Member Principal is not valid.",
+    ),
+    (
+        r#"{"StatementId":"a","Action":"events:PutEvents","Principal":"*","Condition":{}}"#,
+        "Member Condition is not valid.",
+    ),
+    (
+        r#"{"Policy":null,"StatementId":"a","Action":"events:PutEvents","Principal":"*","Condition":null}"#,
+        "",
+    ),
+    (
+        r#"{"Policy":1,"EventBusName":1}"#,
+        "Member EventBusName is not valid.",
+    ),
+    (
+        r#"{"Policy":1,"Condition":1}"#,
+        "Member Policy is not valid.",
+    ),
+    (
+        r#"{"Policy":"{","Condition":1}"#,
+        "Member Condition is not valid.",
+    ),
+    (
+        r#"{"Policy":"{","StatementId":1}"#,
+        "Policy is not valid. Reason: NotJson at 0",
+    ),
+    (
+        r#"{"Policy":"{\"Statement\":[{\"Effect\":\"Allow\"}]}"}"#,
+        "Policy is not valid. Reason: BadPrincipal at 1",
+    ),
+    (
+        r#"{"Policy":"{\"Statement\":[]}","StatementId":1,"Action":1,"Principal":1}"#,
+        "",
+    ),
+];
+
+#[test]
+fn a_permission_is_refused_for_its_first_member(rt: HostRuntime) -> Result<(), Fail> {
+    for (body, want) in PERMISSIONS {
+        let message = call(rt.alloc(), "AWSEvents.PutPermission", body)?;
+        let text = refusal(rt.alloc(), read_call(rt.alloc(), &message, 0))?;
+        assert_eq!(rt; text.as_str(), want, "{body}");
+    }
     Ok(())
 }
 
@@ -424,5 +733,183 @@ fn a_request_has_what_the_message_gives(rt: HostRuntime) -> Result<(), Fail> {
     )?;
     let request = read_call(rt.alloc(), &peek, 0)?;
     assert!(rt; peeks(&request.action, 10));
+    Ok(())
+}
+
+/// Whether the request is one of this caller, and puts one event of its account.
+fn publishes(request: &Request, caller: &str) -> bool {
+    match &request.action {
+        Action::PutEvents { entries, size: _ } => match entries.as_slice() {
+            [one] => request.caller.as_str() == caller && is_event_of(one, caller),
+            _ => false,
+        },
+        _ => false,
+    }
+}
+
+fn is_event_of(entry: &CheckedEntry, account: &str) -> bool {
+    match entry {
+        Ok(event) => match event.tree().member("account") {
+            Some(value) => is_text(value, account),
+            None => false,
+        },
+        Err(_) => false,
+    }
+}
+
+fn is_text(value: &Json, wanted: &str) -> bool {
+    match value.as_text() {
+        Some(text) => text == wanted,
+        None => false,
+    }
+}
+
+#[test]
+fn an_event_has_the_account_of_its_caller(rt: HostRuntime) -> Result<(), Fail> {
+    let body = r#"{"Entries":[{"Source":"s","DetailType":"t","Detail":"{}"}]}"#;
+    for caller in ["444455556666", "111122223333"] {
+        let message = call_by(rt.alloc(), caller, "AWSEvents.PutEvents", body)?;
+        let request = read_call(rt.alloc(), &message, 0)?;
+        assert!(rt; publishes(&request, caller), "{caller}");
+    }
+    let message = call(rt.alloc(), "AWSEvents.PutEvents", body)?;
+    let request = read_call(rt.alloc(), &message, 0)?;
+    assert!(rt; publishes(&request, "111122223333"), "no caller");
+    Ok(())
+}
+
+/// Whether the action puts this policy.
+fn puts_policy(action: &Action, wanted: &str) -> bool {
+    match action {
+        Action::PutPolicy { bus, policy } => bus.as_str() == "b" && policy.as_str() == wanted,
+        _ => false,
+    }
+}
+
+/// Whether the action adds a statement for this account; empty for everyone.
+fn puts_statement(action: &Action, wanted: &str) -> bool {
+    match action {
+        Action::PutStatement { bus, sid, account } => {
+            bus.as_str() == "default" && sid.as_str() == "a" && is_given(account, wanted)
+        }
+        _ => false,
+    }
+}
+
+/// Whether the text is given, or none if nothing is wanted.
+fn is_given(text: &Option<Text>, wanted: &str) -> bool {
+    match text {
+        Some(text) => text.as_str() == wanted,
+        None => wanted == "",
+    }
+}
+
+fn removes_statement(action: &Action, wanted: &str) -> bool {
+    match action {
+        Action::RemoveStatement { bus, sid } => {
+            bus.as_str() == "default" && is_given(sid, wanted)
+        }
+        _ => false,
+    }
+}
+
+fn removes_policy(action: &Action) -> bool {
+    match action {
+        Action::RemovePolicy { bus } => bus.as_str() == "default",
+        _ => false,
+    }
+}
+
+#[test]
+fn a_permission_has_what_the_message_gives(rt: HostRuntime) -> Result<(), Fail> {
+    let body =
+        r#"{"EventBusName":"b","Policy":"{\"Id\":1, \"Statement\":[],\"Version\":\"2008-10-17\"}"}"#;
+    let policy = call(rt.alloc(), "AWSEvents.PutPermission", body)?;
+    let request = read_call(rt.alloc(), &policy, 0)?;
+    let wanted = r#"{"Version":"2008-10-17","Statement":[]}"#;
+    assert!(rt; puts_policy(&request.action, wanted));
+    let body = r#"{"StatementId":"a","Action":"events:PutEvents","Principal":"444455556666"}"#;
+    let account = call(rt.alloc(), "AWSEvents.PutPermission", body)?;
+    let request = read_call(rt.alloc(), &account, 0)?;
+    assert!(rt; puts_statement(&request.action, "444455556666"));
+    let body = r#"{"StatementId":"a","Action":"events:PutEvents","Principal":"*"}"#;
+    let everyone = call(rt.alloc(), "AWSEvents.PutPermission", body)?;
+    let request = read_call(rt.alloc(), &everyone, 0)?;
+    assert!(rt; puts_statement(&request.action, ""));
+    Ok(())
+}
+
+#[test]
+fn a_removal_has_what_the_message_gives(rt: HostRuntime) -> Result<(), Fail> {
+    let statement = call(
+        rt.alloc(),
+        "AWSEvents.RemovePermission",
+        r#"{"StatementId":"a","RemoveAllPermissions":false}"#,
+    )?;
+    let request = read_call(rt.alloc(), &statement, 0)?;
+    assert!(rt; removes_statement(&request.action, "a"));
+    let none = call(rt.alloc(), "AWSEvents.RemovePermission", "")?;
+    let request = read_call(rt.alloc(), &none, 0)?;
+    assert!(rt; removes_statement(&request.action, ""));
+    let all = call(
+        rt.alloc(),
+        "AWSEvents.RemovePermission",
+        r#"{"StatementId":"a","RemoveAllPermissions":true}"#,
+    )?;
+    let request = read_call(rt.alloc(), &all, 0)?;
+    assert!(rt; removes_policy(&request.action));
+    Ok(())
+}
+
+/// Whether the action removes the targets 1 and 2, in this order, from the rule r of the bus b.
+fn removes_two_targets(action: &Action) -> bool {
+    match action {
+        Action::RemoveTargets { bus, rule, ids } => match ids.as_slice() {
+            [first, second] => {
+                bus.as_str() == "b"
+                    && rule.as_str() == "r"
+                    && first.as_str() == "1"
+                    && second.as_str() == "2"
+            }
+            _ => false,
+        },
+        _ => false,
+    }
+}
+
+fn sets_state(action: &Action, wanted: bool) -> bool {
+    match action {
+        Action::PutRuleState { bus, name, enabled } => {
+            bus.as_str() == "default" && name.as_str() == "r" && *enabled == wanted
+        }
+        _ => false,
+    }
+}
+
+fn lists_rules(action: &Action, wanted: &str) -> bool {
+    match action {
+        Action::ListRules { bus, prefix } => bus.as_str() == "default" && is_given(prefix, wanted),
+        _ => false,
+    }
+}
+
+#[test]
+fn a_call_on_a_rule_has_what_the_message_gives(rt: HostRuntime) -> Result<(), Fail> {
+    let remove = call(
+        rt.alloc(),
+        "AWSEvents.RemoveTargets",
+        r#"{"Rule":"r","EventBusName":"b","Ids":["1","2"]}"#,
+    )?;
+    let request = read_call(rt.alloc(), &remove, 0)?;
+    assert!(rt; removes_two_targets(&request.action));
+    let enable = call(rt.alloc(), "AWSEvents.EnableRule", r#"{"Name":"r"}"#)?;
+    let request = read_call(rt.alloc(), &enable, 0)?;
+    assert!(rt; sets_state(&request.action, true));
+    let disable = call(rt.alloc(), "AWSEvents.DisableRule", r#"{"Name":"r"}"#)?;
+    let request = read_call(rt.alloc(), &disable, 0)?;
+    assert!(rt; sets_state(&request.action, false));
+    let list = call(rt.alloc(), "AWSEvents.ListRules", r#"{"NamePrefix":"or"}"#)?;
+    let request = read_call(rt.alloc(), &list, 0)?;
+    assert!(rt; lists_rules(&request.action, "or"));
     Ok(())
 }

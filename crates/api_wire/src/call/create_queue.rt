@@ -1,5 +1,5 @@
 //! CreateQueue.
-ghost use Rattle.std.specs.Prelude.{ℕ, IfOk};
+ghost use Rattle.std.specs.Prelude.{ℕ, List, IfOk};
 ghost use Rattle.json_text.specs.Tree.{members_of};
 ghost use Rattle.json_text.specs.View.{pairs_of};
 ghost use Rattle.router_core.specs.View.{action_of};
@@ -13,7 +13,7 @@ use router_core::Action;
 use std::alloc::Global;
 
 pub(super) fn create_queue(alloc: Global, members: &[(Text, Json)]) -> Result<Action, NoMemory>
-    ensures { (reading : ℕ) → IfOk result (λ a. IsAction CreateQueue (members_of (pairs_of members.now)) reading (action_of a)) }
+    ensures { (caller : List ℕ) (reading : ℕ) → IfOk result (λ a. IsAction CreateQueue caller (members_of (pairs_of members.now)) reading (action_of a)) }
 {
     let name = Text::from_str(alloc, text_of(members, Member::QueueName))?;
     Ok(Action::CreateQueue { name })

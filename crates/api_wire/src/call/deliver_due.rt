@@ -1,5 +1,5 @@
 //! DeliverDue.
-ghost use Rattle.std.specs.Prelude.{ℕ};
+ghost use Rattle.std.specs.Prelude.{ℕ, List};
 ghost use Rattle.json_text.specs.Tree.{members_of};
 ghost use Rattle.json_text.specs.View.{pairs_of};
 ghost use Rattle.router_core.specs.View.{action_of};
@@ -18,7 +18,7 @@ const BUDGET: u32 = 1_000;
 const DEFAULT_BUDGET: u32 = 100;
 
 pub(super) fn deliver_due(members: &[(Text, Json)]) -> Action
-    ensures { (reading : ℕ) → IsAction DeliverDue (members_of (pairs_of members.now)) reading (action_of result) }
+    ensures { (caller : List ℕ) (reading : ℕ) → IsAction DeliverDue caller (members_of (pairs_of members.now)) reading (action_of result) }
 {
     Action::DeliverDue {
         budget: count_given(members, Member::Budget, BUDGET, DEFAULT_BUDGET),

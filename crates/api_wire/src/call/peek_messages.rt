@@ -1,5 +1,5 @@
 //! PeekMessages.
-ghost use Rattle.std.specs.Prelude.{ℕ, IfOk};
+ghost use Rattle.std.specs.Prelude.{ℕ, List, IfOk};
 ghost use Rattle.json_text.specs.Tree.{members_of};
 ghost use Rattle.json_text.specs.View.{pairs_of};
 ghost use Rattle.router_core.specs.View.{action_of};
@@ -19,7 +19,7 @@ const LIMIT: u32 = 1_000;
 const DEFAULT_LIMIT: u32 = 10;
 
 pub(super) fn peek_messages(alloc: Global, members: &[(Text, Json)]) -> Result<Action, NoMemory>
-    ensures { (reading : ℕ) → IfOk result (λ a. IsAction PeekMessages (members_of (pairs_of members.now)) reading (action_of a)) }
+    ensures { (caller : List ℕ) (reading : ℕ) → IfOk result (λ a. IsAction PeekMessages caller (members_of (pairs_of members.now)) reading (action_of a)) }
 {
     let queue = Text::from_str(alloc, text_of(members, Member::QueueName))?;
     let limit = count_given(members, Member::Limit, LIMIT, DEFAULT_LIMIT);

@@ -16,13 +16,14 @@ use std::alloc::Global;
 pub(super) fn put_events(
     alloc: Global,
     members: &[(Text, Json)],
+    caller: &str,
     reading: u64,
 ) -> Result<Action, NoMemory>
     requires { IsMoment reading }
-    ensures { IfOk result (λ a. IsAction PutEvents (members_of (pairs_of members.now)) reading (action_of a)) }
+    ensures { IfOk result (λ a. IsAction PutEvents caller.now (members_of (pairs_of members.now)) reading (action_of a)) }
 {
     let given = read_entries(alloc, values_in(members, Member::Entries))?;
-    let entries = check_entries(alloc, given.as_slice(), reading)?;
+    let entries = check_entries(alloc, given.as_slice(), reading, caller)?;
     let size = total_size(given.as_slice());
     Ok(Action::PutEvents { entries, size })
 }

@@ -1,5 +1,5 @@
 //! PutRule.
-ghost use Rattle.std.specs.Prelude.{◌≡◌, ℕ, IfOk};
+ghost use Rattle.std.specs.Prelude.{◌≡◌, ℕ, List, IfOk};
 ghost use Rattle.std.specs.Option.{option_copied};
 ghost use Rattle.json_text.specs.Tree.{members_of};
 ghost use Rattle.json_text.specs.View.{pairs_of};
@@ -14,7 +14,7 @@ use router_core::Action;
 use std::alloc::Global;
 
 pub(super) fn put_rule(alloc: Global, members: &[(Text, Json)]) -> Result<Action, NoMemory>
-    ensures { (reading : ℕ) → IfOk result (λ a. IsAction PutRule (members_of (pairs_of members.now)) reading (action_of a)) }
+    ensures { (caller : List ℕ) (reading : ℕ) → IfOk result (λ a. IsAction PutRule caller (members_of (pairs_of members.now)) reading (action_of a)) }
 {
     let bus = bus_given(alloc, members, Member::EventBusName)?;
     let name = Text::from_str(alloc, text_of(members, Member::Name))?;

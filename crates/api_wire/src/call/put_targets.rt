@@ -1,5 +1,5 @@
 //! PutTargets.
-ghost use Rattle.std.specs.Prelude.{◌≡◌, ℕ, IfOk};
+ghost use Rattle.std.specs.Prelude.{◌≡◌, ℕ, List, IfOk};
 ghost use Rattle.json_text.specs.Tree.{members_of};
 ghost use Rattle.json_text.specs.View.{trees_of, pairs_of};
 ghost use Rattle.router_core.specs.View.{action_of};
@@ -14,7 +14,7 @@ use rule_table::Target;
 use std::alloc::Global;
 
 pub(super) fn put_targets(alloc: Global, members: &[(Text, Json)]) -> Result<Action, NoMemory>
-    ensures { (reading : ℕ) → IfOk result (λ a. IsAction PutTargets (members_of (pairs_of members.now)) reading (action_of a)) }
+    ensures { (caller : List ℕ) (reading : ℕ) → IfOk result (λ a. IsAction PutTargets caller (members_of (pairs_of members.now)) reading (action_of a)) }
 {
     let bus = bus_given(alloc, members, Member::EventBusName)?;
     let rule = Text::from_str(alloc, text_of(members, Member::Rule))?;

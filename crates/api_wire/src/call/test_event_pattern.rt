@@ -1,5 +1,5 @@
 //! TestEventPattern.
-ghost use Rattle.std.specs.Prelude.{ℕ, IfOk};
+ghost use Rattle.std.specs.Prelude.{ℕ, List, IfOk};
 ghost use Rattle.json_text.specs.Tree.{members_of};
 ghost use Rattle.json_text.specs.View.{pairs_of};
 ghost use Rattle.router_core.specs.View.{action_of};
@@ -18,8 +18,8 @@ pub(super) fn test_event_pattern(
     alloc: Global,
     members: &[(Text, Json)],
 ) -> Result<Action, NoMemory>
-    requires sound { AreSound (asked TestEventPattern) (members_of (pairs_of members.now)) }
-    ensures { (reading : ℕ) → IfOk result (λ a. IsAction TestEventPattern (members_of (pairs_of members.now)) reading (action_of a)) }
+    requires sound { AreSound (asked TestEventPattern (members_of (pairs_of members.now))) (members_of (pairs_of members.now)) }
+    ensures { (caller : List ℕ) (reading : ℕ) → IfOk result (λ a. IsAction TestEventPattern caller (members_of (pairs_of members.now)) reading (action_of a)) }
 {
     let text = Text::from_str(alloc, text_of(members, Member::EventPattern))?;
     let pattern = match PatternText::read(alloc, text) {

@@ -1,0 +1,21 @@
+//! ListRules.
+ghost use Rattle.std.specs.Prelude.{ℕ, List, IfOk};
+ghost use Rattle.json_text.specs.Tree.{members_of};
+ghost use Rattle.json_text.specs.View.{pairs_of};
+ghost use Rattle.router_core.specs.View.{action_of};
+ghost use Rattle.api_wire.specs.Call.{IsAction};
+ghost use Rattle.api_wire.specs.declared.call.operation.Operation.TheVariants.{ListRules};
+
+use api_members::{bus_given, read_text};
+use api_replies::Member;
+use json_text::{Json, NoMemory, Text};
+use router_core::Action;
+use std::alloc::Global;
+
+pub(super) fn list_rules(alloc: Global, members: &[(Text, Json)]) -> Result<Action, NoMemory>
+    ensures { (caller : List ℕ) (reading : ℕ) → IfOk result (λ a. IsAction ListRules caller (members_of (pairs_of members.now)) reading (action_of a)) }
+{
+    let bus = bus_given(alloc, members, Member::EventBusName)?;
+    let prefix = read_text(alloc, members, Member::NamePrefix)?;
+    Ok(Action::ListRules { bus, prefix })
+}
