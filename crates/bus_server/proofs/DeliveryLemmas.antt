@@ -4,7 +4,7 @@ use Rattle.std.proofs.Common.{◌≡◌, ℕ, ◌+◌, ◌<◌, inl, inr, List, 
 use Rattle.delivery_duties.specs.declared.fate.Outcome.{Outcome}
 use Rattle.delivery_duties.specs.declared.fate.Outcome.TheVariants.{Accepted, TooOld}
 use Rattle.router_disk.specs.Clock.{Gives}
-use Rattle.router_disk.proofs.ClockLemmas.{Gives-none, Gives-append}
+use Rattle.router_disk.proofs.ClockLemmas.{Gives-append}
 use Rattle.api_replies.specs.Reply.{Counts}
 use Rattle.router_core.specs.Tables.{Tables}
 use Rattle.bus_server.specs.declared.book.Step.TheVariants.{Idle, Limited, Made}

@@ -8,7 +8,7 @@ use Rattle.router_disk.specs.Clock.{Gives}
 use Rattle.router_disk.specs.Sink.{WritesAll}
 use Rattle.router_disk.specs.declared.fault.Failed.{Failed}
 use Rattle.router_disk.proofs.ClockLemmas.{Gives-append}
-use Rattle.router_core.specs.Request.{Action, create_queue, put_rule, put_targets, put_events, peek_messages, deliver_due, Request}
+use Rattle.router_core.specs.Request.{deliver_due, Request}
 use Rattle.router_core.specs.Batch.{Batch}
 use Rattle.api_replies.specs.Reply.{Reply, refused as refusal_of, no_memory, not_post}
 use Rattle.api_messages.specs.declared.message.Message.{Message}

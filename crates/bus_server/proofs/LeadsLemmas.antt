@@ -10,7 +10,7 @@ use Rattle.delivery_duties.specs.declared.fate.Outcome.TheVariants.{Accepted, To
 use Rattle.delivery_duties.specs.declared.fate.SettledDuty.{SettledDuty}
 use Rattle.delivery_duties.specs.declared.fate.Fate.TheVariants.{Delivered, Dropped}
 use Rattle.delivery_duties.specs.Duties.{Duties, Queue, added, added_one, begun as begun_row, marked, marked_row, claimed, settled, taken_of, IsNext}
-use Rattle.rule_table.specs.Control.{Control, rule_put, targets_put, queue_created}
+use Rattle.rule_table.specs.Control.{Control, bus_created, bus_deleted, rule_put, rule_deleted, state_put, targets_put, targets_removed, policy_put, queue_created}
 use Rattle.router_core.specs.Request.{Request}
 use Rattle.api_replies.specs.Reply.{Counts, Reply}
 use Rattle.router_core.specs.Batch.{Entry, control, accepted, attempt, Batch}
@@ -87,8 +87,14 @@ added_free (d ∷ ds) moment s free =
     added_free ds moment (added_one d moment s) (chosen_free d.too_long _ _ free (All-append Free s.pending (row ∷ []) free last))
 
 control_free : (c : Control) (s : Duties) → All Free s.pending → All Free (duties_after c s).pending
+control_free (bus_created name) s free = free
+control_free (bus_deleted name) s free = free
 control_free (rule_put bus name pattern enabled) s free = free
+control_free (rule_deleted bus name) s free = free
+control_free (state_put bus name enabled) s free = free
 control_free (targets_put bus rule targets) s free = free
+control_free (targets_removed bus rule ids) s free = free
+control_free (policy_put bus policy) s free = free
 control_free (queue_created name) s free = free
 
 settled_free : (number : ℕ) (outcome : Outcome) (s : Duties) → All Free s.pending → All Free (settled number outcome s).pending

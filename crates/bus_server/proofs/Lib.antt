@@ -9,3 +9,4 @@ pub mod RunningLemmas
 pub mod RunLemmas
 pub mod BoundLemmas
 pub mod ServedLemmas
+pub mod AnsweredLemmas

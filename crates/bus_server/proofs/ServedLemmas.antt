@@ -1,19 +1,27 @@
 -- The status of an answer's reply is one of those that replies written from a value have. `Book::turn` cites `answer_served`.
-use Rattle.std.proofs.Common.{◌≡◌, ℕ, ◌⊎◌, inl, inr, Bool, true, false, List, [], ◌∷◌, sym, refl, subst}
+use Rattle.std.proofs.Common.{◌≡◌, ℕ, inl, inr, Bool, true, false, List, [], ◌∷◌, sym, refl, subst}
 use Rattle.json_text.specs.Tree.{Tree}
 use Rattle.api_replies.specs.declared.cause.Cause.{Cause}
 use Rattle.api_replies.specs.Reply.{Reply}
 use Rattle.api_replies.specs.Written.{IsServedStatus}
 use Rattle.rule_table.specs.declared.control.Target.{Target}
 use Rattle.rule_table.specs.Control.{Control}
-use Rattle.rule_table.specs.RuleSet.{has_queue}
+use Rattle.rule_table.specs.RuleSet.{Rule, Bus, RuleSet, has_queue}
+use Rattle.name_rows.specs.Rows.{named}
+use Rattle.config_views.specs.Views.{on_bus, on_bus_of, on_rule, on_rule_of}
 use Rattle.router_core.specs.Batch as batch
-use Rattle.router_core.specs.Request.{Action, create_queue, put_rule, put_targets, put_events, peek_messages, test_event_pattern, deliver_due, Request}
+use Rattle.router_core.specs.Request.{Action, Request, create_event_bus, delete_event_bus, describe_event_bus, list_event_buses, put_rule, delete_rule}
+use Rattle.router_core.specs.Request.{put_rule_state, describe_rule, list_rules, put_targets, remove_targets, list_targets_by_rule}
+use Rattle.router_core.specs.Request.{list_rule_names_by_target, put_policy, put_statement, remove_policy, remove_statement, put_events}
+use Rattle.router_core.specs.Request.{test_event_pattern, create_queue, peek_messages, deliver_due}
 use Rattle.router_core.specs.Tables.{Tables, is_full}
 use Rattle.router_calls.specs.Accepted.{Given, events_in}
-use Rattle.router_calls.specs.Answer.{Answer, IsAnswer, IsAnswerAt, IsControlled, IsTargetsPut, IsPublished, IsTested, writes, targets_answer, events_answer}
-use Rattle.router_calls.specs.Answer.{moment_at}
-use Rattle.std.specs.Prelude.{if◌then◌else◌}
+use Rattle.router_calls.specs.Answer.{Answer, IsAnswer, IsAnswerAt, IsControlled, IsTargetsPut, IsPublished, IsTested, IsRuleDeleted}
+use Rattle.router_calls.specs.Answer.{AreTargetsRemoved, IsOnBus, IsStatementRemovedFrom}
+use Rattle.router_calls.specs.Answer.{writes, targets_answer, removals_answer, events_answer, policy_answer, statement_answer, removal_answer, moment_at}
+use Rattle.router_calls.specs.Permission.{has_statement}
+use Rattle.router_core.specs.Verdict.{IsPolicyOf}
+use Rattle.std.specs.Prelude.{if◌then◌else◌, nat_lt, length, Option, Some, None}
 
 abbrev IsServed : Answer → Type 0
 IsServed a = IsServedStatus a.reply.status
@@ -53,22 +61,102 @@ events_served : (t : Tables) (moment : ℕ) (es : List batch.Accepted) (reply : 
 events_served t moment [] reply is = is
 events_served t moment (e ∷ es) reply is = writes_served t moment _ reply is
 
-published_served : (t : Tables) (moment : ℕ) (entries : List Given) (size : ℕ) (a : Answer) → IsPublished t moment entries size a → IsServed a
-published_served t moment entries size a (inl (large, e)) = so_served a _ e (inr (inl refl))
-published_served t moment entries size a (inr (fits, (all, placed, e))) = so_served a _ e (events_served t moment (events_in all) _ (inl refl))
+published_served : (t : Tables) (caller : List ℕ) (moment : ℕ) (entries : List Given) (size : ℕ) (a : Answer) → IsPublished t caller moment entries size a → IsServed a
+published_served t caller moment entries size a (inl (large, e)) = so_served a _ e (inr (inl refl))
+published_served t caller moment entries size a (inr (fits, (all, placed, e))) = so_served a _ e (events_served t moment (events_in all) _ (inl refl))
 
 tested_served : (pattern : List ℕ) (event : Tree) (a : Answer) → IsTested pattern event a → IsServed a
 tested_served pattern event a (inl (holds, e)) = so_served a _ e (inl refl)
 tested_served pattern event a (inr (not, e)) = so_served a _ e (inl refl)
 
-served_at : (t : Tables) (moment : ℕ) (action : Action) (a : Answer) → IsAnswerAt t moment action a → IsServed a
-served_at t moment (create_queue name) a is = controlled_served t moment _ _ a (inl refl) is
-served_at t moment (put_rule bus name pattern enabled) a is = controlled_served t moment _ _ a (inl refl) is
-served_at t moment (put_targets bus rule targets) a is = put_served t moment bus rule targets a is
-served_at t moment (put_events entries size) a is = published_served t moment entries size a is
-served_at t moment (peek_messages queue limit) a is = so_served a _ is (one_reply_of (has_queue queue t.set) _ _ (inl refl) (inr (inl refl)))
-served_at t moment (test_event_pattern pattern event) a is = tested_served pattern event a is
-served_at t moment (deliver_due budget) a is = absurd is
+on_bus_served : (name : List ℕ) (show : Bus → Reply) → ((bus : Bus) → IsServedStatus (show bus).status) → (bus : Option Bus)
+    → IsServedStatus (on_bus name show bus).status
+on_bus_served name show each None = inr (inl refl)
+on_bus_served name show each (Some bus) = each bus
+
+shown_served : (set : RuleSet) (name : List ℕ) (show : Bus → Reply) → ((bus : Bus) → IsServedStatus (show bus).status)
+    → IsServedStatus (on_bus_of set name show).status
+shown_served set name show each = on_bus_served name show each (named (λ b. b.name) name set.buses)
+
+on_rule_served : (name : List ℕ) (show : Rule → Reply) → ((rule : Rule) → IsServedStatus (show rule).status) → (rule : Option Rule)
+    → IsServedStatus (on_rule name show rule).status
+on_rule_served name show each None = inr (inl refl)
+on_rule_served name show each (Some rule) = each rule
+
+rule_served : (name : List ℕ) (show : Rule → Reply) → ((rule : Rule) → IsServedStatus (show rule).status) → (bus : Bus)
+    → IsServedStatus (on_rule_of name show bus).status
+rule_served name show each bus = on_rule_served name show each (named (λ r. r.name) name bus.rules)
+
+deleted_served : (t : Tables) (moment : ℕ) (bus name : List ℕ) (a : Answer) → IsRuleDeleted t moment bus name a → IsServed a
+deleted_served t moment bus name a (inl (lacks, e)) = so_served a _ e (inl refl)
+deleted_served t moment bus name a (inr (there, is)) = controlled_served t moment _ _ a (inl refl) is
+
+removals_served : (t : Tables) (moment : ℕ) (bus rule : List ℕ) (ids : List (List ℕ)) (failed : List (List ℕ × Cause))
+    → IsServed (removals_answer t moment bus rule ids failed)
+removals_served t moment bus rule [] failed = inl refl
+removals_served t moment bus rule (id ∷ ids) failed = writes_served t moment _ _ (inl refl)
+
+removed_served : (t : Tables) (moment : ℕ) (bus rule : List ℕ) (ids : List (List ℕ)) (a : Answer) → AreTargetsRemoved t moment bus rule ids a → IsServed a
+removed_served t moment bus rule ids a (inl (none, e)) = so_served a _ e (inr (inl refl))
+removed_served t moment bus rule ids a (inr (inl (there, lacks, e))) = so_served a _ e (inr (inl refl))
+removed_served t moment bus rule ids a (inr (inr (r, found, e))) = so_served a _ e (removals_served t moment bus rule _ _)
+
+policy_served : (t : Tables) (moment : ℕ) (bus policy : List ℕ) → IsServed (policy_answer t moment bus policy)
+policy_served t moment bus policy = one_answer_of (nat_lt 10240 (length policy)) _ _ (inr (inl refl)) (writes_served t moment _ _ (inl refl))
+
+bus_served : (t : Tables) (bus : List ℕ) (IsChanged : Bus → Answer → Type 0) (a : Answer) → ((b : Bus) → IsChanged b a → IsServed a)
+    → IsOnBus t bus IsChanged a → IsServed a
+bus_served t bus IsChanged a each (inl (none, e)) = so_served a _ e (inr (inl refl))
+bus_served t bus IsChanged a each (inr (b, found, is)) = each b is
+
+statement_served : (t : Tables) (moment : ℕ) (bus sid : List ℕ) (account : Option (List ℕ)) (policy : Option Tree)
+    → IsServed (statement_answer t moment bus sid account policy)
+statement_served t moment bus sid account policy =
+    one_answer_of (has_statement sid policy) _ _ (inr (inl refl)) (policy_served t moment bus _)
+
+granted_served : (t : Tables) (moment : ℕ) (bus sid : List ℕ) (account : Option (List ℕ)) (a : Answer) (b : Bus)
+    → ((policy : Option Tree) × IsPolicyOf b.policy policy × (a ≡ statement_answer t moment bus sid account policy)) → IsServed a
+granted_served t moment bus sid account a b (policy, of, e) = so_served a _ e (statement_served t moment bus sid account policy)
+
+removal_served : (t : Tables) (moment : ℕ) (bus sid : List ℕ) (policy : Option Tree) → IsServed (removal_answer t moment bus sid policy)
+removal_served t moment bus sid None = inr (inl refl)
+removal_served t moment bus sid (Some policy) =
+    one_answer_of (has_statement sid (Some policy)) _ _ (writes_served t moment _ _ (inl refl)) (inr (inl refl))
+
+revoked_served : (t : Tables) (moment : ℕ) (bus : List ℕ) (sid : Option (List ℕ)) (b : Bus) (a : Answer) → IsStatementRemovedFrom t moment bus sid b a
+    → IsServed a
+revoked_served t moment bus None b a is = so_served a _ is (inr (inl refl))
+revoked_served t moment bus (Some sid) b a (policy, of, e) = so_served a _ e (removal_served t moment bus sid policy)
+
+served_at : (t : Tables) (caller : List ℕ) (moment : ℕ) (action : Action) (a : Answer) → IsAnswerAt t caller moment action a → IsServed a
+served_at t caller moment (create_event_bus name) a is = controlled_served t moment _ _ a (inl refl) is
+served_at t caller moment (delete_event_bus name) a is = controlled_served t moment _ _ a (inl refl) is
+served_at t caller moment (describe_event_bus name) a is = so_served a _ is (shown_served t.set name _ (λ bus. inl refl))
+served_at t caller moment (list_event_buses prefix) a is = so_served a _ is (inl refl)
+served_at t caller moment (put_rule bus name pattern enabled) a is = controlled_served t moment _ _ a (inl refl) is
+served_at t caller moment (delete_rule bus name) a is = deleted_served t moment bus name a is
+served_at t caller moment (put_rule_state bus name enabled) a is = controlled_served t moment _ _ a (inl refl) is
+served_at t caller moment (describe_rule bus name) a is =
+    so_served a _ is (shown_served t.set bus _ (λ b. rule_served name _ (λ rule. inl refl) b))
+served_at t caller moment (list_rules bus prefix) a is = so_served a _ is (shown_served t.set bus _ (λ b. inl refl))
+served_at t caller moment (put_targets bus rule targets) a is = put_served t moment bus rule targets a is
+served_at t caller moment (remove_targets bus rule ids) a is = removed_served t moment bus rule ids a is
+served_at t caller moment (list_targets_by_rule bus rule) a is =
+    so_served a _ is (shown_served t.set bus _ (λ b. rule_served rule _ (λ r. inl refl) b))
+served_at t caller moment (list_rule_names_by_target arn bus) a is = so_served a _ is (shown_served t.set bus _ (λ b. inl refl))
+served_at t caller moment (put_policy bus policy) a is =
+    bus_served t bus (λ b answer. answer ≡ policy_answer t moment bus policy) a (λ b e. so_served a _ e (policy_served t moment bus policy)) is
+served_at t caller moment (put_statement bus sid account) a is =
+    bus_served t bus (λ b answer. (policy : Option Tree) × IsPolicyOf b.policy policy × (answer ≡ statement_answer t moment bus sid account policy))
+    a (granted_served t moment bus sid account a) is
+served_at t caller moment (remove_policy bus) a is = controlled_served t moment _ _ a (inl refl) is
+served_at t caller moment (remove_statement bus sid) a is = bus_served t bus (IsStatementRemovedFrom t moment bus sid) a (λ b. revoked_served t moment bus sid b a) is
+served_at t caller moment (put_events entries size) a is = published_served t caller moment entries size a is
+served_at t caller moment (test_event_pattern pattern event) a is = tested_served pattern event a is
+served_at t caller moment (create_queue name) a is = controlled_served t moment _ _ a (inl refl) is
+served_at t caller moment (peek_messages queue limit) a is =
+    so_served a _ is (one_reply_of (has_queue queue t.set) _ _ (inl refl) (inr (inl refl)))
+served_at t caller moment (deliver_due budget) a is = absurd is
 
 pub answer_served : (t : Tables) (r : Request) (a : Answer) → IsAnswer t r a → IsServedStatus a.reply.status
-answer_served t r a is = served_at t (moment_at t r.reading) r.action a is
+answer_served t r a is = served_at t r.caller (moment_at t r.reading) r.action a is.answers

@@ -1,8 +1,15 @@
 -- A request of one turn, answered.
-use Rattle.std.specs.Prelude.{◌≡◌, ℕ, Bool, List, [], ◌∷◌, ◌++◌, None}
+use Rattle.std.specs.Prelude.{◌≡◌, ℕ, Bool, List, [], ◌∷◌, ◌++◌, Option, None, IfSome}
 use Rattle.api_replies.specs.View.{reply_of}
 use Rattle.api_replies.specs.Written.{IsServedStatus, reply_text}
-use Rattle.router_core.specs.Request.{Request}
+use Rattle.json_text.specs.Moment.{IsMoment}
+use Rattle.router_core.specs.Request.{Request, IsOneTurn, IsEntitled}
+use Rattle.router_core.specs.Tables.{Tables}
+use Rattle.router_core.specs.Ready.{IsReadyAt}
+use Rattle.router_core.specs.declared.ready.Ready.{Ready}
+use Rattle.api_replies.specs.declared.reply.Reply.{Reply as CodeReply}
+use Rattle.router_calls.specs.Bounds.{IsBounded}
+use Rattle.router_calls.specs.Decided.{answer_of}
 use Rattle.router_calls.specs.Answer.{Answer, IsAnswer}
 use Rattle.bus_server.specs.declared.book.TurnReply.{TurnReply}
 use Rattle.bus_server.specs.declared.book.TurnReply.TheVariants.{Rendered, Unrendered}
@@ -33,3 +40,16 @@ pub record IsAnswered (old new : BookState) (request : Request) (close : Bool) (
   pub turns : new.turns ≡ old.turns ++ record { ask = asked request; batch = answer.batch } ∷ []
   pub text : turn_text reply close ≡ reply_text answer.reply close
   pub unwritten : IsUnrendered reply → answer.batch ≡ None
+
+-- a request that one turn answers: within its bounds, one that its caller may make, at a reading that is a moment
+pub record IsAskable (request : Request) : Type 0 where
+  pub bounded : IsBounded request.action
+  pub entitled : IsEntitled request
+  pub one_turn : IsOneTurn request.action
+  pub reading : IsMoment request.reading
+
+-- for private clauses: the change that a request makes on the tables, if any, and the reply
+pub record IsDecided (t : Tables) (request : Request) (p : Option Ready × CodeReply) : Type 0 where
+  pub answer : IsAnswer t request (answer_of p)
+  pub ready : IfSome p.0 (λ r. IsReadyAt t r)
+  pub status : IsServedStatus p.1.status

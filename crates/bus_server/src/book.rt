@@ -1,16 +1,13 @@
 //! The router's guarded state: its tables, and the history of its turns.
-ghost use Rattle.std.specs.Prelude.{◌≡◌, ◌++◌, ◌∷◌, [], IfOk, IfSome, OnErr};
+ghost use Rattle.std.specs.Prelude.{◌≡◌, ◌++◌, ◌∷◌, [], Bool, Some, None, IfOk, IfSome, OnErr};
 ghost use Rattle.std.specs.Option.{option_map};
-ghost use Rattle.json_text.specs.Moment.{IsMoment};
-ghost use Rattle.router_core.specs.Request.{IsOneTurn};
-ghost use Rattle.router_core.specs.View.{action_of, request_of};
+ghost use Rattle.router_core.specs.View.{request_of};
 ghost use Rattle.router_core.specs.Tables.{first_tables};
 ghost use Rattle.router_core.specs.Ready.{batch_of, IsReadyAt};
 ghost use Rattle.router_calls.specs.Answer.{moment_at};
-ghost use Rattle.router_calls.specs.Decided.{IsBounded};
 ghost use Rattle.bus_server.specs.Book.{ask_of, book_of};
 ghost use Rattle.bus_server.specs.History.{after_written};
-ghost use Rattle.bus_server.specs.Answered.{IsAnswered, IsRenderable};
+ghost use Rattle.bus_server.specs.Answered.{IsAskable, IsDecided, IsAnswered, IsRenderable};
 ghost use Rattle.bus_server.specs.Steps.{StepOf};
 
 use crate::history::{Ask, History, Turn, Written};
@@ -68,27 +65,71 @@ impl Book {
         request: Request,
         close: bool,
     ) -> Result<TurnReply, NoMemory>
-        requires reading { IsMoment request.reading }
-        requires few { IsBounded (action_of request.action) }
-        requires one_turn { IsOneTurn (action_of request.action) }
+        requires { IsAskable (request_of request) }
         ensures answered { IfOk result (λ reply. IsAnswered (book_of self.old) (book_of self.new) (request_of request) close reply) }
         ensures renderable { IfOk result (λ reply. IsRenderable reply) }
         ensures unchanged { OnErr result (book_of self.new ≡ book_of self.old) }
     {
-        let ask = Ask::Asked(Snapshot::of(&request));
-        let moment = turn_moment(&self.tables, request.reading);
-        let (ready, reply) = decide(alloc, &self.tables, &request, moment)?;
+        self.turn_of(alloc, &request, close)
+    }
+
+    fn turn_of(
+        &mut self,
+        alloc: Global,
+        request: &Request,
+        close: bool,
+    ) -> Result<TurnReply, NoMemory>
+        requires { IsAskable (request_of request.now) }
+        ensures answered { IfOk result (λ reply. IsAnswered (book_of self.old) (book_of self.new) (request_of request.now) close reply) }
+        ensures renderable { IfOk result (λ reply. IsRenderable reply) }
+        ensures unchanged { OnErr result (book_of self.new ≡ book_of self.old) }
+    {
+        let (ready, reply) = self.decided(alloc, request)?;
         match ready {
-            Some(ready) => {
-                let bytes = reply_bytes(alloc, &reply, close)?;
-                self.enter(ask, Some(ready));
-                Ok(TurnReply::Rendered(bytes))
-            }
-            None => {
-                self.enter(ask, None);
-                Ok(TurnReply::Unrendered(reply))
-            }
+            Some(ready) => self.write(alloc, request, ready, reply, close),
+            None => Ok(self.show(request, reply)),
         }
+    }
+
+    /// Makes the turn of a request that changes the tables. The reply's bytes are made before.
+    #[tactic(auto, using(crate::proofs::AnsweredLemmas::answered))]
+    fn write(
+        &mut self,
+        alloc: Global,
+        request: &Request,
+        ready: Ready,
+        reply: Reply,
+        close: bool,
+    ) -> Result<TurnReply, NoMemory>
+        requires { IsDecided self.old.tables (request_of request.now) (Some ready, reply) }
+        ensures answered { IfOk result (λ reply. IsAnswered (book_of self.old) (book_of self.new) (request_of request.now) close reply) }
+        ensures renderable { IfOk result (λ reply. IsRenderable reply) }
+        ensures unchanged { OnErr result (book_of self.new ≡ book_of self.old) }
+    {
+        let bytes = reply_bytes(alloc, &reply, close)?;
+        self.enter(Ask::Asked(Snapshot::of(request)), Some(ready));
+        Ok(TurnReply::Rendered(bytes))
+    }
+
+    /// Makes the turn of a request that changes nothing.
+    #[tactic(auto, using(crate::proofs::AnsweredLemmas::answered))]
+    fn show(&mut self, request: &Request, reply: Reply) -> TurnReply
+        requires { IsDecided self.old.tables (request_of request.now) (None, reply) }
+        ensures answered { (close : Bool) → IsAnswered (book_of self.old) (book_of self.new) (request_of request.now) close result }
+        ensures renderable { IsRenderable result }
+    {
+        self.enter(Ask::Asked(Snapshot::of(request)), None);
+        TurnReply::Unrendered(reply)
+    }
+
+    /// The change that the request makes, if any, and its reply.
+    fn decided(&self, alloc: Global, request: &Request) -> Result<(Option<Ready>, Reply), NoMemory>
+        requires { IsAskable (request_of request.now) }
+        ensures { IfOk result (λ p. IsDecided self.now.tables (request_of request.now) p) }
+    {
+        let moment = turn_moment(&self.tables, request.reading);
+        let (ready, reply) = decide(alloc, &self.tables, request, moment)?;
+        Ok((ready, reply))
     }
 
     /// Applies the change that is ready, if there is one, and adds the turn to the history.

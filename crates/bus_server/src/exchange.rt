@@ -26,7 +26,7 @@ use router_disk::{Clock, Failed, Sink};
 use std::alloc::Global;
 
 /// Answers the message, and writes the reply. `close` is true if the session ends after it. A HEAD gets the reply's head alone.
-#[tactic(auto, using(crate::proofs::BoundLemmas::asked_bounded))]
+#[tactic(auto, using(crate::proofs::BoundLemmas::asked_askable))]
 pub(crate) fn answer_message<K: Sink, C: Clock>(
     alloc: Global,
     book: &mut Book,
@@ -64,12 +64,27 @@ fn delivery_budget(action: &Action) -> Option<u32>
 {
     match action {
         Action::DeliverDue { budget } => Some(*budget),
-        Action::CreateQueue { .. }
+        Action::CreateEventBus { .. }
+        | Action::DeleteEventBus { .. }
+        | Action::DescribeEventBus { .. }
+        | Action::ListEventBuses { .. }
         | Action::PutRule { .. }
+        | Action::DeleteRule { .. }
+        | Action::PutRuleState { .. }
+        | Action::DescribeRule { .. }
+        | Action::ListRules { .. }
         | Action::PutTargets { .. }
+        | Action::RemoveTargets { .. }
+        | Action::ListTargetsByRule { .. }
+        | Action::ListRuleNamesByTarget { .. }
+        | Action::PutPolicy { .. }
+        | Action::PutStatement { .. }
+        | Action::RemovePolicy { .. }
+        | Action::RemoveStatement { .. }
         | Action::PutEvents { .. }
-        | Action::PeekMessages { .. }
-        | Action::TestEventPattern { .. } => None,
+        | Action::TestEventPattern { .. }
+        | Action::CreateQueue { .. }
+        | Action::PeekMessages { .. } => None,
     }
 }
 
