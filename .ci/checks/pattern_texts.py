@@ -1,5 +1,7 @@
 """Events and texts of patterns by chance, for the mixed runs: most patterns have a part of their event, and a part of the texts
 is no pattern."""
+import copy
+
 from patterns import Number, spelled, view_count
 
 EVENT_MEMBERS = ["id", "account", "source", "time", "region", "resources", "detail-type"]
@@ -74,6 +76,9 @@ def a_pattern_text(chance, event):
     if 0.37 < kind < 0.38:
         branches = [[{"a": [it]} for it in range(count)] for count in chance.choice([(10, 10, 10), (7, 11, 13), (2,) * 12])]
         text = spelled({f"k{place}": {"$or": it} for place, it in enumerate(branches)})
+    if 0.38 < kind < 0.39:
+        deep = chance.choice([99, 100])
+        text = '{"a":' * deep + "[1]" + "}" * deep
     return text
 
 
@@ -157,7 +162,7 @@ def spoil(chance, pattern):
     if kind == 0:
         pattern["id"] = chance.choice([["x"], 1, []])
     elif kind == 1:
-        pattern["$or"] = chance.choice(BAD_BRANCHES)
+        pattern["$or"] = copy.deepcopy(chance.choice(BAD_BRANCHES))
     elif kind == 2:
         pattern[key] = chance.choice(BAD_FIELDS)
     elif isinstance(value, list) and key != "$or":

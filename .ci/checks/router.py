@@ -1,0 +1,617 @@
+"""The router by its rules: the reply to each request, from the requests before it.
+
+A request is an action, its caller's header field and the value of its body. `Router.answer` finds the first refusal in the order
+of the rules, or makes the change. Patterns and policies have models of their own, `patterns.py` and `policies.py`. Each refusal
+is counted in `causes`, so that a run can show which ones it had.
+
+To add an action: a method of Router, and its line in CALLS with the members that it reads, in their order.
+"""
+import datetime
+import json
+import queue
+import re
+
+import policies
+from patterns import Fault, Number, holds, read_json, read_pattern, spelled
+
+OWNER = "111122223333"
+EVENTS_ARN = f"arn:aws:events:us-east-1:{OWNER}:"
+QUEUE_ARN = f"arn:aws:sqs:us-east-1:{OWNER}:"
+BUSES_LIMIT, RULES_LIMIT, TARGETS_LIMIT, QUEUES_LIMIT = 100, 300, 5, 1_000
+A_CALL = 100  # deliveries of one DeliverDue, if it has no Budget
+PEEKED = 10  # messages that one PeekMessages shows, if it has no Limit
+PEEKED_MOST = 1_000
+MOMENT_LIMIT = 250_000_000_000
+ENTRIES_SIZE = 262_144
+EVENT_MEMBERS = ["id", "account", "source", "time", "region", "resources", "detail-type"]
+UNSUPPORTED = ["Input", "InputPath", "InputTransformer", "RetryPolicy", "DeadLetterConfig"]  # of a target
+NO_OBJECT = object()  # the value of a body that is no JSON object
+
+VALIDATION = "ValidationException"
+NOT_FOUND = "ResourceNotFoundException"
+EXISTS = "ResourceAlreadyExistsException"
+LIMIT = "LimitExceededException"
+
+
+def compact(value):
+    return json.dumps(value, separators=(",", ":"), ensure_ascii=False)
+
+
+class Spelled(str):
+    """A compact JSON text with its value, which need not be read again."""
+
+    def __new__(cls, tree):
+        made = super().__new__(cls, spelled(tree))
+        made.tree = tree
+        return made
+
+
+class Refusal(Exception):
+    """Why a request, an entry or a target is refused: the type, the message, and the cause, which has no names."""
+
+    def __init__(self, kind, message, *names, cause=None):
+        super().__init__(message)
+        self.kind, self.message, self.cause = kind, message.format(*names), cause or message
+
+
+def missing(kind, name):
+    return Refusal(NOT_FOUND, kind + " {} does not exist.", name)
+
+
+class NotValid(Exception):
+    """A value that a member cannot have."""
+
+
+# ---- What members may be. Each function returns what is read, or raises NotValid.
+
+
+def is_number(value):
+    return isinstance(value, (int, Number)) and not isinstance(value, bool)
+
+
+def need(truth):
+    if not truth:
+        raise NotValid
+
+
+def a_text(expression=None):
+    def read(value):
+        need(isinstance(value, str) and (expression is None or re.fullmatch(expression, value)))
+        return value
+
+    return read
+
+
+NAME = r"[A-Za-z0-9._-]{1,64}"
+BUS = r"[A-Za-z0-9._-]{1,256}"
+QUEUE = r"[A-Za-z0-9_-]{1,80}"
+a_name = a_text(NAME)
+a_bus_name = a_text(BUS)
+a_queue_name = a_text(QUEUE)
+
+
+def a_bus(value):
+    """The name of a bus that is named by its name or its ARN."""
+    return a_bus_name(a_text()(value).removeprefix(EVENTS_ARN + "event-bus/"))
+
+
+def a_pattern(value):
+    try:
+        return a_text()(value), read_pattern(value)
+    except Fault as fault:
+        message = f"Event pattern is not valid. Reason: {fault.why} at "
+        raise Refusal("InvalidEventPatternException", message + "{}", fault.path, cause=message) from None
+
+
+def nothing(_value):
+    raise NotValid
+
+
+def one_of(*values):
+    def read(value):
+        need(value in values and isinstance(value, type(values[0])))
+        return value
+
+    return read
+
+
+def a_count(value):
+    spelling = value.spelling if isinstance(value, Number) else str(value)
+    need(is_number(value) and re.fullmatch("[1-9][0-9]{0,3}", spelling) and int(spelling) <= 1_000)
+    return int(spelling)
+
+
+def without_null(value):
+    need(isinstance(value, dict))
+    return {key: it for key, it in value.items() if it is not None}
+
+
+def need_texts(members, *keys):
+    need(all(isinstance(members[it], str) for it in keys if it in members))
+
+
+def some_targets(value):
+    need(isinstance(value, list) and 1 <= len(value) <= 100)
+    return [a_target(it) for it in value]
+
+
+def a_target(value):
+    target = without_null(value)
+    need("Id" in target and "Arn" in target)
+    need_texts(target, "Id", "Arn", "Input", "InputPath")
+    if "InputTransformer" in target:
+        transformer = without_null(target["InputTransformer"])
+        need("InputTemplate" in transformer)
+        need_texts(transformer, "InputTemplate")
+        paths = transformer.get("InputPathsMap", {})
+        need(isinstance(paths, dict) and all(isinstance(it, str) for it in paths.values()))
+    if "RetryPolicy" in target:
+        retry = without_null(target["RetryPolicy"])
+        need(all(is_number(retry[it]) for it in ("MaximumRetryAttempts", "MaximumEventAgeInSeconds") if it in retry))
+    if "DeadLetterConfig" in target:
+        need_texts(without_null(target["DeadLetterConfig"]), "Arn")
+    return target
+
+
+def some_ids(value):
+    need(isinstance(value, list) and 1 <= len(value) <= 100)
+    return [a_name(it) for it in value]
+
+
+def some_entries(value):
+    need(isinstance(value, list) and 1 <= len(value) <= 10)
+    return [an_entry(it) for it in value]
+
+
+def an_entry(value):
+    entry = without_null(value)
+    need_texts(entry, "Source", "DetailType", "Detail", "EventBusName")
+    resources = entry.get("Resources", [])
+    need(isinstance(resources, list) and all(isinstance(it, str) for it in resources))
+    need("Time" not in entry or is_number(entry["Time"]) or isinstance(entry["Time"], str))
+    return entry
+
+
+def an_event(value):
+    try:
+        event, _ = read_json(a_text()(value))
+    except Fault:
+        raise NotValid from None
+    need(isinstance(event, dict) and all(it in event for it in EVENT_MEMBERS))
+    return event
+
+
+# ---- The router
+
+
+class Bus:
+    def __init__(self, name):
+        self.name, self.rules, self.policy = name, {}, None
+
+    @property
+    def arn(self):
+        return f"{EVENTS_ARN}event-bus/{self.name}"
+
+    def shown(self):
+        policy = {} if self.policy is None else {"Policy": policies.stored(self.policy)}
+        return {"Name": self.name, "Arn": self.arn, **policy}
+
+
+class Rule:
+    def __init__(self, name, bus):
+        self.name, self.bus = name, bus
+        self.text = self.pattern = None
+        self.is_enabled = True
+        self.targets = {}  # the names of its targets' queues by their ids
+
+    @property
+    def arn(self):
+        bus = "" if self.bus.name == "default" else self.bus.name + "/"
+        return f"{EVENTS_ARN}rule/{bus}{self.name}"
+
+    def shown(self):
+        state = "ENABLED" if self.is_enabled else "DISABLED"
+        return {"Name": self.name, "Arn": self.arn, "EventPattern": self.text, "State": state, "EventBusName": self.bus.name}
+
+
+class Queue:
+    def __init__(self):
+        self.oldest = []  # the texts of its oldest messages
+
+
+class Router:
+    def __init__(self, reading):
+        self.reading = reading
+        self.caller = OWNER  # of the request that is being answered
+        self.buses = {"default": Bus("default")}
+        self.queues = {}
+        self.events = 0
+        self.due = queue.SimpleQueue()  # of each delivery its queue and text, oldest first
+        self.owed = 0
+        self.causes = set()  # the action and the cause of each refusal so far
+
+    # -- One request
+
+    def answer(self, method, action, caller, value):
+        """The status and the body of the reply. The reply to a HEAD has no body."""
+        if method != "POST":
+            return 405, "" if method == "HEAD" else compact({"__type": "NotPost", "message": "Only POST is served."})
+        try:
+            return 200, compact(self.served(action, caller, value))
+        except Refusal as refusal:
+            self.causes.add((action if action in CALLS else None, refusal.cause))
+            return 400, compact({"__type": refusal.kind, "message": refusal.message})
+
+    def served(self, action, caller, value):
+        if action not in CALLS:
+            raise Refusal("UnknownOperationException", "Unknown operation.")
+        if caller is not None and not re.fullmatch("[0-9]{12}", caller):
+            raise Refusal(VALIDATION, "Member x-caller-account is not valid.")
+        if value is NO_OBJECT:
+            raise Refusal("SerializationException", "The body is not a JSON object.")
+        self.caller = caller or OWNER
+        if self.caller != OWNER and action != "AWSEvents.PutEvents":
+            raise Refusal("AccessDeniedException", "Only the owner may call this.")
+        call, _ = CALLS[action]
+        return call(self, members_of(action, value))
+
+    def failed(self, action, refusal):
+        self.causes.add((action, refusal.cause))
+        return {"ErrorCode": refusal.kind, "ErrorMessage": refusal.message}
+
+    def bus(self, name):
+        """The bus of this name, or of a request that names none."""
+        name = name or "default"
+        if name not in self.buses:
+            raise missing("Event bus", name)
+        return self.buses[name]
+
+    def rule(self, bus, name):
+        rules = self.bus(bus).rules
+        if name not in rules:
+            raise missing("Rule", name)
+        return rules[name]
+
+    # -- Buses
+
+    def create_event_bus(self, given):
+        name = given["Name"]
+        if name in self.buses:
+            raise Refusal(EXISTS, "Event bus {} already exists.", name)
+        if len(self.buses) >= BUSES_LIMIT:
+            raise Refusal(LIMIT, "Event bus limit 100 reached.")
+        self.buses[name] = Bus(name)
+        return {"EventBusArn": self.buses[name].arn}
+
+    def delete_event_bus(self, given):
+        name = given["Name"]
+        if name == "default":
+            raise Refusal(VALIDATION, "The default bus stays.")
+        if self.bus(name).rules:
+            raise Refusal(VALIDATION, "Event bus {} is in use.", name)
+        del self.buses[name]
+        return {}
+
+    def describe_event_bus(self, given):
+        return self.bus(given["Name"]).shown()
+
+    def list_event_buses(self, given):
+        return {"EventBuses": [it.shown() for it in in_order(self.buses, given["NamePrefix"])]}
+
+    # -- Rules
+
+    def put_rule(self, given):
+        bus, name = self.bus(given["EventBusName"]), given["Name"]
+        if name not in bus.rules and len(bus.rules) >= RULES_LIMIT:
+            raise Refusal(LIMIT, "Rule limit 300 reached.")
+        rule = bus.rules.setdefault(name, Rule(name, bus))
+        rule.text, rule.pattern = given["EventPattern"]
+        rule.is_enabled = given["State"] != "DISABLED"
+        return {"RuleArn": rule.arn}
+
+    def delete_rule(self, given):
+        rules, name = self.bus(given["EventBusName"]).rules, given["Name"]
+        if name in rules and rules[name].targets:
+            raise Refusal(VALIDATION, "Rule {} has targets.", name)
+        rules.pop(name, None)
+        return {}
+
+    def enable_rule(self, given):
+        self.rule(given["EventBusName"], given["Name"]).is_enabled = True
+        return {}
+
+    def disable_rule(self, given):
+        self.rule(given["EventBusName"], given["Name"]).is_enabled = False
+        return {}
+
+    def describe_rule(self, given):
+        return self.rule(given["EventBusName"], given["Name"]).shown()
+
+    def list_rules(self, given):
+        rules = self.bus(given["EventBusName"]).rules
+        return {"Rules": [it.shown() for it in in_order(rules, given["NamePrefix"])]}
+
+    # -- Targets
+
+    def put_targets(self, given):
+        rule = self.rule(given["EventBusName"], given["Rule"])
+        failed = []
+        for target in given["Targets"]:
+            try:
+                self.put_target(rule, target)
+            except Refusal as refusal:
+                failed.append({"TargetId": target["Id"], **self.failed("AWSEvents.PutTargets", refusal)})
+        return {"FailedEntryCount": len(failed), "FailedEntries": failed}
+
+    def put_target(self, rule, target):
+        for member, expression in (("Id", NAME), ("Arn", QUEUE_ARN + QUEUE)):
+            if not re.fullmatch(expression, target[member]):
+                raise Refusal(VALIDATION, f"Member {member} is not valid.", cause=f"A target's {member} is not valid.")
+        for member in UNSUPPORTED:
+            if member in target:
+                raise Refusal(VALIDATION, f"Member {member} is not valid.")
+        name = target["Arn"].removeprefix(QUEUE_ARN)
+        if name not in self.queues:
+            raise missing("Queue", name)
+        if target["Id"] not in rule.targets and len(rule.targets) >= TARGETS_LIMIT:
+            raise Refusal(LIMIT, "Target limit 5 reached.")
+        rule.targets[target["Id"]] = name
+
+    def remove_targets(self, given):
+        rule = self.rule(given["EventBusName"], given["Rule"])
+        failed = []
+        for name in given["Ids"]:
+            if rule.targets.pop(name, None) is None:
+                refusal = missing("Target", name)
+                failed.append({"TargetId": name, **self.failed("AWSEvents.RemoveTargets", refusal)})
+        return {"FailedEntryCount": len(failed), "FailedEntries": failed}
+
+    def list_targets_by_rule(self, given):
+        targets = self.rule(given["EventBusName"], given["Rule"]).targets
+        return {"Targets": [{"Id": name, "Arn": QUEUE_ARN + queue_name} for name, queue_name in sorted(targets.items())]}
+
+    def list_rule_names_by_target(self, given):
+        rules = in_order(self.bus(given["EventBusName"]).rules)
+        return {"RuleNames": [it.name for it in rules if given["TargetArn"].removeprefix(QUEUE_ARN) in it.targets.values()]}
+
+    # -- Permissions
+
+    def put_permission(self, given):
+        policy = None
+        if given.get("Policy") is not None:
+            policy = checked_policy(policies.read_policy, given["Policy"])
+        bus = self.bus(given["EventBusName"])
+        if policy is None:
+            if policies.has_statement(bus.policy, given["StatementId"]):
+                raise Refusal(EXISTS, "Statement {} already exists.", given["StatementId"])
+            policy = policies.with_statement(bus.policy, given["StatementId"], given["Principal"], bus.arn)
+        checked_policy(policies.stored, policy)
+        bus.policy = policy
+        return {}
+
+    def remove_permission(self, given):
+        bus = self.bus(given["EventBusName"])
+        if given["RemoveAllPermissions"]:
+            bus.policy = None
+            return {}
+        if given["StatementId"] is None:
+            raise Refusal(VALIDATION, "Member StatementId is required.")
+        if not policies.has_statement(bus.policy, given["StatementId"]):
+            raise missing("Statement", given["StatementId"])
+        bus.policy = policies.without_statement(bus.policy, given["StatementId"])
+        return {}
+
+    # -- Events
+
+    def test_event_pattern(self, given):
+        return {"Result": holds(given["EventPattern"][1], given["Event"])}
+
+    def put_events(self, given):
+        entries = given["Entries"]
+        if sum(map(size_of, entries)) > ENTRIES_SIZE:
+            raise Refusal(VALIDATION, "The request is over 262144 bytes.")
+        items = []
+        for entry in entries:
+            try:
+                items.append({"EventId": self.put_entry(entry)})
+            except Refusal as refusal:
+                items.append(self.failed("AWSEvents.PutEvents", refusal))
+        failed = sum("ErrorCode" in it for it in items)
+        return {"FailedEntryCount": failed, "Entries": items}
+
+    def put_entry(self, entry):
+        """Makes an event of the entry, and returns its id. Raises the entry's first refusal."""
+        for member, is_good in (
+            ("Source", entry.get("Source")),
+            ("DetailType", entry.get("DetailType")),
+            ("Detail", "Detail" in entry),
+            ("Time", "Time" not in entry or moment_of(entry["Time"]) is not None),
+        ):
+            if not is_good:
+                raise Refusal("InvalidArgument", f"Parameter {member} is not valid.")
+        try:
+            name = a_bus(entry.get("EventBusName", "default"))
+        except NotValid:
+            raise Refusal("InvalidArgument", "Parameter EventBusName is not valid.") from None
+        detail = detail_of(entry["Detail"])
+        if entry["Source"].startswith("aws."):
+            raise Refusal("NotAuthorizedForSourceException", "Not authorized for the source.")
+        if name not in self.buses:
+            raise Refusal("InvalidArgument", "Parameter EventBusName is not valid.", cause="The entry's bus does not exist.")
+        bus = self.buses[name]
+        verdict = policies.verdict(bus.policy, self.caller, bus.arn, entry["Source"], entry["DetailType"], self.caller == OWNER)
+        if isinstance(verdict, list):
+            raise Refusal("AccessDeniedException", "Denied by statement {}.", *verdict)
+        if verdict == "NoAllow":
+            raise Refusal("AccessDeniedException", "No statement allows it.")
+        return self.put_event(bus, entry, detail)
+
+    def put_event(self, bus, entry, detail):
+        """Numbers an event, and makes one delivery for each target of each rule that matches."""
+        self.events += 1
+        made = {
+            "version": "0",
+            "id": f"00000000-0000-8000-8000-{self.events:012x}",
+            "detail-type": entry["DetailType"],
+            "source": entry["Source"],
+            "account": self.caller,
+            "time": shown(moment_of(entry["Time"]) if "Time" in entry else self.reading),
+            "region": "us-east-1",
+            "resources": entry.get("Resources", []),
+        }
+        text = f'{compact(made)[:-1]},"detail":{detail}}}'
+        made["detail"] = detail.tree
+        for rule in in_order(bus.rules):
+            if rule.is_enabled and rule.targets and holds(rule.pattern, made):
+                for _, name in sorted(rule.targets.items()):
+                    self.due.put((self.queues[name], text))
+                    self.owed += 1
+        return made["id"]
+
+    # -- Queues
+
+    def create_queue(self, given):
+        name = given["QueueName"]
+        if name in self.queues:
+            raise Refusal(EXISTS, "Queue {} already exists.", name)
+        if len(self.queues) >= QUEUES_LIMIT:
+            raise Refusal(LIMIT, "Queue limit 1000 reached.")
+        self.queues[name] = Queue()
+        return {"QueueArn": QUEUE_ARN + name}
+
+    def deliver_due(self, given):
+        count = min(given["Budget"] or A_CALL, self.owed)
+        for _ in range(count):
+            target, text = self.due.get()
+            if len(target.oldest) < PEEKED_MOST:
+                target.oldest.append(text)
+        self.owed -= count
+        return {"Attempts": count, "Delivered": count, "DeadLettered": 0, "Dropped": 0}
+
+    def peek_messages(self, given):
+        if given["QueueName"] not in self.queues:
+            raise missing("Queue", given["QueueName"])
+        messages = enumerate(self.queues[given["QueueName"]].oldest[: given["Limit"] or PEEKED], 1)
+        return {"Messages": [{"Number": number, "Body": text, "Attributes": {}} for number, text in messages]}
+
+
+def in_order(rows, prefix=None):
+    return [row for name, row in sorted(rows.items()) if name.startswith(prefix or "")]
+
+
+def checked_policy(call, value):
+    """What the call returns. A fault of a policy is the request's refusal."""
+    try:
+        return call(value)
+    except policies.PolicyFault as fault:
+        kind = "PolicyLengthExceededException" if fault.why == "TooLong" else VALIDATION
+        cause = f"Policy is not valid. Reason: {fault.why}"
+        if call is policies.stored:
+            cause += ", as it would be stored"
+        raise Refusal(kind, "Policy is not valid. Reason: {} at {}", fault.why, fault.place, cause=cause) from None
+
+
+def size_of(entry):
+    texts = [entry.get(it, "") for it in ("Source", "DetailType", "Detail")] + entry.get("Resources", [])
+    return sum(len(it.encode()) for it in texts) + (14 if "Time" in entry else 0)
+
+
+def detail_of(text):
+    """The detail's compact text with its value."""
+    if isinstance(text, Spelled):
+        return text
+    try:
+        detail, _ = read_json(text, 99)
+    except Fault:
+        detail = None
+    if not isinstance(detail, dict):
+        raise Refusal("MalformedDetail", "Detail is malformed.")
+    return Spelled(detail)
+
+
+def shown(moment):
+    """The moment as an event shows it."""
+    date = datetime.datetime(1970, 1, 1) + datetime.timedelta(seconds=moment)
+    return date.strftime("%Y-%m-%dT%H:%M:%SZ").rjust(20, "0")
+
+
+def moment_of(value):
+    """The moment that a Time gives, or None."""
+    if not isinstance(value, str):
+        found = re.fullmatch(r"(-?)([0-9]+)(\.[0-9]+)?", spelled(value))
+        moment = int(found[2]) if found else -1
+        return None if moment < 0 or moment > MOMENT_LIMIT or found[1] and moment > 0 else moment
+    found = re.fullmatch(r"([0-9]{4}-[0-9]{2}-[0-9]{2}T[0-9]{2}:[0-9]{2}:[0-9]{2})(\.[0-9]+)?Z", value)
+    try:
+        date = datetime.datetime.strptime(found[1], "%Y-%m-%dT%H:%M:%S") if found and found[1][17:19] < "60" else None
+    except ValueError:
+        date = None
+    moment = -1 if date is None else (date - datetime.datetime(1970, 1, 1)) // datetime.timedelta(seconds=1)
+    return moment if 0 <= moment <= MOMENT_LIMIT else None
+
+
+# ---- The calls, and the members that each reads, in their order: the name, whether it is required, and what it may be
+
+ON_BUS = ("EventBusName", False, a_bus)
+CALLS = {
+    "AWSEvents.CreateEventBus": (Router.create_event_bus, [("Name", True, a_bus_name)]),
+    "AWSEvents.DeleteEventBus": (Router.delete_event_bus, [("Name", True, a_bus_name)]),
+    "AWSEvents.DescribeEventBus": (Router.describe_event_bus, [("Name", False, a_bus)]),
+    "AWSEvents.ListEventBuses": (Router.list_event_buses, [("NamePrefix", False, a_text())]),
+    "AWSEvents.PutRule": (
+        Router.put_rule,
+        [
+            ("Name", True, a_name),
+            ("EventPattern", True, a_pattern),
+            ("ScheduleExpression", False, nothing),
+            ("State", False, one_of("ENABLED", "DISABLED")),
+            ON_BUS,
+        ],
+    ),
+    "AWSEvents.DeleteRule": (Router.delete_rule, [("Name", True, a_name), ON_BUS]),
+    "AWSEvents.EnableRule": (Router.enable_rule, [("Name", True, a_name), ON_BUS]),
+    "AWSEvents.DisableRule": (Router.disable_rule, [("Name", True, a_name), ON_BUS]),
+    "AWSEvents.DescribeRule": (Router.describe_rule, [("Name", True, a_name), ON_BUS]),
+    "AWSEvents.ListRules": (Router.list_rules, [("NamePrefix", False, a_text()), ON_BUS]),
+    "AWSEvents.PutTargets": (Router.put_targets, [("Rule", True, a_name), ON_BUS, ("Targets", True, some_targets)]),
+    "AWSEvents.RemoveTargets": (Router.remove_targets, [("Rule", True, a_name), ON_BUS, ("Ids", True, some_ids)]),
+    "AWSEvents.ListTargetsByRule": (Router.list_targets_by_rule, [("Rule", True, a_name), ON_BUS]),
+    "AWSEvents.ListRuleNamesByTarget": (Router.list_rule_names_by_target, [("TargetArn", True, a_text(QUEUE_ARN + QUEUE)), ON_BUS]),
+    "AWSEvents.PutPermission": (
+        Router.put_permission,
+        [
+            ON_BUS,
+            ("StatementId", True, a_text("[A-Za-z0-9_-]{1,64}")),
+            ("Action", True, one_of("events:PutEvents")),
+            ("Principal", True, a_text(r"[0-9]{12}|\*")),
+            ("Condition", False, nothing),
+        ],
+    ),
+    "AWSEvents.RemovePermission": (
+        Router.remove_permission,
+        [ON_BUS, ("RemoveAllPermissions", False, one_of(True, False)), ("StatementId", False, a_text("[A-Za-z0-9_-]{1,64}"))],
+    ),
+    "AWSEvents.TestEventPattern": (Router.test_event_pattern, [("EventPattern", True, a_pattern), ("Event", True, an_event)]),
+    "AWSEvents.PutEvents": (Router.put_events, [("Entries", True, some_entries)]),
+    "RouterLocal.CreateQueue": (Router.create_queue, [("QueueName", True, a_queue_name)]),
+    "RouterLocal.PeekMessages": (Router.peek_messages, [("QueueName", True, a_queue_name), ("Limit", False, a_count)]),
+    "RouterLocal.DeliverDue": (Router.deliver_due, [("Budget", False, a_count)]),
+}
+BY_POLICY = [ON_BUS, ("Policy", True, a_text()), ("Condition", False, nothing)]  # of a PutPermission with a Policy
+
+
+def members_of(action, value):
+    """What the action reads of the body's members; null counts as absent. Raises the first refusal of a member."""
+    given = without_null(value)
+    _, asked = CALLS[action]
+    if action == "AWSEvents.PutPermission" and "Policy" in given:
+        asked = BY_POLICY
+    found = {}
+    for name, is_required, read in asked:
+        if name not in given and is_required:
+            raise Refusal(VALIDATION, f"Member {name} is required.")
+        try:
+            found[name] = read(given[name]) if name in given else None
+        except NotValid:
+            raise Refusal(VALIDATION, f"Member {name} is not valid.") from None
+    return found
