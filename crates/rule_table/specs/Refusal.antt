@@ -38,7 +38,7 @@ HasFaultyTarget set [] targets = ⊥
 HasFaultyTarget set (new ∷ news) targets =
     ((fault : TargetFault) × HasTargetFault set targets new fault) ⊎ HasFaultyTarget set news (put_target new targets)
 
--- the first refusal of a rule that is put (PutRule)
+-- the first refusal of the change that puts a rule
 pub data IsRuleRefused (bus name pattern : List ℕ) (set : RuleSet) : ControlFault → Type 0 where
   no_pattern : ((p : Pattern) → ¬ IsPatternText pattern p) → IsRuleRefused bus name pattern set (Validation member.EventPattern)
   rule_without_bus : (p : Pattern) → IsPatternText pattern p → has_bus bus set ≡ false → IsRuleRefused bus name pattern set (ResourceNotFound kind.EventBus)
@@ -46,24 +46,24 @@ pub data IsRuleRefused (bus name pattern : List ℕ) (set : RuleSet) : ControlFa
   rule_limit : (p : Pattern) → IsPatternText pattern p → has_bus bus set ≡ true → rule_at bus name set ≡ None → 300 ≤ length (rules_of bus set)
       → IsRuleRefused bus name pattern set (LimitExceeded kind.Rule)
 
--- the first refusal of targets that are put (PutTargets)
+-- the first refusal of the change that puts targets; a PutTargets decides target by target before it makes the change
 pub data AreTargetsRefused (bus rule : List ℕ) (targets : List Target) (set : RuleSet) : ControlFault → Type 0 where
   targets_without_bus : has_bus bus set ≡ false → AreTargetsRefused bus rule targets set (ResourceNotFound kind.EventBus)
   targets_without_rule : has_bus bus set ≡ true → rule_at bus rule set ≡ None → AreTargetsRefused bus rule targets set (ResourceNotFound kind.Rule)
   faulty_targets : (r : Rule) → rule_at bus rule set ≡ Some r → (targets ≡ []) ⊎ HasFaultyTarget set targets r.targets
       → AreTargetsRefused bus rule targets set (Validation member.Targets)
 
--- the first refusal of a queue that is created (CreateQueue)
+-- the first refusal of the change that creates a queue
 pub data IsQueueRefused (name : List ℕ) (set : RuleSet) : ControlFault → Type 0 where
   queue_exists : has_queue name set ≡ true → IsQueueRefused name set (AlreadyExists kind.Queue)
   queue_limit : has_queue name set ≡ false → 1000 ≤ length set.queues → IsQueueRefused name set (LimitExceeded kind.Queue)
 
--- the first refusal of a bus that is created (CreateEventBus)
+-- the first refusal of the change that creates a bus
 pub data IsBusRefused (name : List ℕ) (set : RuleSet) : ControlFault → Type 0 where
   bus_exists : has_bus name set ≡ true → IsBusRefused name set (AlreadyExists kind.EventBus)
   bus_limit : has_bus name set ≡ false → 100 ≤ length set.buses → IsBusRefused name set (LimitExceeded kind.EventBus)
 
--- the first refusal of a bus that is deleted (DeleteEventBus)
+-- the first refusal of the change that deletes a bus
 pub data IsBusDeletionRefused (name : List ℕ) (set : RuleSet) : ControlFault → Type 0 where
   default_stays : bytes_eq name default_bus ≡ true → IsBusDeletionRefused name set DefaultBus
   no_bus_to_delete : bytes_eq name default_bus ≡ false → has_bus name set ≡ false → IsBusDeletionRefused name set (ResourceNotFound kind.EventBus)
@@ -74,18 +74,18 @@ pub data HasNoRule (bus name : List ℕ) (set : RuleSet) : ControlFault → Type
   no_such_bus : has_bus bus set ≡ false → HasNoRule bus name set (ResourceNotFound kind.EventBus)
   no_such_rule : has_bus bus set ≡ true → rule_at bus name set ≡ None → HasNoRule bus name set (ResourceNotFound kind.Rule)
 
--- the first refusal of a rule that is deleted (DeleteRule)
+-- the first refusal of the change that deletes a rule; a DeleteRule of a rule that is not there makes no change
 pub data IsRuleDeletionRefused (bus name : List ℕ) (set : RuleSet) : ControlFault → Type 0 where
   no_rule_to_delete : (fault : ControlFault) → HasNoRule bus name set fault → IsRuleDeletionRefused bus name set fault
   rule_has_targets : (r : Rule) → rule_at bus name set ≡ Some r → ¬ (r.targets ≡ []) → IsRuleDeletionRefused bus name set HasTargets
 
--- the first refusal of targets that are removed (RemoveTargets)
+-- the first refusal of the change that removes targets; a RemoveTargets decides id by id before it makes the change
 pub data AreRemovalsRefused (bus rule : List ℕ) (ids : List (List ℕ)) (set : RuleSet) : ControlFault → Type 0 where
   no_rule_to_remove_from : (fault : ControlFault) → HasNoRule bus rule set fault → AreRemovalsRefused bus rule ids set fault
   faulty_ids : (r : Rule) → rule_at bus rule set ≡ Some r → (ids ≡ []) ⊎ (¬ AreRemovable ids r.targets)
       → AreRemovalsRefused bus rule ids set (Validation member.Ids)
 
--- the first refusal of a policy that is put or taken away (PutPermission, RemovePermission)
+-- the first refusal of the change that puts a policy or takes it away; a PutPermission looks for the bus before it refuses a policy that is too long
 pub data IsPolicyRefused (bus : List ℕ) (policy : Option (List ℕ)) (set : RuleSet) : ControlFault → Type 0 where
   no_policy : ¬ IsNoneOrStored policy → IsPolicyRefused bus policy set (Validation member.Policy)
   policy_without_bus : IsNoneOrStored policy → has_bus bus set ≡ false → IsPolicyRefused bus policy set (ResourceNotFound kind.EventBus)
