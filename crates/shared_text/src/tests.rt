@@ -7,6 +7,8 @@ const RULE_ARN: &str = "arn:aws:events:us-east-1:111122223333:rule/orders/paid";
 
 const ENDPOINT: &str = "arn:aws:sqs:us-east-1:111122223333:paid";
 
+const DEAD_LETTER: &str = "arn:aws:sqs:us-east-1:111122223333:unpaid";
+
 /// Accepts only values that threads may share and pass on.
 fn crosses_threads<T: Send + Sync>(_value: &T) {}
 
@@ -16,6 +18,9 @@ fn row(alloc: Global) -> Result<SharedRow, Fail> {
         rule_name: Text::from_str(alloc, "paid")?,
         target_id: Text::from_str(alloc, "7")?,
         endpoint: Text::from_str(alloc, ENDPOINT)?,
+        dead_letter: Some(Text::from_str(alloc, DEAD_LETTER)?),
+        attempts: 185,
+        age: 86_400,
     };
     Ok(SharedRow::new(alloc, row)?)
 }
@@ -35,7 +40,7 @@ fn a_text_stays_while_a_pointer_is_left(rt: HostRuntime) -> Result<(), Fail> {
 }
 
 #[test]
-fn each_pointer_reads_the_four_texts_of_a_row(rt: HostRuntime) -> Result<(), Fail> {
+fn each_pointer_reads_the_same_row(rt: HostRuntime) -> Result<(), Fail> {
     let alloc = rt.alloc();
     let first = row(alloc)?;
     let second = first.share()?;
@@ -45,5 +50,7 @@ fn each_pointer_reads_the_four_texts_of_a_row(rt: HostRuntime) -> Result<(), Fai
     assert!(rt; second.rule_name() == "paid");
     assert!(rt; second.target_id() == "7");
     assert!(rt; second.endpoint() == ENDPOINT);
+    assert!(rt; second.dead_letter() == Some(DEAD_LETTER));
+    assert!(rt; second.attempts() == 185 && second.age() == 86_400);
     Ok(())
 }
