@@ -1,7 +1,15 @@
-pub mod RowLemmas
-pub mod AnyLemmas
-pub mod CutLemmas
-pub mod EndLemmas
-pub mod SoundLemmas
-pub mod StepLemmas
-pub mod OutLemmas
+mod RetryLemmas
+mod EntryLemmas
+mod OrderLemmas
+mod FromLemmas
+mod MessageLemmas
+mod QueueLemmas
+mod PlaceLemmas
+mod AnyLemmas
+mod EndLemmas
+mod SoundLemmas
+mod StepLemmas
+mod AddLemmas
+mod SettleLemmas
+mod DeadLemmas
+pub mod ClaimLemmas

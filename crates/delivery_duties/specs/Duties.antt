@@ -1,70 +1,85 @@
--- Duties and their fates, and the messages of queues. A duty is the delivery of one event to one target; an endpoint is the ARN
--- of a queue. This project's own rules.
-use Rattle.std.specs.Prelude.{◌≡◌, ℕ, ◌+◌, ◌<◌, ◌≤◌, ◌⊎◌, Bool, true, false, not, ◌==◌, if◌then◌else◌, List, [], ◌∷◌, ◌++◌}
-use Rattle.std.specs.Prelude.{length, Option, Some, None, Any, Contains, map, filter, find}
-use Rattle.std.specs.Str.{bytes_eq}
+-- Duties and their fates. A duty is the delivery of one event to one target. This project's own rules.
+use Rattle.std.specs.Prelude.{◌≡◌, ℕ, ◌+◌, ◌<◌, ◌≤◌, ◌⊎◌, Bool, true, false, if◌then◌else◌, List, [], ◌∷◌, ◌++◌}
+use Rattle.std.specs.Prelude.{length, Option, Some, None, Any, Contains, filter}
 use Rattle.event_shape.specs.Names.{queue_arn}
+use Rattle.key_tree.specs.Entries.{placed, value_at, without, AreSorted}
 use Rattle.delivery_duties.specs.declared.duty.NewDuty.{NewDuty}
 use Rattle.delivery_duties.specs.declared.duty.DutyRow.{DutyRow}
-use Rattle.delivery_duties.specs.declared.message.QueueMessage.{QueueMessage}
-use Rattle.delivery_duties.specs.declared.fate.Outcome.{Outcome}
-use Rattle.delivery_duties.specs.declared.fate.Outcome.TheVariants.{Accepted, TooOld}
-use Rattle.delivery_duties.specs.declared.fate.Fate.{Fate}
-use Rattle.delivery_duties.specs.declared.fate.Fate.TheVariants.{Delivered, Dropped}
-use Rattle.delivery_duties.specs.declared.fate.SettledDuty.{SettledDuty}
+use Rattle.shared_text.specs.declared.row.TargetRow.{TargetRow}
+use Rattle.delivery_duties.specs.declared.stored.DeadLetter.{DeadLetter}
+use Rattle.delivery_duties.specs.declared.outcome.Outcome.{Outcome}
+use Rattle.delivery_duties.specs.declared.outcome.Fate.{Fate}
+use Rattle.delivery_duties.specs.declared.outcome.Fate.TheVariants.{Pending, Delivered, DeadLettered, Dropped}
+use Rattle.delivery_duties.specs.declared.outcome.SettledDuty.{SettledDuty}
+use Rattle.delivery_duties.specs.declared.failure.Failure.{Failure}
+use Rattle.delivery_duties.specs.declared.verdict.Verdict.{Verdict}
+use Rattle.delivery_duties.specs.declared.verdict.Verdict.TheVariants.{Deliver, Retry, Fail}
+use Rattle.delivery_duties.specs.Retry.{Attempt, begun, retried, verdict_of, too_long, dead_letter_queue, failed_fate}
+use Rattle.std.specs.List.{list_any}
+use Rattle.delivery_duties.specs.Queues.{Queue, has_arn, sent_to, messages_of, with_queue, without_queue, deleted_through}
 
--- a queue: its name, the number of its last message, and its messages, oldest first
-pub record Queue : Type 0 where
-  pub name : List ℕ
-  pub sent : ℕ
-  pub messages : List QueueMessage
-
--- the pending duties in the order of their numbers; the ended ones in the order in which they ended; the queues in the order in
--- which they were created; the numbers of duties made, delivered and dropped so far; and the moment of the last addition
+-- the pending duties by number; the duties that ended, in the order in which they ended; the queues, in the byte order of their names;
+-- and the number of duties made so far
 pub record Duties : Type 0 where
-  pub pending : List DutyRow
+  pub pending : List (ℕ × DutyRow)
   pub ended : List SettledDuty
   pub queues : List Queue
   pub created : ℕ
-  pub delivered : ℕ
-  pub dropped : ℕ
-  pub latest : ℕ
 
 -- no duties and no queues
 abbrev pub no_duties : Duties
-no_duties = record { pending = []; ended = []; queues = []; created = 0; delivered = 0; dropped = 0; latest = 0 }
+no_duties = record { pending = []; ended = []; queues = []; created = 0 }
 
--- one of the queues has this name
-abbrev pub has_queue : List ℕ → List Queue → Bool
-has_queue queue [] = false
-has_queue queue (m ∷ ms) = if bytes_eq m.name queue then true else has_queue queue ms
+-- the pending duty of this number
+abbrev pub pending_row : ℕ → Duties → Option DutyRow
+pending_row number s = value_at number s.pending
 
--- the endpoint is the ARN of one of these queues
-abbrev pub HasEndpoint : List ℕ → List Queue → Type 0
-HasEndpoint endpoint queues = Any (λ m. endpoint ≡ queue_arn m.name) queues
+-- the rows by number, with this row in place of the row of its number
+abbrev pub replaced : DutyRow → List (ℕ × DutyRow) → List (ℕ × DutyRow)
+replaced row rows = placed (row.number, row) (without row.number rows)
 
--- the duties with one more queue at the end, without messages
-abbrev pub with_queue : List ℕ → Duties → Duties
-with_queue name s = record s { queues = s.queues ++ record { name = name; sent = 0; messages = [] } ∷ [] }
+-- one of the queues has this ARN, if there is one
+abbrev pub is_one_of : Option (List ℕ) → List Queue → Bool
+is_one_of None queues = false
+is_one_of (Some arn) queues = list_any (has_arn arn) queues
 
--- the row of a duty with this number, made at the moment and due at once
-abbrev pub begun : ℕ → ℕ → NewDuty → DutyRow
-begun number moment duty = record { number = number; duty = duty; accepted = moment; due = moment; claimed = false }
+-- the target names a dead-letter queue, and one of the queues has its ARN
+abbrev pub has_dead_letter_queue : TargetRow → List Queue → Bool
+has_dead_letter_queue target queues = is_one_of target.dead_letter queues
 
--- a duty is added: it gets the next number and is due at once; if its text is too long, it is dropped at once
+-- what a queue stores of a dead letter; a delivered text has no failure
+abbrev pub dead_letter_of : TargetRow → Option Failure → Option DeadLetter
+dead_letter_of target None = None
+dead_letter_of target (Some failure) = Some (record { target = target; failure = failure })
+
+-- the queues, with the text of the duty as the next message of its target, if that is one of the queues
+abbrev pub delivered : DutyRow → List Queue → List Queue
+delivered row queues = sent_to row.duty.target.endpoint row.duty.text None queues
+
+-- the queues, with the text of the duty as the next message of the dead-letter queue, if there is one
+abbrev pub dead_lettered : Option (List ℕ) → Failure → DutyRow → List Queue → List Queue
+dead_lettered None failure row queues = queues
+dead_lettered (Some arn) failure row queues = sent_to arn row.duty.text (dead_letter_of row.duty.target (Some failure)) queues
+
+-- the duty of this row ends with this fate; these are the queues then
+abbrev pub ended_as : DutyRow → Fate → List Queue → Duties → Duties
+ended_as row fate queues s = record s {
+  pending = without row.number s.pending;
+  ended = s.ended ++ record { number = row.number; fate = fate } ∷ [];
+  queues = queues;
+}
+
+-- the duty of this row ends without a delivery: its text becomes a message of the dead-letter queue, if there is one
+abbrev pub failed : Option (List ℕ) → Failure → DutyRow → Duties → Duties
+failed arn failure row s = ended_as row (failed_fate arn) (dead_lettered arn failure row s.queues) s
+
+-- a duty is added: it gets the next number and is due at once; if its text is too long, it ends at once
 abbrev pub added_one : NewDuty → ℕ → Duties → Duties
 added_one duty moment s =
-    if duty.too_long then record s {
-      created = s.created + 1;
-      ended = s.ended ++ record { number = s.created + 1; fate = Dropped } ∷ [];
-      dropped = s.dropped + 1;
-      latest = moment;
-    }
-    else record s {
-      created = s.created + 1;
-      pending = s.pending ++ begun (s.created + 1) moment duty ∷ [];
-      latest = moment;
-    }
+    let row : DutyRow = begun (s.created + 1) moment duty in
+    if duty.too_long then failed (dead_letter_queue duty.target (has_dead_letter_queue duty.target s.queues)) too_long row
+    (record s { created = s.created + 1 })
+    else record s { created = s.created + 1; pending = placed (s.created + 1, row) s.pending }
 
 -- the duties are added in their order
 abbrev pub added : List NewDuty → ℕ → Duties → Duties
@@ -78,103 +93,135 @@ IsNoLater row other = (row.due < other.due) ⊎ ((row.due ≡ other.due) × (row
 -- of the duties that are due at the moment and not claimed, the one of this number comes first, by due moment, then number
 pub record IsNext (s : Duties) (moment number : ℕ) : Type 0 where
   pub row : DutyRow
-  pub there : Contains s.pending row
-  pub named : row.number ≡ number
+  pub there : pending_row number s ≡ Some row
   pub free : row.claimed ≡ false
   pub due : row.due ≤ moment
-  pub first : (other : DutyRow) → Contains s.pending other → other.claimed ≡ false → other.due ≤ moment → IsNoLater row other
+  pub first : (n : ℕ) (other : DutyRow) → pending_row n s ≡ Some other → other.claimed ≡ false → other.due ≤ moment → IsNoLater row other
 
 -- no duty that is not claimed is due
 abbrev pub NoneDue : Duties → ℕ → Type 0
-NoneDue s moment = (row : DutyRow) → Contains s.pending row → row.claimed ≡ false → moment < row.due
-
--- the row, with this mark if it has this number
-abbrev pub marked_row : Bool → ℕ → DutyRow → DutyRow
-marked_row mark number row = if row.number == number then record row { claimed = mark } else row
-
--- the rows, with this mark on the row of this number
-abbrev pub marked : Bool → ℕ → List DutyRow → List DutyRow
-marked mark number rows = map (marked_row mark number) rows
-
--- the duty of this number is claimed
-abbrev pub claimed : ℕ → Duties → Duties
-claimed number s = record s { pending = marked true number s.pending }
-
--- the claim of the duty of this number is released
-abbrev pub unclaimed : ℕ → Duties → Duties
-unclaimed number s = record s { pending = marked false number s.pending }
+NoneDue s moment = (n : ℕ) (row : DutyRow) → pending_row n s ≡ Some row → row.claimed ≡ false → moment < row.due
 
 -- this duty is pending, and claimed
 abbrev pub IsOut : ℕ → Duties → Type 0
-IsOut number s = Any (λ row. (row.number ≡ number) × (row.claimed ≡ true)) s.pending
+IsOut number s = (row : DutyRow) × (pending_row number s ≡ Some row) × (row.claimed ≡ true)
 
--- the queue, with the text as its next message
-abbrev pub with_next : List ℕ → Queue → Queue
-with_next body m = record m { sent = m.sent + 1; messages = m.messages ++ record { number = m.sent + 1; body = body } ∷ [] }
+-- this duty is pending, and not claimed
+abbrev pub IsFree : ℕ → Duties → Type 0
+IsFree number s = (row : DutyRow) × (pending_row number s ≡ Some row) × (row.claimed ≡ false)
 
--- the queues, with the text as the next message of the first queue whose ARN is the endpoint
-abbrev pub taken_in : List ℕ → List ℕ → List Queue → List Queue
-taken_in endpoint body [] = []
-taken_in endpoint body (m ∷ ms) =
-    if bytes_eq endpoint (queue_arn m.name) then with_next body m ∷ ms else m ∷ taken_in endpoint body ms
+-- the pending duties are in the order of their numbers, each under its own
+pub record IsOrdered (s : Duties) : Type 0 where
+  pub sorted : AreSorted s.pending
+  pub named : (n : ℕ) (row : DutyRow) → pending_row n s ≡ Some row → row.number ≡ n
 
--- the queues after the delivery of this duty; unchanged if there is none
-abbrev pub taken_of : Option DutyRow → List Queue → List Queue
-taken_of None queues = queues
-taken_of (Some row) queues = taken_in row.duty.endpoint row.duty.text queues
+-- the row has this mark
+abbrev pub marked_row : Bool → Option DutyRow → Duties → Duties
+marked_row mark None s = s
+marked_row mark (Some row) s = record s { pending = replaced (record row { claimed = mark }) s.pending }
 
--- a duty ends: it is delivered to its queue, or it is too old and is dropped; its number and fate are stored
-abbrev pub settled : ℕ → Outcome → Duties → Duties
-settled number Accepted s = record s {
-  pending = filter (λ row. not (row.number == number)) s.pending;
-  ended = s.ended ++ record { number = number; fate = Delivered } ∷ [];
-  queues = taken_of (find (λ row. row.number == number) s.pending) s.queues;
-  delivered = s.delivered + 1;
-}
-settled number TooOld s = record s {
-  pending = filter (λ row. not (row.number == number)) s.pending;
-  ended = s.ended ++ record { number = number; fate = Dropped } ∷ [];
-  dropped = s.dropped + 1;
-}
+-- the duty of this number is claimed
+abbrev pub claimed : ℕ → Duties → Duties
+claimed number s = marked_row true (pending_row number s) s
 
--- the fate is `Delivered`
+-- the claim of the duty of this number is released
+abbrev pub unclaimed : ℕ → Duties → Duties
+unclaimed number s = marked_row false (pending_row number s) s
+
+-- the duty of this row after an attempt, by what the attempt makes of it
+abbrev pub settled_by : DutyRow → Attempt → Verdict → Duties → Duties
+settled_by row attempt Deliver s = ended_as row Delivered (delivered row s.queues) s
+settled_by row attempt (Retry due) s = record s { pending = replaced (retried due attempt.outcome row) s.pending }
+settled_by row attempt (Fail failure) s = failed (dead_letter_queue row.duty.target attempt.has_dead_letter_queue) failure row s
+
+-- an attempt of the duty of this row, as it is recorded
+abbrev pub attempt_of : DutyRow → ℕ → Outcome → Duties → Attempt
+attempt_of row moment outcome s =
+    record { moment = moment; outcome = outcome; has_dead_letter_queue = has_dead_letter_queue row.duty.target s.queues }
+
+-- the duty of this row, if there is one, after an attempt at the moment, which ended with the outcome
+abbrev pub settled_row : Option DutyRow → ℕ → Outcome → Duties → Duties
+settled_row None moment outcome s = s
+settled_row (Some row) moment outcome s = settled_by row (attempt_of row moment outcome s) (verdict_of row moment outcome) s
+
+-- the duty of this number after an attempt at the moment, which ended with the outcome: delivered, due again, dead-lettered or dropped
+abbrev pub settled : ℕ → ℕ → Outcome → Duties → Duties
+settled number moment outcome s = settled_row (pending_row number s) moment outcome s
+
 abbrev pub is_delivered : Fate → Bool
+is_delivered Pending = false
 is_delivered Delivered = true
+is_delivered DeadLettered = false
 is_delivered Dropped = false
 
--- the fate of a duty whose attempt ended with this outcome
-abbrev pub fate_of : Outcome → Fate
-fate_of Accepted = Delivered
-fate_of TooOld = Dropped
+abbrev pub is_dead_lettered : Fate → Bool
+is_dead_lettered Pending = false
+is_dead_lettered Delivered = false
+is_dead_lettered DeadLettered = true
+is_dead_lettered Dropped = false
+
+abbrev pub is_dropped : Fate → Bool
+is_dropped Pending = false
+is_dropped Delivered = false
+is_dropped DeadLettered = false
+is_dropped Dropped = true
 
 -- the duty was delivered
 abbrev pub was_delivered : SettledDuty → Bool
 was_delivered d = is_delivered d.fate
 
+-- the duty became a message of its dead-letter queue
+abbrev pub was_dead_lettered : SettledDuty → Bool
+was_dead_lettered d = is_dead_lettered d.fate
+
+-- the duty was dropped
+abbrev pub was_dropped : SettledDuty → Bool
+was_dropped d = is_dropped d.fate
+
 -- the number of delivered ones
 abbrev pub delivered_of : List SettledDuty → ℕ
 delivered_of ended = length (filter was_delivered ended)
 
+-- the number of dead-lettered ones
+abbrev pub dead_lettered_of : List SettledDuty → ℕ
+dead_lettered_of ended = length (filter was_dead_lettered ended)
+
 -- the number of dropped ones
 abbrev pub dropped_of : List SettledDuty → ℕ
-dropped_of ended = length (filter (λ d. not (was_delivered d)) ended)
+dropped_of ended = length (filter was_dropped ended)
 
--- one of the rows has this number
-abbrev pub IsPending : ℕ → List DutyRow → Type 0
-IsPending number rows = Any (λ row. row.number ≡ number) rows
+-- the duty of this number is pending
+abbrev pub IsPending : ℕ → List (ℕ × DutyRow) → Type 0
+IsPending number rows = (row : DutyRow) × (value_at number rows ≡ Some row)
 
 -- an ended duty has this number
 abbrev pub HasEnded : ℕ → List SettledDuty → Type 0
 HasEnded number ended = Any (λ d. d.number ≡ number) ended
 
--- the duty of this number is in exactly one state: it is pending and has not ended, or it is not pending and has ended once
-abbrev pub IsInOneState : ℕ → Duties → Type 0
-IsInOneState number s =
+-- the duty of this number has exactly one fate: it is pending and has not ended, or it is not pending and has ended once
+abbrev pub HasOneFate : ℕ → Duties → Type 0
+HasOneFate number s =
     (IsPending number s.pending × (HasEnded number s.ended → ⊥))
-    ⊎ ((IsPending number s.pending → ⊥) × ((d : SettledDuty) × Contains s.ended d × (d.number ≡ number)
+    ⊎ ((IsPending number s.pending → ⊥) × ((d : SettledDuty) × Contains s.ended d × (d.number ≡ number) × (d.fate ≡ Pending → ⊥)
     × ((other : SettledDuty) → Contains s.ended other → other.number ≡ number → other ≡ d)))
 
--- the messages of the first queue with this name; none if there is no such queue
-abbrev pub messages_of : List ℕ → List Queue → List QueueMessage
-messages_of queue [] = []
-messages_of queue (m ∷ ms) = if bytes_eq m.name queue then m.messages else messages_of queue ms
+-- a queue is created, with no message
+abbrev pub with_new_queue : List ℕ → Duties → Duties
+with_new_queue name s = record s { queues = with_queue name s.queues }
+
+-- a queue is deleted with its messages
+abbrev pub forgotten : List ℕ → Duties → Duties
+forgotten name s = record s { queues = without_queue name s.queues }
+
+-- the queue's messages with numbers up to this one are deleted
+abbrev pub with_deleted : List ℕ → ℕ → Duties → Duties
+with_deleted queue through s = record s { queues = deleted_through queue through s.queues }
+
+-- the duty is for the queue, or its dead letter would be
+abbrev pub IsForQueue : List ℕ → DutyRow → Type 0
+IsForQueue queue row = (row.duty.target.endpoint ≡ queue_arn queue) ⊎ (row.duty.target.dead_letter ≡ Some (queue_arn queue))
+
+-- a pending duty or a message names the queue
+abbrev pub IsNamed : List ℕ → Duties → Type 0
+IsNamed queue s = ((n : ℕ) × (row : DutyRow) × (pending_row n s ≡ Some row) × IsForQueue queue row)
+    ⊎ (messages_of queue s.queues ≡ [] → ⊥)

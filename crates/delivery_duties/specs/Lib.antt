@@ -1,4 +1,7 @@
+pub mod Retry
+pub mod DeadLetter
+pub mod Queues
 pub mod Duties
-pub mod NewQueue
+pub mod Places
+pub mod Order
 pub mod Sound
-pub mod Cuts

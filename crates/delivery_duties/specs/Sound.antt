@@ -1,41 +1,54 @@
--- For private clauses alone: the invariant of the type `Duties`.
-use Rattle.std.specs.Prelude.{◌≡◌, ℕ, ◌+◌, ◌<◌, ◌≤◌, ◌^◌, ◌⊎◌, List, [], ◌∷◌, All, Contains, length}
+-- For private clauses alone: the invariants of `Duties` and of its parts.
+use Rattle.std.specs.Prelude.{◌≡◌, ℕ, ◌+◌, ◌<◌, ◌≤◌, ◌^◌, ◌⊎◌, nat_le, Bool, false, List, [], ◌∷◌, All, Contains, length, Some}
+use Rattle.key_tree.specs.Entries.{value_at, AreSorted}
 use Rattle.delivery_duties.specs.declared.duty.DutyRow.{DutyRow}
-use Rattle.delivery_duties.specs.declared.fate.SettledDuty.{SettledDuty}
-use Rattle.delivery_duties.specs.Duties.{Duties, Queue, HasEndpoint, IsPending, HasEnded, delivered_of, dropped_of}
+use Rattle.delivery_duties.specs.declared.outcome.SettledDuty.{SettledDuty}
+use Rattle.delivery_duties.specs.declared.outcome.Fate.TheVariants.{Pending}
+use Rattle.delivery_duties.specs.declared.stored.StoredMessage.{StoredMessage}
+use Rattle.delivery_duties.specs.Queues.{Queue}
+use Rattle.delivery_duties.specs.Duties.{Duties, IsPending, HasEnded, delivered_of, dead_lettered_of, dropped_of}
 
--- the row has a smaller number than the other, and is due no later
-abbrev pub ComesBefore : DutyRow → DutyRow → Type 0
-ComesBefore row other = (row.number < other.number) × (row.due ≤ other.due)
+-- the numbers of the messages rise
+abbrev pub AreRising : List StoredMessage → Type 0
+AreRising [] = Unit {0}
+AreRising (m ∷ ms) = All (λ other. m.number < other.number) ms × AreRising ms
 
--- numbers rise, and due moments do not fall
-abbrev pub IsOrdered : List DutyRow → Type 0
-IsOrdered [] = Unit {0}
-IsOrdered (row ∷ rows) = All (ComesBefore row) rows × IsOrdered rows
+-- the numbers of the queue's messages rise, none is above that of the last message, and the queue has no more messages than it was sent
+pub record IsNumbered (m : Queue) : Type 0 where
+  pub rising : AreRising m.messages
+  pub by_last : All (λ other. other.number ≤ m.sent) m.messages
+  pub few : length m.messages ≤ m.sent
 
--- the queue has at most as many messages as it was sent, and was sent at most as many as were delivered
+-- the queue was sent at most this number of messages
 abbrev pub IsQueueWithin : ℕ → Queue → Type 0
-IsQueueWithin delivered m = (length m.messages ≤ m.sent) × (m.sent ≤ delivered)
+IsQueueWithin most m = m.sent ≤ most
 
--- the duty's number is one of those given so far, it is due by the last moment, and its endpoint is the ARN of a queue
-abbrev pub IsDutyWithin : ℕ → ℕ → List Queue → DutyRow → Type 0
-IsDutyWithin created latest queues row = (row.number ≤ created) × (row.due ≤ latest) × HasEndpoint row.duty.endpoint queues
-
--- each number from 1 to `created` is that of a pending duty or of one that ended, and not of both; none ended twice; and
--- `delivered` and `dropped` count the fates of those that ended
-pub record IsAccounted (created delivered dropped : ℕ) (pending : List DutyRow) (ended : List SettledDuty) : Type 0 where
+-- each number from 1 to `created` is that of a pending duty or of one that ended, and not of both; none ended twice
+pub record IsAccounted (created : ℕ) (pending : List (ℕ × DutyRow)) (ended : List SettledDuty) : Type 0 where
   pub given : All (λ d. d.number ≤ created) ended
   pub each : (n : ℕ) → 1 ≤ n → n ≤ created → IsPending n pending ⊎ HasEnded n ended
   pub apart : (n : ℕ) → IsPending n pending → HasEnded n ended → ⊥
   pub once : (d other : SettledDuty) → Contains ended d → Contains ended other → other.number ≡ d.number → other ≡ d
-  pub delivered_so : delivered ≡ delivered_of ended
-  pub dropped_so : dropped ≡ dropped_of ended
+  pub made : (n : ℕ) → IsPending n pending → n ≤ created
+  pub settled : All (λ d. d.fate ≡ Pending → ⊥) ended
 
--- each duty made so far is pending, delivered or dropped; pending ones are in the order of their numbers
+-- each duty made so far is pending or has ended
 pub record IsSound (s : Duties) : Type 0 where
-  pub ordered : IsOrdered s.pending
-  pub duties_within : All (IsDutyWithin s.created s.latest s.queues) s.pending
-  pub queues_within : All (IsQueueWithin s.delivered) s.queues
-  pub accounted : IsAccounted s.created s.delivered s.dropped s.pending s.ended
-  pub one_state : s.created ≡ length s.pending + s.delivered + s.dropped
+  pub accounted : IsAccounted s.created s.pending s.ended
+  pub sorted : AreSorted s.pending
+  pub named : (n : ℕ) (row : DutyRow) → value_at n s.pending ≡ Some row → row.number ≡ n
+  pub queues_within : All (IsQueueWithin (length s.ended)) s.queues
+  pub one_state : s.created ≡ length s.pending + length s.ended
   pub room : s.created < 2 ^ 63
+
+-- the counts are those of the duties that ended, each of which was delivered, dead-lettered or dropped
+pub record AreCounted (delivered dead_lettered dropped : ℕ) (ended : List SettledDuty) : Type 0 where
+  pub delivered_so : delivered ≡ delivered_of ended
+  pub dead_lettered_so : dead_lettered ≡ dead_lettered_of ended
+  pub dropped_so : dropped ≡ dropped_of ended
+  pub all : length ended ≡ delivered + dead_lettered + dropped
+
+-- the number of the first message is at most this one
+abbrev pub starts_by : ℕ → List StoredMessage → Bool
+starts_by through [] = false
+starts_by through (m ∷ ms) = nat_le m.number through

@@ -6,5 +6,6 @@ pub struct Counts {
     pub created: u64,
     pub pending: u64,
     pub delivered: u64,
+    pub dead_lettered: u64,
     pub dropped: u64,
 }

@@ -1,22 +1,14 @@
 //! Duties: a duty is the delivery of one event to one target.
 
-use json_text::Text;
+use crate::outcome::Outcome;
+use shared_text::{SharedRow, SharedText};
 
 /// A duty that is to be added.
 #[derive(Debug, Drop)]
 pub struct NewDuty {
-    /// The ARN of the rule.
-    pub rule: Text,
-    /// The id of the target, in its rule.
-    pub target: Text,
-    /// The ARN of the queue that takes the text.
-    pub endpoint: Text,
-    pub text: Text,
-    /// The target's maximum number of retry attempts.
-    pub attempts: u16,
-    /// The target's maximum age of the event, in seconds.
-    pub age: u32,
-    /// Whether the text is longer than a target accepts.
+    pub target: SharedRow,
+    pub text: SharedText,
+    /// Whether the text was longer than a target accepts. The duty then ends when it is added.
     pub too_long: bool,
 }
 
@@ -30,6 +22,10 @@ pub struct DutyRow {
     pub accepted: u64,
     /// When its next attempt is due.
     pub due: u64,
+    /// The number of attempts made so far. Each failed.
+    pub attempts: u32,
+    /// How the last attempt ended.
+    pub last: Option<Outcome>,
     /// Whether an attempt is under way.
     pub claimed: bool,
 }

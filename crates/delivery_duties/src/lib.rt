@@ -1,25 +1,38 @@
-//! Deliveries and the messages of queues; each delivery is in exactly one state.
+//! Deliveries with their retries, and the messages of queues; each delivery is in exactly one state.
 #![tactic(auto)]
 
 mod claim;
 mod counts;
 mod duties;
 mod duty;
-mod fate;
+mod failure;
+mod history;
+mod laws;
 mod lists;
 mod message;
 mod new_duties;
+mod new_queue;
+mod outcome;
 mod owed;
 mod queue;
-mod rows;
+mod queues;
+mod retry;
+mod schedule;
+mod stored;
 #[cfg(test)]
 mod tests;
+mod verdict;
 
 pub use claim::Claim;
 pub use counts::Counts;
 pub use duties::Duties;
 pub use duty::{DutyRow, NewDuty};
-pub use fate::{Fate, Outcome, SettledDuty};
-pub use message::QueueMessage;
+pub use failure::{Cause, Failure, RetryLimit};
+pub use laws::a_claim_put_back_changes_nothing;
+pub use message::{DeadLetterAttributes, QueueMessage};
 pub use new_duties::NewDuties;
-pub use queue::NewQueue;
+pub use new_queue::NewQueue;
+pub use outcome::{Fate, Outcome, SettledDuty};
+pub use queues::MOST_QUEUES;
+pub use stored::{DeadLetter, StoredMessage};
+pub use verdict::Verdict;

@@ -1,26 +1,29 @@
 //! Duties that are to be added together.
-ghost use Rattle.std.specs.Prelude.{◌≡◌, ◌++◌, [], ◌∷◌, ◌↔◌, IsTrue, OnOk, OnErr, length, map};
+ghost use Rattle.std.specs.Prelude.{◌≡◌, ◌++◌, [], ◌∷◌, ◌↔◌, true, IsTrue, OnOk, OnErr, All, length, map};
 
 use crate::duty::NewDuty;
 use crate::owed::Owed;
 use json_text::NoMemory;
+use key_tree::Node;
 use std::alloc::Global;
-use std::collections::LinkedList;
+use std::collections::VecDeque;
 use std::marker::Model;
 
-/// Duties with all the memory that adding and delivering them takes.
-#[derive(Debug, Drop)]
+/// Duties with all the memory that adding, delivering and retrying them takes.
+#[derive(Drop)]
 pub struct NewDuties {
-    rows: LinkedList<Owed>,
+    rows: VecDeque<Node<Owed>>,
 }
 
 impl Model for NewDuties {
-    ghost use Rattle.std.specs.Prelude.{List, map};
+    ghost use Rattle.std.specs.Prelude.{◌≡◌, true, List, All, map};
     ghost use Rattle.delivery_duties.specs.declared.duty.NewDuty.{NewDuty};
 
     ghost Value = { List NewDuty };
 
-    ghost view = { λ n. map (λ row. row.duty) n.rows };
+    ghost view = { λ n. map (λ row. row.duty) n.rows.items };
+
+    ghost invariant = { λ n. All (λ row. row.claimed ≡ true) n.rows.items };
 }
 
 impl NewDuties {
@@ -29,7 +32,7 @@ impl NewDuties {
         ensures { result ≡ [] }
     {
         NewDuties {
-            rows: LinkedList::new(alloc),
+            rows: VecDeque::new(alloc),
         }
     }
 
@@ -39,7 +42,8 @@ impl NewDuties {
         ensures err { OnErr result (self.new ≡ self.old) }
     {
         let owed = Owed::new(alloc, duty)?;
-        self.rows.push_back(owed)?;
+        let node = Node::new(alloc, owed)?;
+        self.rows.push_back(node)?;
         Ok(())
     }
 
@@ -55,8 +59,9 @@ impl NewDuties {
         self.rows.is_empty()
     }
 
-    pub(crate) fn into_rows(self) -> LinkedList<Owed>
-        ensures { map (λ row. row.duty) result ≡ self }
+    pub(crate) fn into_rows(self) -> VecDeque<Node<Owed>>
+        ensures duties { map (λ row. row.duty) result.items ≡ self }
+        ensures claimed { All (λ row. row.claimed ≡ true) result.items }
     {
         let NewDuties { rows } = self;
         rows

@@ -1,63 +1,66 @@
-//! Duties as they are stored: each with the memory for its message and for its settled form.
-ghost use Rattle.std.specs.Prelude.{◌≡◌, not, [], ◌∷◌, IfOk};
+//! Duties as they are stored: each with the memory for its message and for its place in the order.
+ghost use Rattle.std.specs.Prelude.{◌≡◌, ◌+◌, ◌^◌, ◌<◌, [], ◌∷◌, true, false, IfOk};
+ghost use Rattle.delivery_duties.specs.Retry.{begun, retried};
+ghost use Rattle.delivery_duties.specs.Duties.{dead_letter_of};
 ghost use Rattle.delivery_duties.specs.declared.duty.DutyRow.{DutyRow};
-ghost use Rattle.delivery_duties.specs.Duties.{begun};
-ghost use Rattle.delivery_duties.specs.declared.message.QueueMessage.{QueueMessage};
-ghost use Rattle.delivery_duties.specs.declared.fate.SettledDuty.{SettledDuty};
 
 use crate::duty::{DutyRow, NewDuty};
-use crate::fate::{Fate, SettledDuty};
-use crate::message::QueueMessage;
-use json_text::{NoMemory, Text};
+use crate::failure::Failure;
+use crate::outcome::Outcome;
+use crate::stored::{DeadLetter, StoredMessage};
+use json_text::NoMemory;
+use key_tree::Node;
+use shared_text::SharedRow;
 use std::alloc::Global;
 use std::collections::LinkedList;
 use std::marker::Model;
 
-/// A duty with two nodes that are allocated with it, so that no end of a duty takes memory: its message, which gets the text
-/// at delivery, and its settled form, which gets number and fate when the duty ends.
-#[derive(Debug, Drop)]
+/// A duty with memory that is allocated with it, so that no step of a duty allocates: its message, and a node of the order in which
+/// duties are due. The node is here while the duty is claimed.
+#[derive(Drop)]
 pub(crate) struct Owed {
     row: DutyRow,
-    letter: LinkedList<QueueMessage>,
-    ending: LinkedList<SettledDuty>,
+    letter: LinkedList<StoredMessage>,
+    place: Option<Node<u64>>,
 }
 
 impl Model for Owed {
-    ghost use Rattle.std.specs.Prelude.{◌≡◌, length};
+    ghost use Rattle.std.specs.Prelude.{◌≡◌, [], ◌∷◌, None};
     ghost use Rattle.delivery_duties.specs.declared.duty.DutyRow.{DutyRow};
+    ghost use Rattle.delivery_duties.specs.Order.{idle_node};
 
     ghost Value = { DutyRow };
 
     ghost view = { λ o. o.row };
 
-    ghost invariant = { λ o. (length o.letter ≡ 1) × (length o.ending ≡ 1) };
+    ghost invariant = { λ o. (o.letter ≡ record { number = 0; body = o.row.duty.text; dead = None } ∷ [])
+        × (o.place ≡ idle_node o.row o.row.claimed) };
 }
 
 impl Owed {
-    /// The duty, without a number and moments yet.
+    /// The duty, without a number and moments yet, and claimed.
     pub(crate) fn new(alloc: Global, duty: NewDuty) -> Result<Owed, NoMemory>
-        ensures { IfOk result (λ row. row.duty ≡ duty) }
+        ensures { IfOk result (λ row. (row.duty ≡ duty) × (row.claimed ≡ true)) }
     {
         let mut letter = LinkedList::new(alloc);
-        letter.push_back(QueueMessage {
+        letter.push_back(StoredMessage {
             number: 0,
-            body: Text::new(alloc),
+            body: duty.text.share()?,
+            dead: None,
         })?;
-        let mut ending = LinkedList::new(alloc);
-        ending.push_back(SettledDuty {
-            number: 0,
-            fate: Fate::Dropped,
-        })?;
+        let place = Node::new(alloc, 0)?;
         Ok(Owed {
             row: DutyRow {
                 number: 0,
                 duty,
                 accepted: 0,
                 due: 0,
-                claimed: false,
+                attempts: 0,
+                last: None,
+                claimed: true,
             },
             letter,
-            ending,
+            place: Some(place),
         })
     }
 
@@ -79,96 +82,81 @@ impl Owed {
         self.row.due
     }
 
-    /// Whether no attempt is under way.
-    pub(crate) fn is_free(&self) -> bool
-        ensures { result ≡ not self.now.claimed }
-    {
-        !self.row.claimed
-    }
-
-    pub(crate) fn is_too_long(&self) -> bool
-        ensures { result ≡ self.now.duty.too_long }
-    {
-        self.row.duty.too_long
-    }
-
-    pub(crate) fn mark(&mut self, claimed: bool)
-        ensures { self.new ≡ record self.old { claimed = claimed } }
-    {
-        self.row.claimed = claimed;
-    }
-
-    /// Gives the duty its number and makes it due at the moment.
+    /// Gives the duty its number and makes it due at the moment. It stays claimed.
     pub(crate) fn begin(&mut self, number: u64, moment: u64)
-        ensures { self.new ≡ begun number moment self.old.duty }
+        requires { self.old.claimed ≡ true }
+        ensures { self.new ≡ record (begun number moment self.old.duty) { claimed = true } }
     {
+        match &mut self.place {
+            Some(place) => *place.value_mut() = number,
+            None => unreachable!(),
+        }
         self.row.number = number;
         self.row.accepted = moment;
         self.row.due = moment;
-        self.row.claimed = false;
+        self.row.attempts = 0;
+        self.row.last = None;
     }
 
-    /// Ends the duty with this fate. Returns the duty with its message, and its settled form.
-    pub(crate) fn end(self, fate: Fate) -> (Ended, LinkedList<SettledDuty>)
-        ensures duty { result.0 ≡ self.duty }
-        ensures settled { result.1 ≡ record { number = self.number; fate = fate } ∷ [] }
+    /// Makes the duty due again after a failed attempt. It stays claimed.
+    pub(crate) fn retry(&mut self, due: u64, outcome: Outcome)
+        requires room { self.old.attempts + 1 < 2 ^ 32 }
+        ensures { self.new ≡ record (retried due outcome self.old) { claimed = self.old.claimed } }
+    {
+        self.row.due = due;
+        self.row.attempts += 1;
+        self.row.last = Some(outcome);
+    }
+
+    /// Releases the claim. Returns the node for the order, whose value is the number.
+    pub(crate) fn free(&mut self) -> Node<u64>
+        requires { self.old.claimed ≡ true }
+        ensures node { result ≡ self.old.number }
+        ensures freed { self.new ≡ record self.old { claimed = false } }
+    {
+        self.row.claimed = false;
+        match self.place.take() {
+            Some(place) => place,
+            None => unreachable!(),
+        }
+    }
+
+    /// Claims the duty. The node comes from the order.
+    pub(crate) fn claim(&mut self, place: Node<u64>)
+        requires { place ≡ self.old.number }
+        ensures { self.new ≡ record self.old { claimed = true } }
+    {
+        self.row.claimed = true;
+        self.place = Some(place);
+    }
+
+    /// The duty's message, not yet numbered.
+    pub(crate) fn into_letter(self, failure: Option<Failure>) -> LinkedList<StoredMessage>
+        ensures { result ≡ record { number = 0; body = self.duty.text; dead = dead_letter_of self.duty.target failure } ∷ [] }
     {
         let Owed {
             row,
-            letter,
-            mut ending,
+            mut letter,
+            place,
         } = self;
-        let DutyRow { number, duty, .. } = row;
-        match ending.front_mut() {
-            Some(settled) => {
-                settled.number = number;
-                settled.fate = fate;
-            }
-            None => unreachable!(),
-        }
-        (Ended { duty, letter }, ending)
-    }
-}
-
-/// A duty that ended, with the node for its message.
-#[derive(Debug, Drop)]
-pub(crate) struct Ended {
-    duty: NewDuty,
-    letter: LinkedList<QueueMessage>,
-}
-
-impl Model for Ended {
-    ghost use Rattle.std.specs.Prelude.{◌≡◌, length};
-    ghost use Rattle.delivery_duties.specs.declared.duty.NewDuty.{NewDuty};
-
-    ghost Value = { NewDuty };
-
-    ghost view = { λ e. e.duty };
-
-    ghost invariant = { λ e. length e.letter ≡ 1 };
-}
-
-impl Ended {
-    /// The ARN of the queue that takes the text.
-    pub(crate) fn endpoint(&self) -> &str
-        ensures { result.now ≡ self.now.endpoint }
-    {
-        self.duty.endpoint.as_str()
-    }
-
-    /// The message with this number and the duty's text.
-    pub(crate) fn into_letter(self, number: u64) -> LinkedList<QueueMessage>
-        ensures { result ≡ record { number = number; body = self.text } ∷ [] }
-    {
-        let Ended { duty, mut letter } = self;
-        let NewDuty { text, .. } = duty;
+        drop(place);
+        let DutyRow { duty, .. } = row;
+        let NewDuty { target, .. } = duty;
         match letter.front_mut() {
             Some(message) => {
-                message.number = number;
-                message.body = text;
+                message.dead = dead_letter(target, failure);
             }
             None => unreachable!(),
         }
         letter
+    }
+}
+
+fn dead_letter(target: SharedRow, failure: Option<Failure>) -> Option<DeadLetter>
+    ensures { result ≡ dead_letter_of target failure }
+{
+    match failure {
+        Some(failure) => Some(DeadLetter { target, failure }),
+        None => None,
     }
 }

@@ -1,14 +1,13 @@
 //! Queues.
-ghost use Rattle.std.specs.Prelude.{◌≡◌, ◌+◌, ◌^◌, ◌<◌, ◌≤◌, ◌++◌, [], ◌∷◌, ℕ, List, All, IfOk, IfNone, MatchOption, length, take, find, position};
-ghost use Rattle.std.specs.Option.{option_map};
-ghost use Rattle.std.specs.Str.{bytes_eq};
-ghost use Rattle.event_shape.specs.Names.{queue_arn};
-ghost use Rattle.delivery_duties.specs.Duties.{HasEndpoint, taken_in, with_next};
+ghost use Rattle.std.specs.Prelude.{◌≡◌, ◌+◌, ◌^◌, ◌<◌, [], ◌∷◌, ◌↔◌, IsTrue, IfOk, length, map, take};
+ghost use Rattle.delivery_duties.specs.declared.stored.StoredMessage.{StoredMessage};
+ghost use Rattle.delivery_duties.specs.DeadLetter.{shown};
+ghost use Rattle.delivery_duties.specs.Queues as spec;
+ghost use Rattle.delivery_duties.specs.Sound.{AreRising, starts_by};
 
-use crate::lists::{cut, join};
-use crate::message::{QueueMessage, first_copies};
-use crate::owed::Ended;
-use event_shape::is_queue_arn;
+use crate::lists::join;
+use crate::message::{QueueMessage, first_shown};
+use crate::stored::StoredMessage;
 use json_text::{NoMemory, Text};
 use std::alloc::Global;
 use std::collections::LinkedList;
@@ -19,121 +18,100 @@ use std::marker::Model;
 pub(crate) struct Queue {
     name: Text,
     sent: u64,
-    messages: LinkedList<QueueMessage>,
+    messages: LinkedList<StoredMessage>,
 }
 
 impl Model for Queue {
-    ghost use Rattle.delivery_duties.specs.Duties.{Queue as View};
+    ghost use Rattle.delivery_duties.specs.Queues.{Queue as View};
+    ghost use Rattle.delivery_duties.specs.Sound.{IsNumbered};
 
     ghost Value = { View };
 
     ghost view = { λ m. record { name = m.name; sent = m.sent; messages = m.messages } };
+
+    ghost invariant = { λ m. IsNumbered (record { name = m.name; sent = m.sent; messages = m.messages }) };
 }
 
 impl Queue {
-    pub(crate) fn is_named(&self, name: &str) -> bool
-        ensures { result ≡ bytes_eq self.now.name name.now }
+    /// A queue with no message.
+    pub(crate) fn new(alloc: Global, name: Text) -> Queue
+        ensures { result ≡ spec.empty_queue name }
     {
-        self.name.as_str() == name
+        Queue {
+            name,
+            sent: 0,
+            messages: LinkedList::new(alloc),
+        }
     }
 
-    pub(crate) fn has_arn(&self, arn: &str) -> bool
-        ensures { result ≡ bytes_eq arn.now (queue_arn self.now.name) }
+    pub(crate) fn name(&self) -> &str
+        ensures { result.now ≡ self.now.name }
     {
-        is_queue_arn(arn, self.name.as_str())
+        self.name.as_str()
     }
 
-    /// Appends the duty's text as the next message.
-    pub(crate) fn take_in(&mut self, ended: Ended)
+    /// Appends the message, which is a list of one, and numbers it.
+    pub(crate) fn take_in(&mut self, mut letter: LinkedList<StoredMessage>)
+        requires one { length letter ≡ 1 }
         requires room { self.old.sent + 1 < 2 ^ 63 }
-        requires fewer { length self.old.messages ≤ self.old.sent }
-        ensures { self.new ≡ with_next ended.text self.old }
+        ensures { (m : StoredMessage) → letter ≡ m ∷ [] → self.new ≡ spec.with_next m.body m.dead self.old }
     {
         self.sent += 1;
-        join(&mut self.messages, ended.into_letter(self.sent));
+        number(&mut letter, self.sent);
+        join(&mut self.messages, letter);
     }
 
     /// Copies of the oldest messages, at most `limit`.
     pub(crate) fn peek(&self, alloc: Global, limit: usize) -> Result<Vec<QueueMessage>, NoMemory>
-        ensures { IfOk result (λ ms. ms.items ≡ take limit self.now.messages) }
+        ensures { IfOk result (λ ms. ms.items ≡ map shown (take limit self.now.messages)) }
     {
-        first_copies(alloc, &self.messages, limit)
+        first_shown(alloc, &self.messages, limit)
+    }
+
+    pub(crate) fn is_empty(&self) -> bool
+        ensures { IsTrue result ↔ (self.now.messages ≡ []) }
+    {
+        self.messages.is_empty()
+    }
+
+    /// Deletes the messages with numbers up to this one. Returns how many they were.
+    pub(crate) fn delete_through(&mut self, through: u64) -> u64
+        ensures left { self.new ≡ spec.without_through through self.old }
+        ensures count { result ≡ length (spec.messages_through through self.old.messages) }
+    {
+        let before = self.messages.len();
+        drop_through(&mut self.messages, through);
+        (before - self.messages.len()) as u64
     }
 }
 
-/// A queue that is to be created, with no message and all the memory that adding it takes.
-#[derive(Debug, Drop)]
-pub struct NewQueue {
-    made: LinkedList<Queue>,
-}
-
-impl Model for NewQueue {
-    ghost use Rattle.std.specs.Prelude.{◌≡◌, ℕ, List, [], ◌∷◌};
-    ghost use Rattle.delivery_duties.specs.NewQueue.{first_name, empty_queue};
-
-    ghost Value = { List ℕ };
-
-    ghost view = { λ m. first_name m.made };
-
-    ghost invariant = { λ m. m.made ≡ empty_queue (first_name m.made) ∷ [] };
-}
-
-impl NewQueue {
-    ghost use Rattle.delivery_duties.specs.NewQueue.{empty_queue};
-
-    /// A queue with this name.
-    pub fn new(alloc: Global, name: &str) -> Result<NewQueue, NoMemory>
-        ensures { IfOk result (λ m. m ≡ name.now) }
-    {
-        let name = Text::from_str(alloc, name)?;
-        let mut made = LinkedList::new(alloc);
-        made.push_back(Queue {
-            name,
-            sent: 0,
-            messages: LinkedList::new(alloc),
-        })?;
-        Ok(NewQueue { made })
-    }
-
-    pub(crate) fn into_made(self) -> LinkedList<Queue>
-        ensures { result ≡ empty_queue self ∷ [] }
-    {
-        let NewQueue { made } = self;
-        made
-    }
-}
-
-/// The first queue with this name.
-pub(crate) fn named<'a>(queues: &'a LinkedList<Queue>, name: &str) -> Option<&'a Queue>
-    ensures { option_map (λ m. m.now) result ≡ find (λ m. bytes_eq m.name name.now) queues.now }
+/// Gives the message, which is a list of one, its number.
+fn number(letter: &mut LinkedList<StoredMessage>, number: u64)
+    requires { length letter.old ≡ 1 }
+    ensures { (m : StoredMessage) → letter.old ≡ m ∷ [] → letter.new ≡ record m { number = number } ∷ [] }
 {
-    queues.iter().find(|queue| queue.is_named(name))
-}
-
-/// The place of the first queue with this ARN.
-fn place_of(queues: &LinkedList<Queue>, arn: &str) -> Option<usize>
-    ensures place { result ≡ position (λ m. bytes_eq arn.now (queue_arn m.name)) queues.now }
-    ensures none { IfNone result (¬ (HasEndpoint arn.now queues.now)) }
-    ensures fits { length queues.now < 2 ^ 63 }
-{
-    queues.iter().position(|queue| queue.has_arn(arn))
-}
-
-/// Appends the duty's text to the first queue whose ARN is its endpoint.
-pub(crate) fn deliver(queues: &mut LinkedList<Queue>, ended: Ended)
-    requires there { HasEndpoint ended.endpoint queues.old }
-    requires room { All (λ m. (length m.messages ≤ m.sent) × (m.sent + 1 < 2 ^ 63)) queues.old }
-    ensures { queues.new ≡ taken_in ended.endpoint ended.text queues.old }
-{
-    match place_of(queues, ended.endpoint()) {
-        Some(at) => {
-            let mut back = cut(queues, at);
-            match back.front_mut() {
-                Some(queue) => queue.take_in(ended),
-                None => unreachable!(),
-            }
-            join(queues, back);
-        }
+    match letter.front_mut() {
+        Some(message) => message.number = number,
         None => unreachable!(),
+    }
+}
+
+/// Drops the messages with numbers up to this one.
+fn drop_through(messages: &mut LinkedList<StoredMessage>, through: u64)
+    requires { AreRising messages.old }
+    ensures { messages.new ≡ spec.messages_after through messages.old }
+{
+    while starts_by(messages, through) {
+        messages.pop_front();
+    }
+}
+
+/// Whether the number of the first message is at most this one.
+fn starts_by(messages: &LinkedList<StoredMessage>, through: u64) -> bool
+    ensures { result ≡ starts_by through messages.now }
+{
+    match messages.front() {
+        Some(message) => message.number <= through,
+        None => false,
     }
 }

@@ -1,9 +1,9 @@
 use Rattle.std.proofs.Common.{length}
-use Rattle.delivery_duties.proofs.StepLemmas.{IsLeft}
+use Rattle.delivery_duties.proofs.AddLemmas.{IsLeft}
 use Rattle.delivery_duties.proofs.duties.Duties.add.Given as goal
 
-abbrev pub invariant-loop-rows : goal.invariant-loop-rows
-invariant-loop-rows l = IsLeft l.fn.duties l.moment l.fn.self l.rows l.self
+abbrev pub invariant-loop-node : goal.invariant-loop-node
+invariant-loop-node l = IsLeft l.fn.duties l.moment l.fn.self l.rows.items l.self
 
-abbrev pub decreases-loop-rows : goal.decreases-loop-rows
-decreases-loop-rows l = length l.rows
+abbrev pub decreases-loop-node : goal.decreases-loop-node
+decreases-loop-node l = length l.rows.items

@@ -1,31 +1,14 @@
-use Rattle.delivery_duties.proofs.SoundLemmas.{sound_claimed}
-use Rattle.delivery_duties.proofs.StepLemmas.{claimed_next, claimed_out, none_due}
-use Rattle.delivery_duties.proofs.OutLemmas.{claimed_not_out, still_out_next}
-use Rattle.delivery_duties.specs.Duties.{IsOut}
 use Rattle.std.proofs.Common.{sym, subst}
+use Rattle.delivery_duties.specs.Duties.{IsOut}
+use Rattle.delivery_duties.proofs.StepLemmas.{sound_claimed, claimed_out, claims_keep}
 use Rattle.delivery_duties.proofs.duties.Duties.claim_next.Goals as goal
 
-pub invariant_of-self : goal.invariant_of-self
-invariant_of-self c = sound_claimed c.claim_due.result c.claim_due.new.rows c.self.invariant c.claim_due.ensures.marked c.claim_due.ensures.unchanged
+pub invariant_of-self-2 : goal.invariant_of-self-2
+invariant_of-self-2 c = sound_claimed c.in_ok-number.number c.claim_first.new.self c.self.invariant c.in_ok-number.ensures.some.1
 
 pub returns-clause-out : goal.returns-clause-out
-returns-clause-out c = claimed_out c.args.moment c.claim_due.result c.claim_due.new.rows c.self.invariant c.claim_due.ensures.first c.claim_due.ensures.marked
-
-pub returns-clause-some : goal.returns-clause-some
-returns-clause-some c =
-    claimed_next c.args.self.now c.args.moment c.claim_due.result c.claim_due.new.rows c.self.view_is c.self.invariant
-    c.claim_due.ensures.first c.claim_due.ensures.marked
-
-pub returns-clause-none : goal.returns-clause-none
-returns-clause-none c =
-    none_due c.args.self.now c.args.moment c.claim_due.result c.claim_due.new.rows c.self.view_is c.self.invariant
-    c.claim_due.ensures.none_due c.claim_due.ensures.unchanged
-
-pub returns-clause-not_out_before : goal.returns-clause-not_out_before
-returns-clause-not_out_before c =
-    claimed_not_out c.args.self.now c.args.moment c.claim_due.result c.self.view_is c.self.invariant.ordered c.claim_due.ensures.first
+returns-clause-out c = claimed_out c.in_ok-number.number c.claim_first.new.self c.self.invariant c.in_ok-number.ensures.some.1
 
 pub returns-clause-still_out : goal.returns-clause-still_out
-returns-clause-still_out c = λ n h.
-    still_out_next c.claim_due.result c.self.inside.pending c.claim_due.new.rows c.claim_due.ensures.marked c.claim_due.ensures.unchanged n
-    (subst (IsOut n) (sym c.self.view_is) h)
+returns-clause-still_out c = λ n out.
+    claims_keep c.in_ok-number.number c.claim_first.new.self c.self.invariant c.in_ok-number.ensures.some.1 n (subst (IsOut n) (sym c.self.view_is) out)

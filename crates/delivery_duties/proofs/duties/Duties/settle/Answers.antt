@@ -1,89 +1,88 @@
-use Rattle.std.proofs.Common.{◌≡◌, sym, subst, ap, ◌∙◌, map, length}
-use Rattle.delivery_duties.specs.Duties.{Queue, Duties}
-use Rattle.delivery_duties.proofs.SoundLemmas.{sound_delivered, sound_dropped, within_found, ended_room}
-use Rattle.delivery_duties.proofs.StepLemmas.{settled_accepted, settled_dropped, queues_taken, stored_named, delivered_text}
-use Rattle.std.specs.Prelude.{Any, Contains}
-use Rattle.std.proofs.lemmas.List.Elements.{All-contains}
+use Rattle.std.proofs.Common.{ℕ, ◌+◌, List, None, false, length, map, sym, subst, refl, ap, ◌∙◌}
+use Rattle.std.specs.Prelude.{All}
 use Rattle.delivery_duties.specs.declared.duty.DutyRow.{DutyRow}
-use Rattle.delivery_duties.specs.declared.duty.NewDuty.{NewDuty}
-use Rattle.delivery_duties.specs.declared.fate.SettledDuty.{SettledDuty}
-use Rattle.delivery_duties.specs.declared.fate.Fate.TheVariants.{Delivered, Dropped}
-use Rattle.delivery_duties.specs.Duties.{IsOut, HasEndpoint}
-use Rattle.delivery_duties.specs.Sound.{IsDutyWithin, IsSound}
-use Rattle.delivery_duties.proofs.OutLemmas.{Out, still_out_settled}
+use Rattle.delivery_duties.specs.declared.outcome.Fate.TheVariants.{Delivered}
+use Rattle.delivery_duties.specs.Queues.{Queue, has_arn, with_next}
+use Rattle.delivery_duties.specs.Retry.{dead_letter_queue}
+use Rattle.delivery_duties.specs.Duties.{Duties, IsOut, has_dead_letter_queue}
+use Rattle.delivery_duties.specs.Sound.{IsQueueWithin}
+use Rattle.delivery_duties.proofs.SoundLemmas.{sound_ended}
+use Rattle.delivery_duties.proofs.StepLemmas.{taken_free, sound_back, back_keeps, within_changed, within_failed, failed_ends}
+use Rattle.delivery_duties.proofs.PlaceLemmas.{names_changed}
+use Rattle.delivery_duties.proofs.SettleLemmas.{gone_keeps, gone_not_out, back_not_out, names_failed}
 use Rattle.delivery_duties.proofs.duties.Duties.settle.Goals as goal
 
-has_queue_of : {s : Duties} (v : Duties) → s ≡ v → IsSound s → (row : DutyRow) → Contains v.pending row → HasEndpoint row.duty.endpoint v.queues
-has_queue_of {s} v e h =
-    let F : Duties → Type 0 = λ v. (row : DutyRow) → Contains v.pending row → HasEndpoint row.duty.endpoint v.queues in
-    let at_s : F s = λ row t. let k : IsDutyWithin s.created s.latest s.queues row =
-    All-contains (IsDutyWithin s.created s.latest s.queues) s.pending row h.duties_within t in k.2 in
-    subst F e at_s
-
-pub join-requires : goal.join-requires
-join-requires c =
-    ended_room c.args.claim.number c.take_out-owed.result c.end-ended.result.1 c.self.invariant c.take_out-owed.ensures.found
-    (ap (length {A = SettledDuty}) c.end-ended.ensures.settled)
-
-pub join-requires-in-TooOld : goal.join-requires-in-TooOld
-join-requires-in-TooOld c =
-    ended_room c.args.claim.number c.take_out-owed.result c.end-ended-in-TooOld.result.1 c.self.invariant c.take_out-owed.ensures.found
-    (ap (length {A = SettledDuty}) c.end-ended-in-TooOld.ensures.settled)
-
-pub deliver-requires-clause-there : goal.deliver-requires-clause-there
-deliver-requires-clause-there c =
-    let F : NewDuty → Type 0 = λ duty. HasEndpoint duty.endpoint c.self.inside.queues in
-    subst F (sym c.end-ended.ensures.duty) (within_found c.args.claim.number c.take_out-owed.result c.self.invariant c.take_out-owed.ensures.found).2
+pub insert-requires-clause-new_number : goal.insert-requires-clause-new_number
+insert-requires-clause-new_number c =
+    taken_free c.self.inside.pending c.args.claim.number c.retry.new.self.number c.take-node.new.self
+    (ap (λ (o : DutyRow). o.number) (c.retry.ensures) ∙ ap (λ (o : DutyRow). o.number) c.value_mut.ensures.value ∙ c.take-node.ensures.named)
+    c.take-node.ensures.left
 
 pub invariant_of-self : goal.invariant_of-self
 invariant_of-self c =
-    sound_delivered c.args.claim.number c.take_out-owed.result c.take_out-owed.new.rows c.deliver.new.queues c.join.new.list c.self.invariant
-    c.take_out-owed.ensures.found c.take_out-owed.ensures.rest
-    (delivered_text c.self.inside.queues c.deliver.new.queues c.take_out-owed.result.duty c.end-ended.result.0 c.end-ended.ensures.duty c.deliver.ensures)
-    (stored_named c.args.claim.number c.self.inside.pending c.take_out-owed.result c.self.inside.ended c.join.new.list c.end-ended.result.1 Delivered
-    c.take_out-owed.ensures.found c.end-ended.ensures.settled c.join.ensures)
+    let number_is = ap (λ (o : DutyRow). o.number) c.retry.ensures ∙ ap (λ (o : DutyRow). o.number) c.value_mut.ensures.value ∙ c.take-node.ensures.named in
+    sound_back c.args.claim.number c.retry.new.self.number c.take-node.result (record c.retry.new.self { claimed = false })
+    c.take-node.new.self c.insert.new.self c.self.invariant c.take-node.ensures.row number_is number_is c.take-node.ensures.left c.insert.ensures
 
-pub invariant_of-self-in-TooOld : goal.invariant_of-self-in-TooOld
-invariant_of-self-in-TooOld c =
-    sound_dropped c.args.claim.number c.take_out-owed.result c.take_out-owed.new.rows c.join-in-TooOld.new.list c.self.invariant
-    c.take_out-owed.ensures.found c.take_out-owed.ensures.rest
-    (stored_named c.args.claim.number c.self.inside.pending c.take_out-owed.result c.self.inside.ended c.join-in-TooOld.new.list
-    c.end-ended-in-TooOld.result.1 Dropped
-    c.take_out-owed.ensures.found c.end-ended-in-TooOld.ensures.settled c.join-in-TooOld.ensures)
+pub invariant_of-self-in-Deliver : goal.invariant_of-self-in-Deliver
+invariant_of-self-in-Deliver c =
+    let s = c.self.inside in
+    let owed : DutyRow = c.into_value.result in
+    sound_ended c.args.claim.number c.take-node.result (record { number = c.args.claim.number; fate = Delivered }) c.take-node.new.self c.push.new.self
+    c.deliver.new.queues c.self.invariant c.take-node.ensures.row refl (λ e. absurd (cc)) c.take-node.ensures.left c.push.ensures
+    (subst (All (IsQueueWithin (length s.ended + 1))) (sym c.deliver.ensures)
+    (within_changed (length s.ended) (has_arn owed.duty.target.endpoint) owed.duty.text None s.queues c.self.invariant.queues_within))
 
-pub returns-in-Accepted-clause-settled : goal.returns-in-Accepted-clause-settled
-returns-in-Accepted-clause-settled c =
-    settled_accepted c.args.self.now c.args.claim.number c.args.outcome c.take_out-owed.result c.take_out-owed.new.rows c.deliver.new.queues c.join.new.list
-    c.self.view_is c.in-Accepted.is c.take_out-owed.ensures.found c.take_out-owed.ensures.rest
-    (delivered_text c.self.inside.queues c.deliver.new.queues c.take_out-owed.result.duty c.end-ended.result.0 c.end-ended.ensures.duty c.deliver.ensures)
-    (stored_named c.args.claim.number c.self.inside.pending c.take_out-owed.result c.self.inside.ended c.join.new.list c.end-ended.result.1 Delivered
-    c.take_out-owed.ensures.found c.end-ended.ensures.settled c.join.ensures)
+pub invariant_of-self-in-Fail : goal.invariant_of-self-in-Fail
+invariant_of-self-in-Fail c =
+    let s = c.self.inside in
+    let owed : DutyRow = c.into_value-in-Fail.result in
+    let arn = dead_letter_queue owed.duty.target (has_dead_letter_queue owed.duty.target s.queues) in
+    sound_ended c.args.claim.number c.take-node.result (record { number = c.args.claim.number; fate = c.fail-fate.result })
+    c.take-node.new.self c.push-in-Fail.new.self
+    c.fail-fate.new.queues c.self.invariant c.take-node.ensures.row refl (λ e. failed_ends arn (sym c.fail-fate.ensures.fate ∙ e)) c.take-node.ensures.left
+    c.push-in-Fail.ensures
+    (subst (All (IsQueueWithin (length s.ended + 1))) (sym c.fail-fate.ensures.queues)
+    (within_failed (length s.ended) arn c.in-Fail.failure owed s.queues c.self.invariant.queues_within))
 
-pub returns-in-TooOld-clause-settled : goal.returns-in-TooOld-clause-settled
-returns-in-TooOld-clause-settled c =
-    settled_dropped c.args.self.now c.args.claim.number c.args.outcome c.take_out-owed.new.rows c.join-in-TooOld.new.list c.self.view_is
-    c.in-TooOld.is c.take_out-owed.ensures.rest
-    (stored_named c.args.claim.number c.self.inside.pending c.take_out-owed.result c.self.inside.ended c.join-in-TooOld.new.list
-    c.end-ended-in-TooOld.result.1 Dropped
-    c.take_out-owed.ensures.found c.end-ended-in-TooOld.ensures.settled c.join-in-TooOld.ensures)
+pub returns-in-Retry-clause-still_out : goal.returns-in-Retry-clause-still_out
+returns-in-Retry-clause-still_out c = λ n ne out.
+    let number_is = ap (λ (o : DutyRow). o.number) c.retry.ensures ∙ ap (λ (o : DutyRow). o.number) c.value_mut.ensures.value ∙ c.take-node.ensures.named in
+    back_keeps c.self.inside.pending c.args.claim.number c.retry.new.self.number (record c.retry.new.self { claimed = false }) c.take-node.new.self
+    c.insert.new.self number_is c.take-node.ensures.left c.insert.ensures n ne (subst (IsOut n) (sym c.self.view_is) out)
 
-pub returns-in-Accepted-clause-queues : goal.returns-in-Accepted-clause-queues
-returns-in-Accepted-clause-queues c =
-    ap (map (λ (m : Queue). m.name)) c.deliver.ensures ∙ queues_taken c.end-ended.result.0.endpoint c.end-ended.result.0.text c.self.inside.queues
-    ∙ ap (λ (s : Duties). map (λ (m : Queue). m.name) s.queues) c.self.view_is
+pub returns-in-Retry-clause-not_out : goal.returns-in-Retry-clause-not_out
+returns-in-Retry-clause-not_out c = λ out.
+    let number_is = ap (λ (o : DutyRow). o.number) c.retry.ensures ∙ ap (λ (o : DutyRow). o.number) c.value_mut.ensures.value ∙ c.take-node.ensures.named in
+    back_not_out c.self.inside.pending c.take-node.new.self c.insert.new.self c.args.claim.number c.retry.new.self.number
+    (record c.retry.new.self { claimed = false }) refl number_is c.take-node.ensures.left c.insert.ensures out
 
-pub returns-in-Accepted-clause-still_out : goal.returns-in-Accepted-clause-still_out
-returns-in-Accepted-clause-still_out c = λ n other h.
-    subst (Any (Out n)) (sym c.take_out-owed.ensures.rest)
-    (still_out_settled c.args.claim.number c.self.inside.pending n other (subst (IsOut n) (sym c.self.view_is) h))
+pub returns-in-Deliver-clause-queues : goal.returns-in-Deliver-clause-queues
+returns-in-Deliver-clause-queues c =
+    let owed : DutyRow = c.into_value.result in
+    let names : List Queue → List (List ℕ) = map (λ (m : Queue). m.name) in
+    ap names c.deliver.ensures ∙ names_changed (has_arn owed.duty.target.endpoint) (with_next owed.duty.text None) c.self.inside.queues (λ m. refl)
+    ∙ ap (λ (s : Duties). names s.queues) c.self.view_is
 
-pub returns-in-Accepted-clause-has_queue : goal.returns-in-Accepted-clause-has_queue
-returns-in-Accepted-clause-has_queue c = has_queue_of c.args.self.now c.self.view_is c.self.invariant
+pub returns-in-Deliver-clause-still_out : goal.returns-in-Deliver-clause-still_out
+returns-in-Deliver-clause-still_out c = λ n ne out.
+    gone_keeps c.self.inside.pending c.take-node.new.self c.args.claim.number n c.take-node.ensures.left ne (subst (IsOut n) (sym c.self.view_is) out)
 
-pub returns-in-TooOld-clause-still_out : goal.returns-in-TooOld-clause-still_out
-returns-in-TooOld-clause-still_out c = λ n other h.
-    subst (Any (Out n)) (sym c.take_out-owed.ensures.rest)
-    (still_out_settled c.args.claim.number c.self.inside.pending n other (subst (IsOut n) (sym c.self.view_is) h))
+pub returns-in-Deliver-clause-not_out : goal.returns-in-Deliver-clause-not_out
+returns-in-Deliver-clause-not_out c = λ out. gone_not_out c.self.inside.pending c.take-node.new.self c.args.claim.number c.take-node.ensures.left out
 
-pub returns-in-TooOld-clause-has_queue : goal.returns-in-TooOld-clause-has_queue
-returns-in-TooOld-clause-has_queue c = has_queue_of c.args.self.now c.self.view_is c.self.invariant
+pub returns-in-Fail-clause-queues : goal.returns-in-Fail-clause-queues
+returns-in-Fail-clause-queues c =
+    let owed : DutyRow = c.into_value-in-Fail.result in
+    let names : List Queue → List (List ℕ) = map (λ (m : Queue). m.name) in
+    ap names c.fail-fate.ensures.queues
+    ∙ names_failed (dead_letter_queue owed.duty.target (has_dead_letter_queue owed.duty.target c.self.inside.queues)) c.in-Fail.failure
+    owed c.self.inside.queues
+    ∙ ap (λ (s : Duties). names s.queues) c.self.view_is
+
+pub returns-in-Fail-clause-still_out : goal.returns-in-Fail-clause-still_out
+returns-in-Fail-clause-still_out c = λ n ne out.
+    gone_keeps c.self.inside.pending c.take-node.new.self c.args.claim.number n c.take-node.ensures.left ne (subst (IsOut n) (sym c.self.view_is) out)
+
+pub returns-in-Fail-clause-not_out : goal.returns-in-Fail-clause-not_out
+returns-in-Fail-clause-not_out c = λ out. gone_not_out c.self.inside.pending c.take-node.new.self c.args.claim.number c.take-node.ensures.left out

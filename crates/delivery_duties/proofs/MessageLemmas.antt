@@ -1,0 +1,100 @@
+-- Messages of a queue: the next one (`numbered_next`), and those up to a number (`after_front`, `after_all`, `through_count`, `numbered_after`).
+use Rattle.std.proofs.Common.{◌≡◌, ℕ, ◌+◌, ◌<◌, ◌≤◌, Bool, true, false, not, cond, List, [], ◌∷◌, ◌++◌, length, refl, sym, ap, ◌∙◌, subst, arith, length-append}
+use Rattle.std.specs.Prelude.{All, filter, nat_le}
+use Rattle.std.proofs.lemmas.Bool.{leb-false}
+use Rattle.std.proofs.lemmas.Bool.Decides.{nat_tests}
+use Rattle.std.proofs.lemmas.List.Elements.{All-nil, All-cons, All-head, All-tail, All-push, All-weaker, All-filter}
+use Rattle.delivery_duties.specs.declared.stored.StoredMessage.{StoredMessage}
+use Rattle.delivery_duties.specs.Queues.{Queue, messages_after, messages_through}
+use Rattle.delivery_duties.specs.Sound.{AreRising, IsNumbered, starts_by}
+
+pub single : {X : Type 0} (xs : List X) → length xs ≡ 1 → (x : X) × (xs ≡ x ∷ [])
+single [] h = absurd (omega (arith, h))
+single (x ∷ []) h = (x, refl)
+single (x ∷ y ∷ ys) h = absurd (omega (arith, h))
+
+abbrev Below : StoredMessage → StoredMessage → Type 0
+Below m other = m.number < other.number
+
+rising_push : (m : StoredMessage) (xs : List StoredMessage) → AreRising xs → All (λ o. o.number < m.number) xs → AreRising (xs ++ m ∷ [])
+rising_push m [] r a = (All-nil (Below m), tt)
+rising_push m (x ∷ xs) r a = (
+  All-push (Below x) xs m r.0 (All-head (λ (o : StoredMessage). o.number < m.number) x xs a),
+  rising_push m xs r.1 (All-tail (λ (o : StoredMessage). o.number < m.number) x xs a),
+)
+
+pub numbered_next : (q : Queue) (letter numbered messages : List StoredMessage) → IsNumbered q → length letter ≡ 1
+    → ((m : StoredMessage) → letter ≡ m ∷ [] → numbered ≡ record m { number = q.sent + 1 } ∷ []) → messages ≡ q.messages ++ numbered
+    → IsNumbered (record { name = q.name; sent = q.sent + 1; messages = messages })
+numbered_next q letter numbered messages h one is e =
+    let k = single letter one in
+    let m : StoredMessage = record k.0 { number = q.sent + 1 } in
+    let all : messages ≡ q.messages ++ m ∷ [] = e ∙ ap (λ ms. q.messages ++ ms) (is k.0 k.1) in
+    let F : List StoredMessage → Type 0 = λ ms. IsNumbered (record { name = q.name; sent = q.sent + 1; messages = ms }) in
+    let last : All (λ (o : StoredMessage). o.number ≤ q.sent) q.messages = h.by_last in
+    let made : F (q.messages ++ m ∷ []) = record {
+      rising = rising_push m q.messages h.rising
+          (All-weaker (λ (o : StoredMessage). o.number ≤ q.sent) (λ o. o.number < m.number) (λ o le. omega (arith, le)) q.messages last);
+      by_last = All-push (λ (o : StoredMessage). o.number ≤ q.sent + 1) q.messages m
+          (All-weaker (λ (o : StoredMessage). o.number ≤ q.sent) (λ o. o.number ≤ q.sent + 1) (λ o le. omega (arith, le)) q.messages last) (omega arith);
+      few = omega (arith, h.few, length-append q.messages (m ∷ []));
+    } in
+    subst F (sym all) made
+
+-- the first message goes
+pub after_front : (through : ℕ) (xs ms : List StoredMessage) (front : StoredMessage) → xs ≡ front ∷ ms → starts_by through xs ≡ true
+    → messages_after through ms ≡ messages_after through xs
+after_front through xs ms front e test =
+    let first : nat_le front.number through ≡ true = subst (λ ys. starts_by through ys ≡ true) e test in
+    subst (λ ys. messages_after through ms ≡ messages_after through ys) (sym e) (rw first refl)
+
+pub rising_rest : (xs ms : List StoredMessage) (front : StoredMessage) → xs ≡ front ∷ ms → AreRising xs → AreRising ms
+rising_rest xs ms front e r = (subst AreRising e r).1
+
+greater_test : (a b : ℕ) → b < a → nat_le a b ≡ false
+greater_test a b h = grind (arith, nat_tests)
+
+after_greater : (through : ℕ) (xs : List StoredMessage) → All (λ o. through < o.number) xs → messages_after through xs ≡ xs
+after_greater through [] a = refl
+after_greater through (m ∷ ms) a =
+    let P : StoredMessage → Type 0 = λ o. through < o.number in
+    let above = All-head P m ms a in
+    let test : nat_le m.number through ≡ false = greater_test m.number through above in
+    rw test (ap (λ ys. m ∷ ys) (after_greater through ms (All-tail P m ms a)))
+
+-- no message is up to the number
+pub after_all : (through : ℕ) (xs : List StoredMessage) → AreRising xs → starts_by through xs ≡ false → messages_after through xs ≡ xs
+after_all through [] r e = refl
+after_all through (m ∷ ms) r e =
+    let above : through < m.number = leb-false m.number through e in
+    after_greater through (m ∷ ms) (All-cons (λ (o : StoredMessage). through < o.number) m ms above
+    (All-weaker (Below m) (λ o. through < o.number) (λ o lt. omega (arith, above, lt)) ms r.0))
+
+-- both parts together
+pub through_count : (through : ℕ) (xs : List StoredMessage) → length (messages_through through xs) + length (messages_after through xs) ≡ length xs
+through_count through [] = refl
+through_count through (m ∷ ms) =
+    elim (nat_le m.number through) as (λ b. length (cond b (m ∷ messages_through through ms) (messages_through through ms))
+    + length (cond (not b) (m ∷ messages_after through ms) (messages_after through ms)) ≡ length (m ∷ ms)) [
+      | true ↦ omega (arith, through_count through ms)
+      | false ↦ omega (arith, through_count through ms)
+    ]
+
+rising_filter : (p : StoredMessage → Bool) (xs : List StoredMessage) → AreRising xs → AreRising (filter p xs)
+rising_filter p [] r = tt
+rising_filter p (m ∷ ms) r =
+    elim (p m) as (λ b. AreRising (cond b (m ∷ filter p ms) (filter p ms))) [
+      | true ↦ (All-filter p (Below m) ms r.0, rising_filter p ms r.1)
+      | false ↦ rising_filter p ms r.1
+    ]
+
+pub numbered_after : (through : ℕ) (q : Queue) (messages : List StoredMessage) → IsNumbered q → messages ≡ messages_after through q.messages
+    → IsNumbered (record q { messages = messages })
+numbered_after through q messages h e =
+    let F : List StoredMessage → Type 0 = λ ms. IsNumbered (record q { messages = ms }) in
+    let left : F (messages_after through q.messages) = record {
+      rising = rising_filter (λ (m : StoredMessage). not (nat_le m.number through)) q.messages h.rising;
+      by_last = All-filter (λ (m : StoredMessage). not (nat_le m.number through)) (λ (o : StoredMessage). o.number ≤ q.sent) q.messages h.by_last;
+      few = omega (arith, h.few, through_count through q.messages);
+    } in
+    subst F (sym e) left

@@ -1,0 +1,51 @@
+-- The six texts of a dead letter. This project's own rules, in the form of the public guide's dead-letter attributes.
+use Rattle.std.specs.Prelude.{ℕ, List, [], ◌++◌, Option, Some, None, codes, decimal}
+use Rattle.delivery_duties.specs.declared.failure.Cause.{Cause}
+use Rattle.delivery_duties.specs.declared.failure.Cause.TheVariants.{Answered, Unanswered, NotAttempted, TextTooLong, QueueMissing}
+use Rattle.delivery_duties.specs.declared.failure.RetryLimit.{RetryLimit}
+use Rattle.delivery_duties.specs.declared.failure.RetryLimit.TheVariants.{MaximumAttempts, MaximumAge}
+use Rattle.delivery_duties.specs.declared.stored.DeadLetter.{DeadLetter}
+use Rattle.delivery_duties.specs.declared.stored.StoredMessage.{StoredMessage}
+use Rattle.delivery_duties.specs.declared.message.DeadLetterAttributes.{DeadLetterAttributes}
+use Rattle.delivery_duties.specs.declared.message.QueueMessage.{QueueMessage}
+
+-- ERROR_CODE
+abbrev pub error_code : Cause → List ℕ
+error_code (Answered code) = codes "STATUS_" ++ decimal code
+error_code Unanswered = codes "NO_ANSWER"
+error_code NotAttempted = codes "NO_ATTEMPT"
+error_code TextTooLong = codes "TEXT_TOO_LONG"
+error_code QueueMissing = codes "QUEUE_NOT_FOUND"
+
+-- ERROR_MESSAGE
+abbrev pub error_message : Cause → List ℕ
+error_message (Answered code) = codes "Target answered " ++ (decimal code ++ codes ".")
+error_message Unanswered = codes "Target gave no answer."
+error_message NotAttempted = codes "No attempt was made."
+error_message TextTooLong = codes "The text is over 1048576 bytes."
+error_message QueueMissing = codes "The queue does not exist."
+
+-- EXHAUSTED_RETRY_CONDITION
+abbrev pub exhausted_retry_condition : Option RetryLimit → List ℕ
+exhausted_retry_condition None = []
+exhausted_retry_condition (Some MaximumAttempts) = codes "MaximumRetryAttempts"
+exhausted_retry_condition (Some MaximumAge) = codes "MaximumEventAgeInSeconds"
+
+abbrev pub attributes_of : DeadLetter → DeadLetterAttributes
+attributes_of d = record {
+  rule_arn = d.target.rule_arn;
+  target_arn = d.target.endpoint;
+  error_code = error_code d.failure.cause;
+  error_message = error_message d.failure.cause;
+  exhausted_retry_condition = exhausted_retry_condition d.failure.exhausted;
+  retry_attempts = decimal d.failure.retries;
+}
+
+-- a delivered text has no attributes
+abbrev pub attributes_in : Option DeadLetter → Option DeadLetterAttributes
+attributes_in None = None
+attributes_in (Some d) = Some (attributes_of d)
+
+-- the message as `peek` returns it
+abbrev pub shown : StoredMessage → QueueMessage
+shown m = record { number = m.number; body = m.body; attributes = attributes_in m.dead }
