@@ -39,28 +39,37 @@ attempts_key = 123 ∷ 34 ∷ (codes "Attempts" ++ 34 ∷ 58 ∷ [])
 abbrev pub delivered_key : List ℕ
 delivered_key = 44 ∷ 34 ∷ (codes "Delivered" ++ 34 ∷ 58 ∷ [])
 
+abbrev pub dead_lettered_key : List ℕ
+dead_lettered_key = 44 ∷ 34 ∷ (codes "DeadLettered" ++ 34 ∷ 58 ∷ [])
+
 abbrev pub dropped_key : List ℕ
-dropped_key = 44 ∷ 34 ∷ (codes "DeadLettered" ++ 34 ∷ 58 ∷ 48 ∷ 44 ∷ 34 ∷ (codes "Dropped" ++ 34 ∷ 58 ∷ []))
+dropped_key = 44 ∷ 34 ∷ (codes "Dropped" ++ 34 ∷ 58 ∷ [])
 
 counts_body : (n : Counts) → compact_text (counted n).body
-    ≡ attempts_key ++ (decimal n.attempts ++ (delivered_key ++ (decimal n.delivered ++ (dropped_key ++ (decimal n.dropped ++ 125 ∷ [])))))
+    ≡ attempts_key ++ (decimal n.attempts ++ (delivered_key ++ (decimal n.delivered
+    ++ (dead_lettered_key ++ (decimal n.dead_lettered ++ (dropped_key ++ (decimal n.dropped ++ 125 ∷ [])))))))
 counts_body n = simp append_assoc
 
-counts_len : (n : Counts)
-    → length (compact_text (counted n).body) ≡ 54 + length (decimal n.attempts) + length (decimal n.delivered) + length (decimal n.dropped)
+-- the number of bytes of the body
+abbrev pub counts_length : Counts → ℕ
+counts_length n =
+    53 + length (decimal n.attempts) + length (decimal n.delivered) + length (decimal n.dead_lettered) + length (decimal n.dropped)
+
+counts_len : (n : Counts) → length (compact_text (counted n).body) ≡ counts_length n
 counts_len n = ap length (counts_body n) ∙ simp length-append (omega arith)
 
-joined : (h a b c d e f g : List ℕ)
-    → ((((((h ++ a) ++ b) ++ c) ++ d) ++ e) ++ f) ++ g ≡ h ++ (a ++ (b ++ (c ++ (d ++ (e ++ (f ++ g))))))
-joined h a b c d e f g = simp append_assoc
+joined : (h a b c d e f g i j : List ℕ)
+    → ((((((((h ++ a) ++ b) ++ c) ++ d) ++ e) ++ f) ++ g) ++ i) ++ j ≡ h ++ (a ++ (b ++ (c ++ (d ++ (e ++ (f ++ (g ++ (i ++ j))))))))
+joined h a b c d e f g i j = simp append_assoc
 
-pub counts_joined : (n : Counts) (len : ℕ) (close : Bool) → len ≡ 54 + length (decimal n.attempts) + length (decimal n.delivered) + length (decimal n.dropped)
-    → ((((((head_text 200 len close ++ attempts_key) ++ decimal n.attempts) ++ delivered_key) ++ decimal n.delivered) ++ dropped_key)
-    ++ decimal n.dropped) ++ 125 ∷ []
+pub counts_joined : (n : Counts) (len : ℕ) (close : Bool) → len ≡ counts_length n
+    → ((((((((head_text 200 len close ++ attempts_key) ++ decimal n.attempts) ++ delivered_key) ++ decimal n.delivered)
+    ++ dead_lettered_key) ++ decimal n.dead_lettered) ++ dropped_key) ++ decimal n.dropped) ++ 125 ∷ []
     ≡ reply_text (counted n) close
 counts_joined n len close is =
     let body = compact_text (counted n).body in
-    joined (head_text 200 len close) attempts_key (decimal n.attempts) delivered_key (decimal n.delivered) dropped_key (decimal n.dropped) (125 ∷ [])
+    joined (head_text 200 len close) attempts_key (decimal n.attempts) delivered_key (decimal n.delivered) dead_lettered_key
+    (decimal n.dead_lettered) dropped_key (decimal n.dropped) (125 ∷ [])
     ∙ ap (λ l. head_text 200 len close ++ l) (sym (counts_body n))
     ∙ ap (λ m. head_text 200 m close ++ body) (is ∙ sym (counts_len n))
     ∙ reply_joined [] body 200 close (inl refl)

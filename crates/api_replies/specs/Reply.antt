@@ -53,17 +53,18 @@ too_large = refusal 413 (codes "TooLarge") (codes "The body is over 1048576 byte
 abbrev pub head_too_large : Reply
 head_too_large = refusal 431 (codes "HeadTooLarge") (codes "The head is over 16384 bytes or 64 fields.")
 
--- the counts of one DeliverDue: duties attempted, delivered and dropped
+-- the counts of one DeliverDue: duties attempted, delivered, dead-lettered and dropped
 pub record Counts : Type 0 where
   pub attempts : ℕ
   pub delivered : ℕ
+  pub dead_lettered : ℕ
   pub dropped : ℕ
 
--- the reply to a DeliverDue; there are no dead-letter queues, so `DeadLettered` is 0
+-- the reply to a DeliverDue
 abbrev pub counted : Counts → Reply
 counted n = served (
     (codes "Attempts", number (decimal n.attempts))
     ∷ (codes "Delivered", number (decimal n.delivered))
-    ∷ (codes "DeadLettered", number (codes "0"))
+    ∷ (codes "DeadLettered", number (decimal n.dead_lettered))
     ∷ (codes "Dropped", number (decimal n.dropped))
     ∷ [])

@@ -14,7 +14,7 @@ use std::marker::Model;
 const ROOM: usize = 256;
 
 /// The number of bytes of its body that are no digits of a count.
-const BODY_REST: usize = 54;
+const BODY_REST: usize = 53;
 
 /// Room for the reply to a DeliverDue. It is allocated before the steps are made, so the reply then needs no memory, whatever
 /// the counts.
@@ -44,31 +44,59 @@ impl CountsReply {
     }
 
     /// The bytes of the reply. They replace those of an earlier one. `close` is true if the connection ends after the reply.
-    pub fn fill(&mut self, attempts: u32, delivered: u32, dropped: u32, close: bool) -> &[u8]
-        ensures { result.now ≡ reply_text (counted (record { attempts = attempts; delivered = delivered; dropped = dropped })) close }
+    pub fn fill(
+        &mut self,
+        attempts: u32,
+        delivered: u32,
+        dead_lettered: u32,
+        dropped: u32,
+        close: bool,
+    ) -> &[u8]
+        ensures { result.now ≡ reply_text (counted (record {
+          attempts = attempts;
+          delivered = delivered;
+          dead_lettered = dead_lettered;
+          dropped = dropped;
+        })) close }
     {
-        self.put_reply(attempts, delivered, dropped, close);
+        self.put_reply(attempts, delivered, dead_lettered, dropped, close);
         self.bytes.as_slice()
     }
 
-    fn put_reply(&mut self, attempts: u32, delivered: u32, dropped: u32, close: bool)
-        ensures { self.new ≡ reply_text (counted (record { attempts = attempts; delivered = delivered; dropped = dropped })) close }
+    fn put_reply(
+        &mut self,
+        attempts: u32,
+        delivered: u32,
+        dead_lettered: u32,
+        dropped: u32,
+        close: bool,
+    )
+        ensures { self.new ≡ reply_text (counted (record {
+          attempts = attempts;
+          delivered = delivered;
+          dead_lettered = dead_lettered;
+          dropped = dropped;
+        })) close }
     {
         let mut first = Buffer::new();
         let mut second = Buffer::new();
         let mut third = Buffer::new();
+        let mut fourth = Buffer::new();
         let attempts = first.format(attempts);
         let delivered = second.format(delivered);
-        let dropped = third.format(dropped);
+        let dead_lettered = third.format(dead_lettered);
+        let dropped = fourth.format(dropped);
         self.put_head(
-            BODY_REST + attempts.len() + delivered.len() + dropped.len(),
+            BODY_REST + attempts.len() + delivered.len() + dead_lettered.len() + dropped.len(),
             close,
         );
         self.put("{\"Attempts\":");
         self.put(attempts);
         self.put(",\"Delivered\":");
         self.put(delivered);
-        self.put(",\"DeadLettered\":0,\"Dropped\":");
+        self.put(",\"DeadLettered\":");
+        self.put(dead_lettered);
+        self.put(",\"Dropped\":");
         self.put(dropped);
         self.put("}");
     }

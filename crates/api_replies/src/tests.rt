@@ -329,15 +329,25 @@ fn replies_without_memory_are_written_out(rt: HostRuntime) -> Result<(), Fail> {
 }
 
 #[test]
-fn counts_are_told_without_memory(rt: HostRuntime) -> Result<(), Fail> {
+fn counts_are_reported_without_memory(rt: HostRuntime) -> Result<(), Fail> {
     let mut counts = CountsReply::new(rt.alloc())?;
     assert_eq!(rt;
-        counts.fill(1, 1, 0, false),
+        counts.fill(1, 1, 0, 0, false),
         b"HTTP/1.1 200 OK\r\nContent-Type: application/x-amz-json-1.1\r\nContent-Length: 57\r\n\r\n{\"Attempts\":1,\"Delivered\":1,\"DeadLettered\":0,\"Dropped\":0}".as_slice()
     );
     assert_eq!(rt;
-        counts.fill(4_294_967_295, 4_294_967_295, 4_294_967_295, true),
-        b"HTTP/1.1 200 OK\r\nContent-Type: application/x-amz-json-1.1\r\nContent-Length: 84\r\nConnection: close\r\n\r\n{\"Attempts\":4294967295,\"Delivered\":4294967295,\"DeadLettered\":0,\"Dropped\":4294967295}".as_slice()
+        counts.fill(10, 2, 3, 4, false),
+        b"HTTP/1.1 200 OK\r\nContent-Type: application/x-amz-json-1.1\r\nContent-Length: 58\r\n\r\n{\"Attempts\":10,\"Delivered\":2,\"DeadLettered\":3,\"Dropped\":4}".as_slice()
+    );
+    assert_eq!(rt;
+        counts.fill(
+            4_294_967_295,
+            4_294_967_295,
+            4_294_967_295,
+            4_294_967_295,
+            true
+        ),
+        b"HTTP/1.1 200 OK\r\nContent-Type: application/x-amz-json-1.1\r\nContent-Length: 93\r\nConnection: close\r\n\r\n{\"Attempts\":4294967295,\"Delivered\":4294967295,\"DeadLettered\":4294967295,\"Dropped\":4294967295}".as_slice()
     );
     Ok(())
 }
