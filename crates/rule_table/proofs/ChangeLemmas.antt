@@ -1,6 +1,6 @@
 -- When the bus is known: is a change allowed, and what does it make? For the answers of `RuleSet::put_rule` (`found_changed`,
 -- `rule_allowed`, `rule_full`) and of the calls that change one rule (`bus_there`, `rule_found`, `rule_missing`, `no_rule`, `for_rule`,
--- `rule_changed`, `targets_sorted`), and of `put_policy` (`policy_refused`).
+-- `rule_changed`, `targets_sorted`), of `put_policy` (`policy_refused`), and of `Bus::with_rule` (`arns_of`, `pattern_put`).
 use Rattle.std.proofs.Common.{◌≡◌, ◌≤◌, ◌⊎◌, ℕ, Bool, true, List, length, Option, Some, None, inl, inr, refl, ap, sym, ◌∙◌, subst}
 use Rattle.std.specs.Prelude.{is_some, All}
 use Rattle.std.proofs.lemmas.Bool.{false_from_ne_true}
@@ -11,12 +11,14 @@ use Rattle.api_replies.specs.declared.kind.Kind.TheVariants as kind
 use Rattle.api_replies.specs.declared.member.Member.TheVariants as member
 use Rattle.name_rows.specs.Rows.{AreSorted, named, placed, replacing}
 use Rattle.rule_table.specs.Control.{rule_put}
-use Rattle.rule_table.specs.RuleSet.{Rule, Bus, RuleSet, changed, with_rule_changed, rules_in, rule_at, has_bus, IsNoneOrStored, ForRule, IsAllowed, IsSound}
-use Rattle.rule_table.specs.Refusal.{IsRuleRefused, rule_limit, HasNoRule, no_such_rule, IsPolicyRefused, no_policy}
+use Rattle.rule_table.specs.RuleSet.{Rule, Bus, RuleSet, changed, new_rule, keeping_targets, with_rule_changed, rules_in, rule_at, has_bus}
+use Rattle.rule_table.specs.RuleSet.{IsNoneOrStored, ForRule, IsAllowed, HasItsArn, IsSound}
+use Rattle.event_shape.specs.Names.{rule_arn}
+use Rattle.rule_table.specs.Refusal.{IsRuleRefused, rule_limit, HasNoRule, no_such_rule, IsTooLong, IsPolicyRefused, no_policy}
 use Rattle.rule_table.specs.Room.{HasRoom}
 use Rattle.rule_table.specs.declared.control.ControlFault.{ControlFault}
 use Rattle.rule_table.specs.declared.control.ControlFault.TheVariants.{ResourceNotFound, LimitExceeded, Validation, NoMemory}
-use Rattle.rule_table.proofs.RowLemmas.{changed_placed, All_named}
+use Rattle.rule_table.proofs.RowLemmas.{changed_placed, named_name, All_named}
 use Rattle.rule_table.proofs.RefusalLemmas.{none_of}
 
 -- the bus with this name
@@ -89,8 +91,22 @@ targets_sorted bus rule rules old r f there k =
     All_named InOrder (λ r. r.name) rule old.rules r there (All_named (λ (b : Bus). All InOrder b.rules) (λ b. b.name) bus rules.buses old f k.target_order)
 
 -- what a policy's own refusal is to the call
-pub policy_refused : (bus : List ℕ) (policy : Option (List ℕ)) (rules : RuleSet) (fault : ControlFault)
+pub policy_refused : (bus : List ℕ) (policy : Option (List ℕ)) (rules : RuleSet) (fault : ControlFault) → ¬ IsTooLong policy
     → (fault ≡ NoMemory) ⊎ ((fault ≡ Validation member.Policy) × (¬ IsNoneOrStored policy))
     → (fault ≡ NoMemory) ⊎ IsPolicyRefused bus policy rules fault
-policy_refused bus policy rules fault (inl out) = inl out
-policy_refused bus policy rules fault (inr (is, n)) = inr (subst (IsPolicyRefused bus policy rules) (sym is) (no_policy n))
+policy_refused bus policy rules fault short (inl out) = inl out
+policy_refused bus policy rules fault short (inr (is, n)) = inr (subst (IsPolicyRefused bus policy rules) (sym is) (no_policy short n))
+
+-- the rules of a bus have the ARNs that name them and the bus
+pub arns_of : (bus : List ℕ) (rules : RuleSet) (old : Bus) → IsFound rules bus old → IsSound rules → All (HasItsArn old.name) old.rules
+arns_of bus rules old f k = All_named (λ (b : Bus). All (HasItsArn b.name) b.rules) (λ b. b.name) bus rules.buses old f k.arns
+
+-- a rule that gets a pattern and a state is the new rule with the old one's targets
+pub pattern_put : (bus name pattern : List ℕ) (enabled : Bool) (rules : List Rule) (old : Rule) → named (λ rule. rule.name) name rules ≡ Some old
+    → All (HasItsArn bus) rules → record old { pattern = pattern; enabled = enabled } ≡ keeping_targets old (new_rule bus name pattern enabled)
+pattern_put bus name pattern enabled rules old there arns =
+    let name_of : Rule → List ℕ = λ rule. rule.name in
+    let same : old.name ≡ name = named_name name_of name rules old there in
+    let arn : old.arn ≡ rule_arn bus name = All_named (HasItsArn bus) name_of name rules old there arns ∙ ap (rule_arn bus) same in
+    ap (λ a. record old { arn = a; pattern = pattern; enabled = enabled }) arn
+    ∙ ap (λ n. record old { arn = rule_arn bus name; name = n; pattern = pattern; enabled = enabled }) same

@@ -6,7 +6,7 @@ use Rattle.name_rows.proofs.RowLemmas.{by_test}
 use Rattle.rule_table.specs.Control.{Control, bus_created, bus_deleted, rule_put, rule_deleted, state_put, targets_put, targets_removed, policy_put}
 use Rattle.rule_table.specs.Control.{queue_created}
 use Rattle.rule_table.specs.Altered.{changed_bus, matching_of, matching_of_rule}
-use Rattle.rule_table.specs.RuleSet.{Rule, Bus, RuleSet, changed, with_rule_changed, applied, put_rule, without_rule, put_targets, without_targets}
+use Rattle.rule_table.specs.RuleSet.{Rule, Bus, RuleSet, changed, with_rule_changed, applied, new_rule, put_rule, without_rule, put_targets, without_targets}
 use Rattle.rule_table.specs.declared.control.Target.{Target}
 use Rattle.rule_table.proofs.RowLemmas.{named_changed, named_put, named_without}
 
@@ -30,7 +30,7 @@ other_stays (bus_created name) set bus apart =
     named_put (λ (b : Bus). b.name) replacing new bus set.buses (λ old. refl) (λ e. apart (ap (λ n. Some n) e))
 other_stays (bus_deleted name) set bus apart = named_without (λ (b : Bus). b.name) name bus set.buses (λ e. apart (ap (λ n. Some n) e))
 other_stays (rule_put name rule pattern enabled) set bus apart =
-    let new : Rule = record { name = rule; pattern = pattern; enabled = enabled; targets = [] } in
+    let new : Rule = new_rule name rule pattern enabled in
     bus_stays name bus (λ b. record b { rules = put_rule new b.rules }) set (λ b. refl) apart
 other_stays (rule_deleted name rule) set bus apart = bus_stays name bus (λ b. record b { rules = without_rule rule b.rules }) set (λ b. refl) apart
 other_stays (state_put name rule enabled) set bus apart =

@@ -1,7 +1,9 @@
 pub mod RowLemmas
 pub mod RefusalLemmas
+pub mod AllowedLemmas
 pub mod SortedLemmas
 pub mod ChangeLemmas
+pub mod TargetLemmas
 pub mod LawLemmas
 pub mod LossLemmas
 pub mod FormLemmas

@@ -4,21 +4,17 @@ use Rattle.std.specs.List.{Contains}
 use Rattle.std.specs.Str.{bytes_eq}
 use Rattle.std.proofs.lemmas.Bool.{false≢true}
 use Rattle.std.proofs.lemmas.List.Elements.{Contains-append_right}
-use Rattle.std.proofs.lemmas.Slice.Eq.{bytes_eq-Decides}
 use Rattle.name_rows.specs.Rows.{AreSorted, named, replacing, without}
 use Rattle.name_rows.proofs.RowLemmas.{by_test}
 use Rattle.rule_table.specs.declared.control.Target.{Target}
 use Rattle.rule_table.specs.Control.{Control, bus_created, bus_deleted, rule_put, rule_deleted, state_put, targets_put, targets_removed, policy_put}
 use Rattle.rule_table.specs.Control.{queue_created}
-use Rattle.rule_table.specs.RuleSet.{Rule, Bus, RuleSet, changed, with_rule_changed, applied, keeping_targets, put_bus, without_bus, put_rule, without_rule}
+use Rattle.rule_table.specs.RuleSet.{Rule, Bus, RuleSet, changed, with_rule_changed, applied, new_rule, keeping_targets, put_bus, without_bus, put_rule, without_rule}
 use Rattle.rule_table.specs.RuleSet.{put_target, put_targets, without_targets, rules_in, rules_of, rule_at, targets_in, has_bus, ForRule, IsAllowed, IsSound}
-use Rattle.rule_table.specs.Altered.{has_rule, has_target}
-use Rattle.rule_table.proofs.RowLemmas.{All_named, bytes_same, named_without, named_put, named_put_same, after_changed, joined_placed}
+use Rattle.rule_table.specs.Altered.{has_rule, has_target_of_rule}
+use Rattle.rule_table.proofs.RowLemmas.{All_named, bytes_same, bytes_differ, named_without, named_put, named_put_same, after_changed, joined_placed}
 use Rattle.rule_table.proofs.RefusalLemmas.{none_of, by_option}
 use Rattle.rule_table.proofs.SortedLemmas.{named_placed}
-
-bytes_differ : (a b : List ℕ) → bytes_eq a b ≡ false → ¬ (a ≡ b)
-bytes_differ a b e same = false≢true (sym e ∙ (bytes_eq-Decides a b).1 same)
 
 -- by whether two names are the same
 by_names : {G : Type 0} (a b : List ℕ) → (a ≡ b → G) → (¬ (a ≡ b) → G) → G
@@ -56,7 +52,7 @@ bus_kept (bus_deleted name) set bus a there =
     (λ same. inr (ap bus_deleted same, subst (λ n. rules_of n set ≡ []) same a.2))
     (λ apart. inl (ap is_some (named_without bus_name name bus set.buses apart) ∙ there))
 bus_kept (rule_put name rule pattern enabled) set bus a there =
-    let new : Rule = record { name = rule; pattern = pattern; enabled = enabled; targets = [] } in
+    let new : Rule = new_rule name rule pattern enabled in
     inl (bus_stays_there name bus (λ b. record b { rules = put_rule new b.rules }) set (λ b. refl) there)
 bus_kept (rule_deleted name rule) set bus a there =
     inl (bus_stays_there name bus (λ b. record b { rules = without_rule rule b.rules }) set (λ b. refl) there)
@@ -113,7 +109,7 @@ rule_kept (bus_created new) set bus name a there =
     inl (created_elsewhere new bus set (λ o. IsIn rule_name name (rules_in o)) (never_named name) a.0 there)
 rule_kept (bus_deleted old) set bus name a there = inl (deleted_elsewhere old bus set (IsIn rule_name name) (never_named name) a.2 there)
 rule_kept (rule_put on rule pattern enabled) set bus name a there =
-    let new : Rule = record { name = rule; pattern = pattern; enabled = enabled; targets = [] } in
+    let new : Rule = new_rule on rule pattern enabled in
     inl (in_rules on bus (put_rule new) set (IsIn rule_name name) there
     (λ b same is p. named_placed rule_name keeping_targets new name b.rules (λ old. refl) p))
 rule_kept (rule_deleted on rule) set bus name a there =
@@ -160,7 +156,7 @@ is_removed (first ∷ ids) id =
 
 -- the targets of a rule change, and this one stays
 target_stays : (on rule bus other id : List ℕ) (change : Rule → Rule) (set : RuleSet) → ((r : Rule) → (change r).name ≡ r.name)
-    → ((r : Rule) → on ≡ bus → rule ≡ other → IsIn id_of id r.targets → IsIn id_of id (change r).targets) → has_target bus other id set ≡ true
+    → ((r : Rule) → on ≡ bus → rule ≡ other → IsIn id_of id r.targets → IsIn id_of id (change r).targets) → has_target_of_rule bus other id set ≡ true
     → HasIt other id (rules_in (named bus_name bus (changed bus_name on (with_rule_changed rule change) set.buses)))
 target_stays on rule bus other id change set c stays there =
     let Has : Option Rule → Type 0 = λ o. IsIn id_of id (targets_in o) in
@@ -183,7 +179,7 @@ put_has_it new other id rules o p =
     (λ apart. subst Has (sym (named_put rule_name keeping_targets new other rules (λ old. refl) apart)) p)
 
 -- a rule that is deleted has no target
-deleted_has_none : (bus rule id : List ℕ) (set : RuleSet) → ForRule (rule_at bus rule set) (λ r. r.targets ≡ []) → ¬ (has_target bus rule id set ≡ true)
+deleted_has_none : (bus rule id : List ℕ) (set : RuleSet) → ForRule (rule_at bus rule set) (λ r. r.targets ≡ []) → ¬ (has_target_of_rule bus rule id set ≡ true)
 deleted_has_none bus rule id set a there =
     by_option (rule_at bus rule set)
     (λ none. subst (λ o. ForRule o (λ r. r.targets ≡ [])) none a)
@@ -191,14 +187,14 @@ deleted_has_none bus rule id set a there =
     let has : IsIn id_of id r.targets = subst (λ o. IsIn id_of id (targets_in o)) is there in
     false≢true (subst (IsIn id_of id) empty has))
 
-pub target_kept : (control : Control) (set : RuleSet) (bus rule id : List ℕ) → IsAllowed control set → IsSound set → has_target bus rule id set ≡ true
-    → (has_target bus rule id (applied control set) ≡ true)
+pub target_kept : (control : Control) (set : RuleSet) (bus rule id : List ℕ) → IsAllowed control set → IsSound set → has_target_of_rule bus rule id set ≡ true
+    → (has_target_of_rule bus rule id (applied control set) ≡ true)
     ⊎ ((ids : List (List ℕ)) × (control ≡ targets_removed bus rule ids) × Contains ids id)
 target_kept (bus_created new) set bus rule id a k there =
     inl (created_elsewhere new bus set (λ o. HasIt rule id (rules_in o)) (never_has_it rule id) a.0 there)
 target_kept (bus_deleted old) set bus rule id a k there = inl (deleted_elsewhere old bus set (HasIt rule id) (never_has_it rule id) a.2 there)
 target_kept (rule_put on name pattern enabled) set bus rule id a k there =
-    let new : Rule = record { name = name; pattern = pattern; enabled = enabled; targets = [] } in
+    let new : Rule = new_rule on name pattern enabled in
     let IsInOrder : Bus → Type 0 = λ b. AreSorted rule_name b.rules in
     inl (in_rules on bus (put_rule new) set (HasIt rule id) there
     (λ b here is p. put_has_it new rule id b.rules (All_named IsInOrder bus_name bus set.buses b is k.rule_order) p))

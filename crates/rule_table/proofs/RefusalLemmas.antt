@@ -19,15 +19,15 @@ use Rattle.rule_table.specs.declared.control.ControlFault.{ControlFault}
 use Rattle.rule_table.specs.Control.{Control, bus_created, bus_deleted, rule_put, rule_deleted, state_put, targets_put, targets_removed, policy_put}
 use Rattle.rule_table.specs.Control.{queue_created}
 use Rattle.rule_table.specs.RuleSet.{Rule, RuleSet, put_target, put_targets, rules_in, rule_at, has_bus, has_queue, IsQueueThere}
-use Rattle.rule_table.specs.RuleSet.{IsGoodTarget, AreGoodTargets, AreRemovable, ForRule, IsAllowed}
+use Rattle.rule_table.specs.RuleSet.{IsGoodTarget, AreGoodTargets, AreRemovable, IsNoneOrStored, ForRule, IsAllowed}
 use Rattle.rule_table.specs.Refusal.{HasTargetFault, bad_id, bad_arn, unsupported, no_queue, sixth, HasFaultyTarget}
 use Rattle.rule_table.specs.Refusal.{IsRuleRefused, no_pattern, rule_without_bus, rule_limit}
-use Rattle.rule_table.specs.Refusal.{AreTargetsRefused, targets_without_bus, targets_without_rule, faulty_targets}
+use Rattle.rule_table.specs.Refusal.{AreTargetsRefused, no_rule_to_put_to, faulty_targets}
 use Rattle.rule_table.specs.Refusal.{IsBusRefused, bus_exists, bus_limit}
 use Rattle.rule_table.specs.Refusal.{IsBusDeletionRefused, default_stays, no_bus_to_delete, bus_in_use}
 use Rattle.rule_table.specs.Refusal.{HasNoRule, no_such_bus, no_such_rule, IsRuleDeletionRefused, no_rule_to_delete, rule_has_targets}
 use Rattle.rule_table.specs.Refusal.{AreRemovalsRefused, no_rule_to_remove_from, faulty_ids}
-use Rattle.rule_table.specs.Refusal.{IsPolicyRefused, no_policy, policy_without_bus}
+use Rattle.rule_table.specs.Refusal.{IsTooLong, IsPolicyRefused, no_policy, policy_without_bus, policy_too_long}
 use Rattle.rule_table.specs.Refusal.{IsQueueRefused, queue_exists, queue_limit, IsRefused}
 
 -- ---- what can be decided
@@ -166,12 +166,14 @@ pub good_few : (set : RuleSet) (news targets : List Target) → AreGoodTargets s
 good_few set [] targets good few = few
 good_few set (new ∷ news) targets good few = good_few set news (put_target new targets) good.1 good.0.few
 
-pub good_there : (set : RuleSet) (news targets : List Target) → AreGoodTargets set news targets → All (λ target. IsQueueThere set target.arn) targets
-    → All (λ target. IsQueueThere set target.arn) (put_targets news targets)
+pub good_there : (set : RuleSet) (news targets : List Target) → AreGoodTargets set news targets
+    → All (λ target. IsQueueThere set target.arn × (target.unbuilt ≡ None)) targets
+    → All (λ target. IsQueueThere set target.arn × (target.unbuilt ≡ None)) (put_targets news targets)
 good_there set [] targets good all = all
 good_there set (new ∷ news) targets good all =
-    good_there set news (put_target new targets) good.1
-    (All_placed (λ (t : Target). IsQueueThere set t.arn) (λ target. target.id) replacing new targets good.0.queue (λ old p. good.0.queue) all)
+    let Fits : Target → Type 0 = λ t. IsQueueThere set t.arn × (t.unbuilt ≡ None) in
+    let fits : Fits new = (good.0.queue, good.0.supported) in
+    good_there set news (put_target new targets) good.1 (All_placed Fits (λ target. target.id) replacing new targets fits (λ old p. fits) all)
 
 -- ---- a change
 
@@ -194,20 +196,6 @@ one_of_rule bus name pattern set a b (rule_without_bus p is absent) (rule_limit 
 one_of_rule bus name pattern set a b (rule_limit p is there new full) (no_pattern n) = absurd (n p is)
 one_of_rule bus name pattern set a b (rule_limit p is there new full) (rule_without_bus q so absent) = absurd (true_and_false (has_bus bus set) there absent)
 one_of_rule bus name pattern set a b (rule_limit p is there new full) (rule_limit q so also none many) = refl
-
-one_of_targets : (bus rule : List ℕ) (targets : List Target) (set : RuleSet) (a b : ControlFault) → AreTargetsRefused bus rule targets set a
-    → AreTargetsRefused bus rule targets set b → a ≡ b
-one_of_targets bus rule ts set a b (targets_without_bus absent) (targets_without_bus none) = refl
-one_of_targets bus rule ts set a b (targets_without_bus absent) (targets_without_rule there none) = absurd (true_and_false (has_bus bus set) there absent)
-one_of_targets bus rule ts set a b (targets_without_bus absent) (faulty_targets r is h) = absurd
-    (not_both (rule_at bus rule set) r is (no_rule_at bus rule set absent))
-one_of_targets bus rule ts set a b (targets_without_rule there none) (targets_without_bus absent) = absurd (true_and_false (has_bus bus set) there absent)
-one_of_targets bus rule ts set a b (targets_without_rule there none) (targets_without_rule also so) = refl
-one_of_targets bus rule ts set a b (targets_without_rule there none) (faulty_targets r is h) = absurd (not_both (rule_at bus rule set) r is none)
-one_of_targets bus rule ts set a b (faulty_targets r is h) (targets_without_bus absent) = absurd
-    (not_both (rule_at bus rule set) r is (no_rule_at bus rule set absent))
-one_of_targets bus rule ts set a b (faulty_targets r is h) (targets_without_rule there none) = absurd (not_both (rule_at bus rule set) r is none)
-one_of_targets bus rule ts set a b (faulty_targets r is h) (faulty_targets s so k) = refl
 
 one_of_queue : (name : List ℕ) (set : RuleSet) (a b : ControlFault) → IsQueueRefused name set a → IsQueueRefused name set b → a ≡ b
 one_of_queue name set a b (queue_exists there) (queue_exists also) = refl
@@ -252,6 +240,15 @@ one_of_deletion bus name set a b (rule_has_targets r is some) (no_rule_to_delete
     absurd (not_both (rule_at bus name set) r is (no_rule_there bus name set g q))
 one_of_deletion bus name set a b (rule_has_targets r is some) (rule_has_targets s so more) = refl
 
+one_of_targets : (bus rule : List ℕ) (targets : List Target) (set : RuleSet) (a b : ControlFault) → AreTargetsRefused bus rule targets set a
+    → AreTargetsRefused bus rule targets set b → a ≡ b
+one_of_targets bus rule ts set a b (no_rule_to_put_to f p) (no_rule_to_put_to g q) = one_of_no_rule bus rule set f g p q
+one_of_targets bus rule ts set a b (no_rule_to_put_to f p) (faulty_targets r is h) =
+    absurd (not_both (rule_at bus rule set) r is (no_rule_there bus rule set f p))
+one_of_targets bus rule ts set a b (faulty_targets r is h) (no_rule_to_put_to g q) =
+    absurd (not_both (rule_at bus rule set) r is (no_rule_there bus rule set g q))
+one_of_targets bus rule ts set a b (faulty_targets r is h) (faulty_targets s so k) = refl
+
 one_of_removals : (bus rule : List ℕ) (ids : List (List ℕ)) (set : RuleSet) (a b : ControlFault) → AreRemovalsRefused bus rule ids set a
     → AreRemovalsRefused bus rule ids set b → a ≡ b
 one_of_removals bus rule ids set a b (no_rule_to_remove_from f p) (no_rule_to_remove_from g q) = one_of_no_rule bus rule set f g p q
@@ -261,12 +258,26 @@ one_of_removals bus rule ids set a b (faulty_ids r is h) (no_rule_to_remove_from
     absurd (not_both (rule_at bus rule set) r is (no_rule_there bus rule set g q))
 one_of_removals bus rule ids set a b (faulty_ids r is h) (faulty_ids s so k) = refl
 
+-- a policy that is too long is none as it is stored
+pub too_long_not_stored : (policy : Option (List ℕ)) → IsNoneOrStored policy → ¬ IsTooLong policy
+too_long_not_stored None stored long = long
+too_long_not_stored (Some t) stored long = omega (arith, stored.1.spelled.short, long)
+
+neither_of : {P Q : Type 0} → ¬ P → ¬ Q → ¬ (P ⊎ Q)
+neither_of n m (inl p) = n p
+neither_of n m (inr q) = m q
+
 one_of_policy : (bus : List ℕ) (policy : Option (List ℕ)) (set : RuleSet) (a b : ControlFault) → IsPolicyRefused bus policy set a
     → IsPolicyRefused bus policy set b → a ≡ b
-one_of_policy bus policy set a b (no_policy n) (no_policy m) = refl
-one_of_policy bus policy set a b (no_policy n) (policy_without_bus is absent) = absurd (n is)
-one_of_policy bus policy set a b (policy_without_bus is absent) (no_policy n) = absurd (n is)
-one_of_policy bus policy set a b (policy_without_bus is absent) (policy_without_bus so gone) = refl
+one_of_policy bus policy set a b (no_policy s n) (no_policy t m) = refl
+one_of_policy bus policy set a b (no_policy s n) (policy_without_bus either absent) = absurd (neither_of n s either)
+one_of_policy bus policy set a b (no_policy s n) (policy_too_long long there) = absurd (s long)
+one_of_policy bus policy set a b (policy_without_bus either absent) (no_policy s n) = absurd (neither_of n s either)
+one_of_policy bus policy set a b (policy_without_bus either absent) (policy_without_bus other gone) = refl
+one_of_policy bus policy set a b (policy_without_bus either absent) (policy_too_long long there) = absurd (true_and_false (has_bus bus set) there absent)
+one_of_policy bus policy set a b (policy_too_long long there) (no_policy s n) = absurd (s long)
+one_of_policy bus policy set a b (policy_too_long long there) (policy_without_bus either absent) = absurd (true_and_false (has_bus bus set) there absent)
+one_of_policy bus policy set a b (policy_too_long long there) (policy_too_long so also) = refl
 
 pub one_refusal : (control : Control) (set : RuleSet) (a b : ControlFault) → IsRefused control set a → IsRefused control set b → a ≡ b
 one_refusal (bus_created name) set a b p q = one_of_bus name set a b p q
@@ -285,19 +296,6 @@ rule_not_allowed bus name pattern enabled set f (no_pattern n) ((p, is), there, 
 rule_not_allowed bus name pattern enabled set f (rule_without_bus p is absent) (read, there, room) = true_and_false (has_bus bus set) there absent
 rule_not_allowed bus name pattern enabled set f (rule_limit p is there new full) (read, also, inl old) = false≢true (sym (ap is_some new) ∙ old)
 rule_not_allowed bus name pattern enabled set f (rule_limit p is there new full) (read, also, inr few) = omega (arith, full, few)
-
-targets_not_allowed : (bus rule : List ℕ) (targets : List Target) (set : RuleSet) (fault : ControlFault) → AreTargetsRefused bus rule targets set fault
-    → ¬ IsAllowed (targets_put bus rule targets) set
-targets_not_allowed bus rule targets set f (targets_without_bus absent) allowed =
-    subst (λ o. ForRule o (λ r. (1 ≤ length targets) × AreGoodTargets set targets r.targets)) (no_rule_at bus rule set absent) allowed
-targets_not_allowed bus rule targets set f (targets_without_rule there none) allowed =
-    subst (λ o. ForRule o (λ r. (1 ≤ length targets) × AreGoodTargets set targets r.targets)) none allowed
-targets_not_allowed bus rule targets set f (faulty_targets r is h) allowed =
-    let good = subst (λ o. ForRule o (λ r. (1 ≤ length targets) × AreGoodTargets set targets r.targets)) is allowed in
-    elim h [
-      | inl none ↦ omega (arith, good.0, ap length none)
-      | inr faulty ↦ good_not_faulty set targets r.targets good.1 faulty
-    ]
 
 queue_not_allowed : (name : List ℕ) (set : RuleSet) (fault : ControlFault) → IsQueueRefused name set fault → ¬ IsAllowed (queue_created name) set
 queue_not_allowed name set f (queue_exists there) (absent, few) = true_and_false (has_queue name set) there absent
@@ -323,6 +321,17 @@ deletion_not_allowed : (bus name : List ℕ) (set : RuleSet) (fault : ControlFau
 deletion_not_allowed bus name set f (no_rule_to_delete g p) allowed = never_without_rule bus name set g (λ r. r.targets ≡ []) p allowed
 deletion_not_allowed bus name set f (rule_has_targets r is some) allowed = some (subst (λ o. ForRule o (λ r. r.targets ≡ [])) is allowed)
 
+targets_not_allowed : (bus rule : List ℕ) (targets : List Target) (set : RuleSet) (fault : ControlFault) → AreTargetsRefused bus rule targets set fault
+    → ¬ IsAllowed (targets_put bus rule targets) set
+targets_not_allowed bus rule targets set f (no_rule_to_put_to g p) allowed =
+    never_without_rule bus rule set g (λ r. (1 ≤ length targets) × AreGoodTargets set targets r.targets) p allowed
+targets_not_allowed bus rule targets set f (faulty_targets r is h) allowed =
+    let good = subst (λ o. ForRule o (λ r. (1 ≤ length targets) × AreGoodTargets set targets r.targets)) is allowed in
+    elim h [
+      | inl none ↦ omega (arith, good.0, ap length none)
+      | inr faulty ↦ good_not_faulty set targets r.targets good.1 faulty
+    ]
+
 abbrev HasThem : List (List ℕ) → Rule → Type 0
 HasThem ids r = (1 ≤ length ids) × AreRemovable ids r.targets
 
@@ -338,8 +347,9 @@ removal_not_allowed bus rule ids set f (faulty_ids r is h) allowed =
 
 policy_not_allowed : (bus : List ℕ) (policy : Option (List ℕ)) (set : RuleSet) (fault : ControlFault) → IsPolicyRefused bus policy set fault
     → ¬ IsAllowed (policy_put bus policy) set
-policy_not_allowed bus policy set f (no_policy n) (is, there) = n is
-policy_not_allowed bus policy set f (policy_without_bus is absent) (so, there) = true_and_false (has_bus bus set) there absent
+policy_not_allowed bus policy set f (no_policy s n) (is, there) = n is
+policy_not_allowed bus policy set f (policy_without_bus either absent) (is, there) = true_and_false (has_bus bus set) there absent
+policy_not_allowed bus policy set f (policy_too_long long there) (is, also) = too_long_not_stored policy is long
 
 pub refused_not_allowed : (control : Control) (set : RuleSet) (fault : ControlFault) → IsRefused control set fault → ¬ IsAllowed control set
 refused_not_allowed (bus_created name) set f p = bus_not_allowed name set f p

@@ -2,8 +2,9 @@
 -- `joined_placed`, `joined_new`); a row put into a `Vec` (`put_here`,
 -- `put_before`) and the number of rows then (`length_here`, `length_before`); the place of a name (`here_at`, `before_at`). Rows without a
 -- name (`All_without`, `length_without`, `removed_here`), and a row of another name than the one that is put, changed or taken away
--- (`named_put`, `named_changed`, `named_without`), or of any name after a change (`after_changed`).
-use Rattle.std.proofs.Common.{◌≡◌, ℕ, true, false, List, [], ◌∷◌, ◌++◌, length, Option, Some, None, refl, sym, ap, ◌∙◌, subst, take}
+-- (`named_put`, `named_changed`, `named_without`), or of any name after a change (`after_changed`). A function over rows that keeps their
+-- names (`map_placed`, `map_without`, `length_names`), and the name of the row that is found (`named_name`).
+use Rattle.std.proofs.Common.{◌≡◌, ℕ, true, false, List, [], ◌∷◌, ◌++◌, length, map, Option, Some, None, refl, sym, ap, ◌∙◌, subst, take}
 use Rattle.std.proofs.Common.{drop, suc, ◌<◌, ◌≤◌, ◌+◌, ◌-◌, arith, get_or, length-append}
 use Rattle.std.specs.Prelude.{All}
 use Rattle.std.specs.List.{insert, remove}
@@ -14,7 +15,8 @@ use Rattle.std.specs.declared.cmp.Ordering.TheVariants.{Less, Equal, Greater}
 use Rattle.std.proofs.Math.ListN.{set}
 use Rattle.std.proofs.Math.Seq.{set-append_seam, drop-cons}
 use Rattle.std.proofs.lemmas.Cmp.{nat_list_cmp_total, tied_itself}
-use Rattle.std.proofs.lemmas.List.{take_at, drop_at, take-append-drop, length-take}
+use Rattle.std.proofs.lemmas.Bool.{false≢true}
+use Rattle.std.proofs.lemmas.List.{take_at, drop_at, take-append-drop, length-take, length-map}
 use Rattle.std.proofs.lemmas.List.Elements.{All-head, All-tail, All-cons}
 use Rattle.std.proofs.lemmas.List.Edits.{remove-append_right}
 use Rattle.std.proofs.lemmas.Slice.Eq.{bytes_eq-Decides}
@@ -152,8 +154,44 @@ here_at f name rows at row within is smaller equal = record {
 pub bytes_same : (a b : List ℕ) → bytes_eq a b ≡ true → a ≡ b
 bytes_same a b = (bytes_eq-Decides a b).0
 
+pub bytes_differ : (a b : List ℕ) → bytes_eq a b ≡ false → ¬ (a ≡ b)
+bytes_differ a b e same = false≢true (sym e ∙ (bytes_eq-Decides a b).1 same)
+
 pub bytes_apart : (a b : List ℕ) → ¬ (a ≡ b) → bytes_eq a b ≡ false
 bytes_apart a b apart = by_test (bytes_eq a b) (λ e. absurd (apart (bytes_same a b e))) (λ e. e)
+
+pub named_name : {A : Type 0} (f : A → List ℕ) (name : List ℕ) (rows : List A) (row : A) → named f name rows ≡ Some row → f row ≡ name
+named_name f name [] row is = cc
+named_name f name (first ∷ rows) row is =
+    by_test (bytes_eq (f first) name)
+    (λ e. let both : Some first ≡ Some row = sym (named_same f name first rows e) ∙ is in
+    let same : first ≡ row = cc in ap f (sym same) ∙ bytes_same (f first) name e)
+    (λ e. named_name f name rows row (sym (named_other f name first rows e) ∙ is))
+
+-- ---- a function over rows that keeps their names
+
+pub map_placed : {A B : Type 0} (g : A → B) (f : B → List ℕ) (new : A) (rows : List A)
+    → map g (placed (λ row. f (g row)) replacing new rows) ≡ placed f replacing (g new) (map g rows)
+map_placed g f new [] = refl
+map_placed g f new (old ∷ rest) =
+    by_cmp (slice_cmp nat_cmp (f (g new)) (f (g old)))
+    (λ e. rw e refl)
+    (λ e. rw e refl)
+    (λ e. rw e (ap (λ rs. g old ∷ rs) (map_placed g f new rest)))
+
+pub map_without : {A B : Type 0} (g : A → B) (f : B → List ℕ) (name : List ℕ) (rows : List A)
+    → map g (without (λ row. f (g row)) name rows) ≡ without f name (map g rows)
+map_without g f name [] = refl
+map_without g f name (row ∷ rows) =
+    let rest = map_without g f name rows in
+    by_test (bytes_eq (f (g row)) name)
+    (λ e. rw e rest)
+    (λ e. rw e (ap (λ rs. g row ∷ rs) rest))
+
+-- as many rows as names
+pub length_names : {A : Type 0} (f : A → List ℕ) (new : A) (rows : List A)
+    → length (placed (λ n. n) replacing (f new) (map f rows)) ≡ length (placed f replacing new rows)
+length_names f new rows = ap length (sym (map_placed f (λ n. n) new rows)) ∙ length-map (placed f replacing new rows) f
 
 -- ---- rows without a name
 

@@ -9,16 +9,17 @@ use Rattle.std.specs.declared.cmp.Ordering.TheVariants.{Less}
 use Rattle.std.proofs.lemmas.Bool.{false≢true}
 use Rattle.std.proofs.lemmas.List.{length-map}
 use Rattle.std.proofs.lemmas.List.Elements.{All-head, All-tail, All-cons, All-nil, All-weaker}
+use Rattle.event_shape.specs.Names.{default_bus, rule_arn}
 use Rattle.name_rows.specs.Rows.{named, placed, replacing, without, AreSorted}
 use Rattle.name_rows.proofs.NameOrder.{Less_from_Greater, same_name, bytes_eq_Less}
 use Rattle.name_rows.proofs.RowLemmas.{by_cmp, by_test, named_none, none_greater, others_after, All_placed, sorted_placed, sorted_without}
-use Rattle.rule_table.specs.RuleSet.{Rule, Bus, RuleSet, changed, keeping_targets, put_bus, without_bus, put_rule, without_rule, put_target}
+use Rattle.rule_table.specs.RuleSet.{Rule, Bus, RuleSet, changed, new_rule, keeping_targets, put_bus, without_bus, put_rule, without_rule, put_target}
 use Rattle.rule_table.specs.RuleSet.{put_targets, without_targets, with_rule_changed, rules_in, rules_of, rule_at, applied, IsQueueThere}
-use Rattle.rule_table.specs.RuleSet.{AreGoodTargets, IsNoneOrStored, ForRule, IsAllowed, IsSound}
+use Rattle.rule_table.specs.RuleSet.{AreGoodTargets, IsNoneOrStored, ForRule, IsAllowed, HasSoundTargets, HasItsArn, IsSound}
 use Rattle.rule_table.specs.Control.{Control, bus_created, bus_deleted, rule_put, rule_deleted, state_put, targets_put, targets_removed, policy_put}
 use Rattle.rule_table.specs.Control.{queue_created}
 use Rattle.rule_table.specs.declared.control.Target.{Target}
-use Rattle.rule_table.proofs.RowLemmas.{changed_none, named_same, named_other, All_named, bytes_same, All_without, length_without}
+use Rattle.rule_table.proofs.RowLemmas.{changed_none, named_same, named_other, named_name, All_named, bytes_same, bytes_differ, named_without, after_changed, All_without, length_without}
 use Rattle.rule_table.proofs.RefusalLemmas.{good_few, good_there}
 
 changed_same : {A : Type 0} (f : A → List ℕ) (name : List ℕ) (change : A → A) (row : A) (rows : List A) → bytes_eq (f row) name ≡ true
@@ -130,8 +131,14 @@ length_without_targets (id ∷ ids) targets =
     let rest = length_without_targets ids (without (λ target. target.id) id targets) in
     omega (arith, rest, length_without (λ target. target.id) id targets)
 
-abbrev AreTargets : RuleSet → Rule → Type 0
-AreTargets set rule = (length rule.targets ≤ 5) × All (λ target. IsQueueThere set target.arn) rule.targets
+abbrev HaveArns : Bus → Type 0
+HaveArns bus = All (HasItsArn bus.name) bus.rules
+
+-- the bus `default` stays if a bus is changed
+default_stays : (name : List ℕ) (change : Bus → Bus) (set : RuleSet) → ((b : Bus) → (change b).name ≡ b.name) → IsSound set
+    → is_some (named (λ (b : Bus). b.name) default_bus (changed (λ (b : Bus). b.name) name change set.buses)) ≡ true
+default_stays name change set c k =
+    after_changed (λ (b : Bus). b.name) name default_bus change set.buses c (λ o. is_some o ≡ true) k.default (λ row same is. refl)
 
 short_put : (new : Rule) (rules : List Rule) → AreSorted (λ rule. rule.name) rules → length rules ≤ 300
     → (is_some (named (λ rule. rule.name) new.name rules) ≡ true) ⊎ (length rules < 300) → length (put_rule new rules) ≤ 300
@@ -141,13 +148,13 @@ short_put new rules o small (inr room) = let e = length_placed (λ rule. rule.na
 sound_rule : (bus name pattern : List ℕ) (enabled : Bool) (set : RuleSet) → IsAllowed (rule_put bus name pattern enabled) set
     → IsSound set → IsSound (applied (rule_put bus name pattern enabled) set)
 sound_rule bus name pattern enabled set a k =
-    let new : Rule = record { name = name; pattern = pattern; enabled = enabled; targets = [] } in
+    let new : Rule = new_rule bus name pattern enabled in
     let change : Bus → Bus = λ b. record b { rules = put_rule new b.rules } in
     let bus_name : Bus → List ℕ = λ b. b.name in
     let rule_name : Rule → List ℕ = λ r. r.name in
     let IsInOrder : Bus → Type 0 = λ b. AreSorted rule_name b.rules in
     let IsShort : Bus → Type 0 = λ b. length b.rules ≤ 300 in
-    let HaveTargets : Bus → Type 0 = λ b. All (AreTargets set) b.rules in
+    let HaveTargets : Bus → Type 0 = λ b. All (HasSoundTargets set) b.rules in
     let HasPolicy : Bus → Type 0 = λ b. IsNoneOrStored b.policy in
     let short : (b : Bus) → named bus_name bus set.buses ≡ Some b → IsShort b → length (put_rule new b.rules) ≤ 300 =
     λ b is small.
@@ -157,10 +164,14 @@ sound_rule bus name pattern enabled set a k =
     record {
       buses = rw length-map k.buses;
       rules = All_changed_named IsShort bus_name bus change set.buses k.bus_order short k.rules;
+      arns = All_changed_named HaveArns bus_name bus change set.buses k.bus_order (λ b is h.
+          let its_arn : HasItsArn b.name new = ap (λ n. rule_arn n name) (sym (named_name bus_name bus set.buses b is)) in
+          All_placed (HasItsArn b.name) rule_name keeping_targets new b.rules its_arn (λ old p. its_arn) h) k.arns;
       targets = All_changed HaveTargets HaveTargets bus_name bus change set.buses (λ b h. h)
-          (λ b h. All_placed (AreTargets set) rule_name keeping_targets new b.rules
-          (omega arith, All-nil (λ target. IsQueueThere set target.arn)) (λ old p. p) h) k.targets;
+          (λ b h. All_placed (HasSoundTargets set) rule_name keeping_targets new b.rules
+          (omega arith, All-nil (λ target. IsQueueThere set target.arn × (target.unbuilt ≡ None))) (λ old p. p) h) k.targets;
       queues = k.queues;
+      default = default_stays bus change set (λ b. refl) k;
       policies = All_changed HasPolicy HasPolicy bus_name bus change set.buses (λ b h. h) (λ b h. h) k.policies;
       bus_order = sorted_changed bus_name bus change set.buses (λ b. refl) k.bus_order;
       rule_order = All_changed IsInOrder IsInOrder bus_name bus change set.buses (λ b h. h)
@@ -172,26 +183,30 @@ sound_rule bus name pattern enabled set a k =
 
 -- a rule of a bus is changed, and keeps its name and the order of its targets
 sound_rule_changed : (bus rule : List ℕ) (change : Rule → Rule) (set : RuleSet) → ((r : Rule) → (change r).name ≡ r.name)
-    → ((r : Rule) → rule_at bus rule set ≡ Some r → AreTargets set r → AreTargets set (change r)) → ((r : Rule) → RuleInOrder r → RuleInOrder (change r))
+    → ((b : List ℕ) (r : Rule) → HasItsArn b r → HasItsArn b (change r))
+    → ((r : Rule) → rule_at bus rule set ≡ Some r → HasSoundTargets set r → HasSoundTargets set (change r)) → ((r : Rule) → RuleInOrder r → RuleInOrder (change r))
     → IsSound set → IsSound (record set { buses = changed (λ b. b.name) bus (with_rule_changed rule change) set.buses; count = set.count + 1 })
-sound_rule_changed bus rule change set named_so good ordered k =
+sound_rule_changed bus rule change set named_so arn_so good ordered k =
     let bus_name : Bus → List ℕ = λ b. b.name in
     let rule_name : Rule → List ℕ = λ r. r.name in
     let with_rule : Bus → Bus = with_rule_changed rule change in
     let IsInOrder : Bus → Type 0 = λ b. AreSorted rule_name b.rules in
     let IsShort : Bus → Type 0 = λ b. length b.rules ≤ 300 in
-    let HaveTargets : Bus → Type 0 = λ b. All (AreTargets set) b.rules in
+    let HaveTargets : Bus → Type 0 = λ b. All (HasSoundTargets set) b.rules in
     let HasPolicy : Bus → Type 0 = λ b. IsNoneOrStored b.policy in
-    let have : (b : Bus) → named bus_name bus set.buses ≡ Some b → HaveTargets b → All (AreTargets set) (changed rule_name rule change b.rules) =
+    let have : (b : Bus) → named bus_name bus set.buses ≡ Some b → HaveTargets b → All (HasSoundTargets set) (changed rule_name rule change b.rules) =
     λ b is h.
     let sorted = All_named IsInOrder bus_name bus set.buses b is k.rule_order in
-    All_changed_named (AreTargets set) rule_name rule change b.rules sorted
+    All_changed_named (HasSoundTargets set) rule_name rule change b.rules sorted
     (λ r at p. good r (ap (λ o. named rule_name rule (rules_in o)) is ∙ at) p) h in
     record {
       buses = rw length-map k.buses;
       rules = All_changed IsShort IsShort bus_name bus with_rule set.buses (λ b h. h) (λ b h. rw length-map h) k.rules;
+      arns = All_changed HaveArns HaveArns bus_name bus with_rule set.buses (λ b h. h)
+          (λ b h. All_changed (HasItsArn b.name) (HasItsArn b.name) rule_name rule change b.rules (λ r p. p) (λ r p. arn_so b.name r p) h) k.arns;
       targets = All_changed_named HaveTargets bus_name bus with_rule set.buses k.bus_order have k.targets;
       queues = k.queues;
+      default = default_stays bus with_rule set (λ b. refl) k;
       policies = All_changed HasPolicy HasPolicy bus_name bus with_rule set.buses (λ b h. h) (λ b h. h) k.policies;
       bus_order = sorted_changed bus_name bus with_rule set.buses (λ b. refl) k.bus_order;
       rule_order = All_changed IsInOrder IsInOrder bus_name bus with_rule set.buses (λ b h. h)
@@ -205,23 +220,23 @@ sound_targets : (bus rule : List ℕ) (targets : List Target) (set : RuleSet) �
     → IsSound (applied (targets_put bus rule targets) set)
 sound_targets bus rule targets set a k =
     let Fact : Rule → Type 0 = λ r. (1 ≤ length targets) × AreGoodTargets set targets r.targets in
-    sound_rule_changed bus rule (λ r. record r { targets = put_targets targets r.targets }) set (λ r. refl)
+    sound_rule_changed bus rule (λ r. record r { targets = put_targets targets r.targets }) set (λ r. refl) (λ b r p. p)
     (λ r there p. let fact = subst (λ o. ForRule o Fact) there a in
     (good_few set targets r.targets fact.1 p.0, good_there set targets r.targets fact.1 p.1))
     (λ r o. sorted_put_targets targets r.targets o) k
 
 sound_removal : (bus rule : List ℕ) (ids : List (List ℕ)) (set : RuleSet) → IsSound set → IsSound (applied (targets_removed bus rule ids) set)
 sound_removal bus rule ids set k =
-    sound_rule_changed bus rule (λ r. record r { targets = without_targets ids r.targets }) set (λ r. refl)
+    sound_rule_changed bus rule (λ r. record r { targets = without_targets ids r.targets }) set (λ r. refl) (λ b r p. p)
     (λ r there p. (
       omega (arith, length_without_targets ids r.targets, p.0),
-      All_without_targets (λ target. IsQueueThere set target.arn) ids r.targets p.1,
+      All_without_targets (λ target. IsQueueThere set target.arn × (target.unbuilt ≡ None)) ids r.targets p.1,
     ))
     (λ r o. sorted_without_targets ids r.targets o) k
 
 sound_state : (bus name : List ℕ) (enabled : Bool) (set : RuleSet) → IsSound set → IsSound (applied (state_put bus name enabled) set)
 sound_state bus name enabled set k =
-    sound_rule_changed bus name (λ r. record r { enabled = enabled }) set (λ r. refl) (λ r there p. p) (λ r o. o) k
+    sound_rule_changed bus name (λ r. record r { enabled = enabled }) set (λ r. refl) (λ b r p. p) (λ r there p. p) (λ r o. o) k
 
 sound_deletion : (bus name : List ℕ) (set : RuleSet) → IsSound set → IsSound (applied (rule_deleted bus name) set)
 sound_deletion bus name set k =
@@ -230,14 +245,17 @@ sound_deletion bus name set k =
     let change : Bus → Bus = λ b. record b { rules = without_rule name b.rules } in
     let IsInOrder : Bus → Type 0 = λ b. AreSorted rule_name b.rules in
     let IsShort : Bus → Type 0 = λ b. length b.rules ≤ 300 in
-    let HaveTargets : Bus → Type 0 = λ b. All (AreTargets set) b.rules in
+    let HaveTargets : Bus → Type 0 = λ b. All (HasSoundTargets set) b.rules in
     let HasPolicy : Bus → Type 0 = λ b. IsNoneOrStored b.policy in
     record {
       buses = rw length-map k.buses;
       rules = All_changed IsShort IsShort bus_name bus change set.buses (λ b h. h) (λ b h. omega (arith, length_without rule_name name b.rules, h)) k.rules;
+      arns = All_changed HaveArns HaveArns bus_name bus change set.buses (λ b h. h)
+          (λ b h. All_without (HasItsArn b.name) rule_name name b.rules h) k.arns;
       targets = All_changed HaveTargets HaveTargets bus_name bus change set.buses (λ b h. h)
-          (λ b h. All_without (AreTargets set) rule_name name b.rules h) k.targets;
+          (λ b h. All_without (HasSoundTargets set) rule_name name b.rules h) k.targets;
       queues = k.queues;
+      default = default_stays bus change set (λ b. refl) k;
       policies = All_changed HasPolicy HasPolicy bus_name bus change set.buses (λ b h. h) (λ b h. h) k.policies;
       bus_order = sorted_changed bus_name bus change set.buses (λ b. refl) k.bus_order;
       rule_order = All_changed IsInOrder IsInOrder bus_name bus change set.buses (λ b h. h) (λ b h. sorted_without rule_name name b.rules h) k.rule_order;
@@ -253,13 +271,15 @@ sound_policy bus policy set a k =
     let change : Bus → Bus = λ b. record b { policy = policy } in
     let IsInOrder : Bus → Type 0 = λ b. AreSorted (λ rule. rule.name) b.rules in
     let IsShort : Bus → Type 0 = λ b. length b.rules ≤ 300 in
-    let HaveTargets : Bus → Type 0 = λ b. All (AreTargets set) b.rules in
+    let HaveTargets : Bus → Type 0 = λ b. All (HasSoundTargets set) b.rules in
     let HasPolicy : Bus → Type 0 = λ b. IsNoneOrStored b.policy in
     record {
       buses = rw length-map k.buses;
       rules = All_changed IsShort IsShort bus_name bus change set.buses (λ b h. h) (λ b h. h) k.rules;
+      arns = All_changed HaveArns HaveArns bus_name bus change set.buses (λ b h. h) (λ b h. h) k.arns;
       targets = All_changed HaveTargets HaveTargets bus_name bus change set.buses (λ b h. h) (λ b h. h) k.targets;
       queues = k.queues;
+      default = default_stays bus change set (λ b. refl) k;
       policies = All_changed HasPolicy HasPolicy bus_name bus change set.buses (λ b h. h) (λ b h. a.0) k.policies;
       bus_order = sorted_changed bus_name bus change set.buses (λ b. refl) k.bus_order;
       rule_order = All_changed IsInOrder IsInOrder bus_name bus change set.buses (λ b h. h) (λ b h. h) k.rule_order;
@@ -276,8 +296,10 @@ sound_creation name set a k =
     record {
       buses = omega (arith, length_placed bus_name replacing new set.buses, a.1);
       rules = put (λ b. length b.rules ≤ 300) (omega arith) k.rules;
-      targets = put (λ b. All (AreTargets set) b.rules) (All-nil (AreTargets set)) k.targets;
+      arns = put HaveArns (All-nil (HasItsArn name)) k.arns;
+      targets = put (λ b. All (HasSoundTargets set) b.rules) (All-nil (HasSoundTargets set)) k.targets;
       queues = k.queues;
+      default = named_placed bus_name replacing new default_bus set.buses (λ old. refl) k.default;
       policies = put (λ b. IsNoneOrStored b.policy) tt k.policies;
       bus_order = sorted_placed bus_name replacing new set.buses (λ old. refl) k.bus_order;
       rule_order = put (λ b. AreSorted (λ rule. rule.name) b.rules) tt k.rule_order;
@@ -285,15 +307,17 @@ sound_creation name set a k =
       queue_order = k.queue_order;
     }
 
-sound_bus_deletion : (name : List ℕ) (set : RuleSet) → IsSound set → IsSound (applied (bus_deleted name) set)
-sound_bus_deletion name set k =
+sound_bus_deletion : (name : List ℕ) (set : RuleSet) → IsAllowed (bus_deleted name) set → IsSound set → IsSound (applied (bus_deleted name) set)
+sound_bus_deletion name set a k =
     let bus_name : Bus → List ℕ = λ b. b.name in
     let rest : (P : Bus → Type 0) → All P set.buses → All P (without_bus name set.buses) = λ P all. All_without P bus_name name set.buses all in
     record {
       buses = omega (arith, length_without bus_name name set.buses, k.buses);
       rules = rest (λ b. length b.rules ≤ 300) k.rules;
-      targets = rest (λ b. All (AreTargets set) b.rules) k.targets;
+      arns = rest HaveArns k.arns;
+      targets = rest (λ b. All (HasSoundTargets set) b.rules) k.targets;
       queues = k.queues;
+      default = ap is_some (named_without bus_name name default_bus set.buses (bytes_differ name default_bus a.0)) ∙ k.default;
       policies = rest (λ b. IsNoneOrStored b.policy) k.policies;
       bus_order = sorted_without bus_name name set.buses k.bus_order;
       rule_order = rest (λ b. AreSorted (λ rule. rule.name) b.rules) k.rule_order;
@@ -305,16 +329,19 @@ sound_queue : (name : List ℕ) (set : RuleSet) → IsAllowed (queue_created nam
 sound_queue name set a k =
     let next = applied (queue_created name) set in
     let itself : List ℕ → List ℕ = λ queue. queue in
-    let stays : (target : Target) → IsQueueThere set target.arn → IsQueueThere next target.arn =
-    λ target h. (h.0, h.1, named_placed itself replacing name h.0 set.queues (λ old. refl) h.2) in
-    let targets : (rule : Rule) → AreTargets set rule → AreTargets next rule =
-    λ rule h. (h.0, All-weaker (λ target. IsQueueThere set target.arn) (λ target. IsQueueThere next target.arn) stays rule.targets h.1) in
+    let fits : RuleSet → Target → Type 0 = λ s target. IsQueueThere s target.arn × (target.unbuilt ≡ None) in
+    let stays : (target : Target) → fits set target → fits next target =
+    λ target h. ((h.0.0, h.0.1, named_placed itself replacing name h.0.0 set.queues (λ old. refl) h.0.2), h.1) in
+    let targets : (rule : Rule) → HasSoundTargets set rule → HasSoundTargets next rule =
+    λ rule h. (h.0, All-weaker (fits set) (fits next) stays rule.targets h.1) in
     record {
       buses = k.buses;
       rules = k.rules;
-      targets = All-weaker (λ b. All (AreTargets set) b.rules) (λ b. All (AreTargets next) b.rules)
-          (λ b h. All-weaker (AreTargets set) (AreTargets next) targets b.rules h) set.buses k.targets;
+      arns = k.arns;
+      targets = All-weaker (λ b. All (HasSoundTargets set) b.rules) (λ b. All (HasSoundTargets next) b.rules)
+          (λ b h. All-weaker (HasSoundTargets set) (HasSoundTargets next) targets b.rules h) set.buses k.targets;
       queues = omega (arith, length_placed itself replacing name set.queues, a.1);
+      default = k.default;
       policies = k.policies;
       bus_order = k.bus_order;
       rule_order = k.rule_order;
@@ -324,7 +351,7 @@ sound_queue name set a k =
 
 pub sound_applied : (control : Control) (set : RuleSet) → IsAllowed control set → IsSound set → IsSound (applied control set)
 sound_applied (bus_created name) set a k = sound_creation name set a k
-sound_applied (bus_deleted name) set a k = sound_bus_deletion name set k
+sound_applied (bus_deleted name) set a k = sound_bus_deletion name set a k
 sound_applied (rule_put bus name pattern enabled) set a k = sound_rule bus name pattern enabled set a k
 sound_applied (rule_deleted bus name) set a k = sound_deletion bus name set k
 sound_applied (state_put bus name enabled) set a k = sound_state bus name enabled set k

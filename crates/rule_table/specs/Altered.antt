@@ -29,5 +29,5 @@ abbrev pub has_rule : List ℕ → List ℕ → RuleSet → Bool
 has_rule bus name set = is_some (rule_at bus name set)
 
 -- the rule of this name on the bus has a target of this id
-abbrev pub has_target : List ℕ → List ℕ → List ℕ → RuleSet → Bool
-has_target bus rule id set = is_some (named (λ target. target.id) id (targets_in (rule_at bus rule set)))
+abbrev pub has_target_of_rule : List ℕ → List ℕ → List ℕ → RuleSet → Bool
+has_target_of_rule bus rule id set = is_some (named (λ target. target.id) id (targets_in (rule_at bus rule set)))

@@ -1,5 +1,6 @@
 pub mod Control
 pub mod RuleSet
+pub mod Target
 pub mod Refusal
 pub mod View
 pub mod Altered

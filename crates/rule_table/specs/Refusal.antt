@@ -11,7 +11,7 @@ use Rattle.rule_table.specs.declared.control.Target.{Target}
 use Rattle.rule_table.specs.declared.control.TargetFault.{TargetFault}
 use Rattle.rule_table.specs.declared.control.TargetFault.TheVariants as target_fault
 use Rattle.rule_table.specs.declared.control.ControlFault.{ControlFault}
-use Rattle.rule_table.specs.declared.control.ControlFault.TheVariants.{ResourceNotFound, AlreadyExists, LimitExceeded, Validation, InUse, HasTargets, DefaultBus}
+use Rattle.rule_table.specs.declared.control.ControlFault.TheVariants.{ResourceNotFound, AlreadyExists, LimitExceeded, Validation, InUse, HasTargets, DefaultBus, PolicyTooLong}
 use Rattle.rule_table.specs.Control.{Control, bus_created, bus_deleted, rule_put, rule_deleted, state_put, targets_put, targets_removed, policy_put, queue_created}
 use Rattle.rule_table.specs.RuleSet.{Rule, RuleSet, put_target, has_bus, has_queue, rule_at, rules_of, IsQueueThere, AreRemovable, IsNoneOrStored}
 
@@ -46,10 +46,14 @@ pub data IsRuleRefused (bus name pattern : List ℕ) (set : RuleSet) : ControlFa
   rule_limit : (p : Pattern) → IsPatternText pattern p → has_bus bus set ≡ true → rule_at bus name set ≡ None → 300 ≤ length (rules_of bus set)
       → IsRuleRefused bus name pattern set (LimitExceeded kind.Rule)
 
+-- no rule: its bus does not exist, or has no rule of this name
+pub data HasNoRule (bus name : List ℕ) (set : RuleSet) : ControlFault → Type 0 where
+  no_such_bus : has_bus bus set ≡ false → HasNoRule bus name set (ResourceNotFound kind.EventBus)
+  no_such_rule : has_bus bus set ≡ true → rule_at bus name set ≡ None → HasNoRule bus name set (ResourceNotFound kind.Rule)
+
 -- the first refusal of the change that puts targets; a PutTargets decides target by target before it makes the change
 pub data AreTargetsRefused (bus rule : List ℕ) (targets : List Target) (set : RuleSet) : ControlFault → Type 0 where
-  targets_without_bus : has_bus bus set ≡ false → AreTargetsRefused bus rule targets set (ResourceNotFound kind.EventBus)
-  targets_without_rule : has_bus bus set ≡ true → rule_at bus rule set ≡ None → AreTargetsRefused bus rule targets set (ResourceNotFound kind.Rule)
+  no_rule_to_put_to : (fault : ControlFault) → HasNoRule bus rule set fault → AreTargetsRefused bus rule targets set fault
   faulty_targets : (r : Rule) → rule_at bus rule set ≡ Some r → (targets ≡ []) ⊎ HasFaultyTarget set targets r.targets
       → AreTargetsRefused bus rule targets set (Validation member.Targets)
 
@@ -69,11 +73,6 @@ pub data IsBusDeletionRefused (name : List ℕ) (set : RuleSet) : ControlFault �
   no_bus_to_delete : bytes_eq name default_bus ≡ false → has_bus name set ≡ false → IsBusDeletionRefused name set (ResourceNotFound kind.EventBus)
   bus_in_use : bytes_eq name default_bus ≡ false → has_bus name set ≡ true → ¬ (rules_of name set ≡ []) → IsBusDeletionRefused name set (InUse kind.EventBus)
 
--- no rule: its bus does not exist, or has no rule of this name
-pub data HasNoRule (bus name : List ℕ) (set : RuleSet) : ControlFault → Type 0 where
-  no_such_bus : has_bus bus set ≡ false → HasNoRule bus name set (ResourceNotFound kind.EventBus)
-  no_such_rule : has_bus bus set ≡ true → rule_at bus name set ≡ None → HasNoRule bus name set (ResourceNotFound kind.Rule)
-
 -- the first refusal of the change that deletes a rule; a DeleteRule of a rule that is not there makes no change
 pub data IsRuleDeletionRefused (bus name : List ℕ) (set : RuleSet) : ControlFault → Type 0 where
   no_rule_to_delete : (fault : ControlFault) → HasNoRule bus name set fault → IsRuleDeletionRefused bus name set fault
@@ -85,10 +84,17 @@ pub data AreRemovalsRefused (bus rule : List ℕ) (ids : List (List ℕ)) (set :
   faulty_ids : (r : Rule) → rule_at bus rule set ≡ Some r → (ids ≡ []) ⊎ (¬ AreRemovable ids r.targets)
       → AreRemovalsRefused bus rule ids set (Validation member.Ids)
 
+-- the policy's text has more than 10,240 bytes; such a text is not read
+abbrev pub IsTooLong : Option (List ℕ) → Type 0
+IsTooLong None = ⊥
+IsTooLong (Some t) = 10240 < length t
+
 -- the first refusal of the change that puts a policy or takes it away; a PutPermission looks for the bus before it refuses a policy that is too long
 pub data IsPolicyRefused (bus : List ℕ) (policy : Option (List ℕ)) (set : RuleSet) : ControlFault → Type 0 where
-  no_policy : ¬ IsNoneOrStored policy → IsPolicyRefused bus policy set (Validation member.Policy)
-  policy_without_bus : IsNoneOrStored policy → has_bus bus set ≡ false → IsPolicyRefused bus policy set (ResourceNotFound kind.EventBus)
+  no_policy : ¬ IsTooLong policy → ¬ IsNoneOrStored policy → IsPolicyRefused bus policy set (Validation member.Policy)
+  policy_without_bus : IsNoneOrStored policy ⊎ IsTooLong policy → has_bus bus set ≡ false
+      → IsPolicyRefused bus policy set (ResourceNotFound kind.EventBus)
+  policy_too_long : IsTooLong policy → has_bus bus set ≡ true → IsPolicyRefused bus policy set PolicyTooLong
 
 -- the first refusal of a change
 abbrev pub IsRefused : Control → RuleSet → ControlFault → Type 0

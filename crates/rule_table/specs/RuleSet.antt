@@ -1,8 +1,8 @@
 -- The rule set: buses with their rules, queues, and the number of changes that made it; what a change does, and which
 -- changes are allowed. The data model is the public API's; the limits are this project's own, but for that on targets.
-use Rattle.std.specs.Prelude.{◌≡◌, ℕ, ◌+◌, ◌<◌, ◌≤◌, ◌⊎◌, Bool, true, false, if◌then◌else◌, List, [], ◌∷◌, length, map, Option, Some, None, All, is_some}
+use Rattle.std.specs.Prelude.{◌≡◌, ℕ, ◌+◌, ◌<◌, ◌≤◌, ◌⊎◌, Bool, true, false, if◌then◌else◌, List, [], ◌∷◌, length, map, take, Option, Some, None, All, is_some}
 use Rattle.std.specs.Str.{bytes_eq}
-use Rattle.event_shape.specs.Names.{default_bus, IsShortName, IsQueueArn}
+use Rattle.event_shape.specs.Names.{default_bus, IsShortName, IsQueueArn, rule_arn}
 use Rattle.name_rows.specs.Rows.{AreSorted, named, placed, replacing, without}
 use Rattle.pattern_meaning.specs.Pattern.{Pattern}
 use Rattle.pattern_read.specs.Text.{IsPatternText}
@@ -12,8 +12,9 @@ use Rattle.bus_policy.specs.Text.{IsPolicyText}
 use Rattle.rule_table.specs.declared.control.Target.{Target}
 use Rattle.rule_table.specs.Control.{Control, bus_created, bus_deleted, rule_put, rule_deleted, state_put, targets_put, targets_removed, policy_put, queue_created}
 
--- a rule: its name, its pattern's text, whether it is enabled, and its targets in the byte order of their ids
+-- a rule: its ARN, its name, its pattern's text, whether it is enabled, and its targets in the byte order of their ids
 pub record Rule : Type 0 where
+  pub arn : List ℕ
   pub name : List ℕ
   pub pattern : List ℕ
   pub enabled : Bool
@@ -38,6 +39,10 @@ first_set = record { buses = record { name = default_bus; policy = None; rules =
 -- the rows, with each row of the name changed
 abbrev pub changed : {A : Type 0} → (A → List ℕ) → List ℕ → (A → A) → List A → List A
 changed name_of name change rows = map (λ row. if bytes_eq (name_of row) name then change row else row) rows
+
+-- a rule of the bus of this name, which has no target
+abbrev pub new_rule : (bus name pattern : List ℕ) → Bool → Rule
+new_rule bus name pattern enabled = record { arn = rule_arn bus name; name = name; pattern = pattern; enabled = enabled; targets = [] }
 
 -- the new rule, with the targets of the rule that it replaces
 abbrev pub keeping_targets : Rule → Rule → Rule
@@ -128,8 +133,7 @@ applied (policy_put bus policy) set = record set {
   count = set.count + 1;
 }
 applied (rule_put bus name pattern enabled) set = record set {
-  buses = changed (λ b. b.name) bus (λ b. record b
-      { rules = put_rule (record { name = name; pattern = pattern; enabled = enabled; targets = [] }) b.rules }) set.buses;
+  buses = changed (λ b. b.name) bus (λ b. record b { rules = put_rule (new_rule bus name pattern enabled) b.rules }) set.buses;
   count = set.count + 1;
 }
 applied (targets_put bus rule targets) set = record set {
@@ -138,6 +142,15 @@ applied (targets_put bus rule targets) set = record set {
   count = set.count + 1;
 }
 applied (queue_created name) set = record set { queues = put_queue name set.queues; count = set.count + 1 }
+
+-- the rule set after these changes, oldest first
+abbrev pub applied_all : List Control → RuleSet → RuleSet
+applied_all [] set = set
+applied_all (control ∷ controls) set = applied_all controls (applied control set)
+
+-- configuration version k: the rule set after the first k changes
+abbrev pub rule_set_at : ℕ → List Control → RuleSet
+rule_set_at k controls = applied_all (take k controls) first_set
 
 -- the text is the ARN of a queue of the rule set
 abbrev pub IsQueueThere : RuleSet → List ℕ → Type 0
@@ -195,13 +208,23 @@ IsAllowed (targets_put bus rule targets) set =
     ForRule (rule_at bus rule set) (λ r. (1 ≤ length targets) × AreGoodTargets set targets r.targets)
 IsAllowed (queue_created name) set = (has_queue name set ≡ false) × (length set.queues < 1000)
 
--- What holds of every rule set that allowed changes made from the first one: the limits, policies as they are stored, and the order of
--- buses, rules, targets and queues by the bytes of their names, which are distinct.
+-- the rule has at most five targets; the queue of each exists, and none has a member that is not supported yet
+abbrev pub HasSoundTargets : RuleSet → Rule → Type 0
+HasSoundTargets set rule = (length rule.targets ≤ 5) × All (λ target. IsQueueThere set target.arn × (target.unbuilt ≡ None)) rule.targets
+
+-- the rule's ARN names the rule and this bus
+abbrev pub HasItsArn : List ℕ → Rule → Type 0
+HasItsArn bus rule = rule.arn ≡ rule_arn bus rule.name
+
+-- What holds of every rule set that allowed changes made from the first one: the limits, the bus `default`, policies as they are stored, the
+-- ARNs of rules, and the order of buses, rules, targets and queues by the bytes of their names, which are distinct.
 pub record IsSound (set : RuleSet) : Type 0 where
   pub buses : length set.buses ≤ 100
   pub rules : All (λ bus. length bus.rules ≤ 300) set.buses
-  pub targets : All (λ bus. All (λ rule. (length rule.targets ≤ 5) × All (λ target. IsQueueThere set target.arn) rule.targets) bus.rules) set.buses
+  pub arns : All (λ bus. All (HasItsArn bus.name) bus.rules) set.buses
+  pub targets : All (λ bus. All (HasSoundTargets set) bus.rules) set.buses
   pub queues : length set.queues ≤ 1000
+  pub default : has_bus default_bus set ≡ true
   pub policies : All (λ bus. IsNoneOrStored bus.policy) set.buses
   pub bus_order : AreSorted (λ bus. bus.name) set.buses
   pub rule_order : All (λ bus. AreSorted (λ rule. rule.name) bus.rules) set.buses

@@ -1,5 +1,5 @@
 //! Buses, with their rules.
-ghost use Rattle.std.specs.Prelude.{◌≡◌, ◌↔◌, [], None, Some, IfOk, IfSome, MatchOption, IsFalse};
+ghost use Rattle.std.specs.Prelude.{◌≡◌, ◌↔◌, [], None, Some, All, IfOk, IfSome, MatchOption, IsFalse};
 ghost use Rattle.std.specs.Option.{option_copied};
 ghost use Rattle.name_rows.specs.Rows.{named, placed, replacing};
 ghost use Rattle.rule_table.specs.RuleSet as spec;
@@ -7,7 +7,6 @@ ghost use Rattle.rule_table.specs.Room.{HasRoom};
 
 use crate::policy::{SharedPolicy, share_policy};
 use crate::rule::Rule;
-use crate::targets::copies;
 use json_text::{NoMemory, Text};
 use name_rows::{Row, Rows, RowsFrom};
 use pattern_read::PatternText;
@@ -79,22 +78,22 @@ impl Bus {
         pattern: PatternText,
         enabled: bool,
     ) -> Result<Option<Bus>, NoMemory>
+        requires arns { All (spec.HasItsArn self.now.name) self.now.rules }
         ensures put { IfOk result (λ found. IfSome found (λ bus. bus ≡ record self.now {
-          rules = spec.put_rule (record { name = name.now; pattern = pattern; enabled = enabled; targets = [] }) self.now.rules;
+          rules = spec.put_rule (spec.new_rule self.now.name name.now pattern enabled) self.now.rules;
         })) }
         ensures room { IfOk result (λ found. MatchOption found (¬ HasRoom name.now self.now.rules) (λ _. HasRoom name.now self.now.rules)) }
     {
         match self.rules.find(name.as_str()) {
             Some(old) => {
-                let targets = copies(alloc, old.targets())?;
-                let rule = Rule::new(alloc, name, pattern, enabled, targets)?;
+                let rule = old.with_pattern(alloc, pattern, enabled)?;
                 Ok(Some(self.with(alloc, rule)?))
             }
             None => {
                 if self.rules.reach(MOST_RULES) {
                     return Ok(None);
                 }
-                let rule = Rule::new(alloc, name, pattern, enabled, Vec::new(alloc))?;
+                let rule = Rule::new(alloc, self.name(), name, pattern, enabled)?;
                 Ok(Some(self.with(alloc, rule)?))
             }
         }

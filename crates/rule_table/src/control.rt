@@ -3,16 +3,26 @@ ghost use Rattle.std.specs.Prelude.{◌≡◌, IfOk};
 
 use api_replies::{Kind, Member};
 use json_text::{NoMemory, Text};
+use name_rows::Row;
 use std::alloc::{AllocError, AllocFailed, Global};
 use thiserror::Error;
 
-/// A target of a rule: its id, which is unique in the rule, and the ARN of its queue. `unbuilt` is the first member that it has of
-/// those that are not supported yet: Input, InputPath, InputTransformer, RetryPolicy, DeadLetterConfig. A rule's target has none.
+/// A target as a request puts it: its id, which is unique in the rule, and the ARN of its queue. `unbuilt` is the first member that it has of
+/// those that are not supported yet: Input, InputPath, InputTransformer, RetryPolicy, DeadLetterConfig. A target that a
+/// rule stores has none.
 #[derive(Debug, Drop)]
 pub struct Target {
     pub id: Text,
     pub arn: Text,
     pub unbuilt: Option<Member>,
+}
+
+impl Row for Target {
+    ghost name_of = { λ target. target.id };
+
+    fn row_name(&self) -> &str {
+        self.id.as_str()
+    }
 }
 
 impl Target {
@@ -108,6 +118,8 @@ pub enum ControlFault {
     DefaultBus,
     #[error("a member is not valid")]
     Validation(Member),
+    #[error("the policy has more than 10,240 bytes")]
+    PolicyTooLong,
     #[error("out of memory")]
     NoMemory,
 }

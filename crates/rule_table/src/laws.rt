@@ -4,7 +4,7 @@ ghost use Rattle.name_rows.specs.Rows.{named};
 ghost use Rattle.rule_table.specs.Control.{Control, bus_deleted, rule_deleted, targets_put, targets_removed, policy_put, queue_created};
 ghost use Rattle.rule_table.specs.RuleSet.{RuleSet, rules_of, has_bus, applied, IsGoodTarget, IsAllowed, IsSound};
 ghost use Rattle.rule_table.specs.Refusal.{HasTargetFault, IsRefused};
-ghost use Rattle.rule_table.specs.Altered.{changed_bus, matching_of, has_rule, has_target};
+ghost use Rattle.rule_table.specs.Altered.{changed_bus, matching_of, has_rule, has_target_of_rule};
 ghost use Rattle.rule_table.specs.declared.control.Target.{Target};
 ghost use Rattle.rule_table.specs.declared.control.TargetFault.{TargetFault};
 ghost use Rattle.rule_table.specs.declared.control.ControlFault.{ControlFault};
@@ -23,6 +23,12 @@ pub fn one_target_fault()
 pub fn one_refusal_of_a_change()
     ensures one { (control : Control) (set : RuleSet) (a b : ControlFault) → IsRefused control set a → IsRefused control set b → a ≡ b }
     ensures none { (control : Control) (set : RuleSet) (fault : ControlFault) → IsRefused control set fault → ¬ IsAllowed control set }
+{}
+
+/// A change that has no refusal is allowed. Whether a text is a pattern or a policy is not decided by the definitions, so it is shown that
+/// the change cannot but be allowed.
+pub fn a_change_without_a_refusal_is_allowed()
+    ensures { (control : Control) (set : RuleSet) → ((fault : ControlFault) → ¬ IsRefused control set fault) → ¬ ¬ IsAllowed control set }
 {}
 
 /// A change leaves every bus that it does not name as it was.
@@ -48,7 +54,7 @@ pub fn only_its_call_removes()
         → (has_bus bus (applied control set) ≡ true) ⊎ ((control ≡ bus_deleted bus) × (rules_of bus set ≡ [])) }
     ensures rules { (control : Control) (set : RuleSet) (bus name : List ℕ) → IsAllowed control set → has_rule bus name set ≡ true
         → (has_rule bus name (applied control set) ≡ true) ⊎ (control ≡ rule_deleted bus name) }
-    ensures targets { (control : Control) (set : RuleSet) (bus rule id : List ℕ) → IsAllowed control set → IsSound set → has_target bus rule id set ≡ true
-        → (has_target bus rule id (applied control set) ≡ true)
+    ensures targets { (control : Control) (set : RuleSet) (bus rule id : List ℕ) → IsAllowed control set → IsSound set → has_target_of_rule bus rule id set ≡ true
+        → (has_target_of_rule bus rule id (applied control set) ≡ true)
         ⊎ ((ids : List (List ℕ)) × (control ≡ targets_removed bus rule ids) × Contains ids id) }
 {}

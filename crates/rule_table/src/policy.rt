@@ -1,8 +1,9 @@
 //! Policies that rule sets share.
-ghost use Rattle.std.specs.Prelude.{◌≡◌, ◌⊎◌, IfOk, IfErr, MatchOption};
+ghost use Rattle.std.specs.Prelude.{◌≡◌, ◌↔◌, ◌⊎◌, IfOk, IfErr, IsTrue, MatchOption};
 ghost use Rattle.json_text.specs.Compact.{compact_text};
 ghost use Rattle.bus_policy.specs.Text.{IsPolicyText};
 ghost use Rattle.rule_table.specs.RuleSet.{IsStoredPolicy, IsNoneOrStored};
+ghost use Rattle.rule_table.specs.Refusal.{IsTooLong};
 
 use crate::control::ControlFault;
 use api_replies::Member;
@@ -11,6 +12,9 @@ use json_text::{NoMemory, Text};
 use std::alloc::Global;
 use std::marker::Model;
 use std::sync::Arc;
+
+/// The greatest number of bytes of a policy.
+const MOST_BYTES: usize = 10_240;
 
 /// A pointer to a policy, which several rule sets share. Contracts see the policy's text as it is stored.
 #[derive(Debug, Drop)]
@@ -73,6 +77,16 @@ impl SharedPolicy {
         ensures stored { IsStoredPolicy self.now }
     {
         self.policy.text()
+    }
+}
+
+/// Whether the policy's text has more than 10,240 bytes.
+pub(crate) fn is_too_long(policy: &Option<Text>) -> bool
+    ensures { IsTrue result ↔ IsTooLong policy.now }
+{
+    match policy {
+        Some(text) => text.as_str().len() > MOST_BYTES,
+        None => false,
     }
 }
 

@@ -1,10 +1,14 @@
 //! Rules.
-ghost use Rattle.std.specs.Prelude.{◌≡◌, IfOk, MatchOption};
+ghost use Rattle.std.specs.Prelude.{◌≡◌, map, All, IfOk, MatchOption};
 ghost use Rattle.pattern_meaning.specs.Pattern.{Pattern as Meaning};
 ghost use Rattle.pattern_read.specs.Text.{IsPatternText};
+ghost use Rattle.rule_table.specs.RuleSet.{new_rule};
+ghost use Rattle.rule_table.specs.Target.{row_of, target_of, IsRowOf};
 
 use crate::control::Target;
-use crate::targets::copies;
+use crate::rule_target::RuleTarget;
+use crate::targets::pointers;
+use event_shape::rule_arn;
 use json_text::{NoMemory, Text};
 use name_rows::Row;
 use pattern_read::{PatternFault, PatternText};
@@ -28,24 +32,36 @@ pub(crate) fn read_rule_pattern(alloc: Global, text: &Text) -> Result<Option<Pat
 /// A rule of a bus.
 #[derive(Debug, Drop)]
 pub struct Rule {
+    pub(crate) arn: Text,
     pub(crate) name: Text,
     pub(crate) pattern: Arc<PatternText>,
     pub(crate) enabled: bool,
-    pub(crate) targets: Vec<Target>,
+    pub(crate) targets: Vec<RuleTarget>,
 }
 
 impl Model for Rule {
+    ghost use Rattle.std.specs.Prelude.{map, All};
     ghost use Rattle.std.specs.Arc.{arc_value};
     ghost use Rattle.rule_table.specs.RuleSet.{Rule as View};
+    ghost use Rattle.rule_table.specs.Target.{target_of, IsRowOf};
 
     ghost Value = { View };
 
     ghost view = { λ r. record {
+      arn = r.arn;
       name = r.name;
       pattern = arc_value r.pattern;
       enabled = r.enabled;
-      targets = r.targets.items;
+      targets = map target_of r.targets.items;
     } };
+
+    ghost invariant = { λ r. All (IsRowOf (record {
+      arn = r.arn;
+      name = r.name;
+      pattern = arc_value r.pattern;
+      enabled = r.enabled;
+      targets = map target_of r.targets.items;
+    })) r.targets.items };
 }
 
 impl Row for Rule {
@@ -57,21 +73,29 @@ impl Row for Rule {
 }
 
 impl Rule {
+    /// The rule of the bus of this name, without a target.
     pub(crate) fn new(
         alloc: Global,
+        bus: &str,
         name: &Text,
         pattern: PatternText,
         enabled: bool,
-        targets: Vec<Target>,
     ) -> Result<Rule, NoMemory>
-        ensures { IfOk result (λ rule. rule ≡ record { name = name.now; pattern = pattern; enabled = enabled; targets = targets.items }) }
+        ensures { IfOk result (λ rule. rule ≡ new_rule bus.now name.now pattern enabled) }
     {
         Ok(Rule {
+            arn: rule_arn(alloc, bus, name.as_str())?,
             name: name.copy(alloc)?,
             pattern: Arc::new(alloc, pattern)?,
             enabled,
-            targets,
+            targets: Vec::new(alloc),
         })
+    }
+
+    pub fn arn(&self) -> &str
+        ensures { result.now ≡ self.now.arn }
+    {
+        self.arn.as_str()
     }
 
     pub fn name(&self) -> &str
@@ -86,9 +110,10 @@ impl Rule {
         self.enabled
     }
 
-    /// The targets in the byte order of their ids.
-    pub fn targets(&self) -> &[Target]
-        ensures { result.now ≡ self.now.targets }
+    /// The targets in the byte order of their ids. Rule sets share them.
+    pub fn targets(&self) -> &[RuleTarget]
+        ensures targets { map target_of result.now ≡ self.now.targets }
+        ensures rows { result.now ≡ map (row_of self.now) self.now.targets }
     {
         self.targets.as_slice()
     }
@@ -99,11 +124,42 @@ impl Rule {
         &self.pattern
     }
 
-    /// The rule with these targets in place of its own. Shares the pattern.
-    pub(crate) fn with_targets(&self, alloc: Global, targets: Vec<Target>) -> Result<Rule, NoMemory>
-        ensures { IfOk result (λ rule. rule ≡ record self.now { targets = targets.items }) }
+    /// The target, as this rule stores it.
+    pub(crate) fn stored(&self, alloc: Global, target: &Target) -> Result<RuleTarget, NoMemory>
+        ensures { IfOk result (λ row. row ≡ row_of self.now target.now) }
+    {
+        RuleTarget::new(alloc, &self.arn, &self.name, target)
+    }
+
+    /// The rule with this pattern and state. Shares the targets.
+    pub(crate) fn with_pattern(
+        &self,
+        alloc: Global,
+        pattern: PatternText,
+        enabled: bool,
+    ) -> Result<Rule, NoMemory>
+        ensures { IfOk result (λ rule. rule ≡ record self.now { pattern = pattern; enabled = enabled }) }
     {
         Ok(Rule {
+            arn: self.arn.copy(alloc)?,
+            name: self.name.copy(alloc)?,
+            pattern: Arc::new(alloc, pattern)?,
+            enabled,
+            targets: pointers(alloc, self.targets.as_slice())?,
+        })
+    }
+
+    /// The rule with these targets in place of its own. Shares the pattern.
+    pub(crate) fn with_targets(
+        &self,
+        alloc: Global,
+        targets: Vec<RuleTarget>,
+    ) -> Result<Rule, NoMemory>
+        requires { All (IsRowOf self.now) targets.items }
+        ensures { IfOk result (λ rule. rule ≡ record self.now { targets = map target_of targets.items }) }
+    {
+        Ok(Rule {
+            arn: self.arn.copy(alloc)?,
             name: self.name.copy(alloc)?,
             pattern: Arc::try_clone(&self.pattern)?,
             enabled: self.enabled,
@@ -111,15 +167,16 @@ impl Rule {
         })
     }
 
-    /// The rule with this state. Shares the pattern.
+    /// The rule with this state. Shares the pattern and the targets.
     pub(crate) fn with_state(&self, alloc: Global, enabled: bool) -> Result<Rule, NoMemory>
         ensures { IfOk result (λ rule. rule ≡ record self.now { enabled = enabled }) }
     {
         Ok(Rule {
+            arn: self.arn.copy(alloc)?,
             name: self.name.copy(alloc)?,
             pattern: Arc::try_clone(&self.pattern)?,
             enabled,
-            targets: copies(alloc, self.targets.as_slice())?,
+            targets: pointers(alloc, self.targets.as_slice())?,
         })
     }
 }

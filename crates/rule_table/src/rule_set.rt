@@ -1,20 +1,23 @@
 //! Rule sets, and the rule set after a change.
-ghost use Rattle.std.specs.Prelude.{◌≡◌, ◌⊎◌, ◌+◌, ◌^◌, ◌<◌, ◌≤◌, [], None, false, Some, IfOk, IfErr, MatchOption, length};
+ghost use Rattle.std.specs.Prelude.{◌≡◌, ◌⊎◌, ◌+◌, ◌^◌, ◌<◌, ◌≤◌, ℕ, List, Option, [], None, false, Some, All, map, IfOk, IfErr, MatchOption, length};
 ghost use Rattle.std.specs.Str.{bytes_eq};
-ghost use Rattle.event_shape.specs.Names.{default_bus};
+ghost use Rattle.event_shape.specs.Names.{default_bus, IsShortName};
 ghost use Rattle.name_rows.specs.Rows.{named, placed, replacing};
 ghost use Rattle.rule_table.specs.Control.{bus_created, bus_deleted, rule_put, rule_deleted, state_put, targets_put, targets_removed, policy_put};
 ghost use Rattle.rule_table.specs.Control.{queue_created};
 ghost use Rattle.rule_table.specs.RuleSet as spec;
 ghost use Rattle.rule_table.specs.Refusal.{HasTargetFault, HasFaultyTarget, IsBusRefused, IsBusDeletionRefused, IsRuleRefused, HasNoRule};
-ghost use Rattle.rule_table.specs.Refusal.{IsRuleDeletionRefused, AreTargetsRefused, AreRemovalsRefused, IsPolicyRefused, IsQueueRefused, IsRefused};
+ghost use Rattle.rule_table.specs.Refusal.{IsRuleDeletionRefused, AreTargetsRefused, AreRemovalsRefused, IsTooLong, IsPolicyRefused, IsQueueRefused, IsRefused};
+ghost use Rattle.rule_table.specs.Target.{target_of, target_rows, IsRowOf};
 ghost use Rattle.rule_table.specs.View.{control_of};
+ghost use Rattle.rule_table.specs.declared.control.Target.{Target as RequestTarget};
 
 use crate::bus::Bus;
 use crate::control::{Control, ControlFault, Target, TargetFault};
-use crate::policy::read_policy;
+use crate::policy::{is_too_long, read_policy};
 use crate::rule::{Rule, read_rule_pattern};
-use crate::targets::{after_removal, copies, is_sixth, put_target};
+use crate::rule_target::RuleTarget;
+use crate::targets::{after_removal, is_sixth, pointers, put_in_order};
 use api_replies::{Kind, Member};
 use event_shape::{DEFAULT_BUS, is_target_id, queue_of};
 use json_text::{NoMemory, Text};
@@ -131,9 +134,10 @@ impl RuleSet {
         }
     }
 
-    /// The targets of the rule, in the byte order of their ids; none if there is no such rule.
-    pub fn targets(&self, bus: &str, rule: &str) -> &[Target]
-        ensures { result.now ≡ spec.targets_in (spec.rule_at bus.now rule.now self.now) }
+    /// The targets of the rule, in the byte order of their ids; none if there is no such rule. Rule sets share them.
+    pub fn targets(&self, bus: &str, rule: &str) -> &[RuleTarget]
+        ensures targets { map target_of result.now ≡ spec.targets_in (spec.rule_at bus.now rule.now self.now) }
+        ensures rows { result.now ≡ target_rows (spec.rule_at bus.now rule.now self.now) }
     {
         match self.rule(bus, rule) {
             Some(rule) => rule.targets(),
@@ -141,11 +145,41 @@ impl RuleSet {
         }
     }
 
-    /// The first fault of the target if it is put to a rule that has these targets. `apply` decides on targets by this call alone.
+    /// The first fault of the target if it is put to a rule that has these targets. `apply` decides on targets by the same checks.
     pub fn target_fault(&self, targets: &[Target], target: &Target) -> Option<TargetFault>
         ensures { MatchOption result
             (spec.IsGoodTarget self.now targets.now target.now)
             (λ fault. HasTargetFault self.now targets.now target.now fault) }
+    {
+        if let Some(fault) = self.own_fault(target) {
+            return Some(fault);
+        }
+        if is_sixth(targets, target.id.as_str()) {
+            return Some(TargetFault::Sixth);
+        }
+        None
+    }
+
+    /// The same, of the targets that a rule stores.
+    fn stored_fault(&self, targets: &[RuleTarget], target: &Target) -> Option<TargetFault>
+        ensures { MatchOption result
+            (spec.IsGoodTarget self.now (map target_of targets.now) target.now)
+            (λ fault. HasTargetFault self.now (map target_of targets.now) target.now fault) }
+    {
+        if let Some(fault) = self.own_fault(target) {
+            return Some(fault);
+        }
+        if is_sixth(targets, target.id.as_str()) {
+            return Some(TargetFault::Sixth);
+        }
+        None
+    }
+
+    /// The first fault of the target, whatever targets the rule has.
+    fn own_fault(&self, target: &Target) -> Option<TargetFault>
+        ensures { MatchOption result
+            (IsShortName target.now.id × spec.IsQueueThere self.now target.now.arn × (target.now.unbuilt ≡ None))
+            (λ fault. (targets : List RequestTarget) → HasTargetFault self.now targets target.now fault) }
     {
         if !is_target_id(target.id.as_str()) {
             return Some(TargetFault::Member(Member::Id));
@@ -158,9 +192,6 @@ impl RuleSet {
         }
         if !self.queue(queue) {
             return Some(TargetFault::NoQueue);
-        }
-        if is_sixth(targets, target) {
-            return Some(TargetFault::Sixth);
         }
         None
     }
@@ -223,34 +254,34 @@ impl RuleSet {
         let Some(rule) = old.rule(rule.as_str()) else {
             return Err(ControlFault::ResourceNotFound(Kind::Rule));
         };
-        let Some(targets) = self.after_put(alloc, rule.targets(), targets)? else {
+        let Some(targets) = self.after_put(alloc, rule, targets)? else {
             return Err(ControlFault::Validation(Member::Targets));
         };
         let new = old.with(alloc, rule.with_targets(alloc, targets)?)?;
         Ok(self.with_bus(alloc, new)?)
     }
 
-    /// A rule's targets with the new ones put to them in order. `None` if there is no new one, or one has a fault.
+    /// The rule's targets with the new ones put to them in order. `None` if there is no new one, or one has a fault.
     fn after_put(
         &self,
         alloc: Global,
-        targets: &[Target],
+        rule: &Rule,
         news: &[Target],
-    ) -> Result<Option<Vec<Target>>, NoMemory>
+    ) -> Result<Option<Vec<RuleTarget>>, NoMemory>
         ensures { IfOk result (λ found. MatchOption found
-            ((news.now ≡ []) ⊎ HasFaultyTarget self.now news.now targets.now)
-            (λ others. (1 ≤ length news.now) × spec.AreGoodTargets self.now news.now targets.now
-            × (others.items ≡ spec.put_targets news.now targets.now))) }
+            ((news.now ≡ []) ⊎ HasFaultyTarget self.now news.now rule.now.targets)
+            (λ others. (1 ≤ length news.now) × spec.AreGoodTargets self.now news.now rule.now.targets
+            × (map target_of others.items ≡ spec.put_targets news.now rule.now.targets) × All (IsRowOf rule.now) others.items)) }
     {
         if news.is_empty() {
             return Ok(None);
         }
-        let mut others = copies(alloc, targets)?;
+        let mut others = pointers(alloc, rule.targets())?;
         for new in news {
-            if self.target_fault(&others, new).is_some() {
+            if self.stored_fault(&others, new).is_some() {
                 return Ok(None);
             }
-            put_target(&mut others, new.copy(alloc)?)?;
+            put_in_order(&mut others, rule.stored(alloc, new)?)?;
         }
         Ok(Some(others))
     }
@@ -350,7 +381,7 @@ impl RuleSet {
         let Some(rule) = old.rule(rule.as_str()) else {
             return Err(ControlFault::ResourceNotFound(Kind::Rule));
         };
-        let Some(targets) = after_removal(alloc, rule.targets(), ids)? else {
+        let Some(targets) = after_removal(alloc, rule, ids)? else {
             return Err(ControlFault::Validation(Member::Ids));
         };
         let new = old.with(alloc, rule.with_targets(alloc, targets)?)?;
@@ -368,12 +399,26 @@ impl RuleSet {
             × (set ≡ spec.applied (policy_put bus.now policy.now) self.now)) }
         ensures refused { IfErr result (λ fault. (fault ≡ ControlFault.NoMemory) ⊎ IsPolicyRefused bus.now policy.now self.now fault) }
     {
+        if is_too_long(policy) {
+            return Err(self.too_long(bus));
+        }
         let policy = read_policy(alloc, policy)?;
         let Some(old) = self.found(bus.as_str()) else {
             return Err(ControlFault::ResourceNotFound(Kind::EventBus));
         };
         let new = old.with_policy(alloc, policy)?;
         Ok(self.with_bus(alloc, new)?)
+    }
+
+    /// The refusal of a policy that is too long.
+    fn too_long(&self, bus: &Text) -> ControlFault
+        ensures { (policy : Option (List ℕ)) → IsTooLong policy → IsPolicyRefused bus.now policy self.now result }
+    {
+        if self.has_bus(bus.as_str()) {
+            ControlFault::PolicyTooLong
+        } else {
+            ControlFault::ResourceNotFound(Kind::EventBus)
+        }
     }
 
     fn create_queue(&self, alloc: Global, name: &Text) -> Result<RuleSet, ControlFault>

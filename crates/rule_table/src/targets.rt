@@ -1,35 +1,38 @@
 //! Targets of one rule, in the byte order of their ids.
-ghost use Rattle.std.specs.Prelude.{◌≡◌, ◌↔◌, ◌<◌, ◌≤◌, ◌⊎◌, [], IfOk, OnOk, OnErr, MatchOption, IsTrue, length};
+ghost use Rattle.std.specs.Prelude.{◌≡◌, ◌↔◌, ◌<◌, ◌≤◌, ◌⊎◌, [], map, All, IfOk, OnOk, OnErr, MatchOption, IsTrue, length};
 ghost use Rattle.name_rows.specs.Place.{IsPlace};
-ghost use Rattle.name_rows.specs.Rows.{AreSorted};
+ghost use Rattle.name_rows.specs.Rows.{AreSorted, placed, replacing};
 ghost use Rattle.rule_table.specs.RuleSet as spec;
+ghost use Rattle.rule_table.specs.Target.{target_of, IsRowOf};
 
 use crate::control::Target;
+use crate::rule::Rule;
+use crate::rule_target::RuleTarget;
 use json_text::{NoMemory, Text};
-use name_rows::Place;
+use name_rows::{Place, Row};
 use std::alloc::Global;
 use std::cmp::Ordering;
 
 /// The greatest number of targets of a rule.
 const MOST_TARGETS: usize = 5;
 
-/// A copy of the targets.
-pub(crate) fn copies(alloc: Global, targets: &[Target]) -> Result<Vec<Target>, NoMemory>
+/// Pointers to the same targets.
+pub(crate) fn pointers(alloc: Global, targets: &[RuleTarget]) -> Result<Vec<RuleTarget>, NoMemory>
     ensures { IfOk result (λ others. others.items ≡ targets.now) }
 {
     let mut others = Vec::with_capacity(alloc, targets.len())?;
     for target in targets {
-        others.push(target.copy(alloc)?)?;
+        others.push(target.share()?)?;
     }
     Ok(others)
 }
 
 /// The place of the id in the targets.
-fn place_of(targets: &[Target], id: &str) -> Place
-    ensures { IsPlace (λ target. target.id) id.now targets.now result }
+fn place_of<R: Row>(targets: &[R], id: &str) -> Place
+    ensures { IsPlace R.name_of id.now targets.now result }
 {
     for (at, target) in targets.iter().enumerate() {
-        match id.cmp(target.id.as_str()) {
+        match id.cmp(target.row_name()) {
             Ordering::Less => return Place::Before(at),
             Ordering::Equal => return Place::Here(at),
             Ordering::Greater => (),
@@ -38,11 +41,11 @@ fn place_of(targets: &[Target], id: &str) -> Place
     Place::Before(targets.len())
 }
 
-/// Whether the rule would have more than five targets with this one.
-pub(crate) fn is_sixth(targets: &[Target], new: &Target) -> bool
-    ensures { IsTrue result ↔ (5 < length (spec.put_target new.now targets.now)) }
+/// Whether the rule would have more than five targets with one of this id.
+pub(crate) fn is_sixth<R: Row>(targets: &[R], id: &str) -> bool
+    ensures { IsTrue result ↔ (5 < length (placed (λ n. n) replacing id.now (map R.name_of targets.now))) }
 {
-    match place_of(targets, new.id.as_str()) {
+    match place_of(targets, id) {
         Place::Here(_) => targets.len() > MOST_TARGETS,
         Place::Before(_) => targets.len() >= MOST_TARGETS,
     }
@@ -54,30 +57,37 @@ pub fn put_target(targets: &mut Vec<Target>, new: Target) -> Result<(), NoMemory
     ensures put { OnOk result (targets.new.items ≡ spec.put_target new targets.old.items) }
     ensures unchanged { OnErr result (targets.new.items ≡ targets.old.items) }
 {
-    match place_of(targets.as_slice(), new.id.as_str()) {
+    put_in_order(targets, new)
+}
+
+/// The same, of targets in any form.
+pub(crate) fn put_in_order<R: Row + Drop>(targets: &mut Vec<R>, new: R) -> Result<(), NoMemory>
+    ensures put { OnOk result (targets.new.items ≡ placed R.name_of replacing new targets.old.items) }
+    ensures unchanged { OnErr result (targets.new.items ≡ targets.old.items) }
+{
+    match place_of(targets.as_slice(), new.row_name()) {
         Place::Here(at) => targets[at] = new,
         Place::Before(at) => targets.insert(at, new)?,
     }
     Ok(())
 }
 
-/// The targets, which are in the byte order of their ids, without those of these ids. `None` if there is no id, or one is no target's, or
-/// comes twice.
+/// The targets of the rule without those of these ids. `None` if there is no id, or one is no target's, or comes twice.
 pub(crate) fn after_removal(
     alloc: Global,
-    targets: &[Target],
+    rule: &Rule,
     ids: &[Text],
-) -> Result<Option<Vec<Target>>, NoMemory>
-    requires { AreSorted (λ target. target.id) targets.now }
+) -> Result<Option<Vec<RuleTarget>>, NoMemory>
+    requires { AreSorted (λ target. target.id) rule.now.targets }
     ensures { IfOk result (λ found. MatchOption found
-        ((ids.now ≡ []) ⊎ (¬ spec.AreRemovable ids.now targets.now))
-        (λ others. (1 ≤ length ids.now) × spec.AreRemovable ids.now targets.now
-        × (others.items ≡ spec.without_targets ids.now targets.now))) }
+        ((ids.now ≡ []) ⊎ (¬ spec.AreRemovable ids.now rule.now.targets))
+        (λ others. (1 ≤ length ids.now) × spec.AreRemovable ids.now rule.now.targets
+        × (map target_of others.items ≡ spec.without_targets ids.now rule.now.targets) × All (IsRowOf rule.now) others.items)) }
 {
     if ids.is_empty() {
         return Ok(None);
     }
-    let mut others = copies(alloc, targets)?;
+    let mut others = pointers(alloc, rule.targets())?;
     for id in ids {
         match place_of(others.as_slice(), id.as_str()) {
             Place::Here(at) => {

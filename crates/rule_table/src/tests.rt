@@ -5,6 +5,7 @@ use api_replies::Member;
 use event_shape::{queue_arn, queue_of};
 use json_text::{NoMemory, Text};
 use pattern_meaning::Pattern;
+use shared_text::SharedRow;
 use std::alloc::Global;
 use std::test::Fail;
 
@@ -162,6 +163,7 @@ fn words(fault: &ControlFault) -> (&'static str, &'static str) {
         ControlFault::HasTargets => ("in use", "Targets"),
         ControlFault::DefaultBus => ("stays", "default"),
         ControlFault::Validation(member) => ("not valid", member.name()),
+        ControlFault::PolicyTooLong => ("too long", "Policy"),
         ControlFault::NoMemory => ("no", "memory"),
     }
 }
@@ -209,9 +211,9 @@ fn show_rule(out: &mut String, rule: &Rule) -> Result<(), Fail> {
     out.push_str(if rule.is_enabled() { "+" } else { "-" })?;
     for target in rule.targets() {
         out.push_str(" ")?;
-        out.push_str(target.id.as_str())?;
+        out.push_str(target.id())?;
         out.push_str("=")?;
-        out.push_str(queue_of(target.arn.as_str()).unwrap_or("?"))?;
+        out.push_str(queue_of(target.arn()).unwrap_or("?"))?;
     }
     out.push_str(";")?;
     Ok(())
@@ -516,6 +518,36 @@ fn each_policy_is_put_or_refused(rt: HostRuntime) -> Result<(), Fail> {
     Ok(())
 }
 
+/// Whether a policy of this many spaces is refused, with this kind and object.
+fn are_spaces_refused(
+    alloc: Global,
+    bus: &str,
+    count: u16,
+    kind: &str,
+    object: &str,
+) -> Result<bool, Fail> {
+    let mut spaces = String::new(alloc);
+    for _ in 0..count {
+        spaces.push_str(" ")?;
+    }
+    let control = policy_put(alloc, bus, Some(spaces.as_str()))?;
+    match RuleSet::first(alloc)?.apply(alloc, &control) {
+        Ok(_) => Ok(false),
+        Err(fault) => {
+            let (found, of) = words(&fault);
+            Ok(found == kind && of == object)
+        }
+    }
+}
+
+#[test]
+fn a_policy_has_at_most_10240_bytes(rt: HostRuntime) -> Result<(), Fail> {
+    assert!(rt; are_spaces_refused(rt.alloc(), "default", 10_240, "not valid", "Policy")?);
+    assert!(rt; are_spaces_refused(rt.alloc(), "default", 10_241, "too long", "Policy")?);
+    assert!(rt; are_spaces_refused(rt.alloc(), "nope", 10_241, "no", "Event bus")?);
+    Ok(())
+}
+
 /// Changes, and whether they are well formed, whatever the rule set is. Worked by hand from the syntax of names.
 const FORMS: [(Step, bool); 21] = [
     (Step::Bus("a.B-c_9"), true),
@@ -740,10 +772,10 @@ fn is_of_source(pattern: &Pattern) -> bool {
     pattern.fields.len() == 1
 }
 
-/// Whether the rule `r` has the pattern that it was given.
+/// Whether the rule `r` has its ARN and the pattern that it was given.
 fn has_pattern(set: &RuleSet) -> bool {
     match set.rule("default", "r") {
-        Some(rule) => is_of_source(rule.pattern().pattern()),
+        Some(rule) => rule.arn() == R_ARN && is_of_source(rule.pattern().pattern()),
         None => false,
     }
 }
@@ -764,11 +796,36 @@ fn a_bus_shows_its_rule(rt: HostRuntime) -> Result<(), Fail> {
     Ok(())
 }
 
-/// Whether a set with a target for the rule `r` has it, and the set that it was made from has none.
+const R_ARN: &str = "arn:aws:events:us-east-1:111122223333:rule/r";
+
+const A_ARN: &str = "arn:aws:sqs:us-east-1:111122223333:a";
+
+/// Whether the row is that of the target `t` of the rule `r`.
+fn is_row_of_r(row: &SharedRow) -> bool {
+    row.rule_arn() == R_ARN
+        && row.rule_name() == "r"
+        && row.target_id() == "t"
+        && row.endpoint() == A_ARN
+        && row.dead_letter().is_none()
+        && row.attempts() == 185
+        && row.age() == 86_400
+}
+
+/// Whether the rule `r` has the one target `t`.
+fn has_target_t(set: &RuleSet) -> bool {
+    match set.targets("default", "r") {
+        [target] => target.id() == "t" && is_row_of_r(target.row()),
+        _ => false,
+    }
+}
+
+/// Whether a set with a target for the rule `r` has it, also when the rule is put again, and the set that it was made from has none.
 fn has_its_target(alloc: Global, set: &RuleSet) -> Result<bool, Fail> {
     let put = after(alloc, set, Step::Put("r", "t", "a"))?;
+    let again = after(alloc, &put, Step::Off("r"))?;
     Ok(
-        put.targets("default", "r").len() == 1
+        has_target_t(&put)
+            && has_target_t(&again)
             && put.targets("nope", "r").is_empty()
             && set.targets("default", "r").is_empty(),
     )

@@ -1,24 +1,25 @@
-use Rattle.std.proofs.Common.{ℕ, List, length, subst, arith}
+use Rattle.std.proofs.Common.{ℕ, List, length, map, ◌≡◌, ◌∙◌, arith}
 use Rattle.std.proofs.lemmas.Bool.{leb-true, le-leb}
-use Rattle.name_rows.specs.Place.{IsHere, IsBefore}
-use Rattle.rule_table.specs.declared.control.Target.{Target}
+use Rattle.std.proofs.lemmas.List.{length-map}
+use Rattle.name_rows.proofs.RowLemmas.{here_map, before_map}
 use Rattle.rule_table.proofs.RowLemmas.{length_here, length_before}
 use Rattle.rule_table.proofs.targets.is_sixth.Goals as goal
 
 pub returns-in-Here : goal.returns-in-Here
-returns-in-Here c =
-    let id : Target → List ℕ = λ target. target.id in
-    let new = c.args.new.now in
+returns-in-Here g c =
+    let name_of = g.R.Row.name_of in
+    let itself : List ℕ → List ℕ = λ n. n in
     let targets = c.args.targets.now in
-    let here = subst (λ name. IsHere id name targets c.in-Here.field-0) c.as_str.ensures c.in-Here.ensures in
-    let e = length_here id new targets c.in-Here.field-0 here in
+    let here = here_map name_of itself c.args.id.now targets c.in-Here.field-0 c.in-Here.ensures in
+    let e = length_here itself c.args.id.now (map name_of targets) c.in-Here.field-0 here ∙ length-map targets name_of in
     (λ more. omega (arith, e, leb-true 6 (length targets) more), λ more. le-leb 6 (length targets) (omega (arith, e, more)))
 
 pub returns-in-Before : goal.returns-in-Before
-returns-in-Before c =
-    let id : Target → List ℕ = λ target. target.id in
-    let new = c.args.new.now in
+returns-in-Before g c =
+    let name_of = g.R.Row.name_of in
+    let itself : List ℕ → List ℕ = λ n. n in
     let targets = c.args.targets.now in
-    let before = subst (λ name. IsBefore id name targets c.in-Before.field-0) c.as_str.ensures c.in-Before.ensures in
-    let e = length_before id new targets c.in-Before.field-0 before in
-    (λ more. omega (arith, e, leb-true 5 (length targets) more), λ more. le-leb 5 (length targets) (omega (arith, e, more)))
+    let before = before_map name_of itself c.args.id.now targets c.in-Before.field-0 c.in-Before.ensures in
+    let names : length (map name_of targets) ≡ length targets = length-map targets name_of in
+    let e = length_before itself c.args.id.now (map name_of targets) c.in-Before.field-0 before in
+    (λ more. omega (arith, e, names, leb-true 5 (length targets) more), λ more. le-leb 5 (length targets) (omega (arith, e, names, more)))

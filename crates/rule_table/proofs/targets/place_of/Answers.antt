@@ -8,24 +8,24 @@ use Rattle.rule_table.proofs.RowLemmas.{before_at, here_at}
 use Rattle.rule_table.proofs.targets.place_of.Goals as goal
 
 pub returns-in-Less : goal.returns-in-Less
-returns-in-Less c =
-    let less : slice_cmp nat_cmp c.args.id.now c.index-targets-at.result.id ≡ Less =
-    ap (slice_cmp nat_cmp c.args.id.now) (sym c.as_str.ensures) ∙ sym c.in-Less.ensures in
+returns-in-Less g c =
+    let less : slice_cmp nat_cmp c.args.id.now (g.R.Row.name_of c.index-targets-at.result) ≡ Less =
+    ap (slice_cmp nat_cmp c.args.id.now) (sym c.row_name.ensures) ∙ sym c.in-Less.ensures in
     let within : c.loop-at.at < length c.args.targets.now = omega arith in
-    before_at (λ target. target.id) c.args.id.now c.args.targets.now c.loop-at.at c.index-targets-at.result within c.index-targets-at.is
+    before_at g.R.Row.name_of c.args.id.now c.args.targets.now c.loop-at.at c.index-targets-at.result within c.index-targets-at.is
     c.loop-at.invariant less
 
 pub returns-in-Equal : goal.returns-in-Equal
-returns-in-Equal c =
-    let equal : slice_cmp nat_cmp c.args.id.now c.index-targets-at.result.id ≡ Equal =
-    ap (slice_cmp nat_cmp c.args.id.now) (sym c.as_str.ensures) ∙ sym c.in-Equal.ensures in
+returns-in-Equal g c =
+    let equal : slice_cmp nat_cmp c.args.id.now (g.R.Row.name_of c.index-targets-at.result) ≡ Equal =
+    ap (slice_cmp nat_cmp c.args.id.now) (sym c.row_name.ensures) ∙ sym c.in-Equal.ensures in
     let within : c.loop-at.at < length c.args.targets.now = omega arith in
-    here_at (λ target. target.id) c.args.id.now c.args.targets.now c.loop-at.at c.index-targets-at.result within c.index-targets-at.is
+    here_at g.R.Row.name_of c.args.id.now c.args.targets.now c.loop-at.at c.index-targets-at.result within c.index-targets-at.is
     c.loop-at.invariant equal
 
 pub loop-at-preserved : goal.loop-at-preserved
-loop-at-preserved c =
-    let greater : IsSmaller (λ target. target.id) c.args.id.now c.index-targets-at.result =
-    ap (slice_cmp nat_cmp c.args.id.now) (sym c.as_str.ensures) ∙ sym c.in-Greater.ensures in
-    All-more (IsSmaller (λ target. target.id) c.args.id.now) c.args.targets.now c.loop-at.at c.index-targets-at.result c.loop-at-test.true c.loop-at.invariant
-    (subst (IsSmaller (λ target. target.id) c.args.id.now) c.index-targets-at.is greater)
+loop-at-preserved g c =
+    let greater : IsSmaller g.R.Row.name_of c.args.id.now c.index-targets-at.result =
+    ap (slice_cmp nat_cmp c.args.id.now) (sym c.row_name.ensures) ∙ sym c.in-Greater.ensures in
+    All-more (IsSmaller g.R.Row.name_of c.args.id.now) c.args.targets.now c.loop-at.at c.index-targets-at.result c.loop-at-test.true c.loop-at.invariant
+    (subst (IsSmaller g.R.Row.name_of c.args.id.now) c.index-targets-at.is greater)

@@ -1,5 +1,5 @@
-use Rattle.std.proofs.Common.{◌≡◌, ◌⊎◌, ◌+◌, ◌≤◌, length, [], false, None, inr, refl, ap, sym, ◌∙◌, subst}
-use Rattle.name_rows.specs.Rows.{AreSorted, named}
+use Rattle.std.proofs.Common.{◌≡◌, ◌+◌, ◌≤◌, length, false, None, inr, refl, ap, sym, ◌∙◌, subst}
+use Rattle.name_rows.specs.Rows.{named}
 use Rattle.rule_table.specs.Control.{targets_removed}
 use Rattle.rule_table.specs.RuleSet.{Rule, has_bus, without_targets, AreRemovable, IsSound}
 use Rattle.rule_table.specs.Refusal.{no_such_bus, no_rule_to_remove_from, faulty_ids}
@@ -26,8 +26,7 @@ after_removal-requires c =
     let r = c.in-Some-rule.rule.now in
     let found = subst (λ name. IsFound set name old) c.as_str.ensures c.in-Some.ensures.found in
     let there = subst (λ name. IsFoundIn old name r) c.as_str-2.ensures c.in-Some-rule.ensures.found in
-    subst (AreSorted (λ target. target.id)) (sym c.targets.ensures)
-    (targets_sorted c.args.bus.now c.args.rule.now set old r found there c.in-Some.ensures.sound)
+    targets_sorted c.args.bus.now c.args.rule.now set old r found there c.in-Some.ensures.sound
 
 pub returns-in_default-2-clause-refused : goal.returns-in_default-2-clause-refused
 returns-in_default-2-clause-refused c =
@@ -36,10 +35,10 @@ returns-in_default-2-clause-refused c =
     let r = c.in-Some-rule.rule.now in
     let found = subst (λ name. IsFound set name old) c.as_str.ensures c.in-Some.ensures.found in
     let there = subst (λ name. IsFoundIn old name r) c.as_str-2.ensures c.in-Some-rule.ensures.found in
-    let ids = c.args.ids.now in
-    let faulty = rw c.in_default-2.is at c.in_ok-targets.ensures in
-    inr (faulty_ids r (rule_found c.args.bus.now c.args.rule.now set old r found there)
-    (subst (λ ts. (ids ≡ []) ⊎ (¬ AreRemovable ids ts)) c.targets.ensures faulty))
+    inr (faulty_ids r (rule_found c.args.bus.now c.args.rule.now set old r found there) (rw c.in_default-2.is at c.in_ok-targets.ensures))
+
+pub with_targets-requires : goal.with_targets-requires
+with_targets-requires c = let left = rw c.in-Some-2.is at c.in_ok-targets.ensures in left.3
 
 pub with_bus-requires-clause-sound : goal.with_bus-requires-clause-sound
 with_bus-requires-clause-sound c =
@@ -55,10 +54,9 @@ with_bus-requires-clause-sound c =
     let found = subst (λ name. IsFound set name old) c.as_str.ensures c.in-Some.ensures.found in
     let there = subst (λ name. IsFoundIn old name r) c.as_str-2.ensures c.in-Some-rule.ensures.found in
     let left = rw c.in-Some-2.is at c.in_ok-targets.ensures in
-    let good = subst (AreRemovable ids) c.targets.ensures left.1 in
     let made : c.in_ok-with_targets.field-0 ≡ change r =
-    c.in_ok-with_targets.ensures ∙ ap (λ ts. record r { targets = ts }) (left.2 ∙ ap (without_targets ids) c.targets.ensures) in
-    let allowed = for_rule bus rule set r Fact (rule_found bus rule set old r found there) (left.0, good) in
+    c.in_ok-with_targets.ensures ∙ ap (λ ts. record r { targets = ts }) left.2 in
+    let allowed = for_rule bus rule set r Fact (rule_found bus rule set old r found there) (left.0, left.1) in
     subst (λ buses. IsSound (record set { buses = buses; count = set.count + 1 }))
     (sym (rule_changed bus rule change set old r c.in_ok-with_targets.field-0 c.in_ok-new.new (λ r. refl) found there sound made c.in_ok-new.ensures))
     (sound_applied (targets_removed bus rule ids) set allowed sound)
@@ -76,11 +74,10 @@ returns-clause-applied c =
     let found = subst (λ name. IsFound set name old) c.as_str.ensures c.in-Some.ensures.found in
     let there = subst (λ name. IsFoundIn old name r) c.as_str-2.ensures c.in-Some-rule.ensures.found in
     let left = rw c.in-Some-2.is at c.in_ok-targets.ensures in
-    let good = subst (AreRemovable ids) c.targets.ensures left.1 in
     let made : c.in_ok-with_targets.field-0 ≡ change r =
-    c.in_ok-with_targets.ensures ∙ ap (λ ts. record r { targets = ts }) (left.2 ∙ ap (without_targets ids) c.targets.ensures) in
+    c.in_ok-with_targets.ensures ∙ ap (λ ts. record r { targets = ts }) left.2 in
     let same = rule_changed bus rule change set old r c.in_ok-with_targets.field-0 c.in_ok-new.new (λ r. refl) found there c.in-Some.ensures.sound made
     c.in_ok-new.ensures in (
-      for_rule bus rule set r Fact (rule_found bus rule set old r found there) (left.0, good),
+      for_rule bus rule set r Fact (rule_found bus rule set old r found there) (left.0, left.1),
       c.in_ok-with_bus.ensures ∙ ap (λ buses. record set { buses = buses; count = set.count + 1 }) same,
     )

@@ -1,31 +1,26 @@
-use Rattle.std.proofs.Common.{ℕ, List, refl, sym, subst}
-use Rattle.std.proofs.lemmas.Bool.{false≢true}
-use Rattle.event_shape.specs.Names.{IsShortName, IsQueueArn}
-use Rattle.rule_table.specs.RuleSet.{IsQueueThere}
-use Rattle.rule_table.specs.Refusal.{bad_id, bad_arn, unsupported, no_queue, sixth}
+use Rattle.std.proofs.Common.{◌<◌, ◌≤◌, length, map, refl, subst, ◌∙◌, ap}
+use Rattle.name_rows.specs.Rows.{placed, replacing}
+use Rattle.rule_table.specs.RuleSet.{put_target}
+use Rattle.rule_table.specs.Refusal.{sixth}
+use Rattle.rule_table.proofs.RowLemmas.{length_names}
+use Rattle.rule_table.proofs.TargetLemmas.{id_of, at_most}
 use Rattle.rule_table.proofs.rule_set.RuleSet.target_fault.Goals as goal
-
-pub returns-then-not-is_target_id : goal.returns-then-not-is_target_id
-returns-then-not-is_target_id c = bad_id (λ id. false≢true (c.if-not-is_target_id.ensures.1 (subst IsShortName (sym c.as_str.ensures) id)))
-
-pub returns-in_default : goal.returns-in_default
-returns-in_default c =
-    bad_arn (subst IsShortName c.as_str.ensures (c.if-not-is_target_id.ensures.0 refl))
-    (subst (λ (arn : List ℕ). (queue : List ℕ) → ¬ IsQueueArn arn queue) c.as_str-2.ensures c.in_default.ensures)
-
-pub returns-in-Some-unbuilt : goal.returns-in-Some-unbuilt
-returns-in-Some-unbuilt c =
-    unsupported c.in-Some-unbuilt.member (subst IsShortName c.as_str.ensures (c.if-not-is_target_id.ensures.0 refl)) c.in-Some.queue.now
-    (subst (λ (arn : List ℕ). IsQueueArn arn c.in-Some.queue.now) c.as_str-2.ensures c.in-Some.ensures) c.in-Some-unbuilt.is
-
-pub returns-then-not-queue : goal.returns-then-not-queue
-returns-then-not-queue c =
-    no_queue (subst IsShortName c.as_str.ensures (c.if-not-is_target_id.ensures.0 refl)) c.in-Some.queue.now
-    (subst (λ (arn : List ℕ). IsQueueArn arn c.in-Some.queue.now) c.as_str-2.ensures c.in-Some.ensures) c.in_default-unbuilt.is
-    (sym c.if-not-queue.ensures)
 
 pub returns-then-is_sixth : goal.returns-then-is_sixth
 returns-then-is_sixth c =
-    let arn = subst (λ (arn : List ℕ). IsQueueArn arn c.in-Some.queue.now) c.as_str-2.ensures c.in-Some.ensures in
-    let there : IsQueueThere c.args.self.now c.args.target.now.arn = (c.in-Some.queue.now, arn, sym c.if-not-queue.ensures) in
-    sixth (subst IsShortName c.as_str.ensures (c.if-not-is_target_id.ensures.0 refl)) there c.in_default-unbuilt.is (c.if-is_sixth.ensures.0 refl)
+    let new = c.args.target.now in
+    let targets = c.args.targets.now in
+    let own = c.in_default.ensures in
+    let same = ap (λ id. length (placed (λ n. n) replacing id (map id_of targets))) c.as_str.ensures ∙ length_names id_of new targets in
+    let many : 5 < length (put_target new targets) = subst (λ n. 5 < n) same (c.if-is_sixth.ensures.0 refl) in
+    sixth own.0 own.1 own.2 many
+
+pub returns : goal.returns
+returns c =
+    let new = c.args.target.now in
+    let targets = c.args.targets.now in
+    let own = c.in_default.ensures in
+    let same = ap (λ id. length (placed (λ n. n) replacing id (map id_of targets))) c.as_str.ensures ∙ length_names id_of new targets in
+    let few : length (put_target new targets) ≤ 5 =
+    subst (λ n. n ≤ 5) same (at_most 5 (length (placed (λ n. n) replacing c.as_str.result.now (map id_of targets))) c.if-is_sixth.ensures) in
+    record { id = own.0; queue = own.1; supported = own.2; few = few }

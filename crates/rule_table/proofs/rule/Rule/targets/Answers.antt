@@ -1,0 +1,18 @@
+use Rattle.std.proofs.Common.{◌≡◌, map, ◌∙◌, subst}
+use Rattle.std.specs.Arc.{arc_value}
+use Rattle.rule_table.specs.RuleSet.{Rule}
+use Rattle.rule_table.specs.Target.{row_of, target_of}
+use Rattle.rule_table.proofs.TargetLemmas.{rows_again}
+use Rattle.rule_table.proofs.rule.Rule.targets.Goals as goal
+
+pub returns-clause-rows : goal.returns-clause-rows
+returns-clause-rows c =
+    let rows = c.self.inside.targets.items in
+    let view : Rule = record {
+      arn = c.self.inside.arn;
+      name = c.self.inside.name;
+      pattern = arc_value c.self.inside.pattern;
+      enabled = c.self.inside.enabled;
+      targets = map target_of rows;
+    } in
+    c.as_slice.ensures.value ∙ subst (λ (r : Rule). rows ≡ map (row_of r) r.targets) c.self.view_is (rows_again view rows c.self.invariant)
