@@ -4,7 +4,7 @@ use Rattle.std.specs.Prelude.{ℕ, Bool, true, if◌then◌else◌, List, [], �
 use Rattle.std.specs.List.{list_any, starts_with}
 use Rattle.std.specs.Str.{bytes_eq}
 use Rattle.json_text.specs.Tree.{Tree, text, list, object, items_of, members_of}
-use Rattle.event_shape.specs.Names.{bus_arn, rule_arn}
+use Rattle.event_shape.specs.Names.{bus_arn}
 use Rattle.name_rows.specs.Rows.{named}
 use Rattle.rule_table.specs.declared.control.Target.{Target}
 use Rattle.rule_table.specs.RuleSet.{Rule, Bus, RuleSet}
@@ -63,7 +63,7 @@ state_text enabled = if enabled then codes "ENABLED" else codes "DISABLED"
 abbrev pub rule_members : List ℕ → Rule → List (List ℕ × Tree)
 rule_members bus rule =
     (codes "Name", text rule.name)
-    ∷ (codes "Arn", text (rule_arn bus rule.name))
+    ∷ (codes "Arn", text rule.arn)
     ∷ (codes "EventPattern", text rule.pattern)
     ∷ (codes "State", text (state_text rule.enabled))
     ∷ (codes "EventBusName", text bus)

@@ -7,8 +7,7 @@ ghost use Rattle.config_views.specs.Views as spec;
 
 use crate::parts::{has_prefix, listing, no_bus, no_rule, served};
 use api_replies::Reply;
-use event_shape::rule_arn;
-use json_text::{Items, Json, Members, NoMemory, push_member, push_text};
+use json_text::{Items, Json, Members, NoMemory, push_text};
 use rule_table::{Bus, Rule, RuleSet};
 use std::alloc::Global;
 
@@ -62,8 +61,7 @@ fn rule_members(alloc: Global, bus: &str, rule: &Rule) -> Result<Members, NoMemo
 {
     let mut members: Members = Vec::with_capacity(alloc, 5)?;
     push_text(alloc, &mut members, "Name", rule.name())?;
-    let arn = rule_arn(alloc, bus, rule.name())?;
-    push_member(alloc, &mut members, "Arn", Json::Str(arn))?;
+    push_text(alloc, &mut members, "Arn", rule.arn())?;
     push_text(
         alloc,
         &mut members,

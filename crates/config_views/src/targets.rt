@@ -1,13 +1,16 @@
 //! ListTargetsByRule and ListRuleNamesByTarget.
-ghost use Rattle.std.specs.Prelude.{◌≡◌, IfOk};
+ghost use Rattle.std.specs.Prelude.{◌≡◌, map, IfOk};
+ghost use Rattle.std.specs.List.{list_any};
+ghost use Rattle.std.specs.Str.{bytes_eq};
 ghost use Rattle.json_text.specs.View.{trees_of, pairs_of};
 ghost use Rattle.api_replies.specs.View.{reply_of};
+ghost use Rattle.rule_table.specs.Target.{target_of};
 ghost use Rattle.config_views.specs.Views as spec;
 
 use crate::parts::{listing, no_bus, no_rule};
 use api_replies::Reply;
 use json_text::{Items, Json, Members, NoMemory, Text, push_text};
-use rule_table::{Bus, Rule, RuleSet, Target};
+use rule_table::{Bus, Rule, RuleSet, RuleTarget};
 use std::alloc::Global;
 
 /// The reply to a ListTargetsByRule: each target's id and ARN.
@@ -50,8 +53,8 @@ pub fn list_rule_names_by_target(
     }
 }
 
-fn target_items(alloc: Global, targets: &[Target]) -> Result<Items, NoMemory>
-    ensures { IfOk result (λ items. trees_of items.items ≡ spec.target_items targets.now) }
+fn target_items(alloc: Global, targets: &[RuleTarget]) -> Result<Items, NoMemory>
+    ensures { IfOk result (λ items. trees_of items.items ≡ spec.target_items (map target_of targets.now)) }
 {
     let mut items: Items = Vec::with_capacity(alloc, targets.len())?;
     for target in targets {
@@ -60,12 +63,12 @@ fn target_items(alloc: Global, targets: &[Target]) -> Result<Items, NoMemory>
     Ok(items)
 }
 
-fn target_members(alloc: Global, target: &Target) -> Result<Members, NoMemory>
-    ensures { IfOk result (λ members. pairs_of members.items ≡ spec.target_members target.now) }
+fn target_members(alloc: Global, target: &RuleTarget) -> Result<Members, NoMemory>
+    ensures { IfOk result (λ members. pairs_of members.items ≡ spec.target_members (target_of target.now)) }
 {
     let mut members: Members = Vec::with_capacity(alloc, 2)?;
-    push_text(alloc, &mut members, "Id", target.id.as_str())?;
-    push_text(alloc, &mut members, "Arn", target.arn.as_str())?;
+    push_text(alloc, &mut members, "Id", target.id())?;
+    push_text(alloc, &mut members, "Arn", target.arn())?;
     Ok(members)
 }
 
@@ -86,7 +89,12 @@ fn rule_names(alloc: Global, bus: &Bus, arn: &str) -> Result<Items, NoMemory>
 fn has_target_arn(rule: &Rule, arn: &str) -> bool
     ensures { result ≡ spec.has_target_arn arn.now rule.now }
 {
-    rule.targets()
-        .iter()
-        .any(|target| target.arn.as_str() == arn)
+    is_endpoint(rule.targets(), arn)
+}
+
+/// Whether the ARN is that of a target.
+fn is_endpoint(targets: &[RuleTarget], arn: &str) -> bool
+    ensures { result ≡ list_any (λ row. bytes_eq row.endpoint arn.now) targets.now }
+{
+    targets.iter().any(|target| target.arn() == arn)
 }
