@@ -1,5 +1,5 @@
--- A rule set may go to another thread, and be read by several: `set_send`, `set_sync`. One lemma for each type, since one search over
--- the whole type stops at its limit.
+-- A rule set may go to another thread, and be read by several: `set_send`, `set_sync`. One
+-- lemma for each type, since one search over the whole type stops at its limit.
 use denote.Param.Send.{IsSend, IsSync, sendable}
 use Rattle.std.proofs.Crossing.{crosses}
 use Rattle.json_text.proofs.base.Text.TheSendSync as text
@@ -12,23 +12,57 @@ use Rattle.pattern_meaning.proofs.pattern.LeafTest.TheLaws.TheKnot as leaf_test
 use Rattle.pattern_read.specs.contracts.pattern_text.PatternText as pattern
 use Rattle.bus_policy.specs.contracts.policy.Policy as policy
 use Rattle.name_rows.proofs.rows.Rows.TheSendSync as rows
-use Rattle.rule_table.proofs.control.Target.TheSendSync as target
+use Rattle.shared_text.proofs.row.TargetRow.TheSendSync as target_row
+use Rattle.shared_text.specs.contracts.row.SharedRow as shared_row
+use Rattle.rule_table.specs.contracts.rule_target.RuleTarget as rule_target
 use Rattle.rule_table.specs.contracts.rule.Rule as rule
 use Rattle.rule_table.specs.contracts.policy.SharedPolicy as shared
 use Rattle.rule_table.specs.contracts.bus.Bus as bus
 use Rattle.rule_table.specs.contracts.rule_set.RuleSet as rule_set
 
 pattern_send : IsSend pattern.the_row
-pattern_send = search (sendable, crosses, text.the_send, json.crosses, field.crosses, leaf_test.crosses, wild.the_send, cidr.the_send, comparison.the_send) depth 20
+pattern_send = search (
+  sendable,
+  crosses,
+  text.the_send,
+  json.crosses,
+  field.crosses,
+  leaf_test.crosses,
+  wild.the_send,
+  cidr.the_send,
+  comparison.the_send,
+) depth 20
 
 pattern_sync : IsSync pattern.the_row
-pattern_sync = search (sendable, crosses, text.the_sync, json.crosses, field.crosses, leaf_test.crosses, wild.the_sync, cidr.the_sync, comparison.the_sync) depth 20
+pattern_sync = search (
+  sendable,
+  crosses,
+  text.the_sync,
+  json.crosses,
+  field.crosses,
+  leaf_test.crosses,
+  wild.the_sync,
+  cidr.the_sync,
+  comparison.the_sync,
+) depth 20
+
+pub row_send : IsSend shared_row.the_row
+row_send = search (sendable, crosses, target_row.the_send, target_row.the_sync) depth 20
+
+pub row_sync : IsSync shared_row.the_row
+row_sync = search (sendable, crosses, target_row.the_send, target_row.the_sync) depth 20
+
+target_send : IsSend rule_target.the_row
+target_send = search (sendable, crosses, row_send) depth 20
+
+target_sync : IsSync rule_target.the_row
+target_sync = search (sendable, crosses, row_sync) depth 20
 
 rule_send : IsSend rule.the_row
-rule_send = search (sendable, crosses, text.the_send, pattern_send, pattern_sync, target.the_send) depth 20
+rule_send = search (sendable, crosses, text.the_send, pattern_send, pattern_sync, target_send) depth 20
 
 rule_sync : IsSync rule.the_row
-rule_sync = search (sendable, crosses, text.the_sync, pattern_send, pattern_sync, target.the_sync) depth 20
+rule_sync = search (sendable, crosses, text.the_sync, pattern_send, pattern_sync, target_sync) depth 20
 
 policy_send : IsSend policy.the_row
 policy_send = search (sendable, crosses, text.the_send, json.crosses) depth 20

@@ -1,3 +1,5 @@
-pub mod ReadyLemmas
+mod TablesLemmas
+mod BatchLemmas
+mod ClaimLemmas
 pub mod MatchingLemmas
 pub mod CrossingLemmas

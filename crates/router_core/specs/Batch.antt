@@ -1,7 +1,7 @@
 -- Batches: the changes of one turn of the router, as a journal records them.
 use Rattle.std.specs.Prelude.{ℕ, List}
 use Rattle.delivery_duties.specs.declared.duty.NewDuty.{NewDuty}
-use Rattle.delivery_duties.specs.declared.fate.Outcome.{Outcome}
+use Rattle.delivery_duties.specs.declared.outcome.Outcome.{Outcome}
 use Rattle.rule_table.specs.Control.{Control}
 
 -- an accepted event: its number, its bus, the configuration version `k` at which it was matched, the moment of its member `time`,

@@ -1,8 +1,10 @@
 pub mod Request
-pub mod View
 pub mod Batch
+pub mod View
 pub mod Tables
+pub mod Admitted
 pub mod Verdict
 pub mod Matching
+pub mod Parts
 pub mod Ready
 pub mod Steps

@@ -1,15 +1,25 @@
 -- Which rules match an event, and the duties of the event.
-use Rattle.std.specs.Prelude.{◌≡◌, ℕ, ◌⊎◌, Bool, true, not, nat_le, if◌then◌else◌, List, [], ◌∷◌, ◌++◌, length, map, codes}
+use Rattle.std.specs.Prelude.{◌≡◌, ℕ, ◌⊎◌, Bool, true, false, not, nat_le, if◌then◌else◌, List, [], ◌∷◌, ◌++◌, length, map, codes, None, Result, Ok}
 use Rattle.json_text.specs.Tree.{Tree}
-use Rattle.event_shape.specs.Names.{rule_arn}
+use Rattle.json_text.specs.Compact.{IsValue}
+use Rattle.event_shape.specs.Event.{event_tree}
+use Rattle.event_shape.specs.Unnumbered.{Unnumbered, with_number}
+use Rattle.event_shape.specs.declared.entry.EntryFault.{EntryFault}
 use Rattle.pattern_meaning.specs.Pattern.{Pattern}
 use Rattle.pattern_meaning.specs.Holds.{PatternHolds}
 use Rattle.pattern_read.specs.Text.{IsPatternText}
 use Rattle.rule_table.specs.declared.control.Target.{Target}
 use Rattle.rule_table.specs.RuleSet.{Rule, RuleSet, rules_of}
+use Rattle.rule_table.specs.Target.{row_of}
 use Rattle.delivery_duties.specs.declared.duty.NewDuty.{NewDuty}
+use Rattle.router_core.specs.Request.{Action, Request, put_events, test_event_pattern}
+use Rattle.router_core.specs.Verdict.{IsEntryVerdict}
 use Rattle.router_core.specs.declared.seen.SeenTarget.{SeenTarget}
+use Rattle.router_core.specs.declared.seen.SeenVerdict.{SeenVerdict}
+use Rattle.router_core.specs.declared.seen.SeenVerdict.TheVariants.{Allowed}
 use Rattle.router_core.specs.declared.seen.SeenEntry.{SeenEntry}
+use Rattle.router_core.specs.declared.seen.SeenResult.{SeenResult}
+use Rattle.router_core.specs.declared.seen.SeenResult.TheVariants.{Entries, Tested, Nothing}
 use Rattle.router_core.specs.declared.seen.Seen.{Seen}
 
 -- the text is a pattern, which holds of the event
@@ -22,43 +32,79 @@ pub record TextMatches (text : List ℕ) (event : Tree) : Type 0 where
 abbrev pub Matches : Rule → Tree → Type 0
 Matches rule event = (rule.enabled ≡ true) × TextMatches rule.pattern event
 
--- a target of a rule of the bus, with the ARN of the rule
-abbrev pub seen_target : List ℕ → Rule → Target → SeenTarget
-seen_target bus rule target = record { rule_arn = rule_arn bus rule.name; target = target }
+-- a target of a rule, as a match finds it
+abbrev pub seen_target : Rule → Target → SeenTarget
+seen_target rule target = record { row = row_of rule target }
 
 -- the targets of the rules that match the event, in the order of the rules, and in the order of targets within a rule
-abbrev pub AreMatched : List ℕ → List Rule → Tree → List SeenTarget → Type 0
-AreMatched bus [] event targets = targets ≡ []
-AreMatched bus (rule ∷ rules) event targets =
-    (rest : List SeenTarget) × AreMatched bus rules event rest
-    × ((Matches rule event × (targets ≡ map (seen_target bus rule) rule.targets ++ rest))
+abbrev pub AreMatched : List Rule → Tree → List SeenTarget → Type 0
+AreMatched [] event targets = targets ≡ []
+AreMatched (rule ∷ rules) event targets =
+    (rest : List SeenTarget) × AreMatched rules event rest
+    × ((Matches rule event × (targets ≡ map (seen_target rule) rule.targets ++ rest))
     ⊎ ((¬ Matches rule event) × (targets ≡ rest)))
 
--- the result of matching one event against the rule set: the configuration version, and the targets of the rules of the bus that
--- match
-pub record IsSeen (set : RuleSet) (bus : List ℕ) (event : Tree) (seen : Seen) : Type 0 where
+-- the targets of the rules of its bus that match the event, whatever number it gets: no pattern tests an event's id
+abbrev pub AreMatchedFor : RuleSet → Unnumbered → List SeenTarget → Type 0
+AreMatchedFor set event targets =
+    (number : ℕ) → AreMatched (rules_of event.bus set) (event_tree (with_number number event.event) None) targets
+
+-- the targets of an entry with this verdict: those that match an allowed event; any other entry has none
+abbrev pub AreTargetsOf : RuleSet → Result Unnumbered EntryFault → SeenVerdict → List SeenTarget → Type 0
+AreTargetsOf set (Ok event) Allowed targets = AreMatchedFor set event targets
+AreTargetsOf set entry verdict targets = targets ≡ []
+
+-- the result of matching an entry of this caller
+pub record IsSeenEntry (set : RuleSet) (caller : List ℕ) (entry : Result Unnumbered EntryFault) (seen : SeenEntry) : Type 0 where
+  pub verdict : IsEntryVerdict set caller entry seen.verdict
+  pub targets : AreTargetsOf set entry seen.verdict seen.targets.items
+
+-- the results of matching entries, in their order
+abbrev pub AreSeenEntries : RuleSet → List ℕ → List (Result Unnumbered EntryFault) → List SeenEntry → Type 0
+AreSeenEntries set caller [] all = all ≡ []
+AreSeenEntries set caller (entry ∷ entries) [] = ⊥
+AreSeenEntries set caller (entry ∷ entries) (seen ∷ all) = IsSeenEntry set caller entry seen × AreSeenEntries set caller entries all
+
+-- whether the pattern of this text matches the event
+abbrev pub IsTestedAs : List ℕ → Tree → Bool → Type 0
+IsTestedAs pattern event true = TextMatches pattern event
+IsTestedAs pattern event false = ¬ TextMatches pattern event
+
+-- what matching finds for an action: for entries what becomes of each, for a tested pattern whether it matches, and else nothing
+abbrev pub IsSeenResult : RuleSet → List ℕ → Action → SeenResult → Type 0
+IsSeenResult set caller (put_events entries size) (Entries all) = AreSeenEntries set caller entries all.items
+IsSeenResult set caller (put_events entries size) result = ⊥
+IsSeenResult set caller (test_event_pattern pattern event) (Tested matches) = IsTestedAs pattern event matches
+IsSeenResult set caller (test_event_pattern pattern event) result = ⊥
+IsSeenResult set caller action result = result ≡ Nothing
+
+-- the result of matching a request on the rule set, and the configuration version of the rule set
+pub record IsSeen (set : RuleSet) (request : Request) (seen : Seen) : Type 0 where
   pub k : seen.k ≡ set.count
-  pub entry : SeenEntry
-  pub alone : seen.entries.items ≡ entry ∷ []
-  pub matched : AreMatched bus (rules_of bus set) event entry.targets.items
+  pub result : IsSeenResult set request.caller request.action seen.result
+
+-- a tested event is a JSON value
+abbrev pub HasValue : Action → Type 0
+HasValue (test_event_pattern pattern event) = IsValue event
+HasValue action = Unit {0}
+
+-- the result of matching one event that is there already against the rules of the bus: the configuration version, and the targets
+pub record IsSeenEvent (set : RuleSet) (bus : List ℕ) (event : Tree) (k : ℕ) (targets : List SeenTarget) : Type 0 where
+  pub version : k ≡ set.count
+  pub matched : AreMatched (rules_of bus set) event targets
 
 -- the text has more bytes than a target accepts (this project's own limit)
 abbrev pub is_too_long : List ℕ → Bool
 is_too_long text = not (nat_le (length text) 1048576)
 
--- the duty of one target: it has the event's text, or `{}` if the text is too long; by default 185 retries within a day
+-- the duty of one target: it has the event's text, or `{}` if the text is too long
 abbrev pub duty_of : List ℕ → SeenTarget → NewDuty
 duty_of text seen = record {
-  rule = seen.rule_arn;
-  target = seen.target.id;
-  endpoint = seen.target.arn;
+  target = seen.row;
   text = (if is_too_long text then codes "{}" else text);
-  attempts = 185;
-  age = 86400;
   too_long = is_too_long text;
 }
 
 -- one duty for each target of each rule that matches, in their order
-abbrev pub AreDuties : List ℕ → List Rule → Tree → List ℕ → List NewDuty → Type 0
-AreDuties bus rules event text duties =
-    (targets : List SeenTarget) × AreMatched bus rules event targets × (duties ≡ map (duty_of text) targets)
+abbrev pub AreDuties : List Rule → Tree → List ℕ → List NewDuty → Type 0
+AreDuties rules event text duties = (targets : List SeenTarget) × AreMatched rules event targets × (duties ≡ map (duty_of text) targets)

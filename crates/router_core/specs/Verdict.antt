@@ -33,6 +33,6 @@ IsVerdictOn (Some bus) caller event seen = (policy : Option Tree) × (verdict : 
     × IsBusVerdict policy (asker_for caller event) verdict × (seen ≡ seen_verdict verdict)
 
 -- the verdict on an entry of this caller: its own fault; or its bus does not exist; or what its bus's policy says
-abbrev pub IsVerdict : RuleSet → List ℕ → Result Unnumbered EntryFault → SeenVerdict → Type 0
-IsVerdict set caller (Err fault) seen = seen ≡ Fault fault
-IsVerdict set caller (Ok event) seen = IsVerdictOn (named (λ b. b.name) event.bus set.buses) caller event seen
+abbrev pub IsEntryVerdict : RuleSet → List ℕ → Result Unnumbered EntryFault → SeenVerdict → Type 0
+IsEntryVerdict set caller (Err fault) seen = seen ≡ Fault fault
+IsEntryVerdict set caller (Ok event) seen = IsVerdictOn (named (λ b. b.name) event.bus set.buses) caller event seen

@@ -1,9 +1,16 @@
--- The views of requests in contracts.
+-- The views of requests and batches in contracts.
+use Rattle.std.specs.Prelude.{map}
 use Rattle.json_text.specs.View.{tree_of}
+use Rattle.rule_table.specs.View.{control_of}
 use Rattle.router_core.specs.declared.request.Action.{Action}
 use Rattle.router_core.specs.declared.request.Action.TheVariants as action
 use Rattle.router_core.specs.declared.request.Request.{Request}
+use Rattle.router_core.specs.declared.batch.AcceptedEvent.{AcceptedEvent}
+use Rattle.router_core.specs.declared.batch.Entry.{Entry}
+use Rattle.router_core.specs.declared.batch.Entry.TheVariants as entry
+use Rattle.router_core.specs.declared.batch.Batch.{Batch}
 use Rattle.router_core.specs.Request as request
+use Rattle.router_core.specs.Batch as batch
 
 -- the action, with its vectors as lists
 abbrev pub action_of : Action → request.Action
@@ -33,3 +40,17 @@ action_of (action.DeliverDue budget) = request.deliver_due budget
 -- the request, with the view of its action
 abbrev pub request_of : Request → request.Request
 request_of r = record { action = action_of r.action; caller = r.caller; reading = r.reading }
+
+-- the event, with its duties as a list
+abbrev pub accepted_of : AcceptedEvent → batch.Accepted
+accepted_of e = record { number = e.number; bus = e.bus; k = e.k; time = e.time; text = e.text; duties = e.duties.items }
+
+-- the entry, with the view of what it records
+abbrev pub entry_of : Entry → batch.Entry
+entry_of (entry.Control c) = batch.control (control_of c)
+entry_of (entry.Accepted e) = batch.accepted (accepted_of e)
+entry_of (entry.Attempt duty outcome) = batch.attempt duty outcome
+
+-- the batch, with its entries as a list
+abbrev pub batch_of : Batch → batch.Batch
+batch_of b = record { moment = b.moment; entries = map entry_of b.entries.items }

@@ -1,6 +1,9 @@
 //! The router's tables, which change by batches; requests, replies, matching and delivery steps.
 #![tactic(auto)]
 
+mod batch;
+mod errand;
+mod laws;
 mod matching;
 mod ready;
 mod request;
@@ -10,8 +13,11 @@ mod tables;
 mod tests;
 
 pub use api_replies::{Cause, Kind, Member, Reply, limit_reply, push_failure, refused_reply};
-pub use matching::{duties_of, pattern_matches, see_plain_entry, see_plain_event, verdict_of};
-pub use ready::{AcceptedEvent, Change, Ready};
+pub use batch::{AcceptedEvent, Batch, Entry};
+pub use errand::Errand;
+pub use laws::a_prepared_batch_stays_prepared;
+pub use matching::{duties_of, pattern_matches, see_plain, see_plain_event};
+pub use ready::{Part, Ready};
 pub use request::{Action, Request};
-pub use seen::{Seen, SeenEntries, SeenEntry, SeenTarget, SeenTargets, SeenVerdict};
+pub use seen::{Seen, SeenEntries, SeenEntry, SeenResult, SeenTarget, SeenTargets, SeenVerdict};
 pub use tables::Tables;

@@ -1,14 +1,13 @@
-//! The result of matching events against a rule set.
+//! The result of matching a request against a rule set.
 use event_shape::EntryFault;
 use json_text::Text;
-use rule_table::Target;
+use shared_text::SharedRow;
 use std::collections::VecDeque;
 
-/// A target of a rule that matches the event.
+/// A target of a rule that matches an event. It stays valid after its rule set is dropped.
 #[derive(Debug, Drop)]
 pub struct SeenTarget {
-    pub rule_arn: Text,
-    pub target: Target,
+    pub row: SharedRow,
 }
 
 /// The verdict on an entry of a PutEvents, on a rule set.
@@ -28,20 +27,32 @@ pub enum SeenVerdict {
 /// Targets, in the order of their rules.
 pub type SeenTargets = VecDeque<SeenTarget>;
 
-/// The result of matching one event.
+/// The result of matching one entry of a PutEvents.
 #[derive(Debug, Drop)]
 pub struct SeenEntry {
-    /// The targets of the rules that match the event, in the order of the rule set.
+    pub verdict: SeenVerdict,
+    /// The targets of the rules that match the event, in the order of the rule set; none if the entry is not allowed.
     pub targets: SeenTargets,
 }
 
-/// The result of matching each of some events, in their order.
-pub type SeenEntries = Vec<SeenEntry>;
+/// The result of matching each entry of a PutEvents, in their order.
+pub type SeenEntries = VecDeque<SeenEntry>;
 
-/// The result of matching events against one rule set.
+/// What matching finds for a request.
+#[derive(Debug, Drop)]
+pub enum SeenResult {
+    /// Of a PutEvents, for each entry.
+    Entries(SeenEntries),
+    /// Of a TestEventPattern, whether the pattern matches the event.
+    Tested(bool),
+    /// Of any other request.
+    Nothing,
+}
+
+/// The result of matching a request against one rule set.
 #[derive(Debug, Drop)]
 pub struct Seen {
     /// The configuration version: the number of changes that made the rule set.
     pub k: u64,
-    pub entries: SeenEntries,
+    pub result: SeenResult,
 }

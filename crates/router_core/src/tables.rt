@@ -1,42 +1,59 @@
 //! The router's tables, and the calls that change them.
-ghost use Rattle.std.specs.Prelude.{◌≡◌, ◌+◌, ◌*◌, ◌^◌, ◌<◌, ◌≤◌, ◌⊎◌, ℕ, List, IfOk, IfSome, IfNone, Some, true, false, length};
-ghost use Rattle.rule_table.specs.RuleSet.{has_queue};
+ghost use Rattle.std.specs.Prelude.{◌≡◌, ◌+◌, ◌*◌, ◌^◌, ◌<◌, ◌≤◌, ◌⊎◌, ℕ, List, IfOk, IfSome, IfNone, OnErr, Some, true, false, length};
 ghost use Rattle.json_text.specs.Moment.{IsMoment};
-ghost use Rattle.delivery_duties.specs.Duties.{IsNext, NoneDue, IsOut};
-ghost use Rattle.router_core.specs.Tables.{first_tables, after_batch, is_full};
-ghost use Rattle.router_core.specs.Ready.{AreDeliverable, added_all, with_new_queue, batch_of, IsReadyAt, IsConsistent};
-ghost use Rattle.router_core.specs.Steps.{EndsSo, outcome_of, record_of, claiming, putting_back};
+ghost use Rattle.delivery_duties.specs.declared.duty.DutyRow.{DutyRow};
+ghost use Rattle.delivery_duties.specs.declared.outcome.Outcome.{Outcome as Ended};
+ghost use Rattle.delivery_duties.specs.Duties.{NoneDue, IsOut, added, pending_row};
+ghost use Rattle.router_core.specs.Batch.{Entry as BatchEntry};
+ghost use Rattle.router_core.specs.View.{batch_of};
+ghost use Rattle.router_core.specs.Tables.{first_tables, after_entry, after_batch, is_full, number_limit, IsConsistent};
+ghost use Rattle.router_core.specs.Admitted.{IsAdmitted, IsEntryAdmitted};
+ghost use Rattle.router_core.specs.Ready.{HasPlace, IsPartOf, IsReadyFor};
+ghost use Rattle.router_core.specs.Parts.{with_created, with_set, with_duties};
+ghost use Rattle.rule_table.specs.Control.{Control as Change};
+ghost use Rattle.rule_table.specs.RuleSet.{IsAllowed, applied};
+ghost use Rattle.router_core.specs.Steps.{IsErrandOf, IsClaimed, IsRecordedAs, record_of, putting_back, fate_after};
 
-use crate::ready::{AcceptedEvent, Change, Ready};
-use delivery_duties::{Claim, Duties, DutyRow, NewQueue, Outcome};
+use crate::batch::{Batch, Entry};
+use crate::errand::Errand;
+use crate::ready::{Part, Ready};
+use delivery_duties::{Duties, Fate, NewDuties, NewQueue, Outcome};
+use event_shape::queue_of;
 use json_text::NoMemory;
 use rule_table::RuleSet;
+use shared_text::{SharedRow, SharedText};
 use std::alloc::Global;
-use std::collections::VecDeque;
 use std::marker::Model;
 
 /// No further batch is made once there are this many entries or duties.
 const NUMBER_LIMIT: u64 = 1 << 48;
 
-/// The rule set, the duties and the queues' messages, and the numbers of events and entries so far.
+/// The rule set, the duties and the queues' messages, and the numbers of events, entries and batches so far.
 #[derive(Drop)]
 pub struct Tables {
     set: RuleSet,
     duties: Duties,
     events: u64,
     entries: u64,
+    batches: u64,
     moment: u64,
 }
 
 impl Model for Tables {
-    ghost use Rattle.router_core.specs.Tables.{Tables as View};
-    ghost use Rattle.router_core.specs.Ready.{IsConsistent};
+    ghost use Rattle.router_core.specs.Tables.{Tables as View, IsConsistent};
 
     ghost Value = { View };
 
-    ghost view = { λ t. record { set = t.set; duties = t.duties; events = t.events; entries = t.entries; moment = t.moment } };
+    ghost view = { λ t. record { set = t.set; duties = t.duties; events = t.events; entries = t.entries; batches = t.batches; moment = t.moment } };
 
-    ghost invariant = { λ t. IsConsistent (record { set = t.set; duties = t.duties; events = t.events; entries = t.entries; moment = t.moment }) };
+    ghost invariant = { λ t. IsConsistent (record {
+      set = t.set;
+      duties = t.duties;
+      events = t.events;
+      entries = t.entries;
+      batches = t.batches;
+      moment = t.moment;
+    }) };
 }
 
 impl Tables {
@@ -46,9 +63,10 @@ impl Tables {
     {
         Ok(Tables {
             set: RuleSet::first(alloc)?,
-            duties: Duties::new(alloc),
+            duties: Duties::new(alloc)?,
             events: 0,
             entries: 0,
+            batches: 0,
             moment: 0,
         })
     }
@@ -82,6 +100,13 @@ impl Tables {
         self.events
     }
 
+    /// The number of batches so far.
+    pub fn batches(&self) -> u64
+        ensures { result ≡ self.now.batches }
+    {
+        self.batches
+    }
+
     /// The moment of the last batch, in seconds since 1970-01-01T00:00:00Z; 0 before the first.
     pub fn moment(&self) -> u64
         ensures { result ≡ self.now.moment }
@@ -89,134 +114,218 @@ impl Tables {
         self.moment
     }
 
-    /// Applies the change, as one batch. Takes no memory.
+    /// Applies the batch. Takes no memory.
     pub fn apply(&mut self, ready: Ready)
-        requires { IsReadyAt self.old ready }
-        ensures { self.new ≡ after_batch (batch_of ready) self.old }
+        requires ready { IsReadyFor self.old ready }
+        ensures { self.new ≡ after_batch (batch_of ready.batch) self.old }
     {
-        let Ready { moment, change } = ready;
-        match change {
-            Change::Configuration {
-                control,
-                set,
-                new_queue,
-            } => {
-                drop(control);
-                self.configure(set, new_queue, moment);
-            }
-            Change::Events(events) => self.publish(events, moment),
+        let Ready { batch, mut parts } = ready;
+        let moment = batch.moment;
+        let batches = self.batches + 1;
+        while let Some(part) = parts.pop_front() {
+            self.join(part, moment);
+        }
+        self.batches = batches;
+        self.moment = moment;
+    }
+
+    /// Applies one entry, whose part this is.
+    fn join(&mut self, part: Part, moment: u64)
+        requires entry { (e : BatchEntry) × IsPartOf self.old.set e part × IsEntryAdmitted moment e self.old }
+        requires entries { self.old.entries + 1 < number_limit + 2 ^ 20 }
+        requires created { self.old.duties.created + 1500 < number_limit + 2 ^ 20 }
+        ensures joined { (e : BatchEntry) → IsPartOf self.old.set e part → self.new ≡ after_entry moment e self.old }
+        ensures created { self.new.duties.created ≤ self.old.duties.created + 1500 }
+    {
+        match part {
+            Part::Configuration { set, new_queue } => self.configure(set, new_queue),
+            Part::Event { duties } => self.publish(duties, moment),
         }
     }
 
-    fn configure(&mut self, set: RuleSet, new_queue: Option<NewQueue>, moment: u64)
-        requires moment { IsMoment moment }
-        requires later { self.old.moment ≤ moment }
-        requires numbered { is_full self.old ≡ false }
-        requires count { set.count ≡ self.old.set.count + 1 }
-        requires queues { (queue : List ℕ) → has_queue queue set ≡ true
-            → (has_queue queue self.old.set ≡ true) ⊎ (new_queue ≡ Some queue) }
-        ensures { self.new ≡ record self.old {
-          set = set;
-          duties = with_new_queue new_queue self.old.duties;
-          entries = self.old.entries + 1;
-          moment = moment;
-        } }
+    /// Applies a change, with the rule set after it and the new queue, if there is one.
+    fn configure(&mut self, set: RuleSet, new_queue: Option<NewQueue>)
+        requires change { (c : Change) × (set ≡ applied c self.old.set) × HasPlace c new_queue × IsAllowed c self.old.set }
+        requires entries { self.old.entries + 1 < number_limit + 2 ^ 20 }
+        ensures { self.new ≡ with_set set new_queue self.old }
     {
         self.set = set;
         create_queue(&mut self.duties, new_queue);
         self.entries += 1;
-        self.moment = moment;
     }
 
-    fn publish(&mut self, events: VecDeque<AcceptedEvent>, moment: u64)
-        requires moment { IsMoment moment }
-        requires later { self.old.moment ≤ moment }
-        requires numbered { is_full self.old ≡ false }
-        requires few { length events.items ≤ 10 }
-        requires there { AreDeliverable self.old.duties.queues events.items }
-        ensures { self.new ≡ record self.old {
-          duties = added_all events.items moment self.old.duties;
-          events = self.old.events + length events.items;
-          entries = self.old.entries + length events.items;
-          moment = moment;
-        } }
+    /// Applies an event, whose duties these are.
+    fn publish(&mut self, duties: NewDuties, moment: u64)
+        requires entries { self.old.entries + 1 < number_limit + 2 ^ 20 }
+        requires created { self.old.duties.created + length duties < number_limit + 2 ^ 20 }
+        ensures added { self.new ≡ with_duties (added duties moment self.old.duties) self.old }
+        ensures created { self.new.duties.created ≡ self.old.duties.created + length duties }
     {
-        let count = events.len() as u64;
-        accept(&mut self.duties, events, moment);
-        self.events += count;
-        self.entries += count;
-        self.moment = moment;
-    }
-
-    /// Claims the duty that is due first; none if no unclaimed duty is due. No batch records it.
-    pub fn claim(&mut self, moment: u64) -> Option<Claim>
-        ensures some { IfSome result (λ c. IsNext self.old.duties moment c.number × IsOut c.number self.new.duties × (self.new ≡ claiming c.number self.old)) }
-        ensures none { IfNone result (NoneDue self.old.duties moment × (self.new ≡ self.old)) }
-    {
-        self.duties.claim_next(moment)
-    }
-
-    /// Attempts the claimed duty: delivers it to its queue, or drops it if it is too old. One batch records the outcome.
-    pub fn record(&mut self, claim: Claim, moment: u64) -> Outcome
-        requires out { IsOut claim.number self.old.duties }
-        requires numbered { is_full self.old ≡ false }
-        requires moment { IsMoment moment }
-        requires later { self.old.moment ≤ moment }
-        ensures ends { EndsSo self.old claim.number moment result }
-        ensures recorded { self.new ≡ after_batch (record_of moment claim.number result) self.old }
-    {
-        let outcome = match self.duties.pending(claim.number) {
-            Some(row) => outcome_at(row, moment),
-            None => unreachable!(),
-        };
-        self.duties.settle(claim, outcome);
+        self.duties.add(duties, moment);
+        self.events += 1;
         self.entries += 1;
-        self.moment = moment;
+    }
+
+    /// Claims the duty that is due first; none if no unclaimed duty is due. No batch records it. After an error nothing is claimed.
+    pub fn claim(&mut self, alloc: Global, moment: u64) -> Result<Option<Errand>, NoMemory>
+        ensures some { IfOk result (λ found. IfSome found (λ e. IsClaimed self.old moment e self.new)) }
+        ensures none { IfOk result (λ found. IfNone found (NoneDue self.old.duties moment × (self.new ≡ self.old))) }
+        ensures unchanged { OnErr result (self.new ≡ self.old) }
+    {
+        if self.duties.counts().pending == 0 {
+            return Ok(None);
+        }
+        let entries = Vec::with_capacity(alloc, 1)?;
+        let Some(claim) = self.duties.claim_next(moment) else {
+            return Ok(None);
+        };
+        match self.shared(claim.number) {
+            Ok(
+                Shared {
+                    target,
+                    text,
+                    accepted,
+                },
+            ) => Ok(Some(Errand {
+                claim,
+                target,
+                text,
+                accepted,
+                moment,
+                batch: Batch { moment, entries },
+            })),
+            Err(NoMemory) => {
+                self.duties.unclaim(claim);
+                Err(NoMemory)
+            }
+        }
+    }
+
+    /// What an errand shares with the duty of this number.
+    fn shared(&self, number: u64) -> Result<Shared, NoMemory>
+        requires { IsOut number self.now.duties }
+        ensures { IfOk result (λ s. (row : DutyRow) × (pending_row number self.now.duties ≡ Some row) × (s.target ≡ row.duty.target)
+            × (s.text ≡ row.duty.text) × (s.accepted ≡ row.accepted)) }
+    {
+        match self.duties.pending(number) {
+            Some(row) => Ok(Shared {
+                target: row.duty.target.share()?,
+                text: row.duty.text.share()?,
+                accepted: row.accepted,
+            }),
+            None => unreachable!(),
+        }
+    }
+
+    /// Makes the batch that records the outcome of the errand's attempt, and returns the outcome that it records. If a queue accepted the
+    /// text, this decides whether the queue exists. Takes no memory.
+    pub fn record_outcome(&self, errand: &mut Errand, outcome: Outcome, moment: u64) -> Outcome
+        requires errand { IsErrandOf self.now errand.old }
+        requires numbered { is_full self.now ≡ false }
+        requires moment { IsMoment moment }
+        requires later { self.now.moment ≤ moment }
+        requires due { errand.old.moment ≤ moment }
+        ensures recorded { IsRecordedAs self.now.duties.queues errand.old.target.endpoint outcome result
+            × (batch_of errand.new.batch ≡ record_of moment errand.old.claim.number result) }
+        ensures admitted { IsAdmitted self.now (batch_of errand.new.batch) }
+        ensures same { errand.new ≡ record errand.old { batch = errand.new.batch; room = errand.new.room } }
+    {
+        let outcome = self.recorded(errand.target.endpoint(), outcome);
+        let duty = errand.claim.number;
+        errand.batch.moment = moment;
+        errand.batch.entries.clear();
+        match errand.batch.entries.push(Entry::Attempt { duty, outcome }) {
+            Ok(()) => (),
+            Err(_) => unreachable!(),
+        }
         outcome
     }
 
-    /// Releases the claim: the duty can be claimed again.
-    pub fn put_back(&mut self, claim: Claim)
-        requires { IsOut claim.number self.old.duties }
-        ensures { self.new ≡ putting_back claim.number self.old }
+    /// What is recorded of an attempt to reach the endpoint that ended so.
+    fn recorded(&self, endpoint: &str, outcome: Outcome) -> Outcome
+        ensures { IsRecordedAs self.now.duties.queues endpoint.now outcome result }
     {
+        match outcome {
+            Outcome::Accepted => match queue_of(endpoint) {
+                Some(queue) => {
+                    if self.duties.has_queue(queue) {
+                        Outcome::Accepted
+                    } else {
+                        Outcome::NoQueue
+                    }
+                }
+                None => Outcome::Accepted,
+            },
+            Outcome::Code(code) => Outcome::Code(code),
+            Outcome::NoAnswer => Outcome::NoAnswer,
+            Outcome::NoQueue => Outcome::NoQueue,
+            Outcome::TooOld => Outcome::TooOld,
+        }
+    }
+
+    /// Applies the batch that records the errand's attempt, and returns the duty's fate. Takes no memory.
+    pub fn finish(&mut self, errand: Errand) -> Fate
+        requires errand { IsErrandOf self.old errand }
+        requires admitted { IsAdmitted self.old (batch_of errand.batch) }
+        requires recorded { (outcome : Ended) × (batch_of errand.batch ≡ record_of errand.batch.moment errand.claim.number outcome) }
+        ensures fate { (row : DutyRow) (outcome : Ended) → pending_row errand.claim.number self.old.duties ≡ Some row
+            → batch_of errand.batch ≡ record_of errand.batch.moment errand.claim.number outcome
+            → result ≡ fate_after self.old.duties.queues errand.batch.moment row outcome }
+        ensures tables { self.new ≡ after_batch (batch_of errand.batch) self.old }
+    {
+        let Errand {
+            claim,
+            target: _target,
+            text: _text,
+            accepted: _,
+            moment: _,
+            batch: Batch {
+                moment,
+                mut entries,
+            },
+        } = errand;
+        match entries.pop() {
+            Some(Entry::Attempt { duty: _, outcome }) => {
+                let fate = self.duties.settle(claim, outcome, moment);
+                self.entries += 1;
+                self.batches += 1;
+                self.moment = moment;
+                fate
+            }
+            Some(_) | None => unreachable!(),
+        }
+    }
+
+    /// Releases the errand's claim: the duty can be claimed again.
+    pub fn put_back(&mut self, errand: Errand)
+        requires { IsErrandOf self.old errand }
+        ensures { self.new ≡ putting_back errand.claim.number self.old }
+    {
+        let Errand {
+            claim,
+            target: _target,
+            text: _text,
+            accepted: _,
+            moment: _,
+            batch: _batch,
+        } = errand;
         self.duties.unclaim(claim);
     }
 }
 
+/// What an errand shares with its duty.
+struct Shared {
+    target: SharedRow,
+    text: SharedText,
+    accepted: u64,
+}
+
 /// Creates the queue, if there is one to create.
 fn create_queue(duties: &mut Duties, new_queue: Option<NewQueue>)
-    requires { length duties.old.queues < 2 ^ 62 }
-    ensures { duties.new ≡ with_new_queue new_queue duties.old }
+    requires { IfSome new_queue (λ name. length duties.old.queues < 1000) }
+    ensures { duties.new ≡ with_created new_queue duties.old }
 {
     if let Some(new_queue) = new_queue {
         duties.create_queue(new_queue);
-    }
-}
-
-/// The outcome of an attempt of the duty at the moment.
-fn outcome_at(row: &DutyRow, moment: u64) -> Outcome
-    ensures { result ≡ outcome_of moment row.now }
-{
-    if moment.saturating_sub(row.accepted) > u64::from(row.duty.age) {
-        Outcome::TooOld
-    } else {
-        Outcome::Accepted
-    }
-}
-
-/// Adds the duties of the events, in their order.
-fn accept(duties: &mut Duties, mut events: VecDeque<AcceptedEvent>, moment: u64)
-    requires latest { duties.old.latest ≤ moment }
-    requires room { duties.old.created + 1500 * length events.items < 2 ^ 63 }
-    requires there { AreDeliverable duties.old.queues events.items }
-    ensures added { duties.new ≡ added_all events.items moment duties.old }
-    ensures created { duties.new.created ≤ duties.old.created + 1500 * length events.items }
-    ensures latest { duties.new.latest ≤ moment }
-    ensures queues { duties.new.queues ≡ duties.old.queues }
-{
-    while let Some(event) = events.pop_front() {
-        let AcceptedEvent { duties: new, .. } = event;
-        duties.add(new, moment);
     }
 }

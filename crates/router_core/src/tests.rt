@@ -1,181 +1,15 @@
-ghost use Rattle.std.specs.Prelude.{◌≡◌, IfOk, codes};
-ghost use Rattle.event_shape.specs.Names as arns;
-
 use crate::{
-    AcceptedEvent, Change, Ready, Seen, SeenTarget, SeenTargets, SeenVerdict, Tables, duties_of,
-    see_plain_entry, see_plain_event, verdict_of,
+    Action, Request, Seen, SeenEntry, SeenResult, SeenTargets, SeenVerdict, Tables, duties_of,
+    see_plain, see_plain_event,
 };
-use delivery_duties::{NewDuties, NewDuty, NewQueue, Outcome};
 use event_shape::{
     Checked, DEFAULT_BUS, EntryFault, Event, EventEntry, OWNER, Unnumbered, check, queue_arn,
 };
-use json_text::{NoMemory, Text};
+use json_text::Text;
 use rule_table::{Control, RuleSet, Target};
+use shared_text::{SharedRow, SharedText};
 use std::alloc::Global;
-use std::collections::VecDeque;
 use std::test::Fail;
-
-/// Creates the queue `q` at moment 0.
-fn create_queue(alloc: Global, tables: &mut Tables) -> Result<(), Fail> {
-    if tables.full() || tables.moment() > 0 {
-        return Err(Fail::from("no change can be made"));
-    }
-    let control = Control::QueueCreated {
-        name: Text::from_str(alloc, "q")?,
-    };
-    let Ok(set) = tables.set().apply(alloc, &control) else {
-        return Err(Fail::from("q is refused"));
-    };
-    let new_queue = NewQueue::new(alloc, "q")?;
-    tables.apply(Ready {
-        moment: 0,
-        change: Change::Configuration {
-            control,
-            set,
-            new_queue: Some(new_queue),
-        },
-    });
-    Ok(())
-}
-
-fn duty(alloc: Global) -> Result<NewDuty, NoMemory>
-    ensures { IfOk result (λ d. d.endpoint ≡ arns.queue_arn (codes "q")) }
-{
-    Ok(NewDuty {
-        rule: Text::from_str(alloc, "arn:aws:events:us-east-1:111122223333:rule/r")?,
-        target: Text::from_str(alloc, "t")?,
-        endpoint: queue_arn(alloc, "q")?,
-        text: Text::from_str(alloc, "{\"a\":1}")?,
-        attempts: 185,
-        age: 86_400,
-        too_long: false,
-    })
-}
-
-/// Publishes one event at moment 1000, with one duty to the queue `q`.
-fn publish(alloc: Global, tables: &mut Tables) -> Result<(), Fail> {
-    if tables.full() || tables.moment() > 1000 || !tables.duties().has_queue("q") {
-        return Err(Fail::from("nothing can be published"));
-    }
-    let mut duties = NewDuties::new(alloc);
-    duties.push(alloc, duty(alloc)?)?;
-    let event = AcceptedEvent {
-        number: 1,
-        bus: Text::from_str(alloc, "default")?,
-        k: 1,
-        time: 1000,
-        text: Text::from_str(alloc, "{\"a\":1}")?,
-        duties,
-    };
-    let mut events = VecDeque::new(alloc);
-    events.push_back(event)?;
-    tables.apply(Ready {
-        moment: 1000,
-        change: Change::Events(events),
-    });
-    Ok(())
-}
-
-/// The tables with the queue, the event, and its duty.
-fn with_duty(alloc: Global) -> Result<Tables, Fail> {
-    let mut tables = Tables::first(alloc)?;
-    create_queue(alloc, &mut tables)?;
-    publish(alloc, &mut tables)?;
-    Ok(tables)
-}
-
-/// Claims the next duty and releases the claim. Returns its number.
-fn next_due(tables: &mut Tables, moment: u64) -> Option<u64> {
-    let claim = tables.claim(moment)?;
-    let number = claim.number;
-    tables.put_back(claim);
-    Some(number)
-}
-
-/// Claims the next duty and attempts it. Returns its number and the outcome.
-fn attempt_next(tables: &mut Tables, moment: u64) -> Option<(u64, Outcome)> {
-    if tables.full() || tables.moment() > moment || moment > 250_000_000_000 {
-        return None;
-    }
-    let claim = tables.claim(moment)?;
-    let number = claim.number;
-    Some((number, tables.record(claim, moment)))
-}
-
-/// Whether the messages of the queue `q` are as in the text: each one's number and body.
-fn is_shown(alloc: Global, tables: &Tables, want: &str) -> Result<bool, Fail> {
-    let mut shown = String::new(alloc);
-    for message in &tables.duties().peek(alloc, "q", 9)? {
-        let part = format!(in alloc; "{}:{};", message.number, message.body.as_str())?;
-        shown.push_str(&part)?;
-    }
-    Ok(shown.as_str() == want)
-}
-
-/// Whether these are the number of events, the moment, and the numbers of duties that are pending, delivered and dropped.
-fn is_counted(tables: &Tables, events: u64, moment: u64, duties: [u64; 3]) -> bool {
-    let [pending, delivered, dropped] = duties;
-    let counts = tables.duties().counts();
-    tables.events() == events
-        && tables.moment() == moment
-        && counts.pending == pending
-        && counts.delivered == delivered
-        && counts.dropped == dropped
-}
-
-/// Whether the next duty is the first one.
-fn is_first_due(tables: &mut Tables, moment: u64) -> bool {
-    match next_due(tables, moment) {
-        Some(number) => number == 1,
-        None => false,
-    }
-}
-
-/// Whether the next duty is the first one, and its attempt ends so.
-fn is_attempted(tables: &mut Tables, moment: u64, want: Outcome) -> bool {
-    match attempt_next(tables, moment) {
-        Some((number, outcome)) => number == 1 && outcome == want,
-        None => false,
-    }
-}
-
-#[test]
-fn the_first_tables_are_empty(rt: HostRuntime) -> Result<(), Fail> {
-    let first = Tables::first(rt.alloc())?;
-    assert!(rt; !first.full() && !first.set().queue("q"));
-    assert!(rt; is_counted(&first, 0, 0, [0, 0, 0]));
-    Ok(())
-}
-
-#[test]
-fn a_duty_is_added(rt: HostRuntime) -> Result<(), Fail> {
-    let tables = with_duty(rt.alloc())?;
-    assert!(rt; !tables.full() && tables.set().queue("q"));
-    assert!(rt; tables.set().control_count() == 1);
-    assert!(rt; is_counted(&tables, 1, 1000, [1, 0, 0]));
-    Ok(())
-}
-
-#[test]
-fn a_duty_is_claimed_and_delivered(rt: HostRuntime) -> Result<(), Fail> {
-    let mut tables = with_duty(rt.alloc())?;
-    assert!(rt; next_due(&mut tables, 999).is_none());
-    assert!(rt; is_first_due(&mut tables, 1000));
-    assert!(rt; is_attempted(&mut tables, 1000 + 86_400, Outcome::Accepted));
-    assert!(rt; is_shown(rt.alloc(), &tables, "1:{\"a\":1};")?);
-    assert!(rt; is_counted(&tables, 1, 87_400, [0, 1, 0]));
-    assert!(rt; next_due(&mut tables, 90_000).is_none());
-    Ok(())
-}
-
-#[test]
-fn a_duty_past_its_age_is_dropped(rt: HostRuntime) -> Result<(), Fail> {
-    let mut tables = with_duty(rt.alloc())?;
-    assert!(rt; is_attempted(&mut tables, 1000 + 86_401, Outcome::TooOld));
-    assert!(rt; is_shown(rt.alloc(), &tables, "")?);
-    assert!(rt; is_counted(&tables, 1, 87_401, [0, 0, 1]));
-    Ok(())
-}
 
 /// The rule set with the change made.
 fn changed(alloc: Global, set: RuleSet, control: Control) -> Result<RuleSet, Fail> {
@@ -278,31 +112,11 @@ fn event(alloc: Global) -> Result<Event, Fail> {
     Ok(Event::make(alloc, checked(alloc)?, 1, 1000, OWNER)?)
 }
 
-/// The targets of the only entry.
-fn only_targets(seen: Seen) -> Result<SeenTargets, Fail> {
-    let Seen { k, mut entries } = seen;
-    if k != 11 {
-        return Err(Fail::from("eleven changes made the rule set"));
-    }
-    match entries.pop() {
-        Some(entry) => Ok(entry.targets),
-        None => Err(Fail::from("the result has no entry")),
-    }
-}
-
-/// The targets of the rules of the bus that match the event.
-fn targets_seen(alloc: Global, bus: &str, replay: Option<&str>) -> Result<SeenTargets, Fail> {
-    let set = rules(alloc)?;
-    let event = event(alloc)?;
-    only_targets(see_plain_event(alloc, &set, bus, &event, replay)?)
-}
-
 /// The ARN of each target's rule, and the target's id, in order.
 fn listed(alloc: Global, targets: &SeenTargets) -> Result<String, Fail> {
     let mut listed = String::new(alloc);
     for target in targets {
-        let SeenTarget { rule_arn, target } = target;
-        let part = format!(in alloc; "{} {};", rule_arn.as_str(), target.id.as_str())?;
+        let part = format!(in alloc; "{} {};", target.row.rule_arn(), target.row.target_id())?;
         listed.push_str(&part)?;
     }
     Ok(listed)
@@ -322,49 +136,155 @@ const SEEN: [(&str, Option<&str>, &str); 4] = [
     ("no bus", None, ""),
 ];
 
-fn is_seen(alloc: Global, bus: &str, replay: Option<&str>, want: &str) -> Result<bool, Fail> {
-    let targets = targets_seen(alloc, bus, replay)?;
-    Ok(listed(alloc, &targets)?.as_str() == want)
+fn is_seen(
+    alloc: Global,
+    set: &RuleSet,
+    bus: &str,
+    replay: Option<&str>,
+    want: &str,
+) -> Result<bool, Fail> {
+    let (k, targets) = see_plain_event(alloc, set, bus, &event(alloc)?, replay)?;
+    Ok(k == 11 && listed(alloc, &targets)?.as_str() == want)
 }
 
 /// The index of the first row of which other targets are seen.
-fn seen_otherwise(alloc: Global) -> Result<Option<usize>, Fail> {
+fn seen_otherwise(alloc: Global, set: &RuleSet) -> Result<Option<usize>, Fail> {
     for (place, (bus, replay, want)) in SEEN.iter().enumerate() {
-        if !is_seen(alloc, bus, *replay, want)? {
+        if !is_seen(alloc, set, bus, *replay, want)? {
             return Ok(Some(place));
         }
     }
     Ok(None)
 }
 
-/// The targets that are seen for the entry, before the event has its number.
-fn entry_targets(alloc: Global) -> Result<SeenTargets, Fail> {
-    let set = rules(alloc)?;
+/// A PutEvents of these entries.
+fn put_events(
+    alloc: Global,
+    caller: &str,
+    entries: Vec<Result<Unnumbered, EntryFault>>,
+) -> Result<Request, Fail> {
+    let caller = Text::from_str(alloc, caller)?;
+    Ok(Request {
+        action: Action::PutEvents { entries, size: 0 },
+        caller,
+        reading: 1000,
+    })
+}
+
+/// The result for the first entry.
+fn first_entry(seen: &Seen) -> Option<&SeenEntry> {
+    match &seen.result {
+        SeenResult::Entries(entries) => entries.front(),
+        SeenResult::Tested(_) | SeenResult::Nothing => None,
+    }
+}
+
+/// Whether the first entry of the request has these targets.
+fn has_targets(alloc: Global, set: &RuleSet, request: &Request, want: &str) -> Result<bool, Fail> {
+    let seen = see_entries(alloc, set, request)?;
+    match first_entry(&seen) {
+        Some(entry) => Ok(listed(alloc, &entry.targets)?.as_str() == want),
+        None => Ok(false),
+    }
+}
+
+/// The result of matching a request that publishes.
+fn see_entries(alloc: Global, set: &RuleSet, request: &Request) -> Result<Seen, Fail> {
+    match &request.action {
+        Action::PutEvents { .. } => Ok(see_plain(alloc, set, request)?),
+        _ => Err(Fail::from("the request publishes nothing")),
+    }
+}
+
+/// A PutEvents of one event, which has no number yet.
+fn put_one(alloc: Global) -> Result<Request, Fail> {
     let event = Unnumbered::make(alloc, checked(alloc)?, 1000, OWNER)?;
-    Ok(see_plain_entry(alloc, &set, &event)?.targets)
+    let mut entries = Vec::new(alloc);
+    entries.push(Ok(event))?;
+    put_events(alloc, OWNER, entries)
 }
 
 #[test]
 fn the_targets_of_the_rules_that_match_are_seen(rt: HostRuntime) -> Result<(), Fail> {
-    assert_eq!(rt; seen_otherwise(rt.alloc())?, None);
-    let targets = entry_targets(rt.alloc())?;
-    assert!(rt; listed(rt.alloc(), &targets)?.as_str() == NEW);
+    let set = rules(rt.alloc())?;
+    assert_eq!(rt; seen_otherwise(rt.alloc(), &set)?, None);
+    let request = put_one(rt.alloc())?;
+    assert!(rt; has_targets(rt.alloc(), &set, &request, NEW)?);
     Ok(())
+}
+
+/// The text of so many bytes as 20 doublings of `x` and the text after them have.
+fn long(alloc: Global, after: &str) -> Result<SharedText, Fail> {
+    let mut text = String::new(alloc);
+    text.push_str("x")?;
+    for _ in 0..20 {
+        let again = Text::from_str(alloc, &text)?;
+        text.push_str(again.as_str())?;
+    }
+    text.push_str(after)?;
+    Ok(SharedText::new(alloc, Text::from(text))?)
+}
+
+/// The number of duties for the targets, if each has a text of this many bytes and is marked so.
+fn owed(
+    alloc: Global,
+    targets: SeenTargets,
+    text: &SharedText,
+    bytes: usize,
+    too_long: bool,
+) -> Result<usize, Fail> {
+    let duties = duties_of(alloc, targets, text)?;
+    for duty in &duties {
+        if duty.text.as_str().len() != bytes || duty.too_long != too_long {
+            return Ok(0);
+        }
+    }
+    Ok(duties.len())
+}
+
+/// The targets of the rules of `default` that match the event.
+fn event_targets(alloc: Global) -> Result<SeenTargets, Fail> {
+    let set = rules(alloc)?;
+    Ok(see_plain_event(alloc, &set, DEFAULT_BUS, &event(alloc)?, None)?.1)
 }
 
 #[test]
 fn each_target_is_owed_one_duty(rt: HostRuntime) -> Result<(), Fail> {
-    let targets = targets_seen(rt.alloc(), DEFAULT_BUS, None)?;
-    assert!(rt; duties_of(rt.alloc(), targets, "{}")?.len() == 4);
+    let text = long(rt.alloc(), "")?;
+    let targets = event_targets(rt.alloc())?;
+    assert_eq!(rt; owed(rt.alloc(), targets, &text, 1_048_576, false)?, 4);
+    let longer = long(rt.alloc(), "y")?;
+    let targets = event_targets(rt.alloc())?;
+    assert_eq!(rt; owed(rt.alloc(), targets, &longer, 2, true)?, 4);
     Ok(())
 }
 
 /// Accepts only values that threads may share and pass on.
-fn crosses_threads<T: Send + Sync>(_value: &T) {}
+fn may_be_shared<T: Send + Sync>(_value: &T) {}
+
+/// Accepts the types that threads share, or pass on.
+fn cross_threads(set: &RuleSet, row: &SharedRow, text: &SharedText) {
+    may_be_shared(set);
+    may_be_shared(row);
+    may_be_shared(text);
+}
 
 #[test]
-fn a_rule_set_crosses_threads(rt: HostRuntime) -> Result<(), Fail> {
-    crosses_threads(&RuleSet::first(rt.alloc())?);
+fn values_cross_threads(rt: HostRuntime) -> Result<(), Fail> {
+    let set = rules(rt.alloc())?;
+    let text = long(rt.alloc(), "")?;
+    if let Some(target) = event_targets(rt.alloc())?.front() {
+        cross_threads(&set, &target.row, &text);
+    }
+    Ok(())
+}
+
+#[test]
+fn the_first_tables_are_empty(rt: HostRuntime) -> Result<(), Fail> {
+    let first = Tables::first(rt.alloc())?;
+    assert!(rt; !first.full() && !first.set().queue("q"));
+    assert!(rt; first.events() == 0 && first.batches() == 0 && first.moment() == 0);
+    assert!(rt; first.duties().counts().created == 0);
     Ok(())
 }
 
@@ -423,22 +343,45 @@ fn event_for(alloc: Global, caller: &str, bus: &str, source: &str) -> Result<Unn
     }
 }
 
-fn is_verdict(
+/// Whether the first entry of the request has this verdict, and no targets.
+fn is_verdict(alloc: Global, set: &RuleSet, request: &Request, want: &str) -> Result<bool, Fail> {
+    let seen = see_entries(alloc, set, request)?;
+    match first_entry(&seen) {
+        Some(entry) => Ok(entry.targets.is_empty() && word_of(&entry.verdict) == want),
+        None => Ok(false),
+    }
+}
+
+/// A PutEvents of one entry, which has a fault.
+fn put_faulty(alloc: Global) -> Result<Request, Fail> {
+    let mut entries = Vec::new(alloc);
+    entries.push(Err(EntryFault::Source))?;
+    put_events(alloc, "777788889999", entries)
+}
+
+/// A PutEvents of one event of this caller for the bus.
+fn put_for(alloc: Global, caller: &str, bus: &str, source: &str) -> Result<Request, Fail> {
+    let mut entries = Vec::new(alloc);
+    entries.push(Ok(event_for(alloc, caller, bus, source)?))?;
+    put_events(alloc, caller, entries)
+}
+
+/// Whether this caller's event of this source for the bus has this verdict.
+fn is_decided(
     alloc: Global,
     set: &RuleSet,
-    caller: &str,
-    entry: &Result<Unnumbered, EntryFault>,
+    asked: (&str, &str, &str),
     want: &str,
 ) -> Result<bool, Fail> {
-    let verdict = verdict_of(alloc, set, caller, entry)?;
-    Ok(word_of(&verdict) == want)
+    let (caller, bus, source) = asked;
+    let request = put_for(alloc, caller, bus, source)?;
+    is_verdict(alloc, set, &request, want)
 }
 
 /// The index of the first row with another verdict.
 fn decided_otherwise(alloc: Global, set: &RuleSet) -> Result<Option<usize>, Fail> {
     for (place, (caller, bus, source, want)) in VERDICTS.iter().enumerate() {
-        let event = event_for(alloc, caller, bus, source)?;
-        if !is_verdict(alloc, set, caller, &Ok(event), want)? {
+        if !is_decided(alloc, set, (caller, bus, source), want)? {
             return Ok(Some(place));
         }
     }
@@ -449,7 +392,7 @@ fn decided_otherwise(alloc: Global, set: &RuleSet) -> Result<Option<usize>, Fail
 fn a_policy_decides_who_publishes(rt: HostRuntime) -> Result<(), Fail> {
     let set = with_policy(rt.alloc())?;
     assert_eq!(rt; decided_otherwise(rt.alloc(), &set)?, None);
-    let fault = Err(EntryFault::Source);
-    assert!(rt; is_verdict(rt.alloc(), &set, "777788889999", &fault, "fault")?);
+    let faulty = put_faulty(rt.alloc())?;
+    assert!(rt; is_verdict(rt.alloc(), &set, &faulty, "fault")?);
     Ok(())
 }

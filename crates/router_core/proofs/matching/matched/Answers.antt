@@ -12,7 +12,7 @@ loop-rule-preserved-in-Continue-1 c =
     append_assoc done (rule ∷ []) c.next.new.self ∙ ap (λ (rs : List Rule). done ++ rs) (sym c.in-Some-next.ensures.steps) ∙ c.loop-rule.invariant.1 in (
       done ++ rule ∷ [],
       grown,
-      matched_more c.args.bus.now done rule (tree_of c.args.event.now) c.loop-rule.targets.items c.push_targets.new.targets.items c.loop-rule.invariant.2
+      matched_more done rule (tree_of c.args.event.now) c.loop-rule.targets.items c.push_targets.new.targets.items c.loop-rule.invariant.2
           (c.matches.ensures.yes c.if-matches.true) c.in_ok-push_targets.ensures,
     )
 
@@ -24,6 +24,6 @@ loop-rule-preserved c =
     append_assoc done (rule ∷ []) c.next.new.self ∙ ap (λ (rs : List Rule). done ++ rs) (sym c.in-Some-next.ensures.steps) ∙ c.loop-rule.invariant.1 in (
       done ++ rule ∷ [],
       grown,
-      matched_same c.args.bus.now done rule (tree_of c.args.event.now) c.loop-rule.targets.items c.loop-rule.targets.items c.loop-rule.invariant.2
+      matched_same done rule (tree_of c.args.event.now) c.loop-rule.targets.items c.loop-rule.targets.items c.loop-rule.invariant.2
           (c.matches.ensures.not c.if-matches.false) refl,
     )

@@ -6,7 +6,7 @@ use Rattle.router_core.proofs.matching.matched.Given as goal
 
 -- the targets of the rules so far, which are those that are not left
 abbrev pub invariant-loop-rule : goal.invariant-loop-rule
-invariant-loop-rule l = (done : List Rule) × (done ++ l.rules ≡ l.initial.rules) × AreMatched l.bus done (tree_of l.event) l.targets.items
+invariant-loop-rule l = (done : List Rule) × (done ++ l.rules ≡ l.initial.rules) × AreMatched done (tree_of l.event) l.targets.items
 
 abbrev pub decreases-loop-rule : goal.decreases-loop-rule
 decreases-loop-rule l = length l.rules

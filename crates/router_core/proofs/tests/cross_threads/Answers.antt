@@ -1,0 +1,9 @@
+use denote.Param.Send.{sendable}
+use Rattle.router_core.proofs.CrossingLemmas.{set_send, set_sync}
+use Rattle.router_core.proofs.tests.cross_threads.Goals as goal
+
+pub may_be_shared-requires-send-T : goal.may_be_shared-requires-send-T
+may_be_shared-requires-send-T c κs = search (sendable, set_send)
+
+pub may_be_shared-requires-sync-T : goal.may_be_shared-requires-sync-T
+may_be_shared-requires-sync-T c κs = search (sendable, set_sync)

@@ -1,0 +1,41 @@
+//! Batches: the changes of one turn, as a journal records them.
+use delivery_duties::{NewDuty, Outcome};
+use json_text::Text;
+use rule_table::Control;
+use shared_text::SharedText;
+
+/// An event that is accepted, with its duties.
+#[derive(Drop)]
+pub struct AcceptedEvent {
+    /// The place among all accepted events, from 1.
+    pub number: u64,
+    /// The name of its bus.
+    pub bus: Text,
+    /// The configuration version at which it was matched, as in `Seen`.
+    pub k: u64,
+    /// Its member `time`, in seconds since 1970-01-01T00:00:00Z.
+    pub time: u64,
+    /// The whole event, as compact JSON. Its duties share it.
+    pub text: SharedText,
+    /// One for each target of each rule that matches.
+    pub duties: Vec<NewDuty>,
+}
+
+/// One entry of a batch.
+#[derive(Drop)]
+pub enum Entry {
+    /// A change of the configuration.
+    Control(Control),
+    /// An accepted event.
+    Accepted(AcceptedEvent),
+    /// The outcome of an attempt of the duty of this number.
+    Attempt { duty: u64, outcome: Outcome },
+}
+
+/// The changes of one turn.
+#[derive(Drop)]
+pub struct Batch {
+    /// When they are made, in seconds since 1970-01-01T00:00:00Z.
+    pub moment: u64,
+    pub entries: Vec<Entry>,
+}
