@@ -13,12 +13,12 @@ use Rattle.router_core.specs.Request.{Action, create_event_bus, delete_event_bus
 use Rattle.router_core.specs.Request.{describe_rule, list_rules, put_targets, remove_targets, list_targets_by_rule, list_rule_names_by_target, put_policy}
 use Rattle.router_core.specs.Request.{put_statement, remove_policy, remove_statement, put_events, test_event_pattern, create_queue, peek_messages, deliver_due}
 use Rattle.router_core.specs.Request.{Request, IsPublishing}
-use Rattle.router_core.specs.Tables.{Tables, is_full}
-use Rattle.router_core.specs.Verdict.{IsVerdict}
+use Rattle.router_core.specs.Tables.{Tables, is_full, moment_at}
+use Rattle.router_core.specs.Verdict.{IsEntryVerdict}
 use Rattle.router_core.specs.declared.seen.SeenVerdict.{SeenVerdict}
 use Rattle.router_core.specs.declared.seen.SeenVerdict.TheVariants as verdict
 use Rattle.router_calls.specs.Accepted.{Given, Placed, IsAcceptedAs, IsPlacedBy, ArePlaced, number_after, events_in}
-use Rattle.router_calls.specs.Answer.{Answer, IsAnswer, IsAnswerAt, IsPublished, events_answer, entries_reply, reply_alone, moment_at}
+use Rattle.router_calls.specs.Answer.{Answer, IsAnswer, IsAnswerAt, IsPublished, events_answer, entries_reply, reply_alone}
 use Rattle.router_calls.specs.Allowed.{IsAllowedEvent, IsAllowedEntry, IsPublishedBy, entries_in}
 
 here : {X : Type 0} (x : X) (xs : List X) → Contains (x ∷ xs) x
@@ -29,7 +29,7 @@ there y x xs (k, low, is) = (suc k, omega (arith, low), is)
 
 -- an entry that became an event is allowed
 placed_allowed : (v : SeenVerdict) (set : RuleSet) (caller : List ℕ) (n : ℕ) (whole : List Given) (entry : Given) (a : batch.Accepted)
-    → Contains whole entry → IsVerdict set caller entry v → IsPlacedBy v set n entry (Ok a) → IsAllowedEvent set caller whole a
+    → Contains whole entry → IsEntryVerdict set caller entry v → IsPlacedBy v set n entry (Ok a) → IsAllowedEvent set caller whole a
 placed_allowed (verdict.Fault f) set caller n whole entry a in_whole has by = cc
 placed_allowed verdict.NoBus set caller n whole entry a in_whole has by = cc
 placed_allowed (verdict.DeniedBy name) set caller n whole entry a in_whole has by = cc
@@ -40,13 +40,13 @@ placed_allowed verdict.Allowed set caller n whole entry a in_whole has (event, b
     record {
       event = event;
       asked = subst (Contains whole) is in_whole;
-      verdict = subst (λ (x : Given). IsVerdict set caller x verdict.Allowed) is has;
+      verdict = subst (λ (x : Given). IsEntryVerdict set caller x verdict.Allowed) is has;
       accepted = subst (λ (m : ℕ). IsAcceptedAs set m event a) (sym here.number) here;
     }
 
 -- what becomes of one entry more
 one_more : (v : SeenVerdict) (set : RuleSet) (caller : List ℕ) (n : ℕ) (whole : List Given) (entry : Given) (placed : Placed) (rest : List Placed)
-    → Contains whole entry → IsVerdict set caller entry v → IsPlacedBy v set n entry placed → All (IsAllowedEvent set caller whole) (events_in rest)
+    → Contains whole entry → IsEntryVerdict set caller entry v → IsPlacedBy v set n entry placed → All (IsAllowedEvent set caller whole) (events_in rest)
     → All (IsAllowedEvent set caller whole) (events_in (placed ∷ rest))
 one_more v set caller n whole entry (Ok a) rest in_whole has by more =
     All-cons (IsAllowedEvent set caller whole) a (events_in rest) (placed_allowed v set caller n whole entry a in_whole has by) more
@@ -67,57 +67,58 @@ events_allowed set caller n whole (entry ∷ entries) all within (placed, rest, 
 -- a batch of such events is written, or none
 batch_allowed : (full : Bool) (set : RuleSet) (caller : List ℕ) (whole : List Given) (moment : ℕ) (entries : List batch.Entry) (refusal reply : Reply)
     → All (IsAllowedEntry set caller whole) entries
-    → IsPublishedBy set caller whole (cond full (reply_alone refusal) (record { batch = Some (record { moment = moment; entries = entries }); reply = reply })).batch
+    → IsPublishedBy set caller whole
+    (cond full (reply_alone refusal) (record { batch = Some (record { moment = moment; entries = entries }); reply = reply })).batch
 batch_allowed true set caller whole moment entries refusal reply allowed = tt
 batch_allowed false set caller whole moment entries refusal reply allowed = allowed
 
-answer_allowed : (t : Tables) (caller : List ℕ) (whole : List Given) (moment : ℕ) (events : List batch.Accepted) (reply : Reply)
-    → All (IsAllowedEvent t.set caller whole) events → IsPublishedBy t.set caller whole (events_answer t moment events reply).batch
-answer_allowed t caller whole moment [] reply allowed = tt
-answer_allowed t caller whole moment (e ∷ es) reply allowed =
-    let entries = All-map (IsAllowedEntry t.set caller whole) batch.accepted (e ∷ es) allowed in
-    batch_allowed (is_full t) t.set caller whole moment (map batch.accepted (e ∷ es)) (refused cause.NumberLimit) reply entries
+answer_allowed : (t : Tables) (set : RuleSet) (caller : List ℕ) (whole : List Given) (moment : ℕ) (events : List batch.Accepted) (reply : Reply)
+    → All (IsAllowedEvent set caller whole) events → IsPublishedBy set caller whole (events_answer t moment events reply).batch
+answer_allowed t set caller whole moment [] reply allowed = tt
+answer_allowed t set caller whole moment (e ∷ es) reply allowed =
+    let entries = All-map (IsAllowedEntry set caller whole) batch.accepted (e ∷ es) allowed in
+    batch_allowed (is_full t) set caller whole moment (map batch.accepted (e ∷ es)) (refused cause.NumberLimit) reply entries
 
-published_allowed : (t : Tables) (caller : List ℕ) (moment : ℕ) (entries : List Given) (size : ℕ) (a : Answer) → IsPublished t caller moment entries size a
-    → IsPublishedBy t.set caller entries a.batch
-published_allowed t caller moment entries size a (inl (large, is)) =
-    subst (λ (x : Answer). IsPublishedBy t.set caller entries x.batch) (sym is) tt
-published_allowed t caller moment entries size a (inr (small, (all, are, is))) =
-    let allowed = events_allowed t.set caller (t.events + 1) entries entries all (λ x c. c) are in
-    subst (λ (x : Answer). IsPublishedBy t.set caller entries x.batch) (sym is)
-    (answer_allowed t caller entries moment (events_in all) (entries_reply all) allowed)
+published_allowed : (t : Tables) (set : RuleSet) (caller : List ℕ) (moment : ℕ) (entries : List Given) (size : ℕ) (a : Answer)
+    → IsPublished t set caller moment entries size a → IsPublishedBy set caller entries a.batch
+published_allowed t set caller moment entries size a (inl (large, is)) =
+    subst (λ (x : Answer). IsPublishedBy set caller entries x.batch) (sym is) tt
+published_allowed t set caller moment entries size a (inr (small, (all, are, is))) =
+    let allowed = events_allowed set caller (t.events + 1) entries entries all (λ x c. c) are in
+    subst (λ (x : Answer). IsPublishedBy set caller entries x.batch) (sym is)
+    (answer_allowed t set caller entries moment (events_in all) (entries_reply all) allowed)
 
 other_one : (P Q : Type 0) → P ⊎ Q → ¬ P → Q
 other_one P Q (inl p) not_p = absurd (not_p p)
 other_one P Q (inr q) not_p = q
 
-publishing_allowed : (t : Tables) (caller : List ℕ) (moment : ℕ) (action : Action) (a : Answer) → IsPublishing action → IsAnswerAt t caller moment action a
-    → IsPublishedBy t.set caller (entries_in action) a.batch
-publishing_allowed t caller moment (create_event_bus name) a p h = absurd p
-publishing_allowed t caller moment (delete_event_bus name) a p h = absurd p
-publishing_allowed t caller moment (describe_event_bus name) a p h = absurd p
-publishing_allowed t caller moment (list_event_buses prefix) a p h = absurd p
-publishing_allowed t caller moment (put_rule bus name pattern enabled) a p h = absurd p
-publishing_allowed t caller moment (delete_rule bus name) a p h = absurd p
-publishing_allowed t caller moment (put_rule_state bus name enabled) a p h = absurd p
-publishing_allowed t caller moment (describe_rule bus name) a p h = absurd p
-publishing_allowed t caller moment (list_rules bus prefix) a p h = absurd p
-publishing_allowed t caller moment (put_targets bus rule targets) a p h = absurd p
-publishing_allowed t caller moment (remove_targets bus rule ids) a p h = absurd p
-publishing_allowed t caller moment (list_targets_by_rule bus rule) a p h = absurd p
-publishing_allowed t caller moment (list_rule_names_by_target arn bus) a p h = absurd p
-publishing_allowed t caller moment (put_policy bus policy) a p h = absurd p
-publishing_allowed t caller moment (put_statement bus sid account) a p h = absurd p
-publishing_allowed t caller moment (remove_policy bus) a p h = absurd p
-publishing_allowed t caller moment (remove_statement bus sid) a p h = absurd p
-publishing_allowed t caller moment (put_events entries size) a p h = published_allowed t caller moment entries size a h
-publishing_allowed t caller moment (test_event_pattern pattern event) a p h = absurd p
-publishing_allowed t caller moment (create_queue name) a p h = absurd p
-publishing_allowed t caller moment (peek_messages queue limit) a p h = absurd p
-publishing_allowed t caller moment (deliver_due budget) a p h = absurd p
+publishing_allowed : (t : Tables) (set : RuleSet) (caller : List ℕ) (moment : ℕ) (action : Action) (a : Answer) → IsPublishing action
+    → IsAnswerAt t set caller moment action a → IsPublishedBy set caller (entries_in action) a.batch
+publishing_allowed t set caller moment (create_event_bus name) a p h = absurd p
+publishing_allowed t set caller moment (delete_event_bus name) a p h = absurd p
+publishing_allowed t set caller moment (describe_event_bus name) a p h = absurd p
+publishing_allowed t set caller moment (list_event_buses prefix) a p h = absurd p
+publishing_allowed t set caller moment (put_rule bus name pattern enabled) a p h = absurd p
+publishing_allowed t set caller moment (delete_rule bus name) a p h = absurd p
+publishing_allowed t set caller moment (put_rule_state bus name enabled) a p h = absurd p
+publishing_allowed t set caller moment (describe_rule bus name) a p h = absurd p
+publishing_allowed t set caller moment (list_rules bus prefix) a p h = absurd p
+publishing_allowed t set caller moment (put_targets bus rule targets) a p h = absurd p
+publishing_allowed t set caller moment (remove_targets bus rule ids) a p h = absurd p
+publishing_allowed t set caller moment (list_targets_by_rule bus rule) a p h = absurd p
+publishing_allowed t set caller moment (list_rule_names_by_target arn bus) a p h = absurd p
+publishing_allowed t set caller moment (put_policy bus policy) a p h = absurd p
+publishing_allowed t set caller moment (put_statement bus sid account) a p h = absurd p
+publishing_allowed t set caller moment (remove_policy bus) a p h = absurd p
+publishing_allowed t set caller moment (remove_statement bus sid) a p h = absurd p
+publishing_allowed t set caller moment (put_events entries size) a p h = published_allowed t set caller moment entries size a h
+publishing_allowed t set caller moment (test_event_pattern pattern event) a p h = absurd p
+publishing_allowed t set caller moment (create_queue name) a p h = absurd p
+publishing_allowed t set caller moment (peek_messages queue limit) a p h = absurd p
+publishing_allowed t set caller moment (deliver_due budget) a p h = absurd p
 
-pub stranger_publishes : (t : Tables) (r : Request) (a : Answer) → IsAnswer t r a → ¬ (r.caller ≡ owner)
-    → IsPublishedBy t.set r.caller (entries_in r.action) a.batch
-stranger_publishes t r a h stranger =
+pub stranger_publishes : (t : Tables) (r : Request) (k : ℕ) (set : RuleSet) (a : Answer) → IsAnswer t r k set a → ¬ (r.caller ≡ owner)
+    → IsPublishedBy set r.caller (entries_in r.action) a.batch
+stranger_publishes t r k set a h stranger =
     let publishes : IsPublishing r.action = other_one (r.caller ≡ owner) (IsPublishing r.action) h.entitled.allowed stranger in
-    publishing_allowed t r.caller (moment_at t r.reading) r.action a publishes h.answers
+    publishing_allowed t set r.caller (moment_at t r.reading) r.action a publishes h.answers

@@ -1,26 +1,26 @@
--- Replies and duties of a request, for the answers of `decide` and of the calls below it: `first_and_rest`, `on_ok_more`, `controlled_so`,
--- `answered`, `owed_are` and `owed_fits`.
-use Rattle.std.proofs.Common.{◌≡◌, ℕ, suc, ◌-◌, ◌≤◌, List, [], ◌∷◌, length, map, get_or, take, drop, Option, sym, ap, ◌∙◌, subst, arith}
-use Rattle.std.specs.Prelude.{Result, Ok, Err, IfOk, OnOk, All}
-use Rattle.std.proofs.lemmas.List.{length-map}
+-- Replies to a request, for the answers of `decide` and of the calls below it: `first_and_rest`, `on_ok_more`, `if_ok_more`, `controlled_so`, `answered`,
+-- `decided`, `matched_now` and `bounded_value`.
+use Rattle.std.proofs.Common.{◌≡◌, ℕ, suc, ◌-◌, ◌≤◌, List, [], ◌∷◌, length, get_or, take, drop, sym, refl, ap, ◌∙◌, subst, arith}
+use Rattle.std.specs.Prelude.{Option, Result, Ok, Err, IfOk, OnOk}
 use Rattle.std.proofs.Math.Seq.{take-length}
-use Rattle.std.proofs.lemmas.List.Elements.{All-map, All-weaker}
-use Rattle.json_text.specs.Tree.{Tree}
 use Rattle.rule_table.specs.Control.{Control}
-use Rattle.rule_table.specs.RuleSet.{RuleSet, IsSound, IsQueueThere, rules_of}
-use Rattle.delivery_duties.specs.declared.duty.NewDuty.{NewDuty}
-use Rattle.delivery_duties.specs.Duties.{HasEndpoint}
+use Rattle.rule_table.specs.RuleSet.{RuleSet, IsSound}
 use Rattle.api_replies.specs.Reply.{Reply}
-use Rattle.router_core.specs.Request.{Action}
-use Rattle.router_core.specs.Ready.{IsConsistent}
-use Rattle.router_core.specs.Matching.{AreMatched, AreDuties, duty_of}
-use Rattle.router_core.specs.declared.seen.SeenTarget.{SeenTarget}
-use Rattle.router_core.specs.Tables.{Tables}
-use Rattle.router_core.specs.declared.ready.Ready.{Ready}
 use Rattle.api_replies.specs.declared.reply.Reply.{Reply as CodeReply}
-use Rattle.router_core.proofs.MatchingLemmas.{matched_fits}
-use Rattle.router_calls.specs.Answer.{IsAnswerAt, IsControlled}
+use Rattle.router_core.specs.Request.{Action, create_event_bus, delete_event_bus, describe_event_bus, list_event_buses, put_rule, delete_rule, put_rule_state}
+use Rattle.router_core.specs.Request.{describe_rule, list_rules, put_targets, remove_targets, list_targets_by_rule, list_rule_names_by_target, put_policy}
+use Rattle.router_core.specs.Request.{put_statement, remove_policy, remove_statement, put_events, test_event_pattern, create_queue, peek_messages, deliver_due}
+use Rattle.router_core.specs.Request.{Request}
+use Rattle.router_core.specs.Tables.{Tables, moment_at}
+use Rattle.router_core.specs.Matching.{HasValue, IsSeen}
+use Rattle.router_core.specs.declared.ready.Ready.{Ready}
+use Rattle.router_core.specs.declared.seen.Seen.{Seen}
+use Rattle.router_core.specs.Request.{IsEntitled}
+use Rattle.router_calls.specs.Answer.{Answer, IsAnswer, IsAnswerAt, IsControlled}
+use Rattle.router_calls.specs.Bounds.{IsBounded}
 use Rattle.router_calls.specs.Decided.{answer_of}
+use Rattle.router_calls.specs.Matched.{IsMatchedOn}
+use Rattle.router_calls.specs.Steps.{IsAnsweredBy, IsSeenOn}
 
 -- what a slice pattern takes apart
 pub first_and_rest : {X : Type 0} (xs : List X) (x : X) → 1 ≤ length xs → x ≡ get_or xs 0 x → xs ≡ x ∷ take (length xs - 1) (drop 1 xs)
@@ -33,6 +33,10 @@ pub on_ok_more : {T E : Type 0} {P Q : Type 0} (r : Result T E) → (P → Q) �
 on_ok_more (Ok x) more h = more h
 on_ok_more (Err e) more h = tt
 
+pub if_ok_more : {T E : Type 0} {P Q : T → Type 0} (r : Result T E) → ((x : T) → P x → Q x) → IfOk r P → IfOk r Q
+if_ok_more (Ok x) more h = more x h
+if_ok_more (Err e) more h = tt
+
 -- the same change with the same reply
 pub controlled_so : {E : Type 0} (r : Result (Option Ready × CodeReply) E) (t : Tables) (moment : ℕ) {c d : Control} {reply other : Reply}
     → c ≡ d → reply ≡ other
@@ -42,35 +46,86 @@ controlled_so (Ok p) t moment {c} {d} {reply} {other} same is h =
 controlled_so (Err e) t moment same is h = tt
 
 -- what is answered to an action
-pub answered : {E : Type 0} (r : Result (Option Ready × CodeReply) E) (t : Tables) (caller : List ℕ) (moment : ℕ) {seen action : Action} → seen ≡ action
-    → IfOk r (λ p. IsAnswerAt t caller moment action (answer_of p)) → IfOk r (λ p. IsAnswerAt t caller moment seen (answer_of p))
-answered (Ok p) t caller moment {seen} {action} is h = subst (λ (a : Action). IsAnswerAt t caller moment a (answer_of p)) (sym is) h
-answered (Err e) t caller moment is h = tt
+pub answered : {E : Type 0} (r : Result (Option Ready × CodeReply) E) (t : Tables) (seen : Seen) (moment : ℕ) {given action : Action} → given ≡ action
+    → IfOk r (λ p. IsAnsweredBy t seen moment action (answer_of p)) → IfOk r (λ p. IsAnsweredBy t seen moment given (answer_of p))
+answered (Ok p) t seen moment {given} {action} is h = subst (λ (a : Action). IsAnsweredBy t seen moment a (answer_of p)) (sym is) h
+answered (Err e) t seen moment is h = tt
 
--- ---- the duties of one event
+-- ---- the answer of each result of matching
 
--- the duties for the targets that are seen are those of the event
-pub owed_are : (set here : RuleSet) (bus : List ℕ) (event : Tree) (text same : List ℕ) (targets : List SeenTarget) (duties : List NewDuty)
-    → here ≡ set → same ≡ text → AreMatched bus (rules_of bus here) event targets
-    → duties ≡ map (duty_of same) targets → AreDuties bus (rules_of bus set) event text duties
-owed_are set here bus event text same targets duties is_set is_text matched owed = (
-  targets,
-  subst (λ (s : RuleSet). AreMatched bus (rules_of bus s) event targets) is_set matched,
-  owed ∙ ap (λ (t : List ℕ). map (duty_of t) targets) is_text,
-)
+answer_at : (t : Tables) (set : RuleSet) (caller : List ℕ) (seen : Seen) (moment : ℕ) (action : Action) (a : Answer)
+    → IsSeenOn t set caller action seen → IsAnsweredBy t seen moment action a → IsAnswerAt t set caller moment action a
+answer_at t set caller seen moment (create_event_bus name) a is h = h
+answer_at t set caller seen moment (delete_event_bus name) a is h = h
+answer_at t set caller seen moment (describe_event_bus name) a is h = h
+answer_at t set caller seen moment (list_event_buses prefix) a is h = h
+answer_at t set caller seen moment (put_rule bus name pattern enabled) a is h = h
+answer_at t set caller seen moment (delete_rule bus name) a is h = h
+answer_at t set caller seen moment (put_rule_state bus name enabled) a is h = h
+answer_at t set caller seen moment (describe_rule bus name) a is h = h
+answer_at t set caller seen moment (list_rules bus prefix) a is h = h
+answer_at t set caller seen moment (put_targets bus rule targets) a is h = h
+answer_at t set caller seen moment (remove_targets bus rule ids) a is h = h
+answer_at t set caller seen moment (list_targets_by_rule bus rule) a is h = h
+answer_at t set caller seen moment (list_rule_names_by_target arn bus) a is h = h
+answer_at t set caller seen moment (put_policy bus policy) a is h = h
+answer_at t set caller seen moment (put_statement bus sid account) a is h = h
+answer_at t set caller seen moment (remove_policy bus) a is h = h
+answer_at t set caller seen moment (remove_statement bus sid) a is h = h
+answer_at t set caller seen moment (put_events entries size) a is h = h set caller is
+answer_at t set caller seen moment (test_event_pattern pattern event) a is h = h set caller is
+answer_at t set caller seen moment (create_queue name) a is h = h
+answer_at t set caller seen moment (peek_messages queue limit) a is h = h
+answer_at t set caller seen moment (deliver_due budget) a is h = h
 
--- the duties for the targets that are seen are at most 1,500, and each goes to an existing queue
-pub owed_fits : (t : Tables) (set : RuleSet) (bus : List ℕ) (event : Tree) (text : List ℕ) (targets : List SeenTarget) (duties : List NewDuty)
-    → set ≡ t.set → IsSound t.set → IsConsistent t → AreMatched bus (rules_of bus set) event targets
-    → duties ≡ map (duty_of text) targets
-    → (length duties ≤ 1500) × All (λ (d : NewDuty). HasEndpoint d.endpoint t.duties.queues) duties
-owed_fits t set bus event text targets duties same sound consistent seen owed =
-    let P : SeenTarget → Type 0 = λ s. IsQueueThere t.set s.target.arn in
-    let Q : SeenTarget → Type 0 = λ s. HasEndpoint s.target.arn t.duties.queues in
-    let R : NewDuty → Type 0 = λ d. HasEndpoint d.endpoint t.duties.queues in
-    let matched = subst (λ (s : RuleSet). AreMatched bus (rules_of bus s) event targets) same seen in
-    let fit = matched_fits bus t.set event targets sound matched in
-    let there : (s : SeenTarget) → P s → Q s = λ s p. subst (λ (arn : List ℕ). HasEndpoint arn t.duties.queues) (sym p.1.1) (consistent.queues p.0 p.2) in (
-      omega (arith, fit.0, ap length owed, length-map targets (duty_of text)),
-      subst (All R) (sym owed) (All-map R (duty_of text) targets (All-weaker P Q there targets fit.1)),
-    )
+-- what was matched on a rule set was seen on it
+pub seen_on : (t : Tables) (request : Request) (set : RuleSet) (seen : Seen) → IsMatchedOn t request set seen
+    → IsSeenOn t set request.caller request.action seen
+seen_on t request set seen m = record { sound = m.sound; version = m.is_seen.k; known = m.known; result = m.is_seen.result }
+
+-- what is decided is the answer on each rule set that the request was matched on
+pub decided : {E : Type 0} (r : Result (Option Ready × CodeReply) E) (t : Tables) (request : Request) (moment : ℕ) (seen : Seen)
+    → IsBounded request.action → IsEntitled request → moment ≡ moment_at t request.reading
+    → IfOk r (λ p. IsAnsweredBy t seen moment request.action (answer_of p))
+    → IfOk r (λ p. (set : RuleSet) → IsMatchedOn t request set seen → IsAnswer t request seen.k set (answer_of p))
+decided (Err e) t request moment seen bounded entitled at h = tt
+decided (Ok p) t request moment seen bounded entitled at h = λ set m. record {
+  bounded = bounded;
+  entitled = entitled;
+  version = sym m.is_seen.k;
+  known = omega (arith, m.is_seen.k, m.known);
+  latest = m.latest;
+  answers = subst (λ (n : ℕ). IsAnswerAt t set request.caller n request.action (answer_of p)) at
+      (answer_at t set request.caller seen moment request.action (answer_of p) (seen_on t request set seen m) h);
+}
+
+-- what is seen of a request on the latest rule set is what `decide` asks for
+pub matched_now : (t : Tables) (request : Request) (set : RuleSet) (seen : Seen) → set ≡ t.set → IsSound t.set → IsSeen set request seen
+    → (s : RuleSet) × IsMatchedOn t request s seen
+matched_now t request set seen same sound is =
+    (t.set, record { sound = sound; is_seen = subst (λ (s : RuleSet). IsSeen s request seen) same is; known = omega arith; latest = λ _. refl })
+
+-- the tested event of a bounded request is a JSON value
+pub bounded_value : (action : Action) → IsBounded action → HasValue action
+bounded_value (create_event_bus name) h = tt
+bounded_value (delete_event_bus name) h = tt
+bounded_value (describe_event_bus name) h = tt
+bounded_value (list_event_buses prefix) h = tt
+bounded_value (put_rule bus name pattern enabled) h = tt
+bounded_value (delete_rule bus name) h = tt
+bounded_value (put_rule_state bus name enabled) h = tt
+bounded_value (describe_rule bus name) h = tt
+bounded_value (list_rules bus prefix) h = tt
+bounded_value (put_targets bus rule targets) h = tt
+bounded_value (remove_targets bus rule ids) h = tt
+bounded_value (list_targets_by_rule bus rule) h = tt
+bounded_value (list_rule_names_by_target arn bus) h = tt
+bounded_value (put_policy bus policy) h = tt
+bounded_value (put_statement bus sid account) h = tt
+bounded_value (remove_policy bus) h = tt
+bounded_value (remove_statement bus sid) h = tt
+bounded_value (put_events entries size) h = tt
+bounded_value (create_queue name) h = tt
+bounded_value (peek_messages queue limit) h = tt
+bounded_value (deliver_due budget) h = tt
+bounded_value (test_event_pattern pattern event) h = h.1

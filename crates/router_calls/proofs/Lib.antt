@@ -5,3 +5,4 @@ pub mod RemovalLemmas
 pub mod PolicyLemmas
 pub mod OneLemmas
 pub mod AllowedLemmas
+pub mod ChangeLemmas

@@ -1,6 +1,6 @@
 -- A request has at most one answer: `one_answer`, which the law of src/laws.rt cites. The other lemmas lead to it.
-use Rattle.std.proofs.Common.{◌≡◌, ℕ, ◌+◌, inl, inr, false, List, [], ◌∷◌, ◌++◌, map, drop, Option, Some, None, is_some, Ok, Err, sym, refl, ap, ◌∙◌}
-use Rattle.std.proofs.Common.{subst, arith}
+use Rattle.std.proofs.Common.{◌≡◌, ℕ, ◌+◌, inl, inr, Bool, false, true, List, [], ◌∷◌, ◌++◌, map, drop, Option, Some, None, is_some, Ok, Err}
+use Rattle.std.proofs.Common.{sym, refl, ap, ◌∙◌, subst, arith}
 use Rattle.std.proofs.lemmas.Bool.{false≢true}
 use Rattle.json_text.specs.Tree.{Tree, no_items}
 use Rattle.event_time.proofs.ClockLemmas.{time_once, iso_is_time}
@@ -26,8 +26,8 @@ use Rattle.api_replies.specs.declared.cause.Cause.{Cause}
 use Rattle.api_replies.specs.declared.cause.Cause.TheVariants as cause
 use Rattle.api_replies.specs.Reply.{Reply, refused}
 use Rattle.router_core.specs.Batch as batch
-use Rattle.router_core.specs.Matching.{AreMatched, AreDuties, seen_target, duty_of}
-use Rattle.router_core.specs.Verdict.{IsPolicyOf, asker_for, seen_verdict, IsVerdictOn, IsVerdict}
+use Rattle.router_core.specs.Matching.{AreMatched, AreDuties, IsTestedAs, seen_target, duty_of}
+use Rattle.router_core.specs.Verdict.{IsPolicyOf, asker_for, seen_verdict, IsVerdictOn, IsEntryVerdict}
 use Rattle.router_core.specs.declared.seen.SeenTarget.{SeenTarget}
 use Rattle.router_core.specs.declared.seen.SeenVerdict.{SeenVerdict}
 use Rattle.router_core.specs.declared.seen.SeenVerdict.TheVariants as verdict
@@ -35,29 +35,28 @@ use Rattle.router_core.specs.Request.{Action, create_event_bus, delete_event_bus
 use Rattle.router_core.specs.Request.{describe_rule, list_rules, put_targets, remove_targets, list_targets_by_rule, list_rule_names_by_target, put_policy}
 use Rattle.router_core.specs.Request.{put_statement, remove_policy, remove_statement, put_events, test_event_pattern, create_queue, peek_messages, deliver_due}
 use Rattle.router_core.specs.Request.{Request}
-use Rattle.router_core.specs.Tables.{Tables}
+use Rattle.router_core.specs.Tables.{Tables, moment_at}
 use Rattle.router_calls.specs.Causes.{IsCause, IsTargetCause}
 use Rattle.router_calls.specs.Accepted.{Given, Placed, IsAcceptedAs, IsPlacedBy, IsPlaced, ArePlaced, number_after, events_in}
 use Rattle.router_calls.specs.Targets.{AreSplit}
 use Rattle.router_calls.specs.Answer.{Answer, IsAnswer, IsAnswerAt, IsControlled, IsPublished, IsTargetsPut, IsTested, targets_answer, events_answer}
-use Rattle.router_calls.specs.Answer.{entries_reply, reply_alone, moment_at, IsRuleDeleted, AreTargetsRemoved, removals_answer, IsOnBus, IsPolicyPut}
-use Rattle.router_calls.specs.Answer.{policy_answer, IsStatementPut, statement_answer, IsStatementRemovedFrom, IsStatementRemoved, removal_answer}
+use Rattle.router_calls.specs.Answer.{entries_reply, reply_alone, tested_reply, IsRuleDeleted, AreTargetsRemoved, removals_answer, IsOnBus}
+use Rattle.router_calls.specs.Answer.{IsGranted, IsStatementPut, IsRevoked, IsStatementRemovedFrom, IsStatementRemoved}
 use Rattle.router_calls.specs.Removals.{removed_ids, failed_ids}
 
 -- ---- the targets that match
 
-matched_once : (bus : List ℕ) (rules : List Rule) (event : Tree) (xs ys : List SeenTarget) → AreMatched bus rules event xs
-    → AreMatched bus rules event ys → xs ≡ ys
-matched_once bus [] event xs ys p q = p ∙ sym q
-matched_once bus (rule ∷ rules) event xs ys (rest, are, inl (m, e)) (other, so, inl (n, f)) =
-    e ∙ ap (λ (ts : List SeenTarget). map (seen_target bus rule) rule.targets ++ ts) (matched_once bus rules event rest other are so) ∙ sym f
-matched_once bus (rule ∷ rules) event xs ys (rest, are, inl (m, e)) (other, so, inr (n, f)) = absurd (n m)
-matched_once bus (rule ∷ rules) event xs ys (rest, are, inr (m, e)) (other, so, inl (n, f)) = absurd (m n)
-matched_once bus (rule ∷ rules) event xs ys (rest, are, inr (m, e)) (other, so, inr (n, f)) = e ∙ matched_once bus rules event rest other are so ∙ sym f
+matched_once : (rules : List Rule) (event : Tree) (xs ys : List SeenTarget) → AreMatched rules event xs → AreMatched rules event ys → xs ≡ ys
+matched_once [] event xs ys p q = p ∙ sym q
+matched_once (rule ∷ rules) event xs ys (rest, are, inl (m, e)) (other, so, inl (n, f)) =
+    e ∙ ap (λ (ts : List SeenTarget). map (seen_target rule) rule.targets ++ ts) (matched_once rules event rest other are so) ∙ sym f
+matched_once (rule ∷ rules) event xs ys (rest, are, inl (m, e)) (other, so, inr (n, f)) = absurd (n m)
+matched_once (rule ∷ rules) event xs ys (rest, are, inr (m, e)) (other, so, inl (n, f)) = absurd (m n)
+matched_once (rule ∷ rules) event xs ys (rest, are, inr (m, e)) (other, so, inr (n, f)) = e ∙ matched_once rules event rest other are so ∙ sym f
 
-duties_once : (bus : List ℕ) (rules : List Rule) (event : Tree) (shown : List ℕ) (ds es : List NewDuty) → AreDuties bus rules event shown ds
-    → AreDuties bus rules event shown es → ds ≡ es
-duties_once bus rules event shown ds es (xs, are, d) (ys, so, e) = d ∙ ap (map (duty_of shown)) (matched_once bus rules event xs ys are so) ∙ sym e
+duties_once : (rules : List Rule) (event : Tree) (shown : List ℕ) (ds es : List NewDuty) → AreDuties rules event shown ds
+    → AreDuties rules event shown es → ds ≡ es
+duties_once rules event shown ds es (xs, are, d) (ys, so, e) = d ∙ ap (map (duty_of shown)) (matched_once rules event xs ys are so) ∙ sym e
 
 -- ---- the entries of a PutEvents
 
@@ -74,10 +73,10 @@ accepted_once : (set : RuleSet) (n : ℕ) (u : Unnumbered) (a b : batch.Accepted
 accepted_once set n u a b p q =
     let event = event_tree (with_number n u.event) None in
     let texts : b.text ≡ a.text = q.text ∙ sym p.text in
-    let owed = subst (λ (t : List ℕ). AreDuties u.bus (rules_of u.bus set) event t b.duties) texts q.duties in
+    let owed = subst (λ (t : List ℕ). AreDuties (rules_of u.bus set) event t b.duties) texts q.duties in
     same_accepted a b (p.number ∙ sym q.number) (p.bus ∙ sym q.bus) (p.k ∙ sym q.k)
     (time_once u.event.time a.time b.time (iso_is_time u.event.time a.time p.time) (iso_is_time u.event.time b.time q.time)) (sym texts)
-    (duties_once u.bus (rules_of u.bus set) event a.text a.duties b.duties p.duties owed)
+    (duties_once (rules_of u.bus set) event a.text a.duties b.duties p.duties owed)
 
 policy_once : (o : Option (List ℕ)) (p q : Option Tree) → IsPolicyOf o p → IsPolicyOf o q → p ≡ q
 policy_once None p q a b = a ∙ sym b
@@ -95,7 +94,8 @@ verdict_on_once (Some bus) caller event v w (policy, x, is, says, e) (other, y, 
     let there = subst (λ (o : Option Tree). IsBusVerdict o (asker_for caller event) y) same also in
     e ∙ ap seen_verdict (bus_verdict_once policy (asker_for caller event) x y says there) ∙ sym f
 
-verdict_once : (set : RuleSet) (caller : List ℕ) (entry : Given) (v w : SeenVerdict) → IsVerdict set caller entry v → IsVerdict set caller entry w → v ≡ w
+verdict_once : (set : RuleSet) (caller : List ℕ) (entry : Given) (v w : SeenVerdict) → IsEntryVerdict set caller entry v
+    → IsEntryVerdict set caller entry w → v ≡ w
 verdict_once set caller (Ok event) v w p q = verdict_on_once (named (λ b. b.name) event.bus set.buses) caller event v w p q
 verdict_once set caller (Err f) v w p q = p ∙ sym q
 
@@ -123,13 +123,13 @@ all_once set caller n (entry ∷ entries) xs ys (a, rest, e, one, more) (b, othe
     let so = subst (λ (x : Placed). ArePlaced set caller (number_after n x) entries other) (sym first) others in
     e ∙ ap (λ (x : Placed). x ∷ rest) first ∙ ap (λ (xs : List Placed). b ∷ xs) (all_once set caller (number_after n a) entries rest other more so) ∙ sym f
 
-published_once : (t : Tables) (caller : List ℕ) (moment : ℕ) (entries : List Given) (size : ℕ) (a b : Answer) → IsPublished t caller moment entries size a
-    → IsPublished t caller moment entries size b → a ≡ b
-published_once t caller moment entries size a b (inl (large, e)) (inl (also, f)) = e ∙ sym f
-published_once t caller moment entries size a b (inl (large, e)) (inr (small, rest)) = absurd (omega (arith, large, small))
-published_once t caller moment entries size a b (inr (small, rest)) (inl (large, f)) = absurd (omega (arith, large, small))
-published_once t caller moment entries size a b (inr (small, (xs, are, e))) (inr (low, (ys, so, f))) =
-    e ∙ ap (λ (all : List Placed). events_answer t moment (events_in all) (entries_reply all)) (all_once t.set caller (t.events + 1) entries xs ys are so) ∙ sym f
+published_once : (t : Tables) (set : RuleSet) (caller : List ℕ) (moment : ℕ) (entries : List Given) (size : ℕ) (a b : Answer)
+    → IsPublished t set caller moment entries size a → IsPublished t set caller moment entries size b → a ≡ b
+published_once t set caller moment entries size a b (inl (large, e)) (inl (also, f)) = e ∙ sym f
+published_once t set caller moment entries size a b (inl (large, e)) (inr (small, rest)) = absurd (omega (arith, large, small))
+published_once t set caller moment entries size a b (inr (small, rest)) (inl (large, f)) = absurd (omega (arith, large, small))
+published_once t set caller moment entries size a b (inr (small, (xs, are, e))) (inr (low, (ys, so, f))) =
+    e ∙ ap (λ (all : List Placed). events_answer t moment (events_in all) (entries_reply all)) (all_once set caller (t.events + 1) entries xs ys are so) ∙ sym f
 
 -- ---- the targets of a PutTargets
 
@@ -200,6 +200,7 @@ cause_once control (fault.InUse kind) c d p q = p ∙ sym q
 cause_once control fault.HasTargets c d p q = p ∙ sym q
 cause_once control fault.DefaultBus c d p q = p ∙ sym q
 cause_once control (fault.Validation member) c d p q = p ∙ sym q
+cause_once control fault.PolicyTooLong c d p q = p ∙ sym q
 cause_once control fault.NoMemory c d p q = absurd p
 
 controlled_once : (t : Tables) (moment : ℕ) (control : Control) (reply : Reply) (a b : Answer) → IsControlled t moment control reply a
@@ -212,11 +213,14 @@ controlled_once t moment control reply a b (inr (f, c, bad, why, e)) (inr (g, d,
     let causes : c ≡ d = cause_once control f c d why (subst (λ (x : ControlFault). IsCause control x d) same other) in
     e ∙ ap (λ (x : Cause). reply_alone (refused x)) causes ∙ sym so
 
+same_test : (pattern : List ℕ) (event : Tree) (x y : Bool) → IsTestedAs pattern event x → IsTestedAs pattern event y → x ≡ y
+same_test pattern event true true p q = refl
+same_test pattern event true false holds not = absurd (not holds)
+same_test pattern event false true not holds = absurd (not holds)
+same_test pattern event false false p q = refl
+
 tested_once : (pattern : List ℕ) (event : Tree) (a b : Answer) → IsTested pattern event a → IsTested pattern event b → a ≡ b
-tested_once pattern event a b (inl (holds, e)) (inl (also, f)) = e ∙ sym f
-tested_once pattern event a b (inl (holds, e)) (inr (not, f)) = absurd (not holds)
-tested_once pattern event a b (inr (not, e)) (inl (holds, f)) = absurd (not holds)
-tested_once pattern event a b (inr (not, e)) (inr (also, f)) = e ∙ sym f
+tested_once pattern event a b (x, is, e) (y, so, f) = e ∙ ap (λ (m : Bool). reply_alone (tested_reply m)) (same_test pattern event x y is so) ∙ sym f
 
 -- ---- rules that are deleted, targets that are removed, policies
 
@@ -259,55 +263,67 @@ on_bus_once t bus IsChanged once a b (inr (x, found, is)) (inr (y, also, so)) =
     let same : y ≡ x = cc in
     once x a b is (subst (λ (o : Bus). IsChanged o b) same so)
 
-policy_put_once : (t : Tables) (moment : ℕ) (bus policy : List ℕ) (a b : Answer) → IsPolicyPut t moment bus policy a → IsPolicyPut t moment bus policy b
-    → a ≡ b
-policy_put_once t moment bus policy a b p q =
-    on_bus_once t bus (λ o answer. answer ≡ policy_answer t moment bus policy) (λ o x y is so. is ∙ sym so) a b p q
-
 -- an answer that a bus's policy determines
-by_policy_once : (o : Option (List ℕ)) (answer : Option Tree → Answer) (a b : Answer)
-    → ((policy : Option Tree) × IsPolicyOf o policy × (a ≡ answer policy)) → ((policy : Option Tree) × IsPolicyOf o policy × (b ≡ answer policy)) → a ≡ b
-by_policy_once o answer a b (x, is, e) (y, so, f) = e ∙ ap answer (policy_once o x y is so) ∙ sym f
+by_policy_once : (o : Option (List ℕ)) (IsMade : Option Tree → Answer → Type 0)
+    → ((policy : Option Tree) (x y : Answer) → IsMade policy x → IsMade policy y → x ≡ y) → (a b : Answer)
+    → ((policy : Option Tree) × IsPolicyOf o policy × IsMade policy a) → ((policy : Option Tree) × IsPolicyOf o policy × IsMade policy b) → a ≡ b
+by_policy_once o IsMade once a b (x, is, made) (y, so, other) =
+    once x a b made (subst (λ (p : Option Tree). IsMade p b) (policy_once o y x so is) other)
+
+granted_once : (t : Tables) (moment : ℕ) (bus sid : List ℕ) (account : Option (List ℕ)) (policy : Option Tree) (a b : Answer)
+    → IsGranted t moment bus sid account policy a → IsGranted t moment bus sid account policy b → a ≡ b
+granted_once t moment bus sid account policy a b (inl (has, e)) (inl (also, f)) = e ∙ sym f
+granted_once t moment bus sid account policy a b (inl (has, e)) (inr (lacks, is)) = absurd (false≢true (sym lacks ∙ has))
+granted_once t moment bus sid account policy a b (inr (lacks, is)) (inl (has, e)) = absurd (false≢true (sym lacks ∙ has))
+granted_once t moment bus sid account policy a b (inr (lacks, is)) (inr (also, so)) = controlled_once t moment _ _ a b is so
 
 statement_put_once : (t : Tables) (moment : ℕ) (bus sid : List ℕ) (account : Option (List ℕ)) (a b : Answer)
     → IsStatementPut t moment bus sid account a → IsStatementPut t moment bus sid account b → a ≡ b
 statement_put_once t moment bus sid account a b p q = on_bus_once t bus _
-    (λ o x y is so. by_policy_once o.policy (statement_answer t moment bus sid account) x y is so) a b p q
+    (λ o x y is so. by_policy_once o.policy (IsGranted t moment bus sid account) (granted_once t moment bus sid account) x y is so) a b p q
+
+revoked_once : (t : Tables) (moment : ℕ) (bus sid : List ℕ) (policy : Option Tree) (a b : Answer) → IsRevoked t moment bus sid policy a
+    → IsRevoked t moment bus sid policy b → a ≡ b
+revoked_once t moment bus sid None a b p q = p ∙ sym q
+revoked_once t moment bus sid (Some policy) a b (inl (has, is)) (inl (also, so)) = controlled_once t moment _ _ a b is so
+revoked_once t moment bus sid (Some policy) a b (inl (has, is)) (inr (lacks, f)) = absurd (false≢true (sym lacks ∙ has))
+revoked_once t moment bus sid (Some policy) a b (inr (lacks, e)) (inl (has, is)) = absurd (false≢true (sym lacks ∙ has))
+revoked_once t moment bus sid (Some policy) a b (inr (lacks, e)) (inr (also, f)) = e ∙ sym f
 
 removed_from_once : (t : Tables) (moment : ℕ) (bus : List ℕ) (sid : Option (List ℕ)) (o : Bus) (a b : Answer)
     → IsStatementRemovedFrom t moment bus sid o a → IsStatementRemovedFrom t moment bus sid o b → a ≡ b
 removed_from_once t moment bus None o a b p q = p ∙ sym q
-removed_from_once t moment bus (Some sid) o a b p q = by_policy_once o.policy (removal_answer t moment bus sid) a b p q
+removed_from_once t moment bus (Some sid) o a b p q = by_policy_once o.policy (IsRevoked t moment bus sid) (revoked_once t moment bus sid) a b p q
 
 statement_removed_once : (t : Tables) (moment : ℕ) (bus : List ℕ) (sid : Option (List ℕ)) (a b : Answer)
     → IsStatementRemoved t moment bus sid a → IsStatementRemoved t moment bus sid b → a ≡ b
 statement_removed_once t moment bus sid a b p q =
     on_bus_once t bus (IsStatementRemovedFrom t moment bus sid) (removed_from_once t moment bus sid) a b p q
 
-answer_once : (t : Tables) (caller : List ℕ) (moment : ℕ) (action : Action) (a b : Answer) → IsAnswerAt t caller moment action a
-    → IsAnswerAt t caller moment action b → a ≡ b
-answer_once t caller moment (create_event_bus name) a b p q = controlled_once t moment _ _ a b p q
-answer_once t caller moment (delete_event_bus name) a b p q = controlled_once t moment _ _ a b p q
-answer_once t caller moment (describe_event_bus name) a b p q = p ∙ sym q
-answer_once t caller moment (list_event_buses prefix) a b p q = p ∙ sym q
-answer_once t caller moment (put_rule bus name pattern enabled) a b p q = controlled_once t moment _ _ a b p q
-answer_once t caller moment (delete_rule bus name) a b p q = deleted_once t moment bus name a b p q
-answer_once t caller moment (put_rule_state bus name enabled) a b p q = controlled_once t moment _ _ a b p q
-answer_once t caller moment (describe_rule bus name) a b p q = p ∙ sym q
-answer_once t caller moment (list_rules bus prefix) a b p q = p ∙ sym q
-answer_once t caller moment (put_targets bus rule targets) a b p q = targets_once t moment bus rule targets a b p q
-answer_once t caller moment (remove_targets bus rule ids) a b p q = removed_once t moment bus rule ids a b p q
-answer_once t caller moment (list_targets_by_rule bus rule) a b p q = p ∙ sym q
-answer_once t caller moment (list_rule_names_by_target arn bus) a b p q = p ∙ sym q
-answer_once t caller moment (put_policy bus policy) a b p q = policy_put_once t moment bus policy a b p q
-answer_once t caller moment (put_statement bus sid account) a b p q = statement_put_once t moment bus sid account a b p q
-answer_once t caller moment (remove_policy bus) a b p q = controlled_once t moment _ _ a b p q
-answer_once t caller moment (remove_statement bus sid) a b p q = statement_removed_once t moment bus sid a b p q
-answer_once t caller moment (put_events entries size) a b p q = published_once t caller moment entries size a b p q
-answer_once t caller moment (test_event_pattern pattern event) a b p q = tested_once pattern event a b p q
-answer_once t caller moment (create_queue name) a b p q = controlled_once t moment _ _ a b p q
-answer_once t caller moment (peek_messages queue limit) a b p q = p ∙ sym q
-answer_once t caller moment (deliver_due budget) a b p q = absurd p
+answer_once : (t : Tables) (set : RuleSet) (caller : List ℕ) (moment : ℕ) (action : Action) (a b : Answer) → IsAnswerAt t set caller moment action a
+    → IsAnswerAt t set caller moment action b → a ≡ b
+answer_once t set caller moment (create_event_bus name) a b p q = controlled_once t moment _ _ a b p q
+answer_once t set caller moment (delete_event_bus name) a b p q = controlled_once t moment _ _ a b p q
+answer_once t set caller moment (describe_event_bus name) a b p q = p ∙ sym q
+answer_once t set caller moment (list_event_buses prefix) a b p q = p ∙ sym q
+answer_once t set caller moment (put_rule bus name pattern enabled) a b p q = controlled_once t moment _ _ a b p q
+answer_once t set caller moment (delete_rule bus name) a b p q = deleted_once t moment bus name a b p q
+answer_once t set caller moment (put_rule_state bus name enabled) a b p q = controlled_once t moment _ _ a b p q
+answer_once t set caller moment (describe_rule bus name) a b p q = p ∙ sym q
+answer_once t set caller moment (list_rules bus prefix) a b p q = p ∙ sym q
+answer_once t set caller moment (put_targets bus rule targets) a b p q = targets_once t moment bus rule targets a b p q
+answer_once t set caller moment (remove_targets bus rule ids) a b p q = removed_once t moment bus rule ids a b p q
+answer_once t set caller moment (list_targets_by_rule bus rule) a b p q = p ∙ sym q
+answer_once t set caller moment (list_rule_names_by_target arn bus) a b p q = p ∙ sym q
+answer_once t set caller moment (put_policy bus policy) a b p q = controlled_once t moment _ _ a b p q
+answer_once t set caller moment (put_statement bus sid account) a b p q = statement_put_once t moment bus sid account a b p q
+answer_once t set caller moment (remove_policy bus) a b p q = controlled_once t moment _ _ a b p q
+answer_once t set caller moment (remove_statement bus sid) a b p q = statement_removed_once t moment bus sid a b p q
+answer_once t set caller moment (put_events entries size) a b p q = published_once t set caller moment entries size a b p q
+answer_once t set caller moment (test_event_pattern pattern event) a b p q = tested_once pattern event a b p q
+answer_once t set caller moment (create_queue name) a b p q = controlled_once t moment _ _ a b p q
+answer_once t set caller moment (peek_messages queue limit) a b p q = p ∙ sym q
+answer_once t set caller moment (deliver_due budget) a b p q = absurd p
 
-pub one_answer : (t : Tables) (r : Request) (a b : Answer) → IsAnswer t r a → IsAnswer t r b → a ≡ b
-one_answer t r a b p q = answer_once t r.caller (moment_at t r.reading) r.action a b p.answers q.answers
+pub one_answer : (t : Tables) (r : Request) (k : ℕ) (set : RuleSet) (a b : Answer) → IsAnswer t r k set a → IsAnswer t r k set b → a ≡ b
+one_answer t r k set a b p q = answer_once t set r.caller (moment_at t r.reading) r.action a b p.answers q.answers

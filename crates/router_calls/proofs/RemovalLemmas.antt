@@ -1,9 +1,10 @@
--- The ids of a RemoveTargets: `without_keep`, `without_drop`, `removals_answered` (the removed ids are an allowed change), and `removals_unwritten` (there
--- is none).
-use Rattle.std.proofs.Common.{◌≡◌, ℕ, ◌≤◌, ◌<◌, inl, inr, Bool, true, false, ◌||◌, List, [], ◌∷◌, ◌++◌, length, map, Option, Some, is_some}
+-- The ids of a RemoveTargets: `without_keep`, `without_drop`, `removed_within` (the removed ids are of those), `removed_form` (their change is
+-- well formed), `removals_answered` (it is allowed), and `removals_unwritten` (there is none).
+use Rattle.std.proofs.Common.{◌≡◌, ℕ, suc, ◌≤◌, ◌<◌, inl, inr, Bool, true, false, ◌||◌, List, [], ◌∷◌, ◌++◌, length, map, Option, Some, is_some}
 use Rattle.std.proofs.Common.{sym, refl, ap, ◌∙◌, subst, arith, append-nil}
-use Rattle.std.specs.Prelude.{codes, cond, Result, Ok, Err, IfOk}
-use Rattle.std.specs.List.{list_any}
+use Rattle.std.specs.Prelude.{codes, cond, None, Result, Ok, Err, IfOk, All}
+use Rattle.std.specs.List.{list_any, Contains}
+use Rattle.std.proofs.lemmas.List.Elements.{All-contains, All-weaker}
 use Rattle.std.specs.Str.{bytes_eq}
 use Rattle.std.proofs.lemmas.List.{length-map}
 use Rattle.json_text.specs.View.{tree_of, trees_of}
@@ -11,7 +12,9 @@ use Rattle.json_text.specs.declared.value.Json.{Json}
 use Rattle.name_rows.specs.Rows.{named}
 use Rattle.rule_table.specs.declared.control.Target.{Target}
 use Rattle.rule_table.specs.Control.{targets_removed}
-use Rattle.rule_table.specs.RuleSet.{Rule, rule_at, AreRemovable, ForRule, IsAllowed}
+use Rattle.event_shape.specs.Names.{IsShortName}
+use Rattle.rule_table.specs.RuleSet.{Rule, RuleSet, rule_at, AreRemovable, ForRule, IsAllowed}
+use Rattle.rule_table.specs.WellFormed.{IsWellFormed, NamesRule}
 use Rattle.rule_table.proofs.RefusalLemmas.{refused_not_allowed}
 use Rattle.api_replies.specs.declared.cause.Cause.{Cause}
 use Rattle.api_replies.specs.Reply.{Reply}
@@ -20,6 +23,7 @@ use Rattle.router_core.specs.Batch as batch
 use Rattle.router_core.specs.Tables.{Tables}
 use Rattle.router_core.specs.declared.ready.Ready.{Ready}
 use Rattle.router_calls.specs.Decided.{answer_of}
+use Rattle.router_calls.proofs.TargetLemmas.{within_more, within_both}
 use Rattle.router_calls.specs.Removals.{has_target, without_target, removed_ids, failed_ids}
 use Rattle.router_calls.specs.Answer.{Answer, IsControlled, AreTargetsRemoved, target_report, targets_reply, removals_answer, items_reply, reply_alone, writes}
 
@@ -129,3 +133,42 @@ removals_unwritten t moment bus rule r ids removed reports n reply found is are 
     let none_left : length (removed_ids ids r.targets) ≡ 0 = omega (arith, none, ap length is) in
     let replies = reply_so (failed_ids ids r.targets) reports n reply are count so in
     inr (inr (r, found, none_answer t moment bus rule (removed_ids ids r.targets) (failed_ids ids r.targets) reply none_left replies))
+
+-- ---- the removed ids are of those that the request has, and their change is well formed
+
+none_of : {X : Type 0} (P : X → Type 0) → All P []
+none_of P = λ k d low. absurd (omega (arith, low))
+
+within_step : (b : Bool) (id : List ℕ) (ids xs ys : List (List ℕ)) → All (Contains ids) xs → All (Contains ids) ys
+    → All (Contains (id ∷ ids)) (cond b (id ∷ xs) ys)
+within_step true id ids xs ys p q = within_both id ids xs p
+within_step false id ids xs ys p q = within_more id ids ys q
+
+pub removed_within : (ids : List (List ℕ)) (targets : List Target) → All (Contains ids) (removed_ids ids targets)
+removed_within [] targets = none_of (Contains [])
+removed_within (id ∷ ids) targets =
+    within_step (has_target id targets) id ids (removed_ids ids (without_target id targets)) (removed_ids ids targets)
+    (removed_within ids (without_target id targets)) (removed_within ids targets)
+
+few_step : (b : Bool) (id : List ℕ) (xs ys : List (List ℕ)) (n : ℕ) → length xs ≤ n → length ys ≤ n → length (cond b (id ∷ xs) ys) ≤ suc n
+few_step true id xs ys n p q = omega (arith, p)
+few_step false id xs ys n p q = omega (arith, q)
+
+removed_few : (ids : List (List ℕ)) (targets : List Target) → length (removed_ids ids targets) ≤ length ids
+removed_few [] targets = omega arith
+removed_few (id ∷ ids) targets =
+    few_step (has_target id targets) id (removed_ids ids (without_target id targets)) (removed_ids ids targets) (length ids)
+    (removed_few ids (without_target id targets)) (removed_few ids targets)
+
+allowed_some : (o : Option Rule) (ids : List (List ℕ)) → ForRule o (λ r. (1 ≤ length ids) × AreRemovable ids r.targets) → 1 ≤ length ids
+allowed_some None ids h = absurd h
+allowed_some (Some r) ids h = h.0
+
+pub removed_form : (set : RuleSet) (b r bus rule : List ℕ) (ids kept : List (List ℕ)) (targets : List Target) → b ≡ bus → r ≡ rule
+    → NamesRule bus rule → length ids ≤ 100 → All IsShortName ids → kept ≡ removed_ids ids targets
+    → IsAllowed (targets_removed b r kept) set → IsWellFormed (targets_removed b r kept)
+removed_form set b r bus rule ids kept targets b_is r_is names few short is allowed =
+    let named = subst (λ (x : List ℕ). NamesRule x r) (sym b_is) (subst (NamesRule bus) (sym r_is) names) in
+    let of = All-weaker (Contains ids) IsShortName (λ x c. All-contains IsShortName ids x short c) (removed_ids ids targets) (removed_within ids targets) in
+    let some = allowed_some (rule_at b r set) kept allowed in
+    (named, (some, omega (arith, ap length is, removed_few ids targets, few), subst (All IsShortName) (sym is) of))

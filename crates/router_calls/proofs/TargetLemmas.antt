@@ -1,8 +1,11 @@
 -- The targets of a PutTargets: `queue_named` (a queue that does not exist has a name), `adds_none`, `adds_target` (one target and those after
--- it) and `all_split`; `targets_answered` (the accepted ones are an allowed change) `put_answered` (of a result) and `targets_unwritten` (there is none).
-use Rattle.std.proofs.Common.{◌≡◌, ℕ, ◌≤◌, ◌<◌, inl, inr, List, [], ◌∷◌, ◌++◌, length, map, Some, sym, refl, ap, ◌∙◌, subst, arith, append_assoc}
+-- it) and `all_split`; `targets_answered` (the accepted ones are an allowed change), `put_answered` (of a result) and `targets_unwritten` (there is
+-- none); `split_within` (the accepted ones are of those of the request) and `put_form` (their change is well formed).
+use Rattle.std.proofs.Common.{◌≡◌, ℕ, suc, ◌≤◌, ◌<◌, inl, inr, List, [], ◌∷◌, ◌++◌, length, map, Some, sym, refl, ap, ◌∙◌, subst, arith, append_assoc}
 use Rattle.std.proofs.Common.{append-nil}
-use Rattle.std.specs.Prelude.{codes, Option, Result, Ok, Err, IfOk}
+use Rattle.std.specs.Prelude.{codes, Option, None, Result, Ok, Err, IfOk, All}
+use Rattle.std.specs.List.{Contains}
+use Rattle.std.proofs.lemmas.List.Elements.{All-cons, All-weaker}
 use Rattle.std.proofs.lemmas.List.{length-map}
 use Rattle.json_text.specs.View.{tree_of, trees_of}
 use Rattle.rule_table.specs.declared.control.Target.{Target}
@@ -12,6 +15,7 @@ use Rattle.rule_table.specs.declared.control.TargetFault.{TargetFault}
 use Rattle.rule_table.specs.declared.control.TargetFault.TheVariants.{NoQueue}
 use Rattle.rule_table.specs.Refusal.{HasTargetFault, bad_id, bad_arn, unsupported, no_queue, sixth}
 use Rattle.rule_table.specs.RuleSet.{Rule, RuleSet, put_target, rule_at, AreGoodTargets, ForRule, IsAllowed}
+use Rattle.rule_table.specs.WellFormed.{IsWellFormed, IsWellFormedTarget, NamesRule}
 use Rattle.rule_table.proofs.RefusalLemmas.{refused_not_allowed}
 use Rattle.api_replies.specs.declared.cause.Cause.{Cause}
 use Rattle.api_replies.specs.Reply.{Reply}
@@ -145,3 +149,57 @@ pub put_answered : {E : Type 0} (result : Result (Option Ready × CodeReply) E) 
 put_answered (Ok p) t moment bus rule r targets all n reply found split count some is controlled =
     targets_answered t moment bus rule r targets all n reply (answer_of p) found split count some is controlled
 put_answered (Err e) t moment bus rule r targets all n reply found split count some is controlled = tt
+
+-- ---- the accepted targets are of those that the request has, and their change is well formed
+
+none_of : {X : Type 0} (P : X → Type 0) → All P []
+none_of P = λ k d low. absurd (omega (arith, low))
+
+here : {X : Type 0} (x : X) (xs : List X) → Contains (x ∷ xs) x
+here x xs = (0, omega arith, refl)
+
+there : {X : Type 0} (y : X) (xs : List X) (x : X) → Contains xs x → Contains (y ∷ xs) x
+there y xs x (k, low, is) = (suc k, omega (arith, low), is)
+
+pub within_more : {X : Type 0} (y : X) (xs ys : List X) → All (Contains xs) ys → All (Contains (y ∷ xs)) ys
+within_more y xs ys h = All-weaker (Contains xs) (Contains (y ∷ xs)) (there y xs) ys h
+
+pub within_both : {X : Type 0} (y : X) (xs ys : List X) → All (Contains xs) ys → All (Contains (y ∷ xs)) (y ∷ ys)
+within_both y xs ys h = All-cons (Contains (y ∷ xs)) y ys (here y xs) (within_more y xs ys h)
+
+pub split_within : (set : RuleSet) (have targets accepted : List Target) (failed : List (List ℕ × Cause)) → AreSplit set have targets accepted failed
+    → All (Contains targets) accepted
+split_within set have [] accepted failed (none, _) = subst (All (Contains [])) (sym none) (none_of (Contains []))
+split_within set have (target ∷ targets) accepted failed (inl (rest, is, good, more)) =
+    subst (All (Contains (target ∷ targets))) (sym is)
+    (within_both target targets rest (split_within set (put_target target have) targets rest failed more))
+split_within set have (target ∷ targets) accepted failed (inr (fault, c, rest, is, has, why, more)) =
+    within_more target targets accepted (split_within set have targets accepted rest more)
+
+split_few : (set : RuleSet) (have targets accepted : List Target) (failed : List (List ℕ × Cause)) → AreSplit set have targets accepted failed
+    → length accepted ≤ length targets
+split_few set have [] accepted failed (none, _) = omega (arith, ap length none)
+split_few set have (target ∷ targets) accepted failed (inl (rest, is, good, more)) =
+    omega (arith, ap length is, split_few set (put_target target have) targets rest failed more)
+split_few set have (target ∷ targets) accepted failed (inr (fault, c, rest, is, has, why, more)) =
+    omega (arith, split_few set have targets accepted rest more)
+
+good_formed : (set : RuleSet) (news have : List Target) → AreGoodTargets set news have → All IsWellFormedTarget news
+good_formed set [] have good = none_of IsWellFormedTarget
+good_formed set (new ∷ news) have (good, more) =
+    All-cons IsWellFormedTarget new news (record { id = good.id; arn = (good.queue.0, good.queue.1); supported = good.supported })
+    (good_formed set news (put_target new have) more)
+
+allowed_formed : (set : RuleSet) (o : Option Rule) (news : List Target) → ForRule o (λ r. (1 ≤ length news) × AreGoodTargets set news r.targets)
+    → (1 ≤ length news) × All IsWellFormedTarget news
+allowed_formed set None news h = absurd h
+allowed_formed set (Some r) news (some, good) = (some, good_formed set news r.targets good)
+
+pub put_form : (on set : RuleSet) (b r bus rule : List ℕ) (have targets kept : List Target) (all : SplitTargets) → b ≡ bus → r ≡ rule
+    → NamesRule bus rule → length targets ≤ 100 → AreAllSplit on have targets all → kept ≡ all.accepted.items
+    → IsAllowed (targets_put b r kept) set → IsWellFormed (targets_put b r kept)
+put_form on set b r bus rule have targets kept all b_is r_is names few split is allowed =
+    let formed = allowed_formed set (rule_at b r set) kept allowed in
+    let count = split_few on have targets all.accepted.items split.failed split.are in
+    let named = subst (λ (x : List ℕ). NamesRule x r) (sym b_is) (subst (NamesRule bus) (sym r_is) names) in
+    (named, (formed.0, omega (arith, ap length is, count, few), formed.1))

@@ -11,7 +11,7 @@ use Rattle.api_replies.specs.declared.cause.Cause.{Cause}
 use Rattle.api_replies.specs.declared.cause.Cause.TheVariants as cause
 use Rattle.router_core.specs.Batch as batch
 use Rattle.router_core.specs.Matching.{AreDuties}
-use Rattle.router_core.specs.Verdict.{IsVerdict}
+use Rattle.router_core.specs.Verdict.{IsEntryVerdict}
 use Rattle.router_core.specs.declared.seen.SeenVerdict.{SeenVerdict}
 use Rattle.router_core.specs.declared.seen.SeenVerdict.TheVariants as verdict
 use Rattle.router_calls.specs.Causes.{entry_cause}
@@ -32,7 +32,7 @@ pub record IsAcceptedAs (set : RuleSet) (n : ℕ) (event : Unnumbered) (a : batc
   pub k : a.k ≡ set.count
   pub time : IsIso a.time event.event.time
   pub text : a.text ≡ compact_text (event_tree (with_number n event.event) None)
-  pub duties : AreDuties event.bus (rules_of event.bus set) (event_tree (with_number n event.event) None) a.text a.duties
+  pub duties : AreDuties (rules_of event.bus set) (event_tree (with_number n event.event) None) a.text a.duties
 
 -- what becomes of an entry with this verdict, if the next event gets this number
 abbrev pub IsPlacedBy : SeenVerdict → RuleSet → ℕ → Given → Placed → Type 0
@@ -45,7 +45,7 @@ IsPlacedBy verdict.Allowed set n entry placed =
 
 -- what becomes of an entry of this caller on this rule set, by its verdict
 abbrev pub IsPlaced : RuleSet → List ℕ → ℕ → Given → Placed → Type 0
-IsPlaced set caller n entry placed = (v : SeenVerdict) × IsVerdict set caller entry v × IsPlacedBy v set n entry placed
+IsPlaced set caller n entry placed = (v : SeenVerdict) × IsEntryVerdict set caller entry v × IsPlacedBy v set n entry placed
 
 -- the number of the next event
 abbrev pub number_after : ℕ → Placed → ℕ

@@ -5,7 +5,7 @@ use Rattle.event_shape.specs.Unnumbered.{Unnumbered}
 use Rattle.rule_table.specs.RuleSet.{RuleSet}
 use Rattle.router_core.specs.Batch as batch
 use Rattle.router_core.specs.Request.{Action, put_events}
-use Rattle.router_core.specs.Verdict.{IsVerdict}
+use Rattle.router_core.specs.Verdict.{IsEntryVerdict}
 use Rattle.router_core.specs.declared.seen.SeenVerdict.TheVariants.{Allowed}
 use Rattle.router_calls.specs.Accepted.{Given, IsAcceptedAs}
 
@@ -13,7 +13,7 @@ use Rattle.router_calls.specs.Accepted.{Given, IsAcceptedAs}
 pub record IsAllowedEvent (set : RuleSet) (caller : List ℕ) (entries : List Given) (e : batch.Accepted) : Type 0 where
   pub event : Unnumbered
   pub asked : Contains entries (Ok event)
-  pub verdict : IsVerdict set caller (Ok event) Allowed
+  pub verdict : IsEntryVerdict set caller (Ok event) Allowed
   pub accepted : IsAcceptedAs set e.number event e
 
 -- the entry of a batch is such an event

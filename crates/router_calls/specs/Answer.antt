@@ -1,19 +1,22 @@
 -- The router machine: what a request writes and what its reply is, by cases on the request.
-use Rattle.std.specs.Prelude.{◌≡◌, ℕ, ◌+◌, ◌<◌, ◌≤◌, ◌⊎◌, max, nat_lt, is_some, not, ◌&&◌, Bool, true, false, if◌then◌else◌, List, [], ◌∷◌, length, map, take, Option, Some, None, Ok, Err}
-use Rattle.std.specs.Prelude.{codes, decimal}
+use Rattle.std.specs.Prelude.{◌≡◌, ℕ, ◌+◌, ◌<◌, ◌≤◌, ◌⊎◌, is_some, not, ◌&&◌, Bool, true, false, if◌then◌else◌, List, [], ◌∷◌, length, map}
+use Rattle.std.specs.Prelude.{take, Option, Some, None, Ok, Err, codes, decimal}
 use Rattle.json_text.specs.Compact.{compact_text}
 use Rattle.api_replies.specs.declared.member.Member.TheVariants as member
-use Rattle.json_text.specs.Tree.{Tree, truth, number, text, list, object, items_of, members_of, no_members}
+use Rattle.json_text.specs.Tree.{Tree, truth, number, text, list, object, items_of, members_of}
 use Rattle.event_shape.specs.Names.{queue_arn, bus_arn, rule_arn}
 use Rattle.event_shape.specs.Id.{event_id}
 use Rattle.rule_table.specs.declared.control.Target.{Target}
 use Rattle.rule_table.specs.declared.control.ControlFault.{ControlFault}
-use Rattle.rule_table.specs.Control.{Control, bus_created, bus_deleted, rule_put, rule_deleted, state_put, targets_put, targets_removed, policy_put, queue_created}
+use Rattle.rule_table.specs.Control.{Control, bus_created, bus_deleted, rule_put, rule_deleted, state_put, targets_put}
+use Rattle.rule_table.specs.Control.{targets_removed, policy_put, queue_created}
 use Rattle.name_rows.specs.Rows.{named}
 use Rattle.rule_table.specs.RuleSet.{Rule, Bus, RuleSet, IsAllowed, has_bus, has_queue, rule_at}
 use Rattle.rule_table.specs.Refusal.{IsRefused}
 use Rattle.delivery_duties.specs.declared.message.QueueMessage.{QueueMessage}
-use Rattle.delivery_duties.specs.Duties.{messages_of}
+use Rattle.delivery_duties.specs.declared.message.DeadLetterAttributes.{DeadLetterAttributes}
+use Rattle.delivery_duties.specs.DeadLetter.{shown}
+use Rattle.delivery_duties.specs.Queues.{messages_of}
 use Rattle.api_replies.specs.declared.kind.Kind.TheVariants as kind
 use Rattle.api_replies.specs.declared.cause.Cause.{Cause}
 use Rattle.api_replies.specs.declared.cause.Cause.TheVariants as cause
@@ -24,11 +27,11 @@ use Rattle.router_core.specs.Request.{put_rule_state, describe_rule, list_rules,
 use Rattle.router_core.specs.Request.{list_rule_names_by_target, put_policy, put_statement, remove_policy, remove_statement, put_events}
 use Rattle.router_core.specs.Request.{test_event_pattern, create_queue, peek_messages, deliver_due}
 use Rattle.router_core.specs.Batch as batch
-use Rattle.router_core.specs.Tables.{Tables, is_full}
-use Rattle.router_core.specs.Matching.{TextMatches}
+use Rattle.router_core.specs.Tables.{Tables, is_full, moment_at}
+use Rattle.router_core.specs.Matching.{IsTestedAs}
 use Rattle.router_core.specs.Verdict.{IsPolicyOf}
 use Rattle.config_views.specs.Views.{described_bus, listed_buses, described_rule, listed_rules, listed_targets, listed_rule_names}
-use Rattle.router_core.specs.Request.{IsEntitled}
+use Rattle.router_core.specs.Request.{IsEntitled, IsPublishing}
 use Rattle.router_calls.specs.Bounds.{IsBounded}
 use Rattle.router_calls.specs.Causes.{IsCause}
 use Rattle.router_calls.specs.Accepted.{Given, Placed, ArePlaced, events_in, failures_in}
@@ -97,20 +100,32 @@ abbrev pub events_answer : Tables → ℕ → List batch.Accepted → Reply → 
 events_answer t moment [] reply = reply_alone reply
 events_answer t moment (e ∷ es) reply = writes t moment (map batch.accepted (e ∷ es)) reply
 
--- PutEvents: entries of more than 262,144 bytes together are refused as a whole; else each becomes an event, numbered after the last one, or
--- fails by itself
-abbrev pub IsPublished : Tables → List ℕ → ℕ → List Given → ℕ → Answer → Type 0
-IsPublished t caller moment entries size a =
+-- PutEvents: entries of more than 262,144 bytes together are refused as a whole; else each becomes an event of this rule set, numbered after the
+-- last one, or fails by itself
+abbrev pub IsPublished : Tables → RuleSet → List ℕ → ℕ → List Given → ℕ → Answer → Type 0
+IsPublished t set caller moment entries size a =
     ((262144 < size) × (a ≡ reply_alone (refused cause.TooLargeTogether)))
-    ⊎ ((size ≤ 262144) × ((all : List Placed) × ArePlaced t.set caller (t.events + 1) entries all
+    ⊎ ((size ≤ 262144) × ((all : List Placed) × ArePlaced set caller (t.events + 1) entries all
     × (a ≡ events_answer t moment (events_in all) (entries_reply all))))
 
--- the member of the reply for one message: its number, its body, and no attributes
+-- the attributes of a dead letter; a delivered text has none
+abbrev pub attribute_members : Option DeadLetterAttributes → List (List ℕ × Tree)
+attribute_members None = []
+attribute_members (Some a) =
+    (codes "RULE_ARN", text a.rule_arn)
+    ∷ (codes "TARGET_ARN", text a.target_arn)
+    ∷ (codes "ERROR_CODE", text a.error_code)
+    ∷ (codes "ERROR_MESSAGE", text a.error_message)
+    ∷ (codes "EXHAUSTED_RETRY_CONDITION", text a.exhausted_retry_condition)
+    ∷ (codes "RETRY_ATTEMPTS", text a.retry_attempts)
+    ∷ []
+
+-- the member of the reply for one message: its number, its body, and its attributes
 abbrev pub message_report : QueueMessage → Tree
 message_report m = object (members_of (
     (codes "Number", number (decimal m.number))
     ∷ (codes "Body", text m.body)
-    ∷ (codes "Attributes", object no_members)
+    ∷ (codes "Attributes", object (members_of (attribute_members m.attributes)))
     ∷ []))
 
 -- the reply to a PeekMessages that shows these messages
@@ -120,7 +135,8 @@ messages_reply messages = served ((codes "Messages", list (items_of (map message
 -- PeekMessages: the oldest messages of the queue, at most `limit`
 abbrev pub peeked : Tables → List ℕ → ℕ → Answer
 peeked t queue limit =
-    reply_alone (if has_queue queue t.set then messages_reply (take limit (messages_of queue t.duties.queues)) else refused (cause.NotFound kind.Queue queue))
+    reply_alone (if has_queue queue t.set then messages_reply (map shown (take limit (messages_of queue t.duties.queues)))
+    else refused (cause.NotFound kind.Queue queue))
 
 -- the reply to a TestEventPattern
 abbrev pub tested_reply : Bool → Reply
@@ -128,9 +144,7 @@ tested_reply matches = served ((codes "Result", truth matches) ∷ [])
 
 -- TestEventPattern: whether the pattern with this text matches the event
 abbrev pub IsTested : List ℕ → Tree → Answer → Type 0
-IsTested pattern event a =
-    (TextMatches pattern event × (a ≡ reply_alone (tested_reply true)))
-    ⊎ ((¬ TextMatches pattern event) × (a ≡ reply_alone (tested_reply false)))
+IsTested pattern event a = (matches : Bool) × IsTestedAs pattern event matches × (a ≡ reply_alone (tested_reply matches))
 
 -- the reply that has no member
 abbrev pub empty_reply : Reply
@@ -160,83 +174,79 @@ AreTargetsRemoved t moment bus rule ids a =
     ⊎ ((r : Rule) × (rule_at bus rule t.set ≡ Some r)
     × (a ≡ removals_answer t moment bus rule (removed_ids ids r.targets) (failed_ids ids r.targets))))
 
--- the bus gets this policy, by its text as it is stored: one entry; refused if it has more than 10,240 bytes
-abbrev pub policy_answer : Tables → ℕ → List ℕ → List ℕ → Answer
-policy_answer t moment bus policy =
-    if nat_lt 10240 (length policy) then reply_alone (refused cause.PolicyTooLong)
-    else writes t moment (batch.control (policy_put bus (Some policy)) ∷ []) empty_reply
-
 -- a change of the policy of a bus, which has to exist
 abbrev pub IsOnBus : Tables → List ℕ → (Bus → Answer → Type 0) → Answer → Type 0
 IsOnBus t bus IsChanged a =
     ((has_bus bus t.set ≡ false) × (a ≡ reply_alone (refused (cause.NotFound kind.EventBus bus))))
     ⊎ ((b : Bus) × (named (λ other. other.name) bus t.set.buses ≡ Some b) × IsChanged b a)
 
--- PutPermission with a Policy
+-- PutPermission with a Policy: the bus gets this policy, by its text as it is stored
 abbrev pub IsPolicyPut : Tables → ℕ → List ℕ → List ℕ → Answer → Type 0
-IsPolicyPut t moment bus policy a = IsOnBus t bus (λ b answer. answer ≡ policy_answer t moment bus policy) a
+IsPolicyPut t moment bus policy a = IsControlled t moment (policy_put bus (Some policy)) empty_reply a
 
--- PutPermission of a statement: refused if the policy has its StatementId already
-abbrev pub statement_answer : Tables → ℕ → List ℕ → List ℕ → Option (List ℕ) → Option Tree → Answer
-statement_answer t moment bus sid account policy =
-    if has_statement sid policy then reply_alone (refused (cause.StatementExists sid))
-    else policy_answer t moment bus (compact_text (granting bus sid account policy))
+-- PutPermission of a statement to this policy: refused if the policy has its StatementId already, else the policy with the statement is put
+abbrev pub IsGranted : Tables → ℕ → List ℕ → List ℕ → Option (List ℕ) → Option Tree → Answer → Type 0
+IsGranted t moment bus sid account policy a =
+    ((has_statement sid policy ≡ true) × (a ≡ reply_alone (refused (cause.StatementExists sid))))
+    ⊎ ((has_statement sid policy ≡ false)
+    × IsControlled t moment (policy_put bus (Some (compact_text (granting bus sid account policy)))) empty_reply a)
 
 abbrev pub IsStatementPut : Tables → ℕ → List ℕ → List ℕ → Option (List ℕ) → Answer → Type 0
-IsStatementPut t moment bus sid account a = IsOnBus t bus (λ b answer.
-    (policy : Option Tree) × IsPolicyOf b.policy policy × (answer ≡ statement_answer t moment bus sid account policy)) a
+IsStatementPut t moment bus sid account a =
+    IsOnBus t bus (λ b answer. (policy : Option Tree) × IsPolicyOf b.policy policy × IsGranted t moment bus sid account policy answer) a
 
--- the statement of this StatementId is removed; refused if the policy has none
-abbrev pub removal_answer : Tables → ℕ → List ℕ → List ℕ → Option Tree → Answer
-removal_answer t moment bus sid None = reply_alone (refused (cause.NoStatement sid))
-removal_answer t moment bus sid (Some policy) =
-    if has_statement sid (Some policy) then writes t moment (batch.control (policy_put bus (revoking sid policy)) ∷ []) empty_reply
-    else reply_alone (refused (cause.NoStatement sid))
+-- RemovePermission of a statement from this policy: refused if the policy has none of this StatementId
+abbrev pub IsRevoked : Tables → ℕ → List ℕ → List ℕ → Option Tree → Answer → Type 0
+IsRevoked t moment bus sid None a = a ≡ reply_alone (refused (cause.NoStatement sid))
+IsRevoked t moment bus sid (Some policy) a =
+    ((has_statement sid (Some policy) ≡ true) × IsControlled t moment (policy_put bus (revoking sid policy)) empty_reply a)
+    ⊎ ((has_statement sid (Some policy) ≡ false) × (a ≡ reply_alone (refused (cause.NoStatement sid))))
 
 -- RemovePermission of a statement, which needs a StatementId
 abbrev pub IsStatementRemovedFrom : Tables → ℕ → List ℕ → Option (List ℕ) → Bus → Answer → Type 0
 IsStatementRemovedFrom t moment bus None b a = a ≡ reply_alone (refused (cause.Required member.StatementId))
 IsStatementRemovedFrom t moment bus (Some sid) b a =
-    (policy : Option Tree) × IsPolicyOf b.policy policy × (a ≡ removal_answer t moment bus sid policy)
+    (policy : Option Tree) × IsPolicyOf b.policy policy × IsRevoked t moment bus sid policy a
 
 abbrev pub IsStatementRemoved : Tables → ℕ → List ℕ → Option (List ℕ) → Answer → Type 0
 IsStatementRemoved t moment bus sid a = IsOnBus t bus (IsStatementRemovedFrom t moment bus sid) a
 
--- the answer to a request of this caller at the moment of its turn, from the tables before it. DeliverDue has none: it is answered by its
--- steps.
-abbrev pub IsAnswerAt : Tables → List ℕ → ℕ → Action → Answer → Type 0
-IsAnswerAt t caller moment (create_event_bus name) a =
+-- the answer to a request of this caller at the moment of its turn, from the tables before it; events are matched on the given rule set.
+-- DeliverDue has none: it is answered by its steps.
+abbrev pub IsAnswerAt : Tables → RuleSet → List ℕ → ℕ → Action → Answer → Type 0
+IsAnswerAt t set caller moment (create_event_bus name) a =
     IsControlled t moment (bus_created name) (served ((codes "EventBusArn", text (bus_arn name)) ∷ [])) a
-IsAnswerAt t caller moment (delete_event_bus name) a = IsControlled t moment (bus_deleted name) empty_reply a
-IsAnswerAt t caller moment (describe_event_bus name) a = a ≡ reply_alone (described_bus name t.set)
-IsAnswerAt t caller moment (list_event_buses prefix) a = a ≡ reply_alone (listed_buses prefix t.set)
-IsAnswerAt t caller moment (put_rule bus name pattern enabled) a =
+IsAnswerAt t set caller moment (delete_event_bus name) a = IsControlled t moment (bus_deleted name) empty_reply a
+IsAnswerAt t set caller moment (describe_event_bus name) a = a ≡ reply_alone (described_bus name t.set)
+IsAnswerAt t set caller moment (list_event_buses prefix) a = a ≡ reply_alone (listed_buses prefix t.set)
+IsAnswerAt t set caller moment (put_rule bus name pattern enabled) a =
     IsControlled t moment (rule_put bus name pattern enabled) (served ((codes "RuleArn", text (rule_arn bus name)) ∷ [])) a
-IsAnswerAt t caller moment (delete_rule bus name) a = IsRuleDeleted t moment bus name a
-IsAnswerAt t caller moment (put_rule_state bus name enabled) a = IsControlled t moment (state_put bus name enabled) empty_reply a
-IsAnswerAt t caller moment (describe_rule bus name) a = a ≡ reply_alone (described_rule bus name t.set)
-IsAnswerAt t caller moment (list_rules bus prefix) a = a ≡ reply_alone (listed_rules bus prefix t.set)
-IsAnswerAt t caller moment (put_targets bus rule targets) a = IsTargetsPut t moment bus rule targets a
-IsAnswerAt t caller moment (remove_targets bus rule ids) a = AreTargetsRemoved t moment bus rule ids a
-IsAnswerAt t caller moment (list_targets_by_rule bus rule) a = a ≡ reply_alone (listed_targets bus rule t.set)
-IsAnswerAt t caller moment (list_rule_names_by_target arn bus) a = a ≡ reply_alone (listed_rule_names arn bus t.set)
-IsAnswerAt t caller moment (put_policy bus policy) a = IsPolicyPut t moment bus policy a
-IsAnswerAt t caller moment (put_statement bus sid account) a = IsStatementPut t moment bus sid account a
-IsAnswerAt t caller moment (remove_policy bus) a = IsControlled t moment (policy_put bus None) empty_reply a
-IsAnswerAt t caller moment (remove_statement bus sid) a = IsStatementRemoved t moment bus sid a
-IsAnswerAt t caller moment (put_events entries size) a = IsPublished t caller moment entries size a
-IsAnswerAt t caller moment (test_event_pattern pattern event) a = IsTested pattern event a
-IsAnswerAt t caller moment (create_queue name) a =
+IsAnswerAt t set caller moment (delete_rule bus name) a = IsRuleDeleted t moment bus name a
+IsAnswerAt t set caller moment (put_rule_state bus name enabled) a = IsControlled t moment (state_put bus name enabled) empty_reply a
+IsAnswerAt t set caller moment (describe_rule bus name) a = a ≡ reply_alone (described_rule bus name t.set)
+IsAnswerAt t set caller moment (list_rules bus prefix) a = a ≡ reply_alone (listed_rules bus prefix t.set)
+IsAnswerAt t set caller moment (put_targets bus rule targets) a = IsTargetsPut t moment bus rule targets a
+IsAnswerAt t set caller moment (remove_targets bus rule ids) a = AreTargetsRemoved t moment bus rule ids a
+IsAnswerAt t set caller moment (list_targets_by_rule bus rule) a = a ≡ reply_alone (listed_targets bus rule t.set)
+IsAnswerAt t set caller moment (list_rule_names_by_target arn bus) a = a ≡ reply_alone (listed_rule_names arn bus t.set)
+IsAnswerAt t set caller moment (put_policy bus policy) a = IsPolicyPut t moment bus policy a
+IsAnswerAt t set caller moment (put_statement bus sid account) a = IsStatementPut t moment bus sid account a
+IsAnswerAt t set caller moment (remove_policy bus) a = IsControlled t moment (policy_put bus None) empty_reply a
+IsAnswerAt t set caller moment (remove_statement bus sid) a = IsStatementRemoved t moment bus sid a
+IsAnswerAt t set caller moment (put_events entries size) a = IsPublished t set caller moment entries size a
+IsAnswerAt t set caller moment (test_event_pattern pattern event) a = IsTested pattern event a
+IsAnswerAt t set caller moment (create_queue name) a =
     IsControlled t moment (queue_created name) (served ((codes "QueueArn", text (queue_arn name)) ∷ [])) a
-IsAnswerAt t caller moment (peek_messages queue limit) a = a ≡ peeked t queue limit
-IsAnswerAt t caller moment (deliver_due budget) a = ⊥
+IsAnswerAt t set caller moment (peek_messages queue limit) a = a ≡ peeked t queue limit
+IsAnswerAt t set caller moment (deliver_due budget) a = ⊥
 
--- the moment of a turn: the clock's reading, or the moment of the last batch if that is greater
-abbrev pub moment_at : Tables → ℕ → ℕ
-moment_at t reading = max reading t.moment
-
--- The answer to the request, from these tables. A request outside its bounds has none, and neither has one that its caller may not make.
-pub record IsAnswer (t : Tables) (request : Request) (a : Answer) : Type 0 where
+-- The answer to the request, from these tables, with configuration version k, whose rule set is `set`. Events may be matched on an earlier
+-- version; everything else goes by the latest one. A request outside its bounds has no answer, and neither has one that its caller may not
+-- make.
+pub record IsAnswer (t : Tables) (request : Request) (k : ℕ) (set : RuleSet) (a : Answer) : Type 0 where
   pub bounded : IsBounded request.action
   pub entitled : IsEntitled request
-  pub answers : IsAnswerAt t request.caller (moment_at t request.reading) request.action a
+  pub version : set.count ≡ k
+  pub known : k ≤ t.set.count
+  pub latest : (IsPublishing request.action → ⊥) → set ≡ t.set
+  pub answers : IsAnswerAt t set request.caller (moment_at t request.reading) request.action a

@@ -8,7 +8,8 @@ use Rattle.api_replies.specs.declared.kind.Kind.TheVariants as kind
 use Rattle.api_replies.specs.declared.member.Member.TheVariants as member
 use Rattle.api_replies.specs.declared.cause.Cause.{Cause}
 use Rattle.api_replies.specs.declared.cause.Cause.TheVariants as cause
-use Rattle.rule_table.specs.Control.{Control, bus_created, bus_deleted, rule_put, rule_deleted, state_put, targets_put, targets_removed, policy_put, queue_created}
+use Rattle.rule_table.specs.Control.{Control, bus_created, bus_deleted, rule_put, rule_deleted, state_put, targets_put}
+use Rattle.rule_table.specs.Control.{targets_removed, policy_put, queue_created}
 use Rattle.rule_table.specs.declared.control.Target.{Target}
 use Rattle.rule_table.specs.declared.control.TargetFault.{TargetFault}
 use Rattle.rule_table.specs.declared.control.TargetFault.TheVariants as target_fault
@@ -41,6 +42,7 @@ IsCause control (fault.InUse kind) c = c ≡ cause.InUse kind (name_in control k
 IsCause control fault.HasTargets c = c ≡ cause.HasTargets (name_in control kind.Rule)
 IsCause control fault.DefaultBus c = c ≡ cause.DefaultBusStays
 IsCause control (fault.Validation member) c = c ≡ cause.NotValid member
+IsCause control fault.PolicyTooLong c = c ≡ cause.PolicyTooLong
 IsCause control fault.NoMemory c = ⊥
 
 -- the refusal of a target that has this fault; the name of its queue is that in its ARN

@@ -4,7 +4,9 @@ pub mod Targets
 pub mod Removals
 pub mod Permission
 pub mod Bounds
+pub mod Matched
 pub mod Answer
 pub mod Decided
 pub mod Allowed
+pub mod Changes
 pub mod Steps

@@ -39,6 +39,7 @@ pub(crate) fn change_cause(
         }
         ControlFault::DefaultBus => Ok(Cause::DefaultBusStays),
         ControlFault::Validation(member) => Ok(Cause::NotValid(member)),
+        ControlFault::PolicyTooLong => Ok(Cause::PolicyTooLong),
         ControlFault::NoMemory => Err(NoMemory),
     }
 }

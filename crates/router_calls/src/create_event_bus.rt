@@ -2,10 +2,10 @@
 ghost use Rattle.std.specs.Prelude.{◌≤◌, ◌∷◌, [], IfOk, IfSome, codes};
 ghost use Rattle.json_text.specs.Moment.{IsMoment};
 ghost use Rattle.json_text.specs.Tree.{text};
-ghost use Rattle.event_shape.specs.Names.{bus_arn};
+ghost use Rattle.event_shape.specs.Names.{IsBusName, bus_arn};
 ghost use Rattle.rule_table.specs.Control.{bus_created};
 ghost use Rattle.api_replies.specs.Reply as replies;
-ghost use Rattle.router_core.specs.Ready.{IsReadyAt};
+ghost use Rattle.router_core.specs.Ready.{IsReadyFor};
 ghost use Rattle.router_calls.specs.Answer.{IsControlled};
 ghost use Rattle.router_calls.specs.Decided.{answer_of};
 
@@ -25,14 +25,15 @@ pub(crate) fn create_event_bus(
 ) -> Result<(Option<Ready>, Reply), NoMemory>
     requires moment { IsMoment moment }
     requires later { tables.now.moment ≤ moment }
+    requires bus { IsBusName name.now }
     ensures answer { IfOk result (λ p. IsControlled tables.now moment (bus_created name.now)
         (replies.served ((codes "EventBusArn", text (bus_arn name.now)) ∷ [])) (answer_of p)) }
-    ensures ready { IfOk result (λ p. IfSome p.0 (λ r. IsReadyAt tables.now r)) }
+    ensures ready { IfOk result (λ p. IfSome p.0 (λ r. IsReadyFor tables.now r)) }
 {
     let arn = bus_arn(alloc, name.as_str())?;
     let reply = text_reply(alloc, "EventBusArn", arn)?;
     let control = Control::BusCreated {
         name: name.copy(alloc)?,
     };
-    configure(alloc, tables, moment, control, None, reply)
+    configure(alloc, tables, moment, control, reply)
 }

@@ -2,16 +2,15 @@
 ghost use Rattle.std.specs.Prelude.{◌≤◌, ◌∷◌, [], IfOk, IfSome, codes};
 ghost use Rattle.json_text.specs.Moment.{IsMoment};
 ghost use Rattle.json_text.specs.Tree.{text};
-ghost use Rattle.event_shape.specs.Names.{queue_arn};
+ghost use Rattle.event_shape.specs.Names.{IsQueueName, queue_arn};
 ghost use Rattle.rule_table.specs.Control.{queue_created};
 ghost use Rattle.api_replies.specs.Reply as replies;
-ghost use Rattle.router_core.specs.Ready.{IsReadyAt};
+ghost use Rattle.router_core.specs.Ready.{IsReadyFor};
 ghost use Rattle.router_calls.specs.Answer.{IsControlled};
 ghost use Rattle.router_calls.specs.Decided.{answer_of};
 
 use crate::configure::configure;
 use crate::reply::text_reply;
-use delivery_duties::NewQueue;
 use event_shape::queue_arn;
 use json_text::{NoMemory, Text};
 use router_core::{Ready, Reply, Tables};
@@ -26,15 +25,15 @@ pub(crate) fn create_queue(
 ) -> Result<(Option<Ready>, Reply), NoMemory>
     requires moment { IsMoment moment }
     requires later { tables.now.moment ≤ moment }
+    requires queue { IsQueueName name.now }
     ensures answer { IfOk result (λ p. IsControlled tables.now moment (queue_created name.now)
         (replies.served ((codes "QueueArn", text (queue_arn name.now)) ∷ [])) (answer_of p)) }
-    ensures ready { IfOk result (λ p. IfSome p.0 (λ r. IsReadyAt tables.now r)) }
+    ensures ready { IfOk result (λ p. IfSome p.0 (λ r. IsReadyFor tables.now r)) }
 {
     let arn = queue_arn(alloc, name.as_str())?;
     let reply = text_reply(alloc, "QueueArn", arn)?;
-    let new_queue = NewQueue::new(alloc, name.as_str())?;
     let control = Control::QueueCreated {
         name: name.copy(alloc)?,
     };
-    configure(alloc, tables, moment, control, Some(new_queue), reply)
+    configure(alloc, tables, moment, control, reply)
 }

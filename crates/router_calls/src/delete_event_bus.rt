@@ -1,8 +1,9 @@
 //! DeleteEventBus.
 ghost use Rattle.std.specs.Prelude.{◌≤◌, IfOk, IfSome};
 ghost use Rattle.json_text.specs.Moment.{IsMoment};
+ghost use Rattle.event_shape.specs.Names.{IsBusName};
 ghost use Rattle.rule_table.specs.Control.{bus_deleted};
-ghost use Rattle.router_core.specs.Ready.{IsReadyAt};
+ghost use Rattle.router_core.specs.Ready.{IsReadyFor};
 ghost use Rattle.router_calls.specs.Answer.{IsControlled, empty_reply};
 ghost use Rattle.router_calls.specs.Decided.{answer_of};
 
@@ -21,11 +22,12 @@ pub(crate) fn delete_event_bus(
 ) -> Result<(Option<Ready>, Reply), NoMemory>
     requires moment { IsMoment moment }
     requires later { tables.now.moment ≤ moment }
+    requires bus { IsBusName name.now }
     ensures answer { IfOk result (λ p. IsControlled tables.now moment (bus_deleted name.now) empty_reply (answer_of p)) }
-    ensures ready { IfOk result (λ p. IfSome p.0 (λ r. IsReadyAt tables.now r)) }
+    ensures ready { IfOk result (λ p. IfSome p.0 (λ r. IsReadyFor tables.now r)) }
 {
     let control = Control::BusDeleted {
         name: name.copy(alloc)?,
     };
-    configure(alloc, tables, moment, control, None, empty_reply(alloc))
+    configure(alloc, tables, moment, control, empty_reply(alloc))
 }

@@ -2,7 +2,8 @@
 ghost use Rattle.std.specs.Prelude.{◌≡◌, ◌≤◌, IfOk, IfSome};
 ghost use Rattle.json_text.specs.Moment.{IsMoment};
 ghost use Rattle.rule_table.specs.Control.{rule_deleted};
-ghost use Rattle.router_core.specs.Ready.{IsReadyAt};
+ghost use Rattle.rule_table.specs.WellFormed.{NamesRule};
+ghost use Rattle.router_core.specs.Ready.{IsReadyFor};
 ghost use Rattle.router_calls.specs.Answer.{IsControlled, IsRuleDeleted, empty_reply, lacks_rule};
 ghost use Rattle.router_calls.specs.Decided.{answer_of};
 
@@ -23,8 +24,9 @@ pub(crate) fn delete_rule(
 ) -> Result<(Option<Ready>, Reply), NoMemory>
     requires moment { IsMoment moment }
     requires later { tables.now.moment ≤ moment }
+    requires names { NamesRule bus.now name.now }
     ensures answer { IfOk result (λ p. IsRuleDeleted tables.now moment bus.now name.now (answer_of p)) }
-    ensures ready { IfOk result (λ p. IfSome p.0 (λ r. IsReadyAt tables.now r)) }
+    ensures ready { IfOk result (λ p. IfSome p.0 (λ r. IsReadyFor tables.now r)) }
 {
     if lacks_rule(tables.set(), bus.as_str(), name.as_str()) {
         Ok(shown(empty_reply(alloc)))
@@ -50,12 +52,13 @@ fn delete(
 ) -> Result<(Option<Ready>, Reply), NoMemory>
     requires moment { IsMoment moment }
     requires later { tables.now.moment ≤ moment }
+    requires names { NamesRule bus.now name.now }
     ensures answer { IfOk result (λ p. IsControlled tables.now moment (rule_deleted bus.now name.now) empty_reply (answer_of p)) }
-    ensures ready { IfOk result (λ p. IfSome p.0 (λ r. IsReadyAt tables.now r)) }
+    ensures ready { IfOk result (λ p. IfSome p.0 (λ r. IsReadyFor tables.now r)) }
 {
     let control = Control::RuleDeleted {
         bus: bus.copy(alloc)?,
         name: name.copy(alloc)?,
     };
-    configure(alloc, tables, moment, control, None, empty_reply(alloc))
+    configure(alloc, tables, moment, control, empty_reply(alloc))
 }

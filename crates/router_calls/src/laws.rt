@@ -1,17 +1,29 @@
 //! Laws of the machine.
-ghost use Rattle.std.specs.Prelude.{◌≡◌};
+ghost use Rattle.std.specs.Prelude.{◌≡◌, ℕ, Some};
+ghost use Rattle.std.specs.List.{Contains};
 ghost use Rattle.event_shape.specs.Names.{owner};
+ghost use Rattle.rule_table.specs.Control.{Control};
+ghost use Rattle.rule_table.specs.RuleSet.{RuleSet};
+ghost use Rattle.router_core.specs.Batch.{Batch, control};
 ghost use Rattle.router_core.specs.Request.{Request};
 ghost use Rattle.router_core.specs.Tables.{Tables};
 ghost use Rattle.router_calls.specs.Answer.{Answer, IsAnswer};
 ghost use Rattle.router_calls.specs.Allowed.{IsPublishedBy, entries_in};
+ghost use Rattle.router_calls.specs.Changes.{MayMake};
 
-/// A request has at most one answer.
+/// A request has at most one answer on each configuration version.
 pub fn one_answer()
-    ensures { (t : Tables) (r : Request) (a b : Answer) → IsAnswer t r a → IsAnswer t r b → a ≡ b }
+    ensures { (t : Tables) (r : Request) (k : ℕ) (set : RuleSet) (a b : Answer) → IsAnswer t r k set a → IsAnswer t r k set b → a ≡ b }
 {}
 
 /// A caller other than the owner writes nothing but accepted events, each of which the policy of its bus allows.
 pub fn a_stranger_only_publishes()
-    ensures { (t : Tables) (r : Request) (a : Answer) → IsAnswer t r a → ¬ (r.caller ≡ owner) → IsPublishedBy t.set r.caller (entries_in r.action) a.batch }
+    ensures { (t : Tables) (r : Request) (k : ℕ) (set : RuleSet) (a : Answer) → IsAnswer t r k set a → ¬ (r.caller ≡ owner)
+        → IsPublishedBy set r.caller (entries_in r.action) a.batch }
+{}
+
+/// A request writes no change of the configuration but the one that it asks for.
+pub fn only_its_request()
+    ensures { (t : Tables) (r : Request) (k : ℕ) (set : RuleSet) (a : Answer) (b : Batch) (c : Control) → IsAnswer t r k set a → a.batch ≡ Some b
+        → Contains b.entries (control c) → MayMake r.action c }
 {}

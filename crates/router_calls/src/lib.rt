@@ -23,5 +23,5 @@ mod test_event_pattern;
 #[cfg(test)]
 mod tests;
 
-pub use laws::{a_stranger_only_publishes, one_answer};
+pub use laws::{a_stranger_only_publishes, one_answer, only_its_request};
 pub use requests::decide;

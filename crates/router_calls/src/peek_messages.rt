@@ -1,14 +1,13 @@
 //! PeekMessages.
-ghost use Rattle.std.specs.Prelude.{◌≡◌, IfOk, None, map, codes};
-ghost use Rattle.json_text.specs.Tree.{object, members_of};
-ghost use Rattle.json_text.specs.View.{tree_of, trees_of};
+ghost use Rattle.std.specs.Prelude.{◌≡◌, IfOk, None, Some};
+ghost use Rattle.json_text.specs.View.{tree_of, pairs_of};
 ghost use Rattle.api_replies.specs.View.{reply_of};
-ghost use Rattle.router_calls.specs.Answer.{peeked, message_report, messages_reply};
+ghost use Rattle.router_calls.specs.Answer.{attribute_members, peeked, message_report, messages_reply};
 ghost use Rattle.router_calls.specs.Decided.{answer_of};
 
 use crate::reply::{number_json, refused};
-use delivery_duties::QueueMessage;
-use json_text::{Items, Json, Members, NoMemory, Text, push_member};
+use delivery_duties::{DeadLetterAttributes, QueueMessage};
+use json_text::{Items, Json, Members, NoMemory, Text, push_member, push_text};
 use router_core::{Cause, Kind, Ready, Reply, Tables};
 use std::alloc::Global;
 
@@ -36,7 +35,7 @@ fn messages_reply(alloc: Global, messages: Vec<QueueMessage>) -> Result<Reply, N
 {
     let mut items: Items = Vec::with_capacity(alloc, messages.len())?;
     for message in messages {
-        items.push(message_json(alloc, message)?)?;
+        items.push(message_json(alloc, &message)?)?;
     }
     let mut members: Members = Vec::with_capacity(alloc, 1)?;
     push_member(alloc, &mut members, "Messages", Json::List(items))?;
@@ -46,19 +45,73 @@ fn messages_reply(alloc: Global, messages: Vec<QueueMessage>) -> Result<Reply, N
     })
 }
 
-fn message_json(alloc: Global, message: QueueMessage) -> Result<Json, NoMemory>
-    ensures { IfOk result (λ j. tree_of j ≡ message_report message) }
+fn message_json(alloc: Global, message: &QueueMessage) -> Result<Json, NoMemory>
+    ensures { IfOk result (λ j. tree_of j ≡ message_report message.now) }
 {
     let mut members: Members = Vec::with_capacity(alloc, 3)?;
-    let QueueMessage { number, body } = message;
-    let number = number_json(alloc, number)?;
+    let number = number_json(alloc, message.number)?;
     push_member(alloc, &mut members, "Number", number)?;
-    push_member(alloc, &mut members, "Body", Json::Str(body))?;
-    push_member(
+    push_text(alloc, &mut members, "Body", message.body.as_str())?;
+    let attributes = attribute_members(alloc, &message.attributes)?;
+    push_member(alloc, &mut members, "Attributes", Json::Obj(attributes))?;
+    Ok(Json::Obj(members))
+}
+
+fn attribute_members(
+    alloc: Global,
+    attributes: &Option<DeadLetterAttributes>,
+) -> Result<Members, NoMemory>
+    ensures { IfOk result (λ members. pairs_of members.items ≡ attribute_members attributes.now) }
+{
+    match attributes {
+        Some(attributes) => dead_letter_members(alloc, attributes),
+        None => Ok(Vec::new(alloc)),
+    }
+}
+
+/// The attributes of a dead letter.
+fn dead_letter_members(
+    alloc: Global,
+    attributes: &DeadLetterAttributes,
+) -> Result<Members, NoMemory>
+    ensures { IfOk result (λ members. pairs_of members.items ≡ attribute_members (Some attributes.now)) }
+{
+    let mut members: Members = Vec::with_capacity(alloc, 6)?;
+    push_text(
         alloc,
         &mut members,
-        "Attributes",
-        Json::Obj(Vec::new(alloc)),
+        "RULE_ARN",
+        attributes.rule_arn.as_str(),
     )?;
-    Ok(Json::Obj(members))
+    push_text(
+        alloc,
+        &mut members,
+        "TARGET_ARN",
+        attributes.target_arn.as_str(),
+    )?;
+    push_text(
+        alloc,
+        &mut members,
+        "ERROR_CODE",
+        attributes.error_code.as_str(),
+    )?;
+    push_text(
+        alloc,
+        &mut members,
+        "ERROR_MESSAGE",
+        attributes.error_message.as_str(),
+    )?;
+    push_text(
+        alloc,
+        &mut members,
+        "EXHAUSTED_RETRY_CONDITION",
+        attributes.exhausted_retry_condition.as_str(),
+    )?;
+    push_text(
+        alloc,
+        &mut members,
+        "RETRY_ATTEMPTS",
+        attributes.retry_attempts.as_str(),
+    )?;
+    Ok(members)
 }

@@ -1,14 +1,13 @@
 //! Changes of the policy of a bus.
-ghost use Rattle.std.specs.Prelude.{◌≡◌, ◌≤◌, ◌∷◌, [], None, true, IfOk, IfSome};
+ghost use Rattle.std.specs.Prelude.{◌≡◌, ◌≤◌, None, IfOk, IfSome};
 ghost use Rattle.json_text.specs.Moment.{IsMoment};
+ghost use Rattle.event_shape.specs.Names.{IsBusName};
 ghost use Rattle.rule_table.specs.Control.{policy_put};
-ghost use Rattle.rule_table.specs.RuleSet.{IsNoneOrStored, has_bus};
 ghost use Rattle.api_replies.specs.declared.kind.Kind.TheVariants as kind_is;
 ghost use Rattle.api_replies.specs.declared.cause.Cause.TheVariants as cause_is;
 ghost use Rattle.api_replies.specs.Reply as replies;
-ghost use Rattle.router_core.specs.Batch as batch;
-ghost use Rattle.router_core.specs.Ready.{IsReadyAt};
-ghost use Rattle.router_calls.specs.Answer.{empty_reply, reply_alone, writes};
+ghost use Rattle.router_core.specs.Ready.{IsReadyFor};
+ghost use Rattle.router_calls.specs.Answer.{IsControlled, empty_reply, reply_alone};
 ghost use Rattle.router_calls.specs.Decided.{answer_of};
 
 use crate::configure::configure;
@@ -18,7 +17,7 @@ use router_core::{Cause, Kind, Ready, Reply, Tables};
 use rule_table::Control;
 use std::alloc::Global;
 
-/// Gives the bus, which exists, this policy, or takes its policy away.
+/// Gives the bus this policy, or takes its policy away.
 pub(crate) fn change_policy(
     alloc: Global,
     tables: &Tables,
@@ -28,16 +27,15 @@ pub(crate) fn change_policy(
 ) -> Result<(Option<Ready>, Reply), NoMemory>
     requires moment { IsMoment moment }
     requires later { tables.now.moment ≤ moment }
-    requires there { has_bus bus.now tables.now.set ≡ true }
-    requires stored { IsNoneOrStored policy }
-    ensures answer { IfOk result (λ p. answer_of p ≡ writes tables.now moment (batch.control (policy_put bus.now policy) ∷ []) empty_reply) }
-    ensures ready { IfOk result (λ p. IfSome p.0 (λ r. IsReadyAt tables.now r)) }
+    requires bus { IsBusName bus.now }
+    ensures answer { IfOk result (λ p. IsControlled tables.now moment (policy_put bus.now policy) empty_reply (answer_of p)) }
+    ensures ready { IfOk result (λ p. IfSome p.0 (λ r. IsReadyFor tables.now r)) }
 {
     let control = Control::PolicyPut {
         bus: bus.copy(alloc)?,
         policy,
     };
-    configure(alloc, tables, moment, control, None, empty_reply(alloc))
+    configure(alloc, tables, moment, control, empty_reply(alloc))
 }
 
 /// The refusal that the bus does not exist.

@@ -1,127 +1,174 @@
 //! PutEvents.
-ghost use Rattle.std.specs.Prelude.{◌≡◌, ◌≤◌, ◌<◌, ◌+◌, ◌^◌, length, None, Ok, IfOk, IfSome, OnOk, All};
+ghost use Rattle.std.specs.Prelude.{◌≡◌, ◌≤◌, ◌<◌, ◌+◌, ◌^◌, ℕ, List, length, Ok, IfOk, IfSome, OnOk};
 ghost use Rattle.json_text.specs.Moment.{IsMoment};
 ghost use Rattle.json_text.specs.View.{tree_of};
-ghost use Rattle.json_text.specs.Compact.{compact_text};
-ghost use Rattle.event_shape.specs.Event.{event_tree, IsEvent};
-ghost use Rattle.event_shape.specs.Unnumbered.{with_number};
-ghost use Rattle.rule_table.specs.RuleSet.{rules_of};
-ghost use Rattle.delivery_duties.specs.Duties.{HasEndpoint};
-ghost use Rattle.router_core.specs.Matching.{AreDuties};
-ghost use Rattle.router_core.specs.Ready.{accepted_of, IsReadyAt};
+ghost use Rattle.rule_table.specs.RuleSet.{RuleSet};
+ghost use Rattle.router_core.specs.Request.{put_events};
+ghost use Rattle.router_core.specs.View.{accepted_of};
+ghost use Rattle.router_core.specs.Matching.{AreMatchedFor, AreSeenEntries, IsSeenEntry};
+ghost use Rattle.router_core.specs.Ready.{IsReadyFor};
 ghost use Rattle.router_calls.specs.Accepted.{IsAcceptedAs, IsPlaced};
+ghost use Rattle.router_calls.specs.Bounds.{IsBounded};
 ghost use Rattle.router_calls.specs.Answer.{IsPublished, entry_report};
 ghost use Rattle.router_calls.specs.Decided.{answer_of};
-ghost use Rattle.router_calls.specs.Steps.{placed_of, AddsEntries, IsEventAdded, IsRefusalAdded};
+ghost use Rattle.router_calls.specs.Steps.{placed_of, placed_answer, AddsEntries, AreReady, AreSeenOn, IsEventAdded, IsRefusalAdded, IsSeenOn};
 
 use crate::causes::entry_cause;
 use crate::reply::{items_reply, refused};
 use crate::requests::read_tables;
-use delivery_duties::NewDuties;
 use event_shape::{EntryFault, Unnumbered, event_id};
 use json_text::{Items, Json, Members, NoMemory, Text, push_member};
 use router_core::{
-    AcceptedEvent, Cause, Change, Member, Ready, Reply, SeenVerdict, Tables, duties_of,
-    push_failure, see_plain_entry, verdict_of,
+    AcceptedEvent, Batch, Cause, Entry, Member, Part, Ready, Reply, Seen, SeenEntries, SeenEntry,
+    SeenResult, SeenTargets, SeenVerdict, Tables, duties_of, push_failure,
 };
+use shared_text::SharedText;
 use std::alloc::Global;
 use std::collections::VecDeque;
 
 /// The greatest number of bytes that the entries of one request have together.
 const SIZE_LIMIT: u64 = 262_144;
 
-/// Accepts each entry that has no fault and whose bus exists. If all fail, nothing is changed.
+/// Accepts each entry that matching found allowed. If all fail, nothing is changed. The results of matching are taken out of `seen`.
 pub(crate) fn put_events(
     alloc: Global,
     tables: &Tables,
-    caller: &str,
     moment: u64,
     entries: &[Result<Unnumbered, EntryFault>],
     size: u64,
+    seen: &mut Seen,
 ) -> Result<(Option<Ready>, Reply), NoMemory>
     requires moment { IsMoment moment }
     requires later { tables.now.moment ≤ moment }
-    requires few { length entries.now ≤ 10 }
-    ensures answer { IfOk result (λ p. IsPublished tables.now caller.now moment entries.now size (answer_of p)) }
-    ensures ready { IfOk result (λ p. IfSome p.0 (λ r. IsReadyAt tables.now r)) }
+    requires bounded { IsBounded (put_events entries.now size) }
+    requires seen { (set : RuleSet) × (caller : List ℕ) × IsSeenOn tables.now set caller (put_events entries.now size) seen.old }
+    ensures answer { IfOk result (λ p. (set : RuleSet) (caller : List ℕ) → IsSeenOn tables.now set caller (put_events entries.now size) seen.old
+        → IsPublished tables.now set caller moment entries.now size (answer_of p)) }
+    ensures ready { IfOk result (λ p. IfSome p.0 (λ r. IsReadyFor tables.now r)) }
+{
+    match &mut seen.result {
+        SeenResult::Entries(found) => {
+            publish(alloc, tables, moment, entries, size, seen.k, found)
+        }
+        SeenResult::Tested(_) | SeenResult::Nothing => unreachable!(),
+    }
+}
+
+/// Accepts each entry that is allowed. The results of matching, on configuration version `k`, are taken out of `found`.
+fn publish(
+    alloc: Global,
+    tables: &Tables,
+    moment: u64,
+    entries: &[Result<Unnumbered, EntryFault>],
+    size: u64,
+    k: u64,
+    found: &mut SeenEntries,
+) -> Result<(Option<Ready>, Reply), NoMemory>
+    requires moment { IsMoment moment }
+    requires later { tables.now.moment ≤ moment }
+    requires bounded { IsBounded (put_events entries.now size) }
+    requires seen { (set : RuleSet) × (caller : List ℕ) × AreSeenOn tables.now set caller entries.now k found.old.items }
+    ensures answer { IfOk result (λ p. (set : RuleSet) (caller : List ℕ) → AreSeenOn tables.now set caller entries.now k found.old.items
+        → IsPublished tables.now set caller moment entries.now size (answer_of p)) }
+    ensures ready { IfOk result (λ p. IfSome p.0 (λ r. IsReadyFor tables.now r)) }
 {
     if size > SIZE_LIMIT {
         return refused(alloc, &Cause::TooLargeTogether);
     }
     read_tables(tables);
     let mut all = PlacedEntries {
-        events: VecDeque::with_capacity(alloc, entries.len())?,
+        entries: Vec::with_capacity(alloc, entries.len())?,
+        parts: VecDeque::with_capacity(alloc, entries.len())?,
         reports: Vec::with_capacity(alloc, entries.len())?,
         failed: 0,
     };
-    place_all(
-        alloc,
-        tables,
-        caller,
-        entries,
-        tables.events() + 1,
-        &mut all,
-    )?;
+    place_all(alloc, entries, k, found, tables.events() + 1, &mut all)?;
+    written(alloc, tables, moment, all)
+}
+
+/// The batch of the events, and the reply. Without an event nothing is written.
+fn written(
+    alloc: Global,
+    tables: &Tables,
+    moment: u64,
+    all: PlacedEntries,
+) -> Result<(Option<Ready>, Reply), NoMemory>
+    requires moment { IsMoment moment }
+    requires later { tables.now.moment ≤ moment }
+    requires admitted { AreReady tables.now moment all }
+    ensures answer { IfOk result (λ p. answer_of p ≡ placed_answer tables.now moment all) }
+    ensures ready { IfOk result (λ p. IfSome p.0 (λ r. IsReadyFor tables.now r)) }
+{
     let PlacedEntries {
-        events,
+        entries,
+        parts,
         reports,
         failed,
     } = all;
     let reply = items_reply(alloc, failed, "Entries", reports)?;
-    if events.is_empty() {
+    if entries.is_empty() {
         return Ok((None, reply));
     }
     if tables.full() {
         return refused(alloc, &Cause::NumberLimit);
     }
-    let change = Change::Events(events);
-    Ok((Some(Ready { moment, change }), reply))
+    let ready = Ready::new(Batch { moment, entries }, parts);
+    Ok((Some(ready), reply))
 }
 
 /// What entries became.
 #[derive(Drop)]
 pub(crate) struct PlacedEntries {
-    events: VecDeque<AcceptedEvent>,
-    /// An item for each entry.
+    /// The accepted events, as entries of a batch.
+    entries: Vec<Entry>,
+    /// The part of each event.
+    parts: VecDeque<Part>,
+    /// An item for each entry of the request.
     reports: Items,
     /// The number of entries that failed.
     failed: u64,
 }
 
-/// Places the entries in their order. The first event gets this number.
+/// Places the entries in their order, each by what was found of it. The first event gets this number.
 fn place_all(
     alloc: Global,
-    tables: &Tables,
-    caller: &str,
     entries: &[Result<Unnumbered, EntryFault>],
+    k: u64,
+    found: &mut SeenEntries,
     number: u64,
     all: &mut PlacedEntries,
 ) -> Result<(), NoMemory>
+    requires seen { (set : RuleSet) × (caller : List ℕ) × AreSeenEntries set caller entries.now found.old.items }
     requires number { number + length entries.now < 2 ^ 63 }
     requires failed { all.old.failed + length entries.now < 2 ^ 63 }
-    ensures { OnOk result (AddsEntries tables.now caller.now number entries.now all.old all.new) }
+    ensures { OnOk result ((set : RuleSet) (caller : List ℕ) → k ≡ set.count → AreSeenEntries set caller entries.now found.old.items
+        → AddsEntries set caller number entries.now all.old all.new) }
 {
     match entries {
-        [entry, rest @ ..] => match place(alloc, tables, caller, entry, number)? {
-            Ok(event) => {
-                push_event(alloc, event, all)?;
-                place_all(alloc, tables, caller, rest, number + 1, all)
-            }
-            Err(cause) => {
-                push_refusal(alloc, &cause, all)?;
-                place_all(alloc, tables, caller, rest, number, all)
-            }
+        [entry, rest @ ..] => match found.pop_front() {
+            Some(seen) => match place(alloc, entry, k, seen, number)? {
+                Ok(event) => {
+                    push_event(alloc, event, all)?;
+                    place_all(alloc, rest, k, found, number + 1, all)
+                }
+                Err(cause) => {
+                    push_refusal(alloc, &cause, all)?;
+                    place_all(alloc, rest, k, found, number, all)
+                }
+            },
+            None => unreachable!(),
         },
         [] => Ok(()),
     }
 }
 
-/// Adds the event and its item.
+/// Adds the event, its part and its item.
 fn push_event(alloc: Global, event: AcceptedEvent, all: &mut PlacedEntries) -> Result<(), NoMemory>
     ensures { OnOk result (IsEventAdded event all.old all.new) }
 {
     all.reports.push(event_json(alloc, &event)?)?;
-    all.events.push_back(event)?;
+    all.parts.push_back(Part::of_event(alloc, &event)?)?;
+    all.entries.push(Entry::Accepted(event))?;
     Ok(())
 }
 
@@ -137,43 +184,47 @@ fn push_refusal(alloc: Global, cause: &Cause, all: &mut PlacedEntries) -> Result
     Ok(())
 }
 
-/// What becomes of the entry, if the next event gets this number.
+/// What becomes of the entry by what was found of it, if the next event gets this number.
 fn place(
     alloc: Global,
-    tables: &Tables,
-    caller: &str,
     entry: &Result<Unnumbered, EntryFault>,
+    k: u64,
+    seen: SeenEntry,
     number: u64,
 ) -> Result<Result<AcceptedEvent, Cause>, NoMemory>
-    ensures placed { IfOk result (λ p. IsPlaced tables.now.set caller.now number entry.now (placed_of p)) }
-    ensures few { IfOk result (λ p. IfOk p (λ e. length e.duties ≤ 1500)) }
-    ensures there { IfOk result (λ p. IfOk p (λ e. All (λ d. HasEndpoint d.endpoint tables.now.duties.queues) e.duties)) }
+    requires { (set : RuleSet) × (caller : List ℕ) × IsSeenEntry set caller entry.now seen }
+    ensures placed { IfOk result (λ p. (set : RuleSet) (caller : List ℕ) → k ≡ set.count → IsSeenEntry set caller entry.now seen
+        → IsPlaced set caller number entry.now (placed_of p)) }
+    ensures timed { IfOk result (λ p. IfOk p (λ e. IsMoment e.time)) }
 {
-    match verdict_of(alloc, tables.set(), caller, entry)? {
+    let SeenEntry { verdict, targets } = seen;
+    match verdict {
         SeenVerdict::Fault(fault) => Ok(Err(entry_cause(fault))),
         SeenVerdict::NoBus => Ok(Err(Cause::Parameter(Member::EventBusName))),
         SeenVerdict::DeniedBy(statement) => Ok(Err(Cause::DeniedBy { statement })),
         SeenVerdict::NotAllowed => Ok(Err(Cause::NotAllowed)),
         SeenVerdict::Allowed => match entry {
-            Ok(event) => Ok(Ok(accept(alloc, tables, event, number)?)),
+            Ok(event) => Ok(Ok(accept(alloc, event, k, targets, number)?)),
             Err(_) => unreachable!(),
         },
     }
 }
 
-/// The event with its number and its duties.
+/// The event with this number, and a duty for each of these targets.
 fn accept(
     alloc: Global,
-    tables: &Tables,
     event: &Unnumbered,
+    k: u64,
+    targets: SeenTargets,
     number: u64,
 ) -> Result<AcceptedEvent, NoMemory>
-    ensures accepted { IfOk result (λ e. IsAcceptedAs tables.now.set number event.now (accepted_of e)) }
-    ensures few { IfOk result (λ e. length e.duties ≤ 1500) }
-    ensures there { IfOk result (λ e. All (λ d. HasEndpoint d.endpoint tables.now.duties.queues) e.duties) }
+    ensures accepted { IfOk result (λ e. (set : RuleSet) → k ≡ set.count → AreMatchedFor set event.now targets.items
+        → IsAcceptedAs set number event.now (accepted_of e)) }
+    ensures timed { IfOk result (λ e. IsMoment e.time) }
 {
+    let text = SharedText::new(alloc, event.numbered(alloc, number)?)?;
+    let duties = duties_of(alloc, targets, &text)?;
     let bus = Text::from_str(alloc, event.bus())?;
-    let MatchedEvent { k, text, duties } = matched(alloc, tables, event, number)?;
     Ok(AcceptedEvent {
         number,
         bus,
@@ -182,37 +233,6 @@ fn accept(
         text,
         duties,
     })
-}
-
-/// An event's text and duties, and the configuration version at which it was matched.
-#[derive(Drop)]
-struct MatchedEvent {
-    k: u64,
-    text: Text,
-    duties: NewDuties,
-}
-
-/// Matches the event against the rules of its bus, and gives it its number.
-fn matched(
-    alloc: Global,
-    tables: &Tables,
-    event: &Unnumbered,
-    number: u64,
-) -> Result<MatchedEvent, NoMemory>
-    ensures k { IfOk result (λ m. m.k ≡ tables.now.set.count) }
-    ensures event { IsEvent (with_number number event.now.event) }
-    ensures text { IfOk result (λ m. m.text ≡ compact_text (event_tree (with_number number event.now.event) None)) }
-    ensures duties { IfOk result (λ m. AreDuties event.now.bus (rules_of event.now.bus tables.now.set)
-        (event_tree (with_number number event.now.event) None) m.text m.duties) }
-    ensures few { IfOk result (λ m. length m.duties ≤ 1500) }
-    ensures there { IfOk result (λ m. All (λ d. HasEndpoint d.endpoint tables.now.duties.queues) m.duties) }
-{
-    read_tables(tables);
-    let k = tables.set().control_count();
-    let text = event.numbered(alloc, number)?;
-    let seen = see_plain_entry(alloc, tables.set(), event)?;
-    let duties = duties_of(alloc, seen.targets, text.as_str())?;
-    Ok(MatchedEvent { k, text, duties })
 }
 
 fn event_json(alloc: Global, event: &AcceptedEvent) -> Result<Json, NoMemory>

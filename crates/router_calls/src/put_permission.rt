@@ -1,14 +1,11 @@
 //! PutPermission.
-ghost use Rattle.std.specs.Prelude.{◌≡◌, ◌≤◌, true, None, Some, IfOk, IfSome};
+ghost use Rattle.std.specs.Prelude.{◌≡◌, ◌≤◌, None, Some, IfOk, IfSome};
 ghost use Rattle.json_text.specs.Moment.{IsMoment};
-ghost use Rattle.json_text.specs.Tree.{Tree};
-ghost use Rattle.json_text.specs.Compact.{compact_text};
-ghost use Rattle.bus_policy.specs.Stored.{IsStored};
+ghost use Rattle.event_shape.specs.Names.{IsBusName};
 ghost use Rattle.bus_policy.specs.Change.{IsAccountGiven};
 ghost use Rattle.bus_policy.specs.Grantee.{account_given};
-ghost use Rattle.rule_table.specs.RuleSet.{has_bus};
-ghost use Rattle.router_core.specs.Ready.{IsReadyAt};
-ghost use Rattle.router_calls.specs.Answer.{IsPolicyPut, IsStatementPut, policy_answer, statement_answer};
+ghost use Rattle.router_core.specs.Ready.{IsReadyFor};
+ghost use Rattle.router_calls.specs.Answer.{IsGranted, IsPolicyPut, IsStatementPut};
 ghost use Rattle.router_calls.specs.Decided.{answer_of};
 
 use crate::policy_change::{change_policy, no_bus};
@@ -17,9 +14,6 @@ use bus_policy::{Grantee, Policy};
 use json_text::{NoMemory, Text};
 use router_core::{Cause, Ready, Reply, Tables};
 use std::alloc::Global;
-
-/// The greatest number of bytes of a policy.
-const POLICY_LIMIT: usize = 10_240;
 
 /// Gives the bus the policy of this text, which is as it is stored.
 pub(crate) fn put_policy(
@@ -31,14 +25,12 @@ pub(crate) fn put_policy(
 ) -> Result<(Option<Ready>, Reply), NoMemory>
     requires moment { IsMoment moment }
     requires later { tables.now.moment ≤ moment }
-    requires stored { (value : Tree) × IsStored value × (policy.now ≡ compact_text value) }
+    requires bus { IsBusName bus.now }
     ensures answer { IfOk result (λ p. IsPolicyPut tables.now moment bus.now policy.now (answer_of p)) }
-    ensures ready { IfOk result (λ p. IfSome p.0 (λ r. IsReadyAt tables.now r)) }
+    ensures ready { IfOk result (λ p. IfSome p.0 (λ r. IsReadyFor tables.now r)) }
 {
-    match tables.set().bus(bus.as_str()) {
-        Some(_) => store(alloc, tables, moment, bus, policy.as_str()),
-        None => no_bus(alloc, bus),
-    }
+    let policy = policy.copy(alloc)?;
+    change_policy(alloc, tables, moment, bus, Some(policy))
 }
 
 /// Adds a statement that lets the account, or everyone, put events on the bus.
@@ -52,9 +44,10 @@ pub(crate) fn put_statement(
 ) -> Result<(Option<Ready>, Reply), NoMemory>
     requires moment { IsMoment moment }
     requires later { tables.now.moment ≤ moment }
+    requires bus { IsBusName bus.now }
     requires account { IsAccountGiven account.now }
     ensures answer { IfOk result (λ p. IsStatementPut tables.now moment bus.now sid.now account.now (answer_of p)) }
-    ensures ready { IfOk result (λ p. IfSome p.0 (λ r. IsReadyAt tables.now r)) }
+    ensures ready { IfOk result (λ p. IfSome p.0 (λ r. IsReadyFor tables.now r)) }
 {
     let to = grantee(account);
     match tables.set().bus(bus.as_str()) {
@@ -86,13 +79,14 @@ fn add_first(
 ) -> Result<(Option<Ready>, Reply), NoMemory>
     requires moment { IsMoment moment }
     requires later { tables.now.moment ≤ moment }
-    requires there { has_bus bus.now tables.now.set ≡ true }
+    requires bus { IsBusName bus.now }
     requires account { IsAccountGiven (account_given to) }
-    ensures answer { IfOk result (λ p. answer_of p ≡ statement_answer tables.now moment bus.now sid.now (account_given to.entry) None) }
-    ensures ready { IfOk result (λ p. IfSome p.0 (λ r. IsReadyAt tables.now r)) }
+    ensures answer { IfOk result (λ p. IsGranted tables.now moment bus.now sid.now (account_given to.entry) None (answer_of p)) }
+    ensures ready { IfOk result (λ p. IfSome p.0 (λ r. IsReadyFor tables.now r)) }
 {
     let policy = Policy::new(alloc, sid.as_str(), to, bus.as_str())?;
-    store(alloc, tables, moment, bus, policy.text())
+    let text = Text::from_str(alloc, policy.text())?;
+    change_policy(alloc, tables, moment, bus, Some(text))
 }
 
 /// Adds the statement to the policy that the bus has.
@@ -107,37 +101,16 @@ fn add(
 ) -> Result<(Option<Ready>, Reply), NoMemory>
     requires moment { IsMoment moment }
     requires later { tables.now.moment ≤ moment }
-    requires there { has_bus bus.now tables.now.set ≡ true }
+    requires bus { IsBusName bus.now }
     requires account { IsAccountGiven (account_given to) }
-    ensures answer { IfOk result (λ p. answer_of p ≡ statement_answer tables.now moment bus.now sid.now (account_given to.entry) (Some old.now)) }
-    ensures ready { IfOk result (λ p. IfSome p.0 (λ r. IsReadyAt tables.now r)) }
+    ensures answer { IfOk result (λ p. IsGranted tables.now moment bus.now sid.now (account_given to.entry) (Some old.now) (answer_of p)) }
+    ensures ready { IfOk result (λ p. IfSome p.0 (λ r. IsReadyFor tables.now r)) }
 {
     if old.has_sid(sid.as_str()) {
         let sid = sid.copy(alloc)?;
         return refused(alloc, &Cause::StatementExists { sid });
     }
     let policy = old.with_statement(alloc, sid.as_str(), to, bus.as_str())?;
-    store(alloc, tables, moment, bus, policy.text())
-}
-
-/// Gives the bus, which exists, this policy, or refuses it if it has too many bytes.
-fn store(
-    alloc: Global,
-    tables: &Tables,
-    moment: u64,
-    bus: &Text,
-    policy: &str,
-) -> Result<(Option<Ready>, Reply), NoMemory>
-    requires moment { IsMoment moment }
-    requires later { tables.now.moment ≤ moment }
-    requires there { has_bus bus.now tables.now.set ≡ true }
-    requires stored { (value : Tree) × IsStored value × (policy.now ≡ compact_text value) }
-    ensures answer { IfOk result (λ p. answer_of p ≡ policy_answer tables.now moment bus.now policy.now) }
-    ensures ready { IfOk result (λ p. IfSome p.0 (λ r. IsReadyAt tables.now r)) }
-{
-    if policy.len() > POLICY_LIMIT {
-        return refused(alloc, &Cause::PolicyTooLong);
-    }
-    let policy = Text::from_str(alloc, policy)?;
-    change_policy(alloc, tables, moment, bus, Some(policy))
+    let text = Text::from_str(alloc, policy.text())?;
+    change_policy(alloc, tables, moment, bus, Some(text))
 }

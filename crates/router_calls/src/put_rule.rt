@@ -1,12 +1,13 @@
 //! PutRule.
-ghost use Rattle.std.specs.Prelude.{◌≡◌, ◌≤◌, ◌∷◌, [], None, IfOk, IfSome, codes};
+ghost use Rattle.std.specs.Prelude.{◌≡◌, ◌≤◌, ◌∷◌, [], IfOk, IfSome, codes};
 ghost use Rattle.json_text.specs.Moment.{IsMoment};
 ghost use Rattle.json_text.specs.Tree.{text};
 ghost use Rattle.event_shape.specs.Names.{rule_arn};
 ghost use Rattle.rule_table.specs.Control.{rule_put};
 ghost use Rattle.api_replies.specs.Reply as replies;
 ghost use Rattle.rule_table.specs.View.{control_of};
-ghost use Rattle.router_core.specs.Ready.{HasPlace, IsReadyAt};
+ghost use Rattle.rule_table.specs.WellFormed.{NamesRule};
+ghost use Rattle.router_core.specs.Ready.{IsReadyFor};
 ghost use Rattle.router_calls.specs.Answer.{IsControlled};
 ghost use Rattle.router_calls.specs.Decided.{answer_of};
 
@@ -29,14 +30,15 @@ pub(crate) fn put_rule(
 ) -> Result<(Option<Ready>, Reply), NoMemory>
     requires moment { IsMoment moment }
     requires later { tables.now.moment ≤ moment }
+    requires names { NamesRule bus.now name.now }
     ensures answer { IfOk result (λ p. IsControlled tables.now moment (rule_put bus.now name.now pattern.now enabled)
         (replies.served ((codes "RuleArn", text (rule_arn bus.now name.now)) ∷ [])) (answer_of p)) }
-    ensures ready { IfOk result (λ p. IfSome p.0 (λ r. IsReadyAt tables.now r)) }
+    ensures ready { IfOk result (λ p. IfSome p.0 (λ r. IsReadyFor tables.now r)) }
 {
     let arn = rule_arn(alloc, bus.as_str(), name.as_str())?;
     let reply = text_reply(alloc, "RuleArn", arn)?;
     let control = rule_put(alloc, bus, name, pattern, enabled)?;
-    configure(alloc, tables, moment, control, None, reply)
+    configure(alloc, tables, moment, control, reply)
 }
 
 /// The change that puts the rule.
@@ -47,8 +49,7 @@ fn rule_put(
     pattern: &Text,
     enabled: bool,
 ) -> Result<Control, NoMemory>
-    ensures change { IfOk result (λ control. control_of control ≡ rule_put bus.now name.now pattern.now enabled) }
-    ensures place { IfOk result (λ control. HasPlace (control_of control) None) }
+    ensures { IfOk result (λ control. control_of control ≡ rule_put bus.now name.now pattern.now enabled) }
 {
     Ok(Control::RulePut {
         bus: bus.copy(alloc)?,

@@ -2,7 +2,8 @@
 ghost use Rattle.std.specs.Prelude.{◌≤◌, IfOk, IfSome};
 ghost use Rattle.json_text.specs.Moment.{IsMoment};
 ghost use Rattle.rule_table.specs.Control.{state_put};
-ghost use Rattle.router_core.specs.Ready.{IsReadyAt};
+ghost use Rattle.rule_table.specs.WellFormed.{NamesRule};
+ghost use Rattle.router_core.specs.Ready.{IsReadyFor};
 ghost use Rattle.router_calls.specs.Answer.{IsControlled, empty_reply};
 ghost use Rattle.router_calls.specs.Decided.{answer_of};
 
@@ -23,13 +24,14 @@ pub(crate) fn put_rule_state(
 ) -> Result<(Option<Ready>, Reply), NoMemory>
     requires moment { IsMoment moment }
     requires later { tables.now.moment ≤ moment }
+    requires names { NamesRule bus.now name.now }
     ensures answer { IfOk result (λ p. IsControlled tables.now moment (state_put bus.now name.now enabled) empty_reply (answer_of p)) }
-    ensures ready { IfOk result (λ p. IfSome p.0 (λ r. IsReadyAt tables.now r)) }
+    ensures ready { IfOk result (λ p. IfSome p.0 (λ r. IsReadyFor tables.now r)) }
 {
     let control = Control::StatePut {
         bus: bus.copy(alloc)?,
         name: name.copy(alloc)?,
         enabled,
     };
-    configure(alloc, tables, moment, control, None, empty_reply(alloc))
+    configure(alloc, tables, moment, control, empty_reply(alloc))
 }

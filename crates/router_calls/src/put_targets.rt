@@ -1,9 +1,10 @@
 //! PutTargets.
-ghost use Rattle.std.specs.Prelude.{◌≡◌, ◌≤◌, ◌∷◌, [], ◌++◌, IfOk, IfSome, OnOk};
+ghost use Rattle.std.specs.Prelude.{◌≡◌, ◌≤◌, length, map, IfOk, IfSome, OnOk};
 ghost use Rattle.json_text.specs.Moment.{IsMoment};
 ghost use Rattle.json_text.specs.View.{tree_of};
-ghost use Rattle.router_core.specs.Ready.{IsReadyAt};
-ghost use Rattle.rule_table.specs.RuleSet.{put_target};
+ghost use Rattle.rule_table.specs.Target.{target_of};
+ghost use Rattle.rule_table.specs.WellFormed.{NamesRule};
+ghost use Rattle.router_core.specs.Ready.{IsReadyFor};
 ghost use Rattle.router_calls.specs.Answer.{IsTargetsPut, target_report};
 ghost use Rattle.router_calls.specs.Decided.{answer_of};
 ghost use Rattle.router_calls.specs.Steps.{AddsTargets, AreAllSplit, IsOneSplit};
@@ -13,7 +14,7 @@ use crate::configure::configure;
 use crate::reply::{items_reply, refused};
 use json_text::{Items, Json, Members, NoMemory, Text, push_text};
 use router_core::{Cause, Kind, Ready, Reply, Tables, push_failure};
-use rule_table::{Control, RuleSet, Target, put_target};
+use rule_table::{Control, RuleSet, RuleTarget, Target, put_target};
 use std::alloc::Global;
 
 /// Puts each target that has no fault to the rule, as one change. If all fail, nothing is changed.
@@ -27,8 +28,10 @@ pub(crate) fn put_targets(
 ) -> Result<(Option<Ready>, Reply), NoMemory>
     requires moment { IsMoment moment }
     requires later { tables.now.moment ≤ moment }
+    requires names { NamesRule bus.now rule.now }
+    requires few { length targets.now ≤ 100 }
     ensures answer { IfOk result (λ p. IsTargetsPut tables.now moment bus.now rule.now targets.now (answer_of p)) }
-    ensures ready { IfOk result (λ p. IfSome p.0 (λ r. IsReadyAt tables.now r)) }
+    ensures ready { IfOk result (λ p. IfSome p.0 (λ r. IsReadyFor tables.now r)) }
 {
     let set = tables.set();
     if set.bus(bus.as_str()).is_none() {
@@ -55,7 +58,7 @@ pub(crate) fn put_targets(
         rule: rule.copy(alloc)?,
         targets: accepted,
     };
-    configure(alloc, tables, moment, control, None, reply)
+    configure(alloc, tables, moment, control, reply)
 }
 
 /// Targets that were put one after the other.
@@ -72,10 +75,10 @@ pub(crate) struct SplitTargets {
 fn split_all(
     alloc: Global,
     set: &RuleSet,
-    have: &[Target],
+    have: &[RuleTarget],
     targets: &[Target],
 ) -> Result<SplitTargets, NoMemory>
-    ensures { IfOk result (λ all. AreAllSplit set.now have.now targets.now all) }
+    ensures { IfOk result (λ all. AreAllSplit set.now (map target_of have.now) targets.now all) }
 {
     let mut all = SplitTargets {
         have: copies(alloc, have)?,
@@ -86,8 +89,9 @@ fn split_all(
     Ok(all)
 }
 
-pub(crate) fn copies(alloc: Global, targets: &[Target]) -> Result<Vec<Target>, NoMemory>
-    ensures { IfOk result (λ others. others.items ≡ targets.now) }
+/// Copies of the targets that a rule has.
+pub(crate) fn copies(alloc: Global, targets: &[RuleTarget]) -> Result<Vec<Target>, NoMemory>
+    ensures { IfOk result (λ others. others.items ≡ map target_of targets.now) }
 {
     let mut others = Vec::with_capacity(alloc, targets.len())?;
     for target in targets {

@@ -1,23 +1,22 @@
 //! RemovePermission.
-ghost use Rattle.std.specs.Prelude.{◌≡◌, ◌≤◌, true, None, Some, IfOk, IfSome};
+ghost use Rattle.std.specs.Prelude.{◌≡◌, ◌≤◌, None, Some, IfOk, IfSome};
 ghost use Rattle.json_text.specs.Moment.{IsMoment};
 ghost use Rattle.json_text.specs.Tree.{Tree};
+ghost use Rattle.event_shape.specs.Names.{IsBusName};
 ghost use Rattle.bus_policy.specs.Text.{IsPolicyText};
 ghost use Rattle.rule_table.specs.Control.{policy_put};
-ghost use Rattle.rule_table.specs.RuleSet.{has_bus};
 ghost use Rattle.api_replies.specs.declared.cause.Cause.TheVariants as cause_is;
 ghost use Rattle.api_replies.specs.Reply as replies;
-ghost use Rattle.router_core.specs.Ready.{IsReadyAt};
-ghost use Rattle.router_calls.specs.Answer.{IsControlled, IsStatementRemoved, empty_reply, reply_alone, removal_answer};
+ghost use Rattle.router_core.specs.Ready.{IsReadyFor};
+ghost use Rattle.router_calls.specs.Answer.{IsControlled, IsRevoked, IsStatementRemoved, empty_reply, reply_alone};
 ghost use Rattle.router_calls.specs.Decided.{answer_of};
 
-use crate::configure::configure;
 use crate::policy_change::{change_policy, no_bus};
-use crate::reply::{empty_reply, refused};
+use crate::reply::refused;
 use bus_policy::Removed;
 use json_text::{NoMemory, Text};
 use router_core::{Cause, Member, Ready, Reply, Tables};
-use rule_table::{Control, SharedPolicy};
+use rule_table::SharedPolicy;
 use std::alloc::Global;
 
 /// Takes the bus's policy away.
@@ -29,14 +28,11 @@ pub(crate) fn remove_policy(
 ) -> Result<(Option<Ready>, Reply), NoMemory>
     requires moment { IsMoment moment }
     requires later { tables.now.moment ≤ moment }
+    requires bus { IsBusName bus.now }
     ensures answer { IfOk result (λ p. IsControlled tables.now moment (policy_put bus.now None) empty_reply (answer_of p)) }
-    ensures ready { IfOk result (λ p. IfSome p.0 (λ r. IsReadyAt tables.now r)) }
+    ensures ready { IfOk result (λ p. IfSome p.0 (λ r. IsReadyFor tables.now r)) }
 {
-    let control = Control::PolicyPut {
-        bus: bus.copy(alloc)?,
-        policy: None,
-    };
-    configure(alloc, tables, moment, control, None, empty_reply(alloc))
+    change_policy(alloc, tables, moment, bus, None)
 }
 
 /// Removes the statement of this StatementId from the bus's policy.
@@ -49,8 +45,9 @@ pub(crate) fn remove_statement(
 ) -> Result<(Option<Ready>, Reply), NoMemory>
     requires moment { IsMoment moment }
     requires later { tables.now.moment ≤ moment }
+    requires bus { IsBusName bus.now }
     ensures answer { IfOk result (λ p. IsStatementRemoved tables.now moment bus.now sid.now (answer_of p)) }
-    ensures ready { IfOk result (λ p. IfSome p.0 (λ r. IsReadyAt tables.now r)) }
+    ensures ready { IfOk result (λ p. IfSome p.0 (λ r. IsReadyFor tables.now r)) }
 {
     match tables.set().bus(bus.as_str()) {
         Some(found) => match sid {
@@ -75,10 +72,10 @@ fn remove(
 ) -> Result<(Option<Ready>, Reply), NoMemory>
     requires moment { IsMoment moment }
     requires later { tables.now.moment ≤ moment }
-    requires there { has_bus bus.now tables.now.set ≡ true }
+    requires bus { IsBusName bus.now }
     ensures answer { IfOk result (λ p. (value : Tree) × IsPolicyText policy.now value
-        × (answer_of p ≡ removal_answer tables.now moment bus.now sid.now (Some value))) }
-    ensures ready { IfOk result (λ p. IfSome p.0 (λ r. IsReadyAt tables.now r)) }
+        × IsRevoked tables.now moment bus.now sid.now (Some value) (answer_of p)) }
+    ensures ready { IfOk result (λ p. IfSome p.0 (λ r. IsReadyFor tables.now r)) }
 {
     match policy.policy().without_statement(alloc, sid.as_str())? {
         Removed::NotThere => no_statement(alloc, sid),

@@ -1,10 +1,13 @@
 //! RemoveTargets.
-ghost use Rattle.std.specs.Prelude.{◌≡◌, ◌≤◌, IfOk, IfSome, map};
+ghost use Rattle.std.specs.Prelude.{◌≡◌, ◌≤◌, length, map, IfOk, IfSome, All};
 ghost use Rattle.json_text.specs.Moment.{IsMoment};
 ghost use Rattle.json_text.specs.View.{tree_of, trees_of};
+ghost use Rattle.event_shape.specs.Names.{IsShortName};
+ghost use Rattle.rule_table.specs.Target.{target_of};
+ghost use Rattle.rule_table.specs.WellFormed.{NamesRule};
 ghost use Rattle.api_replies.specs.declared.kind.Kind.TheVariants as kind_is;
 ghost use Rattle.api_replies.specs.declared.cause.Cause.TheVariants as cause_is;
-ghost use Rattle.router_core.specs.Ready.{IsReadyAt};
+ghost use Rattle.router_core.specs.Ready.{IsReadyFor};
 ghost use Rattle.router_calls.specs.Removals.{failed_ids, has_target, removed_ids, without_target};
 ghost use Rattle.router_calls.specs.Answer.{AreTargetsRemoved, target_report};
 ghost use Rattle.router_calls.specs.Decided.{answer_of};
@@ -14,7 +17,7 @@ use crate::put_targets::{copies, target_json};
 use crate::reply::{items_reply, refused};
 use json_text::{Items, Json, NoMemory, Text};
 use router_core::{Cause, Kind, Ready, Reply, Tables};
-use rule_table::{Control, Target};
+use rule_table::{Control, RuleTarget, Target};
 use std::alloc::Global;
 
 /// Removes the target of each id from the rule, as one change. If no id is a target's, nothing is changed.
@@ -28,8 +31,11 @@ pub(crate) fn remove_targets(
 ) -> Result<(Option<Ready>, Reply), NoMemory>
     requires moment { IsMoment moment }
     requires later { tables.now.moment ≤ moment }
+    requires names { NamesRule bus.now rule.now }
+    requires few { length ids.now ≤ 100 }
+    requires ids { All IsShortName ids.now }
     ensures answer { IfOk result (λ p. AreTargetsRemoved tables.now moment bus.now rule.now ids.now (answer_of p)) }
-    ensures ready { IfOk result (λ p. IfSome p.0 (λ r. IsReadyAt tables.now r)) }
+    ensures ready { IfOk result (λ p. IfSome p.0 (λ r. IsReadyFor tables.now r)) }
 {
     let set = tables.set();
     if set.bus(bus.as_str()).is_none() {
@@ -52,7 +58,7 @@ pub(crate) fn remove_targets(
         rule: rule.copy(alloc)?,
         ids: removed,
     };
-    configure(alloc, tables, moment, control, None, reply)
+    configure(alloc, tables, moment, control, reply)
 }
 
 /// What ids became.
@@ -64,9 +70,9 @@ pub(crate) struct Removals {
 }
 
 /// Removes the targets of these ids from those of a rule, one after the other.
-fn remove_all(alloc: Global, targets: &[Target], ids: &[Text]) -> Result<Removals, NoMemory>
-    ensures removed { IfOk result (λ all. all.removed.items ≡ removed_ids ids.now targets.now) }
-    ensures reports { IfOk result (λ all. trees_of all.reports.items ≡ map target_report (failed_ids ids.now targets.now)) }
+fn remove_all(alloc: Global, targets: &[RuleTarget], ids: &[Text]) -> Result<Removals, NoMemory>
+    ensures removed { IfOk result (λ all. all.removed.items ≡ removed_ids ids.now (map target_of targets.now)) }
+    ensures reports { IfOk result (λ all. trees_of all.reports.items ≡ map target_report (failed_ids ids.now (map target_of targets.now))) }
 {
     let mut left = copies(alloc, targets)?;
     let mut removed = Vec::new(alloc);

@@ -1,14 +1,17 @@
 //! What each request changes, and its reply.
-ghost use Rattle.std.specs.Prelude.{◌≡◌, ◌≤◌, IfOk, IfSome};
+ghost use Rattle.std.specs.Prelude.{◌≡◌, ◌≤◌, ℕ, List, IfOk, IfSome};
 ghost use Rattle.std.specs.Option.{option_copied};
 ghost use Rattle.json_text.specs.Moment.{IsMoment};
-ghost use Rattle.rule_table.specs.RuleSet.{IsSound};
+ghost use Rattle.rule_table.specs.RuleSet.{RuleSet, IsSound};
 ghost use Rattle.router_core.specs.Request.{IsOneTurn, IsEntitled};
 ghost use Rattle.router_core.specs.View.{action_of, request_of};
-ghost use Rattle.router_core.specs.Ready.{IsReadyAt, IsConsistent};
-ghost use Rattle.router_calls.specs.Answer.{IsAnswer, IsAnswerAt, moment_at};
+ghost use Rattle.router_core.specs.Tables.{IsConsistent, moment_at};
+ghost use Rattle.router_core.specs.Ready.{IsReadyFor};
+ghost use Rattle.router_calls.specs.Answer.{IsAnswer};
 ghost use Rattle.router_calls.specs.Bounds.{IsBounded};
 ghost use Rattle.router_calls.specs.Decided.{answer_of};
+ghost use Rattle.router_calls.specs.Matched.{IsMatchedOn};
+ghost use Rattle.router_calls.specs.Steps.{IsAnsweredBy, IsSeenOn};
 
 use crate::create_event_bus::create_event_bus;
 use crate::create_queue::create_queue;
@@ -29,49 +32,48 @@ use config_views::{
     list_targets_by_rule,
 };
 use json_text::{NoMemory, Text};
-use router_core::{Action, Ready, Reply, Request, Tables};
+use router_core::{Action, Ready, Reply, Request, Seen, Tables};
 use std::alloc::Global;
 
-/// Decides a request at the moment of its turn (seconds since 1970-01-01T00:00:00Z): the change that it makes, if any, and its
-/// reply. The tables are only read. DeliverDue is not decided here: each of its steps is a turn of its own.
+/// Decides a request at the moment of its turn (seconds since 1970-01-01T00:00:00Z): the batch that it writes, if any, and its reply.
+/// The tables are only read. What matching found of the request moves into the batch. DeliverDue is not decided here: each of its
+/// steps is a turn of its own.
 pub fn decide(
     alloc: Global,
     tables: &Tables,
     request: &Request,
     moment: u64,
+    mut seen: Seen,
 ) -> Result<(Option<Ready>, Reply), NoMemory>
     requires reading { IsMoment request.now.reading }
     requires at { moment ≡ moment_at tables.now request.now.reading }
-    requires few { IsBounded (action_of request.now.action) }
+    requires bounded { IsBounded (action_of request.now.action) }
     requires entitled { IsEntitled (request_of request.now) }
     requires one_turn { IsOneTurn (action_of request.now.action) }
-    ensures answer { IfOk result (λ p. IsAnswer tables.now (request_of request.now) (answer_of p)) }
-    ensures ready { IfOk result (λ p. IfSome p.0 (λ r. IsReadyAt tables.now r)) }
+    requires matched { (set : RuleSet) × IsMatchedOn tables.now (request_of request.now) set seen }
+    ensures answer { IfOk result (λ p. (set : RuleSet) → IsMatchedOn tables.now (request_of request.now) set seen
+        → IsAnswer tables.now (request_of request.now) seen.k set (answer_of p)) }
+    ensures ready { IfOk result (λ p. IfSome p.0 (λ r. IsReadyFor tables.now r)) }
 {
     read_tables(tables);
-    answer(
-        alloc,
-        tables,
-        request.caller.as_str(),
-        moment,
-        &request.action,
-    )
+    answer(alloc, tables, moment, &request.action, &mut seen)
 }
 
-/// The change that the action of this caller makes, if any, and the reply.
+/// The change that the action makes, if any, and the reply. What was found of the entries of a PutEvents is taken out of `seen`.
 fn answer(
     alloc: Global,
     tables: &Tables,
-    caller: &str,
     moment: u64,
     action: &Action,
+    seen: &mut Seen,
 ) -> Result<(Option<Ready>, Reply), NoMemory>
     requires moment { IsMoment moment }
     requires later { tables.now.moment ≤ moment }
-    requires few { IsBounded (action_of action.now) }
+    requires bounded { IsBounded (action_of action.now) }
     requires one_turn { IsOneTurn (action_of action.now) }
-    ensures answer { IfOk result (λ p. IsAnswerAt tables.now caller.now moment (action_of action.now) (answer_of p)) }
-    ensures ready { IfOk result (λ p. IfSome p.0 (λ r. IsReadyAt tables.now r)) }
+    requires seen { (set : RuleSet) × (caller : List ℕ) × IsSeenOn tables.now set caller (action_of action.now) seen.old }
+    ensures answer { IfOk result (λ p. IsAnsweredBy tables.now seen.old moment (action_of action.now) (answer_of p)) }
+    ensures ready { IfOk result (λ p. IfSome p.0 (λ r. IsReadyFor tables.now r)) }
 {
     match action {
         Action::CreateEventBus { name } => create_event_bus(alloc, tables, moment, name),
@@ -99,13 +101,13 @@ fn answer(
         Action::RemovePolicy { bus } => remove_policy(alloc, tables, moment, bus),
         Action::RemoveStatement { bus, sid } => remove_statement(alloc, tables, moment, bus, sid),
         Action::PutEvents { entries, size } => {
-            put_events(alloc, tables, caller, moment, entries, *size)
+            put_events(alloc, tables, moment, entries, *size, seen)
         }
         Action::CreateQueue { name } => create_queue(alloc, tables, moment, name),
         Action::PeekMessages { queue, limit } => {
             peek_messages(alloc, tables, queue.as_str(), *limit)
         }
-        Action::TestEventPattern { pattern, event } => test_event_pattern(alloc, pattern, event),
+        Action::TestEventPattern { .. } => test_event_pattern(alloc, &seen.result),
         Action::DeliverDue { .. } => unreachable!(),
         Action::DescribeEventBus { name } => {
             Ok(shown(describe_event_bus(alloc, tables.set(), name.as_str())?))

@@ -1,27 +1,31 @@
 //! TestEventPattern.
-ghost use Rattle.std.specs.Prelude.{◌≡◌, None, IfOk};
-ghost use Rattle.json_text.specs.View.{tree_of};
-ghost use Rattle.json_text.specs.Compact.{IsValue};
+ghost use Rattle.std.specs.Prelude.{◌≡◌, ℕ, List, None, IfOk};
+ghost use Rattle.json_text.specs.Tree.{Tree};
+ghost use Rattle.rule_table.specs.RuleSet.{RuleSet};
 ghost use Rattle.api_replies.specs.View.{reply_of};
+ghost use Rattle.router_core.specs.Request.{test_event_pattern as test_pattern};
+ghost use Rattle.router_core.specs.Matching.{IsSeenResult};
 ghost use Rattle.router_calls.specs.Answer.{IsTested, tested_reply};
 ghost use Rattle.router_calls.specs.Decided.{answer_of};
 
 use json_text::{Json, Members, NoMemory, push_member};
-use pattern_read::PatternText;
-use router_core::{Ready, Reply, pattern_matches};
+use router_core::{Ready, Reply, SeenResult};
 use std::alloc::Global;
 
+/// Shows whether the pattern matches, as matching found.
 pub(crate) fn test_event_pattern(
     alloc: Global,
-    pattern: &PatternText,
-    event: &Json,
+    found: &SeenResult,
 ) -> Result<(Option<Ready>, Reply), NoMemory>
-    requires { IsValue (tree_of event.now) }
-    ensures answer { IfOk result (λ p. IsTested pattern.now (tree_of event.now) (answer_of p)) }
+    requires { (set : RuleSet) × (caller pattern : List ℕ) × (event : Tree) × IsSeenResult set caller (test_pattern pattern event) found.now }
+    ensures answer { IfOk result (λ p. (set : RuleSet) (caller pattern : List ℕ) (event : Tree)
+        → IsSeenResult set caller (test_pattern pattern event) found.now → IsTested pattern event (answer_of p)) }
     ensures ready { IfOk result (λ p. p.0 ≡ None) }
 {
-    let matches = pattern_matches(pattern, event);
-    Ok((None, tested_reply(alloc, matches)?))
+    match found {
+        SeenResult::Tested(matches) => Ok((None, tested_reply(alloc, *matches)?)),
+        SeenResult::Entries(_) | SeenResult::Nothing => unreachable!(),
+    }
 }
 
 /// The reply that says whether the pattern matches.

@@ -1,21 +1,29 @@
-ghost use Rattle.std.specs.Prelude.{◌≡◌, ◌≤◌, ◌⊎◌, All, IfOk, length, true};
+ghost use Rattle.std.specs.Prelude.{◌≡◌, ◌≤◌, ◌⊎◌, All, IfOk, length, false, true};
+ghost use Rattle.json_text.specs.Moment.{IsMoment};
 ghost use Rattle.json_text.specs.View.{tree_of};
 ghost use Rattle.json_text.specs.Compact.{IsValue};
-ghost use Rattle.event_shape.specs.Names.{is_account, owner};
+ghost use Rattle.event_shape.specs.Names.{IsBusName, IsQueueName, IsShortName, is_account, owner};
+ghost use Rattle.bus_policy.specs.StatementId.{IsStatementId};
+ghost use Rattle.rule_table.specs.WellFormed.{IsSomePattern};
 ghost use Rattle.router_core.specs.Request.{AreEntriesOf, IsEntitled, IsEntryOf, IsOneTurn, IsPublishing};
 ghost use Rattle.router_core.specs.View.{action_of, request_of};
-ghost use Rattle.router_calls.specs.Bounds.{IsBounded};
+ghost use Rattle.router_core.specs.Tables.{is_full};
+ghost use Rattle.router_core.specs.Matching.{HasValue};
+ghost use Rattle.router_core.specs.Steps.{IsErrandOf};
+ghost use Rattle.router_calls.specs.Bounds.{IsBounded, IsForBus};
 
 use crate::decide;
+use crate::requests::read_tables;
 use api_replies::Reply;
-use bus_policy::Policy;
-use delivery_duties::Outcome;
+use bus_policy::{Policy, is_statement_id};
+use delivery_duties::{Fate, Outcome};
 use event_shape::{
-    CheckFault, EntryFault, EventEntry, OWNER, Unnumbered, check, is_account, queue_arn,
+    CheckFault, EntryFault, EventEntry, OWNER, Unnumbered, check, is_account, is_bus_name,
+    is_queue_name, is_rule_name, is_target_id, queue_arn,
 };
 use json_text::{Bytes, Json, Text, read, write};
 use pattern_read::PatternText;
-use router_core::{Action, Request, Tables};
+use router_core::{Action, Errand, Request, Tables, see_plain};
 use rule_table::Target;
 use std::alloc::Global;
 use std::test::Fail;
@@ -97,7 +105,7 @@ const PEEKED: &str =
 
 /// Requests in turn, the status and body of each reply, and the numbers of events and pending duties after it. Worked out by
 /// hand.
-const STEPS: [(Step, &str, u64, u64); 14] = [
+const STEPS: [(Step, &str, u64, u64); 13] = [
     (
         Step::Queue("q"),
         "200 {\"QueueArn\":\"arn:aws:sqs:us-east-1:111122223333:q\"}",
@@ -112,12 +120,6 @@ const STEPS: [(Step, &str, u64, u64); 14] = [
     ),
     (Step::Put("default", "r", "t", "q"), NO_RULE, 0, 0),
     (Step::Rule("b", "r", PATTERN), NO_BUS, 0, 0),
-    (
-        Step::Rule("default", "r", "{}"),
-        "400 {\"__type\":\"ValidationException\",\"message\":\"Member EventPattern is not valid.\"}",
-        0,
-        0,
-    ),
     (
         Step::Rule("default", "r", PATTERN),
         "200 {\"RuleArn\":\"arn:aws:events:us-east-1:111122223333:rule/r\"}",
@@ -260,7 +262,8 @@ const ALLOWING: &str =
     "200 {\"Name\":\"default\",\"Arn\":\"arn:aws:events:us-east-1:111122223333:event-bus/default\",\"Policy\":\"{\\\"Version\\\":\\\"2012-10-17\\\",\\\"Statement\\\":[{\\\"Sid\\\":\\\"s\\\",\\\"Effect\\\":\\\"Allow\\\",\\\"Principal\\\":{\\\"AWS\\\":\\\"arn:aws:iam::444455556666:root\\\"},\\\"Action\\\":\\\"events:PutEvents\\\",\\\"Resource\\\":\\\"arn:aws:events:us-east-1:111122223333:event-bus/default\\\"}]}\"}";
 
 fn entry(alloc: Global, account: &str, source: &str) -> Result<Result<Unnumbered, EntryFault>, Fail>
-    ensures { IfOk result (λ entry. IsEntryOf account.now entry) }
+    ensures own { IfOk result (λ entry. IsEntryOf account.now entry) }
+    ensures bus { IfOk result (λ entry. IsForBus entry) }
 {
     let entry = EventEntry {
         time: None,
@@ -271,10 +274,21 @@ fn entry(alloc: Global, account: &str, source: &str) -> Result<Result<Unnumbered
         bus: None,
     };
     match check(alloc, &entry) {
-        Ok(checked) => Ok(Ok(Unnumbered::make(alloc, checked, READING, account)?)),
+        Ok(checked) => Ok(Ok(for_bus(Unnumbered::make(alloc, checked, READING, account)?)?)),
         Err(CheckFault::Entry(fault)) => Ok(Err(fault)),
         Err(CheckFault::NoMemory) => Err(Fail::from("out of memory")),
     }
+}
+
+/// The event, which is for a bus's name.
+fn for_bus(event: Unnumbered) -> Result<Unnumbered, Fail>
+    ensures same { IfOk result (λ e. e ≡ event) }
+    ensures bus { IfOk result (λ e. IsBusName e.bus) }
+{
+    if !is_bus_name(event.bus()) {
+        return Err(Fail::from("no bus name"));
+    }
+    Ok(event)
 }
 
 fn entries(
@@ -284,6 +298,7 @@ fn entries(
 ) -> Result<Vec<Result<Unnumbered, EntryFault>>, Fail>
     ensures few { IfOk result (λ v. (1 ≤ length v.items) × (length v.items ≤ 10)) }
     ensures own { IfOk result (λ v. All (IsEntryOf account.now) v.items) }
+    ensures buses { IfOk result (λ v. All IsForBus v.items) }
 {
     let mut entries = Vec::new(alloc);
     for source in sources {
@@ -320,11 +335,12 @@ fn targets(alloc: Global, id: &str, queue: &str) -> Result<Vec<Target>, Fail>
 }
 
 fn ids(alloc: Global, given: &[&str]) -> Result<Vec<Text>, Fail>
-    ensures { IfOk result (λ v. (1 ≤ length v.items) × (length v.items ≤ 100)) }
+    ensures few { IfOk result (λ v. (1 ≤ length v.items) × (length v.items ≤ 100)) }
+    ensures short { IfOk result (λ v. All IsShortName v.items) }
 {
     let mut ids = Vec::new(alloc);
     for id in given {
-        ids.push(Text::from_str(alloc, id)?)?;
+        ids.push(target_id(alloc, id)?)?;
     }
     if ids.is_empty() || ids.len() > 100 {
         return Err(Fail::from("no id, or too many"));
@@ -347,11 +363,67 @@ fn text(alloc: Global, text: &str) -> Result<Text, Fail>
     Ok(Text::from_str(alloc, text)?)
 }
 
-fn pattern_of(alloc: Global, text: &str) -> Result<PatternText, Fail> {
+/// A name of a bus.
+fn bus_name(alloc: Global, name: &str) -> Result<Text, Fail>
+    ensures { IfOk result (λ t. IsBusName t) }
+{
+    if !is_bus_name(name) {
+        return Err(Fail::from("no bus name"));
+    }
+    text(alloc, name)
+}
+
+fn queue_name(alloc: Global, name: &str) -> Result<Text, Fail>
+    ensures { IfOk result (λ t. IsQueueName t) }
+{
+    if !is_queue_name(name) {
+        return Err(Fail::from("no queue name"));
+    }
+    text(alloc, name)
+}
+
+fn rule_name(alloc: Global, name: &str) -> Result<Text, Fail>
+    ensures { IfOk result (λ t. IsShortName t) }
+{
+    if !is_rule_name(name) {
+        return Err(Fail::from("no rule name"));
+    }
+    text(alloc, name)
+}
+
+fn target_id(alloc: Global, id: &str) -> Result<Text, Fail>
+    ensures { IfOk result (λ t. IsShortName t) }
+{
+    if !is_target_id(id) {
+        return Err(Fail::from("no target id"));
+    }
+    text(alloc, id)
+}
+
+fn statement_id(alloc: Global, sid: &str) -> Result<Text, Fail>
+    ensures { IfOk result (λ t. IsStatementId t) }
+{
+    if !is_statement_id(sid) {
+        return Err(Fail::from("no statement id"));
+    }
+    text(alloc, sid)
+}
+
+fn pattern_of(alloc: Global, text: &str) -> Result<PatternText, Fail>
+    ensures { IfOk result (λ p. IsSomePattern p) }
+{
     match PatternText::read(alloc, Text::from_str(alloc, text)?) {
         Ok(pattern) => Ok(pattern),
         Err(_fault) => Err(Fail::from("the pattern is not read")),
     }
+}
+
+/// The text of a pattern.
+fn pattern_text(alloc: Global, pattern: &str) -> Result<Text, Fail>
+    ensures { IfOk result (λ t. IsSomePattern t) }
+{
+    let read = pattern_of(alloc, pattern)?;
+    Ok(read.text().copy(alloc)?)
 }
 
 fn event(alloc: Global) -> Result<Json, Fail>
@@ -372,7 +444,7 @@ fn policy_action(alloc: Global, policy: &str) -> Result<Action, Fail>
         Ok(policy) => policy,
         Err(_fault) => return Err(Fail::from("the policy is not read")),
     };
-    let bus = text(alloc, "default")?;
+    let bus = bus_name(alloc, "default")?;
     let policy = text(alloc, policy.text())?;
     Ok(Action::PutPolicy { bus, policy })
 }
@@ -384,36 +456,36 @@ fn bus_action(alloc: Global, step: Step) -> Result<Action, Fail>
 {
     match step {
         Step::Queue(name) => Ok(Action::CreateQueue {
-            name: text(alloc, name)?,
+            name: queue_name(alloc, name)?,
         }),
         Step::Bus(name) => Ok(Action::CreateEventBus {
-            name: text(alloc, name)?,
+            name: bus_name(alloc, name)?,
         }),
         Step::ShowBus(name) => Ok(Action::DescribeEventBus {
-            name: text(alloc, name)?,
+            name: bus_name(alloc, name)?,
         }),
         Step::DeleteBus(name) => Ok(Action::DeleteEventBus {
-            name: text(alloc, name)?,
+            name: bus_name(alloc, name)?,
         }),
         Step::Allow(sid) => Ok(Action::PutStatement {
-            bus: text(alloc, "default")?,
-            sid: text(alloc, sid)?,
+            bus: bus_name(alloc, "default")?,
+            sid: statement_id(alloc, sid)?,
             account: Some(stranger(alloc)?),
         }),
         Step::Revoke(Some(sid)) => Ok(Action::RemoveStatement {
-            bus: text(alloc, "default")?,
-            sid: Some(text(alloc, sid)?),
+            bus: bus_name(alloc, "default")?,
+            sid: Some(statement_id(alloc, sid)?),
         }),
         Step::Revoke(None) => Ok(Action::RemoveStatement {
-            bus: text(alloc, "default")?,
+            bus: bus_name(alloc, "default")?,
             sid: None,
         }),
         Step::Peek(queue) => Ok(Action::PeekMessages {
-            queue: text(alloc, queue)?,
+            queue: queue_name(alloc, queue)?,
             limit: 10,
         }),
         Step::RevokeAll => Ok(Action::RemovePolicy {
-            bus: text(alloc, "default")?,
+            bus: bus_name(alloc, "default")?,
         }),
         Step::Policy(policy) => policy_action(alloc, policy),
         _ => Err(Fail::from("another step")),
@@ -427,32 +499,32 @@ fn rule_action(alloc: Global, step: Step) -> Result<Action, Fail>
 {
     match step {
         Step::Rule(bus, name, pattern) => Ok(Action::PutRule {
-            bus: text(alloc, bus)?,
-            name: text(alloc, name)?,
-            pattern: text(alloc, pattern)?,
+            bus: bus_name(alloc, bus)?,
+            name: rule_name(alloc, name)?,
+            pattern: pattern_text(alloc, pattern)?,
             enabled: true,
         }),
         Step::Off(bus, name) => Ok(Action::PutRuleState {
-            bus: text(alloc, bus)?,
-            name: text(alloc, name)?,
+            bus: bus_name(alloc, bus)?,
+            name: rule_name(alloc, name)?,
             enabled: false,
         }),
         Step::ShowRule(bus, name) => Ok(Action::DescribeRule {
-            bus: text(alloc, bus)?,
-            name: text(alloc, name)?,
+            bus: bus_name(alloc, bus)?,
+            name: rule_name(alloc, name)?,
         }),
         Step::DeleteRule(bus, name) => Ok(Action::DeleteRule {
-            bus: text(alloc, bus)?,
-            name: text(alloc, name)?,
+            bus: bus_name(alloc, bus)?,
+            name: rule_name(alloc, name)?,
         }),
         Step::Put(bus, rule, id, queue) => Ok(Action::PutTargets {
-            bus: text(alloc, bus)?,
-            rule: text(alloc, rule)?,
+            bus: bus_name(alloc, bus)?,
+            rule: rule_name(alloc, rule)?,
             targets: targets(alloc, id, queue)?,
         }),
         Step::Remove(bus, rule, given) => Ok(Action::RemoveTargets {
-            bus: text(alloc, bus)?,
-            rule: text(alloc, rule)?,
+            bus: bus_name(alloc, bus)?,
+            rule: rule_name(alloc, rule)?,
             ids: ids(alloc, given)?,
         }),
         Step::Test(pattern) => Ok(Action::TestEventPattern {
@@ -518,9 +590,11 @@ fn owners(alloc: Global, step: Step) -> Result<Request, Fail>
 
 /// One turn: decides the request and applies its change. Returns the status and text of the reply.
 fn turn(alloc: Global, tables: &mut Tables, step: Step) -> Result<String, Fail> {
+    read_tables(tables);
     let request = request(alloc, step)?;
     let moment = request.reading.max(tables.moment());
-    let (ready, reply) = decide(alloc, tables, &request, moment)?;
+    let seen = see_plain(alloc, tables.set(), &request)?;
+    let (ready, reply) = decide(alloc, tables, &request, moment, seen)?;
     if let Some(ready) = ready {
         tables.apply(ready);
     }
@@ -537,13 +611,43 @@ fn reply_text(alloc: Global, reply: &Reply) -> Result<String, Fail> {
     }
 }
 
-/// Claims the next duty and records its attempt.
-fn deliver_next(tables: &mut Tables, moment: u64) -> Option<Outcome> {
+/// Claims the next duty, and records that its attempt ended so.
+fn deliver_next(
+    alloc: Global,
+    tables: &mut Tables,
+    outcome: Outcome,
+    moment: u64,
+) -> Result<Option<Fate>, Fail> {
     if tables.full() || tables.moment() > moment || moment > 250_000_000_000 {
-        return None;
+        return Ok(None);
     }
-    let claim = tables.claim(moment)?;
-    Some(tables.record(claim, moment))
+    match tables.claim(alloc, moment)? {
+        Some(errand) => Ok(Some(recorded(tables, errand, outcome, moment))),
+        None => Ok(None),
+    }
+}
+
+fn recorded(tables: &mut Tables, mut errand: Errand, outcome: Outcome, moment: u64) -> Fate
+    requires errand { IsErrandOf tables.old errand }
+    requires numbered { is_full tables.old ≡ false }
+    requires moment { IsMoment moment }
+    requires later { tables.old.moment ≤ moment }
+    requires due { errand.moment ≤ moment }
+{
+    let _outcome = tables.record_outcome(&mut errand, outcome, moment);
+    tables.finish(errand)
+}
+
+/// Claims the next duty and releases the claim. Returns its number.
+fn put_back(alloc: Global, tables: &mut Tables, moment: u64) -> Result<Option<u64>, Fail> {
+    match tables.claim(alloc, moment)? {
+        Some(errand) => {
+            let number = errand.number();
+            tables.put_back(errand);
+            Ok(Some(number))
+        }
+        None => Ok(None),
+    }
 }
 
 /// Whether the step gets this reply.
@@ -587,11 +691,11 @@ fn has_body(alloc: Global, tables: &Tables) -> Result<bool, Fail> {
     Ok(true)
 }
 
-/// Whether the next duty is delivered.
-fn is_delivered(tables: &mut Tables) -> bool {
-    match deliver_next(tables, READING) {
-        Some(outcome) => outcome == Outcome::Accepted,
-        None => false,
+/// Whether the next duty, of which a queue accepts the text, is delivered.
+fn is_delivered(alloc: Global, tables: &mut Tables) -> Result<bool, Fail> {
+    match deliver_next(alloc, tables, Outcome::Accepted, READING)? {
+        Some(fate) => Ok(fate == Fate::Delivered),
+        None => Ok(false),
     }
 }
 
@@ -600,7 +704,9 @@ fn each_request_is_answered(rt: HostRuntime) -> Result<(), Fail> {
     let mut tables = Tables::first(rt.alloc())?;
     assert_eq!(rt; answered_otherwise(rt.alloc(), &mut tables)?, None);
     assert!(rt; tables.moment() == READING && tables.set().control_count() == 3);
-    assert!(rt; is_delivered(&mut tables));
+    assert_eq!(rt; put_back(rt.alloc(), &mut tables, READING - 1)?, None);
+    assert_eq!(rt; put_back(rt.alloc(), &mut tables, READING)?, Some(1));
+    assert!(rt; is_delivered(rt.alloc(), &mut tables)?);
     assert!(rt; is_replied(rt.alloc(), &mut tables, Step::Peek("q"), PEEKED)?);
     assert!(rt; has_body(rt.alloc(), &tables)?);
     Ok(())

@@ -13,4 +13,4 @@ returns-clause-answer c =
     let arn : c.in_ok-arn.arn ≡ rule_arn c.args.bus.now c.args.name.now = c.in_ok-arn.ensures ∙ bus ∙ name in
     let reply : reply_of c.in_ok-reply.reply ≡ served ((codes "RuleArn", text (rule_arn c.args.bus.now c.args.name.now)) ∷ []) =
     c.in_ok-reply.ensures ∙ ap (λ (t : List ℕ). served ((codes "RuleArn", text t) ∷ [])) arn in
-    controlled_so c.configure.result c.args.tables.now c.args.moment c.in_ok-control.ensures.change reply c.configure.ensures.answer
+    controlled_so c.configure.result c.args.tables.now c.args.moment c.in_ok-control.ensures reply c.configure.ensures.answer

@@ -9,8 +9,14 @@ use Rattle.api_replies.specs.View.{reply_of}
 use Rattle.router_calls.specs.Answer.{items_reply}
 use Rattle.router_calls.specs.Steps.{AreAllSplit}
 use Rattle.router_calls.proofs.CallLemmas.{controlled_so}
-use Rattle.router_calls.proofs.TargetLemmas.{put_answered}
+use Rattle.router_calls.proofs.TargetLemmas.{put_answered, put_form}
 use Rattle.router_calls.proofs.put_targets.put_targets.Goals as goal
+
+pub configure-requires-clause-form : goal.configure-requires-clause-form
+configure-requires-clause-form c = λ allowed.
+    put_form c.set-set.result.now c.args.tables.now.set c.in_ok-copy.field-0 c.in_ok-copy-2.field-0 c.args.bus.now c.args.rule.now _ c.args.targets.now
+    c.in_ok-accepted.field-0.accepted.items c.in_ok-accepted.field-0 c.in_ok-copy.ensures c.in_ok-copy-2.ensures c.requires.names c.requires.few
+    c.in_ok-accepted.ensures refl allowed
 
 pub returns-clause-answer : goal.returns-clause-answer
 returns-clause-answer c =
@@ -22,7 +28,7 @@ returns-clause-answer c =
     let found : rule_at bus rule t.set ≡ Some c.in-Some.old.now =
     ap (rule_at bus rule) (sym c.set-set.ensures) ∙ ap (λ b. rule_at b rule set) (sym c.as_str-2.ensures)
     ∙ ap (λ r. rule_at c.as_str-2.result.now r set) (sym c.as_str-3.ensures) ∙ c.in-Some.ensures in
-    let have = subst (λ h. AreAllSplit set h c.args.targets.now all) c.targets.ensures c.in_ok-accepted.ensures in
+    let have = subst (λ h. AreAllSplit set h c.args.targets.now all) c.targets.ensures.targets c.in_ok-accepted.ensures in
     let split = subst (λ s. AreAllSplit s c.in-Some.old.now.targets c.args.targets.now all) c.set-set.ensures have in
     let len : vec_len all.reports ≡ length all.reports.items = search rules in
     let count = c.len.ensures ∙ len in

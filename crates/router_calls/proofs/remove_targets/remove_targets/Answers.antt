@@ -9,8 +9,14 @@ use Rattle.api_replies.specs.View.{reply_of}
 use Rattle.router_calls.specs.Answer.{items_reply, target_report}
 use Rattle.router_calls.specs.Removals.{removed_ids, failed_ids}
 use Rattle.router_calls.proofs.CallLemmas.{controlled_so}
-use Rattle.router_calls.proofs.RemovalLemmas.{removals_answered}
+use Rattle.router_calls.proofs.RemovalLemmas.{removals_answered, removed_form}
 use Rattle.router_calls.proofs.remove_targets.remove_targets.Goals as goal
+
+pub configure-requires-clause-form : goal.configure-requires-clause-form
+configure-requires-clause-form c = λ allowed.
+    removed_form c.args.tables.now.set c.in_ok-copy.field-0 c.in_ok-copy-2.field-0 c.args.bus.now c.args.rule.now c.args.ids.now
+    c.in_ok-removed.field-0.removed.items _ c.in_ok-copy.ensures c.in_ok-copy-2.ensures c.requires.names c.requires.few c.requires.ids
+    c.in_ok-removed.ensures.removed allowed
 
 pub returns-clause-answer : goal.returns-clause-answer
 returns-clause-answer c =
@@ -24,8 +30,8 @@ returns-clause-answer c =
     let found : rule_at bus rule t.set ≡ Some c.in-Some.old.now =
     ap (rule_at bus rule) (sym c.set-set.ensures) ∙ ap (λ b. rule_at b rule set) (sym c.as_str-2.ensures)
     ∙ ap (λ r. rule_at c.as_str-2.result.now r set) (sym c.as_str-3.ensures) ∙ c.in-Some.ensures in
-    let is = c.in_ok-removed.ensures.removed ∙ ap (removed_ids ids) c.targets.ensures in
-    let are = c.in_ok-removed.ensures.reports ∙ ap (λ ts. map target_report (failed_ids ids ts)) c.targets.ensures in
+    let is = c.in_ok-removed.ensures.removed ∙ ap (removed_ids ids) c.targets.ensures.targets in
+    let are = c.in_ok-removed.ensures.reports ∙ ap (λ ts. map target_report (failed_ids ids ts)) c.targets.ensures.targets in
     let len : vec_len all.reports ≡ length all.reports.items = search rules in
     let count = c.len.ensures ∙ len in
     let kept : 0 < length c.in_ok-removed.removed.items = grind (arith, nat_tests) in

@@ -1,0 +1,14 @@
+-- What a decision asks of the result of matching.
+use Rattle.std.specs.Prelude.{◌≡◌, ◌≤◌}
+use Rattle.rule_table.specs.RuleSet.{RuleSet, IsSound}
+use Rattle.router_core.specs.Request.{Request, IsPublishing}
+use Rattle.router_core.specs.Tables.{Tables}
+use Rattle.router_core.specs.Matching.{IsSeen}
+use Rattle.router_core.specs.declared.seen.Seen.{Seen}
+
+-- the result is that of matching the request on this rule set, which the tables have had; it is their latest one unless the request publishes events
+pub record IsMatchedOn (t : Tables) (request : Request) (set : RuleSet) (seen : Seen) : Type 0 where
+  pub sound : IsSound set
+  pub is_seen : IsSeen set request seen
+  pub known : set.count ≤ t.set.count
+  pub latest : (IsPublishing request.action → ⊥) → set ≡ t.set
