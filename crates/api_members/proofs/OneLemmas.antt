@@ -19,7 +19,7 @@ use Rattle.api_members.proofs.PolicyLemmas.{never_faulty, one_fault}
 use Rattle.api_members.specs.Why.{why_name}
 use Rattle.api_members.specs.Given.{given}
 use Rattle.api_members.specs.Value.{IsValid, IsCount, HasCount, HasBus, GivesOr}
-use Rattle.api_members.specs.Refusal.{policy_cause, IsValueRefused, ValidOr, RefusedOr, IsSound, IsMemberRefused, AreSound, IsFirstRefusal}
+use Rattle.api_members.specs.Refusal.{policy_cause, IsValueRefused, ValidOr, RefusedOr, IsSoundMember, IsMemberRefused, AreSound, IsFirstRefusal}
 
 valid_not_refused : (s : Syntax) (m : Member) (t : Tree) (c : Cause) → IsValid s t → IsValueRefused s m t c → ⊥
 valid_not_refused syntax.QueueName m t c v r = r.0 v
@@ -49,7 +49,7 @@ given_not_refused : (fine missing : Type 0) (s : Syntax) (m : Member) (v : Optio
 given_not_refused fine missing s m None c never v r = never v r
 given_not_refused fine missing s m (Some t) c never v r = valid_not_refused s m t c v r
 
-sound_not_refused : (a : Asked) (ms : Members) (c : Cause) → IsSound a ms → IsMemberRefused a ms c → ⊥
+sound_not_refused : (a : Asked) (ms : Members) (c : Cause) → IsSoundMember a ms → IsMemberRefused a ms c → ⊥
 sound_not_refused (Required m s) ms c = given_not_refused ⊥ (c ≡ cause.Required m) s m (given m ms) c (λ v r. v)
 sound_not_refused (Optional m s) ms c = given_not_refused (Unit {0}) ⊥ s m (given m ms) c (λ v r. r)
 
@@ -91,7 +91,8 @@ one_refused (Optional m s) ms c d = one_given (λ x. ⊥) (λ x y p q. absurd p)
 
 -- the first refusal is of the first member, or that is sound and it is the first of the others
 split : (a : Asked) (rest before : List Asked) (here : Asked) (after : List Asked) (ms : Members) (c : Cause)
-    → a ∷ rest ≡ before ++ here ∷ after → AreSound before ms → IsMemberRefused here ms c → IsMemberRefused a ms c ⊎ (IsSound a ms × IsFirstRefusal rest ms c)
+    → a ∷ rest ≡ before ++ here ∷ after → AreSound before ms → IsMemberRefused here ms c
+    → IsMemberRefused a ms c ⊎ (IsSoundMember a ms × IsFirstRefusal rest ms c)
 split a rest [] here after ms c order sound is =
     let same : a ≡ here = cc in
     inl (rw same is)

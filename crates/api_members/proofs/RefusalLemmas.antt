@@ -12,14 +12,15 @@ use Rattle.api_replies.specs.declared.cause.Cause.TheVariants as cause
 use Rattle.api_members.specs.declared.asked.Asked.{Asked}
 use Rattle.api_members.specs.declared.fault.CallFault.{CallFault}
 use Rattle.api_members.specs.declared.fault.CallFault.TheVariants.{Refused, NoMemory}
-use Rattle.api_members.specs.Refusal.{IsSound, IsMemberRefused, AreSound, IsFirstRefusal, FirstFault, MemberFault, IsTextRefused, IsPolicyRefused, IsPolicyFault}
+use Rattle.api_members.specs.Refusal.{IsSoundMember, IsMemberRefused, AreSound, IsFirstRefusal, FirstFault}
+use Rattle.api_members.specs.Refusal.{MemberFault, IsTextRefused, IsPolicyRefused, IsPolicyFault}
 use Rattle.api_members.specs.Why.{why_name}
 use Rattle.api_members.specs.Fault.{IsCallFault}
 
 pub first_here : (a : Asked) (rest : List Asked) (ms : Members) (c : Cause) → IsMemberRefused a ms c → IsFirstRefusal (a ∷ rest) ms c
 first_here a rest ms c is = record { before = []; here = a; after = rest; order = refl; sound = tt; refused = is }
 
-pub first_later : (a : Asked) (rest : List Asked) (ms : Members) (c : Cause) → IsSound a ms → IsFirstRefusal rest ms c
+pub first_later : (a : Asked) (rest : List Asked) (ms : Members) (c : Cause) → IsSoundMember a ms → IsFirstRefusal rest ms c
     → IsFirstRefusal (a ∷ rest) ms c
 first_later a rest ms c sound later = record {
   before = a ∷ later.before;
@@ -35,7 +36,7 @@ pub record IsSoFar (all left : List Asked) (ms : Members) : Type 0 where
   pub sound : AreSound left ms → AreSound all ms
   pub first : (c : Cause) → IsFirstRefusal left ms c → IsFirstRefusal all ms c
 
-pub sound_so_far : (all left : List Asked) (a : Asked) (ms : Members) → IsSoFar all (a ∷ left) ms → IsSound a ms → IsSoFar all left ms
+pub sound_so_far : (all left : List Asked) (a : Asked) (ms : Members) → IsSoFar all (a ∷ left) ms → IsSoundMember a ms → IsSoFar all left ms
 sound_so_far all left a ms old is = record {
   sound = λ rest. old.sound (is, rest);
   first = λ c later. old.first c (first_later a left ms c is later);

@@ -1,4 +1,5 @@
--- The text of a sound member: other files cite `valid_text`, `pattern_text` and `event_text`. A text is one event (`one_event`), which is a value (`event_is_value`).
+-- The text of a sound member: other files cite `valid_text`, `pattern_text` and `event_text`.
+-- A text is one event (`one_event`), which is a value (`event_is_value`).
 use Rattle.std.proofs.Common.{◌≡◌, ℕ, List, [], Option, Some, None, sym, ap, ◌∙◌, subst}
 use Rattle.std.specs.Prelude.{unwrap_or, option_and_then}
 use Rattle.json_text.specs.Tree.{Tree, text, Members}
@@ -14,7 +15,7 @@ use Rattle.api_members.specs.declared.asked.Asked.TheVariants.{Required}
 use Rattle.api_members.specs.Given.{given, text_of}
 use Rattle.api_members.specs.Event.{IsEventGiven, GivesEvent}
 use Rattle.api_members.specs.Value.{IsTextThat, IsPattern, IsValid}
-use Rattle.api_members.specs.Refusal.{ValidOr, IsSound}
+use Rattle.api_members.specs.Refusal.{ValidOr, IsSoundMember}
 
 text_that : (P : List ℕ → Type 0) (t : Tree) → IsTextThat P t → P (unwrap_or (text_in t) [])
 text_that P (text t) is = is
@@ -25,10 +26,10 @@ pub valid_text : (P : List ℕ → Type 0) (s : Syntax) (v : Option Tree) → ((
 valid_text P s None is valid = absurd valid
 valid_text P s (Some t) is valid = text_that P t (is t valid)
 
-pub pattern_text : (m : Member) (ms : Members) → IsSound (Required m syntax.Pattern) ms → IsPattern (text_of m ms)
+pub pattern_text : (m : Member) (ms : Members) → IsSoundMember (Required m syntax.Pattern) ms → IsPattern (text_of m ms)
 pattern_text m ms sound = valid_text IsPattern syntax.Pattern (given m ms) (λ t is. is) sound
 
-pub event_text : (m : Member) (ms : Members) → IsSound (Required m syntax.Event) ms → GivesEvent (text_of m ms)
+pub event_text : (m : Member) (ms : Members) → IsSoundMember (Required m syntax.Event) ms → GivesEvent (text_of m ms)
 event_text m ms sound = valid_text GivesEvent syntax.Event (given m ms) (λ t is. is) sound
 
 pub one_event : (t : List ℕ) (a b : Tree) → IsEventGiven t a → IsEventGiven t b → a ≡ b

@@ -52,9 +52,9 @@ RefusedOr absent s m None c = absent
 RefusedOr absent s m (Some tree) c = IsValueRefused s m tree c
 
 -- the member is given and valid, or it is optional and absent
-abbrev pub IsSound : Asked → Members → Type 0
-IsSound (Required m s) ms = ValidOr ⊥ s (given m ms)
-IsSound (Optional m s) ms = ValidOr (Unit {0}) s (given m ms)
+abbrev pub IsSoundMember : Asked → Members → Type 0
+IsSoundMember (Required m s) ms = ValidOr ⊥ s (given m ms)
+IsSoundMember (Optional m s) ms = ValidOr (Unit {0}) s (given m ms)
 
 -- the member is absent though required, or its value is refused
 abbrev pub IsMemberRefused : Asked → Members → Cause → Type 0
@@ -64,7 +64,7 @@ IsMemberRefused (Optional m s) ms c = RefusedOr ⊥ s m (given m ms) c
 -- each of the asked members is sound
 abbrev pub AreSound : List Asked → Members → Type 0
 AreSound [] ms = Unit {0}
-AreSound (a ∷ asked) ms = IsSound a ms × AreSound asked ms
+AreSound (a ∷ asked) ms = IsSoundMember a ms × AreSound asked ms
 
 -- the first refusal: of one of the members, and those before it in the list are sound
 pub record IsFirstRefusal (asked : List Asked) (ms : Members) (c : Cause) : Type 0 where

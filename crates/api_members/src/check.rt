@@ -4,7 +4,7 @@ ghost use Rattle.json_text.specs.Tree.{members_of};
 ghost use Rattle.json_text.specs.View.{tree_of, pairs_of};
 ghost use Rattle.api_members.specs.Fault.{IsCallFault};
 ghost use Rattle.api_members.specs.Value.{IsValid, IsPattern, GivesPolicy};
-ghost use Rattle.api_members.specs.Refusal.{IsSound, AreSound, FirstFault, MemberFault, ValueFault, IsTextRefused, IsEventRefused, IsPolicyRefused, IsPolicyFault};
+ghost use Rattle.api_members.specs.Refusal.{IsSoundMember, AreSound, FirstFault, MemberFault, ValueFault, IsTextRefused, IsEventRefused, IsPolicyRefused, IsPolicyFault};
 ghost use Rattle.api_members.specs.Event.{GivesEvent};
 
 use crate::asked::{Asked, Syntax};
@@ -43,7 +43,7 @@ pub fn check_members(
 
 fn check_member(alloc: Global, asked: Asked, members: &[(Text, Json)]) -> Result<(), CallFault>
     ensures { MatchResult result
-        (λ _. IsSound asked (members_of (pairs_of members.now)))
+        (λ _. IsSoundMember asked (members_of (pairs_of members.now)))
         (MemberFault asked (members_of (pairs_of members.now))) }
 {
     match asked {

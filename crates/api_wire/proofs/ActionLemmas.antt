@@ -1,5 +1,5 @@
 -- The members of an operation make at most one action: `one_action`.
-use Rattle.std.proofs.Common.{◌≡◌, ℕ, List, Option, None, sym, ap, ◌∙◌, subst, arith}
+use Rattle.std.proofs.Common.{◌≡◌, ℕ, true, false, List, Option, None, sym, ap, ◌∙◌, subst, arith}
 use Rattle.std.specs.Prelude.{IsSome}
 use Rattle.std.proofs.lemmas.Bool.{false≢true}
 use Rattle.json_text.specs.Tree.{Tree, Members}
@@ -13,7 +13,7 @@ use Rattle.router_core.specs.Request.{test_event_pattern, create_queue, peek_mes
 use Rattle.api_replies.specs.declared.member.Member.{Member}
 use Rattle.api_replies.specs.declared.member.Member.TheVariants as member
 use Rattle.api_members.specs.Given.{given, text_given, text_of, values_in}
-use Rattle.api_members.specs.Entry.{entries_of}
+use Rattle.api_members.specs.Entry.{texts_of, entries_of}
 use Rattle.api_members.proofs.CheckedLemmas.{one_checking}
 use Rattle.api_members.proofs.OneLemmas.{one_bus, one_count}
 use Rattle.api_members.proofs.TextLemmas.{one_event}
@@ -23,18 +23,34 @@ use Rattle.api_wire.specs.declared.call.operation.Operation.TheVariants.{PutRule
 use Rattle.api_wire.specs.declared.call.operation.Operation.TheVariants.{PutTargets, RemoveTargets, ListTargetsByRule, ListRuleNamesByTarget}
 use Rattle.api_wire.specs.declared.call.operation.Operation.TheVariants.{PutPermission, RemovePermission, PutEvents, TestEventPattern}
 use Rattle.api_wire.specs.declared.call.operation.Operation.TheVariants.{CreateQueue, PeekMessages, DeliverDue}
-use Rattle.api_wire.specs.Call.{IsBusIn, IsBus, IsStoredAs, IsAction}
+use Rattle.api_wire.specs.Call.{NamesBusIn, NamesBus, account_in, IsStoredAs, targets_of, IsAction}
 
 -- the members of the operation make at most one action
 abbrev OneAction : Operation → Type 0
 OneAction operation = (caller : List ℕ) (ms : Members) (reading : ℕ) (a b : Action) → IsAction operation caller ms reading a
     → IsAction operation caller ms reading b → a ≡ b
 
-same_bus_in : (m : Member) (ms : Members) (a b : List ℕ) → IsBusIn m ms a → IsBusIn m ms b → a ≡ b
+same_bus_in : (m : Member) (ms : Members) (a b : List ℕ) → NamesBusIn m ms a → NamesBusIn m ms b → a ≡ b
 same_bus_in m ms a b = one_bus (text_given m ms) default_bus a b
 
-same_bus : (ms : Members) (a b : List ℕ) → IsBus ms a → IsBus ms b → a ≡ b
+same_bus : (ms : Members) (a b : List ℕ) → NamesBus ms a → NamesBus ms b → a ≡ b
 same_bus ms a b = same_bus_in member.EventBusName ms a b
+
+-- an action on a bus that has one more part, and one that has two
+same_with : {X : Type 0} (make : List ℕ → X → Action) (ms : Members) (x : X) (u w : List ℕ) (y z : X) → NamesBus ms u × (y ≡ x)
+    → NamesBus ms w × (z ≡ x) → make u y ≡ make w z
+same_with make ms x u w y z p q =
+    let bus = same_bus ms u w p.0 q.0 in
+    let part = p.1 ∙ sym q.1 in
+    λ i. make (bus i) (part i)
+
+same_with_two : {X Y : Type 0} (make : List ℕ → X → Y → Action) (ms : Members) (x : X) (y : Y) (u w : List ℕ) (a c : X) (b d : Y)
+    → NamesBus ms u × (a ≡ x) × (b ≡ y) → NamesBus ms w × (c ≡ x) × (d ≡ y) → make u a b ≡ make w c d
+same_with_two make ms x y u w a c b d p q =
+    let bus = same_bus ms u w p.0 q.0 in
+    let first = p.1 ∙ sym q.1 in
+    let second = p.2 ∙ sym q.2 in
+    λ i. make (bus i) (first i) (second i)
 
 one_create_event_bus : OneAction CreateEventBus
 one_create_event_bus caller ms reading (create_event_bus s) (create_event_bus t) p q = ap create_event_bus (p ∙ sym q)
@@ -68,69 +84,49 @@ one_put_rule caller ms reading _ b p q = absurd p
 
 one_delete_rule : OneAction DeleteRule
 one_delete_rule caller ms reading (delete_rule u s) (delete_rule w t) p q =
-    let bus = same_bus ms u w p.0 q.0 in
-    let name = p.1 ∙ sym q.1 in
-    λ i. delete_rule (bus i) (name i)
+    same_with delete_rule ms (text_of member.Name ms) u w s t p q
 one_delete_rule caller ms reading (delete_rule u s) _ p q = absurd q
 one_delete_rule caller ms reading _ b p q = absurd p
 
 one_enable_rule : OneAction EnableRule
 one_enable_rule caller ms reading (put_rule_state u s x) (put_rule_state w t y) p q =
-    let bus = same_bus ms u w p.0 q.0 in
-    let name = p.1 ∙ sym q.1 in
-    let enabled = p.2 ∙ sym q.2 in
-    λ i. put_rule_state (bus i) (name i) (enabled i)
+    same_with_two put_rule_state ms (text_of member.Name ms) true u w s t x y p q
 one_enable_rule caller ms reading (put_rule_state u s x) _ p q = absurd q
 one_enable_rule caller ms reading _ b p q = absurd p
 
 one_disable_rule : OneAction DisableRule
 one_disable_rule caller ms reading (put_rule_state u s x) (put_rule_state w t y) p q =
-    let bus = same_bus ms u w p.0 q.0 in
-    let name = p.1 ∙ sym q.1 in
-    let enabled = p.2 ∙ sym q.2 in
-    λ i. put_rule_state (bus i) (name i) (enabled i)
+    same_with_two put_rule_state ms (text_of member.Name ms) false u w s t x y p q
 one_disable_rule caller ms reading (put_rule_state u s x) _ p q = absurd q
 one_disable_rule caller ms reading _ b p q = absurd p
 
 one_describe_rule : OneAction DescribeRule
 one_describe_rule caller ms reading (describe_rule u s) (describe_rule w t) p q =
-    let bus = same_bus ms u w p.0 q.0 in
-    let name = p.1 ∙ sym q.1 in
-    λ i. describe_rule (bus i) (name i)
+    same_with describe_rule ms (text_of member.Name ms) u w s t p q
 one_describe_rule caller ms reading (describe_rule u s) _ p q = absurd q
 one_describe_rule caller ms reading _ b p q = absurd p
 
 one_list_rules : OneAction ListRules
 one_list_rules caller ms reading (list_rules u s) (list_rules w t) p q =
-    let bus = same_bus ms u w p.0 q.0 in
-    let prefix = p.1 ∙ sym q.1 in
-    λ i. list_rules (bus i) (prefix i)
+    same_with list_rules ms (text_given member.NamePrefix ms) u w s t p q
 one_list_rules caller ms reading (list_rules u s) _ p q = absurd q
 one_list_rules caller ms reading _ b p q = absurd p
 
 one_put_targets : OneAction PutTargets
 one_put_targets caller ms reading (put_targets u s xs) (put_targets w t ys) p q =
-    let bus = same_bus ms u w p.0 q.0 in
-    let rule = p.1 ∙ sym q.1 in
-    let targets = p.2 ∙ sym q.2 in
-    λ i. put_targets (bus i) (rule i) (targets i)
+    same_with_two put_targets ms (text_of member.Rule ms) (targets_of (values_in member.Targets ms)) u w s t xs ys p q
 one_put_targets caller ms reading (put_targets u s xs) _ p q = absurd q
 one_put_targets caller ms reading _ b p q = absurd p
 
 one_remove_targets : OneAction RemoveTargets
 one_remove_targets caller ms reading (remove_targets u s xs) (remove_targets w t ys) p q =
-    let bus = same_bus ms u w p.0 q.0 in
-    let rule = p.1 ∙ sym q.1 in
-    let ids = p.2 ∙ sym q.2 in
-    λ i. remove_targets (bus i) (rule i) (ids i)
+    same_with_two remove_targets ms (text_of member.Rule ms) (texts_of (values_in member.Ids ms)) u w s t xs ys p q
 one_remove_targets caller ms reading (remove_targets u s xs) _ p q = absurd q
 one_remove_targets caller ms reading _ b p q = absurd p
 
 one_list_targets_by_rule : OneAction ListTargetsByRule
 one_list_targets_by_rule caller ms reading (list_targets_by_rule u s) (list_targets_by_rule w t) p q =
-    let bus = same_bus ms u w p.0 q.0 in
-    let rule = p.1 ∙ sym q.1 in
-    λ i. list_targets_by_rule (bus i) (rule i)
+    same_with list_targets_by_rule ms (text_of member.Rule ms) u w s t p q
 one_list_targets_by_rule caller ms reading (list_targets_by_rule u s) _ p q = absurd q
 one_list_targets_by_rule caller ms reading _ b p q = absurd p
 
@@ -159,10 +155,7 @@ one_put_permission caller ms reading (put_policy u s) (put_statement w t y) p q 
 one_put_permission caller ms reading (put_policy u s) _ p q = absurd q
 one_put_permission caller ms reading (put_statement u s x) (put_policy w t) p q = absurd (never_given (given member.Policy ms) q.0 p.0)
 one_put_permission caller ms reading (put_statement u s x) (put_statement w t y) p q =
-    let bus = same_bus ms u w p.1 q.1 in
-    let sid = p.2 ∙ sym q.2 in
-    let account = p.3 ∙ sym q.3 in
-    λ i. put_statement (bus i) (sid i) (account i)
+    same_with_two put_statement ms (text_of member.StatementId ms) (account_in (text_of member.Principal ms)) u w s t x y (p.1, p.2, p.3) (q.1, q.2, q.3)
 one_put_permission caller ms reading (put_statement u s x) _ p q = absurd q
 one_put_permission caller ms reading _ b p q = absurd p
 
@@ -172,9 +165,7 @@ one_remove_permission caller ms reading (remove_policy u) (remove_statement w t)
 one_remove_permission caller ms reading (remove_policy u) _ p q = absurd q
 one_remove_permission caller ms reading (remove_statement u s) (remove_policy w) p q = absurd (false≢true (sym p.0 ∙ q.0))
 one_remove_permission caller ms reading (remove_statement u s) (remove_statement w t) p q =
-    let bus = same_bus ms u w p.1 q.1 in
-    let sid = p.2 ∙ sym q.2 in
-    λ i. remove_statement (bus i) (sid i)
+    same_with remove_statement ms (text_given member.StatementId ms) u w s t (p.1, p.2) (q.1, q.2)
 one_remove_permission caller ms reading (remove_statement u s) _ p q = absurd q
 one_remove_permission caller ms reading _ b p q = absurd p
 

@@ -1,34 +1,81 @@
--- The bounds of what sound members ask for. bus_server cites `target_bounds`, `id_bounds`, `entry_bounds`, `count_bounds`, `policy_bounds` and
--- `grantee_bounds`.
-use Rattle.std.proofs.Common.{◌≡◌, ℕ, ◌≤◌, Bool, true, false, inl, inr, List, [], ◌∷◌, length, Option, Some, None, suc, refl, ap, subst, arith}
+-- The bounds of what sound members ask for: first the syntax of names, then numbers. bus_server cites each public lemma.
+use Rattle.std.proofs.Common.{◌≡◌, ℕ, ◌≤◌, Bool, true, false, inl, inr, List, [], ◌∷◌, length, Option, Some, None, Ok, Err, suc, sym, refl, ap, subst, arith}
 use Rattle.std.specs.Prelude.{if◌then◌else◌, codes, All, unwrap_or, option_and_then, IsTrue, Result}
 use Rattle.std.specs.Str.{bytes_eq}
 use Rattle.std.proofs.lemmas.Bool.Decides.{nat_tests}
 use Rattle.std.proofs.lemmas.List.{length-map}
-use Rattle.std.proofs.lemmas.List.Elements.{All-head, All-tail}
+use Rattle.std.proofs.lemmas.List.Elements.{All-nil, All-cons, All-head, All-tail}
 use Rattle.json_text.specs.Tree.{Tree, number, text, Members}
 use Rattle.json_text.specs.Compact.{IsValue, compact_text}
 use Rattle.json_text.proofs.ValueLemmas.{text_is_value}
-use Rattle.event_shape.specs.Names.{IsShortName, is_account}
+use Rattle.json_text.specs.Access.{text_in}
+use Rattle.event_shape.specs.Names.{IsBusName, IsShortName, IsQueueName, default_bus, is_account}
+use Rattle.event_shape.specs.Entry.{Entry}
+use Rattle.event_shape.specs.Event.{IsBusOf}
 use Rattle.event_shape.specs.Unnumbered.{Unnumbered}
 use Rattle.event_shape.specs.declared.entry.EntryFault.{EntryFault}
 use Rattle.bus_policy.specs.Change.{IsAccountGiven}
+use Rattle.bus_policy.specs.StatementId.{IsStatementId}
 use Rattle.bus_policy.specs.Stored.{IsStored}
 use Rattle.bus_policy.proofs.ReadLemmas.{read_stored}
+use Rattle.api_replies.specs.declared.member.Member.{Member}
 use Rattle.api_replies.specs.declared.member.Member.TheVariants as member
-use Rattle.api_members.specs.declared.asked.Asked.TheVariants.{Required}
+use Rattle.api_members.specs.declared.asked.Asked.TheVariants.{Required, Optional}
 use Rattle.api_members.specs.declared.asked.Syntax.{Syntax}
 use Rattle.api_members.specs.declared.asked.Syntax.TheVariants as syntax
-use Rattle.api_members.specs.Given.{given, text_of, list_in, values_in, members_in}
+use Rattle.api_members.specs.Given.{given, text_given, text_of, list_in, values_in, members_in}
 use Rattle.api_members.specs.JsonType.{must_pass}
 use Rattle.api_members.specs.Entry.{is_entry, texts_of, entry_with, entries_of}
-use Rattle.api_members.specs.CheckedEntry.{AreChecked}
+use Rattle.api_members.specs.CheckedEntry.{IsChecked, AreChecked}
 use Rattle.api_members.specs.Target.{is_target}
-use Rattle.api_members.specs.Value.{IsTextThat, IsGrantee, are_few, is_list_of, IsCount, HasCount, GivesOr, IsValid}
-use Rattle.api_members.specs.Refusal.{ValidOr, IsSound}
+use Rattle.api_members.specs.Value.{IsTextThat, GivesQueueArn, IsGrantee, are_few, is_list_of, IsCount, HasCount, HasBus, GivesOr, IsValid}
+use Rattle.api_members.specs.Refusal.{ValidOr, IsSoundMember}
 use Rattle.api_members.proofs.CheckedLemmas.{checked_len}
 use Rattle.api_members.proofs.TextLemmas.{valid_text}
-use Rattle.api_wire.specs.Call.{account_in, IsStoredAs, target_with, targets_of}
+use Rattle.api_wire.specs.Call.{NamesBusIn, account_in, IsStoredAs, target_with, targets_of}
+
+-- `default` is a bus's name
+default_is_name : IsBusName default_bus
+default_is_name = (omega arith, omega arith, refl)
+
+bus_in : (v : Option (List ℕ)) (bus : List ℕ) → GivesOr (HasBus v) default_bus bus → IsBusName bus
+bus_in v bus (inr is) = rw is.0 default_is_name
+bus_in None bus (inl is) = absurd is
+bus_in (Some t) bus (inl is) = is.0
+
+-- a member that gives a bus, or `default`
+pub bus_named : (m : Member) (ms : Members) (bus : List ℕ) → NamesBusIn m ms bus → IsBusName bus
+bus_named m ms bus is = bus_in (text_given m ms) bus is
+
+-- a required name of a rule, of a bus, or of a queue
+pub short_name : (m : Member) (ms : Members) → IsSoundMember (Required m syntax.RuleName) ms → IsShortName (text_of m ms)
+short_name m ms sound = valid_text IsShortName syntax.RuleName (given m ms) (λ t is. is) sound
+
+pub bus_name : (m : Member) (ms : Members) → IsSoundMember (Required m syntax.BusName) ms → IsBusName (text_of m ms)
+bus_name m ms sound = valid_text IsBusName syntax.BusName (given m ms) (λ t is. is) sound
+
+pub queue_name : (m : Member) (ms : Members) → IsSoundMember (Required m syntax.QueueName) ms → IsQueueName (text_of m ms)
+queue_name m ms sound = valid_text IsQueueName syntax.QueueName (given m ms) (λ t is. is) sound
+
+-- a required ARN of a queue
+pub queue_arn : (m : Member) (ms : Members) → IsSoundMember (Required m syntax.QueueArn) ms → GivesQueueArn (text_of m ms)
+queue_arn m ms sound = valid_text GivesQueueArn syntax.QueueArn (given m ms) (λ t is. is) sound
+
+-- a required StatementId
+pub statement_id : (m : Member) (ms : Members) → IsSoundMember (Required m syntax.StatementId) ms → IsStatementId (text_of m ms)
+statement_id m ms sound = valid_text IsStatementId syntax.StatementId (given m ms) (λ t is. is) sound
+
+id_in : (v : Option Tree) (sid : List ℕ) → ValidOr (Unit {0}) syntax.StatementId v → option_and_then text_in v ≡ Some sid → IsStatementId sid
+id_in None sid valid is = absurd (cc is)
+id_in (Some (text t)) sid valid is =
+    let same : t ≡ sid = cc is in
+    subst IsStatementId same valid
+id_in (Some other) sid valid is = absurd valid
+
+-- a StatementId that is given
+pub given_statement_id : (m : Member) (ms : Members) (sid : List ℕ) → IsSoundMember (Optional m syntax.StatementId) ms
+    → text_given m ms ≡ Some sid → IsStatementId sid
+given_statement_id m ms sid sound is = id_in (given m ms) sid sound is
 
 few : (test : Tree → Bool) (most : ℕ) (values : Option (List Tree)) → IsTrue (must_pass (are_few test most) values)
     → (1 ≤ length (unwrap_or values [])) × (length (unwrap_or values []) ≤ most)
@@ -45,7 +92,7 @@ valid_values s test most None is valid = absurd valid
 valid_values s test most (Some tree) is valid = few_values test most tree (is tree valid)
 
 -- 1 to 100 targets
-pub target_bounds : (ms : Members) → IsSound (Required member.Targets syntax.Targets) ms
+pub target_bounds : (ms : Members) → IsSoundMember (Required member.Targets syntax.Targets) ms
     → (1 ≤ length (targets_of (values_in member.Targets ms))) × (length (targets_of (values_in member.Targets ms)) ≤ 100)
 target_bounds ms sound =
     let values = values_in member.Targets ms in
@@ -54,7 +101,8 @@ target_bounds ms sound =
     (omega (arith, some.0, same), omega (arith, some.1, same))
 
 -- 1 to 10 entries
-pub entry_bounds : (ms : Members) (reading : ℕ) (caller : List ℕ) (all : List (Result Unnumbered EntryFault)) → IsSound (Required member.Entries syntax.Entries) ms
+pub entry_bounds : (ms : Members) (reading : ℕ) (caller : List ℕ) (all : List (Result Unnumbered EntryFault))
+    → IsSoundMember (Required member.Entries syntax.Entries) ms
     → AreChecked reading caller (entries_of (values_in member.Entries ms)) all → (1 ≤ length all) × (length all ≤ 10)
 entry_bounds ms reading caller all sound checked =
     let values = values_in member.Entries ms in
@@ -62,6 +110,22 @@ entry_bounds ms reading caller all sound checked =
     let same = length-map values (λ tree. entry_with (members_in tree)) in
     let each = checked_len reading caller (entries_of values) all checked in
     (omega (arith, some.0, same, each), omega (arith, some.1, same, each))
+
+entry_bus : (o : Option (List ℕ)) (bus : List ℕ) → IsBusOf o bus → IsBusName bus
+entry_bus None bus is = rw is default_is_name
+entry_bus (Some t) bus is = is.0
+
+-- what holds of each event for a bus name, and of each fault, holds of each checked entry
+pub each_checked : (P : Result Unnumbered EntryFault → Type 0) (reading : ℕ) (caller : List ℕ) (entries : List Entry)
+    (all : List (Result Unnumbered EntryFault)) → ((u : Unnumbered) → IsBusName u.bus → P (Ok u)) → ((fault : EntryFault) → P (Err fault))
+    → AreChecked reading caller entries all → All P all
+each_checked P reading caller [] all event fault checked = rw checked (All-nil P)
+each_checked P reading caller (e ∷ entries) all event fault checked =
+    rw checked.2 (All-cons P checked.0 checked.1 (one checked.0 checked.3) (each_checked P reading caller entries checked.1 event fault checked.4))
+  where
+    one : (r : Result Unnumbered EntryFault) → IsChecked reading caller e r → P r
+    one (Ok u) is = event u (subst IsBusName (sym is.3) (entry_bus e.bus is.0.bus is.1.bus))
+    one (Err f) is = fault f
 
 count_in : (most : ℕ) (tree : Tree) (n : ℕ) → IsCount most tree n → (1 ≤ n) × (n ≤ most)
 count_in most (number spelling) n is = (is.0, is.1)
@@ -90,9 +154,24 @@ few_ids (Some tree) valid =
     rw valid.1 (omega (arith, valid.2, same), omega (arith, valid.3, same))
 
 -- 1 to 100 ids
-pub id_bounds : (ms : Members) → IsSound (Required member.Ids syntax.Ids) ms
+pub id_bounds : (ms : Members) → IsSoundMember (Required member.Ids syntax.Ids) ms
     → (1 ≤ length (texts_of (values_in member.Ids ms))) × (length (texts_of (values_in member.Ids ms)) ≤ 100)
 id_bounds ms sound = few_ids (given member.Ids ms) sound
+
+each_id : (values : List Tree) → All (IsTextThat IsShortName) values → All IsShortName (texts_of values)
+each_id [] each = All-nil IsShortName
+each_id (text t ∷ values) each =
+    let here = All-head (IsTextThat IsShortName) (text t) values each in
+    All-cons IsShortName t (texts_of values) here (each_id values (All-tail (IsTextThat IsShortName) (text t) values each))
+each_id (other ∷ values) each = absurd (All-head (IsTextThat IsShortName) other values each)
+
+named_ids : (v : Option Tree) → ValidOr ⊥ syntax.Ids v → All IsShortName (texts_of (unwrap_or (option_and_then list_in v) []))
+named_ids None valid = absurd valid
+named_ids (Some tree) valid = rw valid.1 (each_id valid.0 valid.4)
+
+-- each id has the syntax of one
+pub id_names : (ms : Members) → IsSoundMember (Required member.Ids syntax.Ids) ms → All IsShortName (texts_of (values_in member.Ids ms))
+id_names ms sound = named_ids (given member.Ids ms) sound
 
 -- what is stored of a policy's text is a policy as it is stored
 pub policy_bounds : (t stored : List ℕ) → IsStoredAs t stored → (value : Tree) × IsStored value × (stored ≡ compact_text value)
@@ -110,5 +189,5 @@ grantee_in t (inl all) = rw all tt
 grantee_in t (inr account) = given_or_everyone t account (bytes_eq t (codes "*"))
 
 -- a statement is for an account or for everyone
-pub grantee_bounds : (ms : Members) → IsSound (Required member.Principal syntax.Principal) ms → IsAccountGiven (account_in (text_of member.Principal ms))
+pub grantee_bounds : (ms : Members) → IsSoundMember (Required member.Principal syntax.Principal) ms → IsAccountGiven (account_in (text_of member.Principal ms))
 grantee_bounds ms sound = grantee_in (text_of member.Principal ms) (valid_text IsGrantee syntax.Principal (given member.Principal ms) (λ t is. is) sound)

@@ -106,11 +106,13 @@ one_refusal m c d (not_entitled operation ms named account body never is) (unkno
 one_refusal m c d (not_entitled operation ms named account body never is) (no_account some2 other2 is2) = absurd (other2 account)
 one_refusal m c d (not_entitled operation ms named account body never is) (no_object some2 account2 none2 is2) = absurd (none2 ms body)
 one_refusal m c d (not_entitled operation ms named account body never is) (not_entitled operation2 ms2 named2 account2 body2 never2 is2) = is ∙ sym is2
-one_refusal m c d (not_entitled operation ms named account body never is) (members operation2 ms2 named2 account2 body2 may2 first2) = absurd (may_and_not m operation2 operation (caller_of m.caller) named2 named may2 never)
+one_refusal m c d (not_entitled operation ms named account body never is) (members operation2 ms2 named2 account2 body2 may2 first2) =
+    absurd (may_and_not m operation2 operation (caller_of m.caller) named2 named may2 never)
 one_refusal m c d (members operation ms named account body may first) (unknown none2 is2) = absurd (not_named m.target operation none2 named)
 one_refusal m c d (members operation ms named account body may first) (no_account some2 other2 is2) = absurd (other2 account)
 one_refusal m c d (members operation ms named account body may first) (no_object some2 account2 none2 is2) = absurd (none2 ms body)
-one_refusal m c d (members operation ms named account body may first) (not_entitled operation2 ms2 named2 account2 body2 never2 is2) = absurd (may_and_not m operation operation2 (caller_of m.caller) named named2 may never2)
+one_refusal m c d (members operation ms named account body may first) (not_entitled operation2 ms2 named2 account2 body2 never2 is2) =
+    absurd (may_and_not m operation operation2 (caller_of m.caller) named named2 may never2)
 one_refusal m c d (members operation ms named account body may first) (members operation2 ms2 named2 account2 body2 may2 first2) =
     let operations = same_operation m.target operation operation2 named named2 in
     let bodies = one_body m.body ms ms2 body body2 in

@@ -1,5 +1,6 @@
 -- Which request a message asks for, and its first refusal.
-use Rattle.std.specs.Prelude.{◌≡◌, ℕ, ◌-◌, ◌^◌, min, Bool, true, false, not, List, [], ◌∷◌, Option, Some, None, IsSome, is_some, if◌then◌else◌, codes, map, IsTrue}
+use Rattle.std.specs.Prelude.{◌≡◌, ℕ, ◌-◌, ◌^◌, min, Bool, true, false, not, List, [], ◌∷◌, Option, Some, None, IsSome, is_some, if◌then◌else◌}
+use Rattle.std.specs.Prelude.{codes, map, IsTrue}
 use Rattle.std.specs.Str.{bytes_eq}
 use Rattle.json_text.specs.Tree.{Tree, truth, object, Members, no_members}
 use Rattle.json_text.specs.Compact.{compact_text}
@@ -98,11 +99,11 @@ asked PeekMessages ms = Required member.QueueName syntax.QueueName ∷ Optional 
 asked DeliverDue ms = Optional member.Budget (syntax.Count 1000) ∷ []
 
 -- the bus whose name or ARN this member gives, or else `default`
-abbrev pub IsBusIn : Member → Members → List ℕ → Type 0
-IsBusIn m ms bus = GivesOr (HasBus (text_given m ms)) default_bus bus
+abbrev pub NamesBusIn : Member → Members → List ℕ → Type 0
+NamesBusIn m ms bus = GivesOr (HasBus (text_given m ms)) default_bus bus
 
-abbrev pub IsBus : Members → List ℕ → Type 0
-IsBus ms bus = IsBusIn member.EventBusName ms bus
+abbrev pub NamesBus : Members → List ℕ → Type 0
+NamesBus ms bus = NamesBusIn member.EventBusName ms bus
 
 -- whom a Principal names: `*` is everyone, and any other text an account
 abbrev pub account_in : List ℕ → Option (List ℕ)
@@ -143,29 +144,29 @@ targets_of values = map (λ tree. target_with (members_in tree)) values
 abbrev pub IsAction : Operation → List ℕ → Members → ℕ → Action → Type 0
 IsAction CreateEventBus caller ms reading (create_event_bus name) = name ≡ text_of member.Name ms
 IsAction DeleteEventBus caller ms reading (delete_event_bus name) = name ≡ text_of member.Name ms
-IsAction DescribeEventBus caller ms reading (describe_event_bus name) = IsBusIn member.Name ms name
+IsAction DescribeEventBus caller ms reading (describe_event_bus name) = NamesBusIn member.Name ms name
 IsAction ListEventBuses caller ms reading (list_event_buses prefix) = prefix ≡ text_given member.NamePrefix ms
-IsAction PutRule caller ms reading (put_rule bus name pattern enabled) = IsBus ms bus × (name ≡ text_of member.Name ms)
+IsAction PutRule caller ms reading (put_rule bus name pattern enabled) = NamesBus ms bus × (name ≡ text_of member.Name ms)
     × (pattern ≡ text_of member.EventPattern ms) × (enabled ≡ is_enabled (text_given member.State ms))
-IsAction DeleteRule caller ms reading (delete_rule bus name) = IsBus ms bus × (name ≡ text_of member.Name ms)
-IsAction EnableRule caller ms reading (put_rule_state bus name enabled) = IsBus ms bus × (name ≡ text_of member.Name ms) × (enabled ≡ true)
-IsAction DisableRule caller ms reading (put_rule_state bus name enabled) = IsBus ms bus × (name ≡ text_of member.Name ms) × (enabled ≡ false)
-IsAction DescribeRule caller ms reading (describe_rule bus name) = IsBus ms bus × (name ≡ text_of member.Name ms)
-IsAction ListRules caller ms reading (list_rules bus prefix) = IsBus ms bus × (prefix ≡ text_given member.NamePrefix ms)
-IsAction PutTargets caller ms reading (put_targets bus rule targets) = IsBus ms bus × (rule ≡ text_of member.Rule ms)
+IsAction DeleteRule caller ms reading (delete_rule bus name) = NamesBus ms bus × (name ≡ text_of member.Name ms)
+IsAction EnableRule caller ms reading (put_rule_state bus name enabled) = NamesBus ms bus × (name ≡ text_of member.Name ms) × (enabled ≡ true)
+IsAction DisableRule caller ms reading (put_rule_state bus name enabled) = NamesBus ms bus × (name ≡ text_of member.Name ms) × (enabled ≡ false)
+IsAction DescribeRule caller ms reading (describe_rule bus name) = NamesBus ms bus × (name ≡ text_of member.Name ms)
+IsAction ListRules caller ms reading (list_rules bus prefix) = NamesBus ms bus × (prefix ≡ text_given member.NamePrefix ms)
+IsAction PutTargets caller ms reading (put_targets bus rule targets) = NamesBus ms bus × (rule ≡ text_of member.Rule ms)
     × (targets ≡ targets_of (values_in member.Targets ms))
-IsAction RemoveTargets caller ms reading (remove_targets bus rule ids) = IsBus ms bus × (rule ≡ text_of member.Rule ms)
+IsAction RemoveTargets caller ms reading (remove_targets bus rule ids) = NamesBus ms bus × (rule ≡ text_of member.Rule ms)
     × (ids ≡ texts_of (values_in member.Ids ms))
-IsAction ListTargetsByRule caller ms reading (list_targets_by_rule bus rule) = IsBus ms bus × (rule ≡ text_of member.Rule ms)
-IsAction ListRuleNamesByTarget caller ms reading (list_rule_names_by_target arn bus) = (arn ≡ text_of member.TargetArn ms) × IsBus ms bus
+IsAction ListTargetsByRule caller ms reading (list_targets_by_rule bus rule) = NamesBus ms bus × (rule ≡ text_of member.Rule ms)
+IsAction ListRuleNamesByTarget caller ms reading (list_rule_names_by_target arn bus) = (arn ≡ text_of member.TargetArn ms) × NamesBus ms bus
 IsAction PutPermission caller ms reading (put_policy bus policy) =
-    IsSome (given member.Policy ms) × IsBus ms bus × IsStoredAs (text_of member.Policy ms) policy
-IsAction PutPermission caller ms reading (put_statement bus sid account) = (given member.Policy ms ≡ None) × IsBus ms bus
+    IsSome (given member.Policy ms) × NamesBus ms bus × IsStoredAs (text_of member.Policy ms) policy
+IsAction PutPermission caller ms reading (put_statement bus sid account) = (given member.Policy ms ≡ None) × NamesBus ms bus
     × (sid ≡ text_of member.StatementId ms) × (account ≡ account_in (text_of member.Principal ms))
 IsAction RemovePermission caller ms reading (remove_policy bus) =
-    (removes_all (given member.RemoveAllPermissions ms) ≡ true) × IsBus ms bus
+    (removes_all (given member.RemoveAllPermissions ms) ≡ true) × NamesBus ms bus
 IsAction RemovePermission caller ms reading (remove_statement bus sid) =
-    (removes_all (given member.RemoveAllPermissions ms) ≡ false) × IsBus ms bus × (sid ≡ text_given member.StatementId ms)
+    (removes_all (given member.RemoveAllPermissions ms) ≡ false) × NamesBus ms bus × (sid ≡ text_given member.StatementId ms)
 IsAction PutEvents caller ms reading (put_events entries size) =
     AreChecked reading caller (entries_of (values_in member.Entries ms)) entries
     × (size ≡ min (total_size (entries_of (values_in member.Entries ms))) (2 ^ 64 - 1))

@@ -46,7 +46,8 @@ returns-in_err-check_asked-clause-refused c =
     rw (p.1, p.2) (refused_fault c)
 
 is_asked : (c : goal.After-drop-members-2)
-    → IsAsked c.args.message.now c.args.reading (request_of (record { action = c.in_ok-action.action; caller = c.in_ok-caller.caller; reading = c.args.reading }))
+    → IsAsked c.args.message.now c.args.reading
+    (request_of (record { action = c.in_ok-action.action; caller = c.in_ok-caller.caller; reading = c.args.reading }))
 is_asked c = record {
   operation = c.in-Some.operation;
   named = sym c.in-Some.ensures;
