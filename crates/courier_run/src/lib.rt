@@ -1,0 +1,17 @@
+//! Delivery steps over any book of duties, any link and any clock.
+#![tactic(auto)]
+
+mod attempt;
+mod book;
+mod delivery;
+mod fault;
+mod held;
+#[cfg(test)]
+mod tests;
+mod turned;
+
+pub use book::{BookFault, DutyBook};
+pub use delivery::turn;
+pub use fault::TurnFault;
+pub use held::{HeldDuty, Way};
+pub use turned::Turned;
