@@ -1,129 +1,260 @@
--- Steps of delivery in order. Other files cite `delivering_more`, `delivery_used`, `delivery_idle` and
--- `delivery_limited`.
-use Rattle.std.proofs.Common.{◌≡◌, ℕ, ◌+◌, ◌<◌, inl, inr, List, [], ◌∷◌, ◌++◌, Option, None, sym, refl, ap, ◌∙◌, subst, append_assoc, append-nil, length-append}
-use Rattle.delivery_duties.specs.declared.fate.Outcome.{Outcome}
-use Rattle.delivery_duties.specs.declared.fate.Outcome.TheVariants.{Accepted, TooOld}
-use Rattle.router_disk.specs.Clock.{Gives}
-use Rattle.router_disk.proofs.ClockLemmas.{Gives-append}
-use Rattle.api_replies.specs.Reply.{Counts}
-use Rattle.router_core.specs.Tables.{Tables}
-use Rattle.bus_server.specs.declared.book.Step.TheVariants.{Idle, Limited, Made}
-use Rattle.bus_server.specs.declared.delivery.Ending.TheVariants as endings
-use Rattle.bus_server.specs.History.{Turn, claims, puts_back}
-use Rattle.bus_server.specs.Book.{BookState}
-use Rattle.bus_server.specs.Exchange.{moment_of, no_counts, and_one, IsStep, AreSteps}
-use Rattle.bus_server.specs.Steps.{StepOf, Delivering, DeliveryOf}
+-- The steps of a delivery in the book. Other files cite `steps_more`, `claim_step`, `record_step`, `put_back_step`, `delivered` and `closes`.
+use Rattle.std.proofs.Common.{◌≡◌, ℕ, true, false, cond, eqb, List, [], ◌∷◌, ◌++◌, map, Option, Some, None, Result, refl, sym, ap, ◌∙◌, subst}
+use Rattle.std.proofs.lemmas.List.{map-append, append_cancel_left}
+use Rattle.std.specs.Prelude.{not, unwrap_or}
+use Rattle.std.specs.Option.{option_map, option_and_then}
+use Rattle.delivery_duties.specs.declared.duty.DutyRow.{DutyRow}
+use Rattle.delivery_duties.specs.declared.outcome.Outcome.{Outcome}
+use Rattle.delivery_duties.specs.declared.outcome.Fate.{Fate}
+use Rattle.delivery_duties.specs.Duties.{Duties, pending_row, claimed as claimed_duties, marked_row}
+use Rattle.router_disk.specs.Link.{Exchange}
+use Rattle.router_core.specs.Tables.{Tables, first_tables, moment_at}
+use Rattle.router_core.specs.Steps.{fate_after}
+use Rattle.courier_run.specs.declared.turned.Turned.{Turned}
+use Rattle.courier_run.specs.declared.fault.TurnFault.{TurnFault}
+use Rattle.courier_run.specs.Claim.{Claim}
+use Rattle.courier_run.specs.Steps.{Attempt, Step, other, steps_of}
+use Rattle.courier_run.specs.Steps as step
+use Rattle.courier_run.specs.Turn.{End, at_budget, unclaimed, unsent, unrecorded, last_steps, IsTurn, outside}
+use Rattle.bus_server.specs.declared.book.Seat.{Seat}
+use Rattle.bus_server.specs.declared.history.Turn.{Turn as CodeTurn}
+use Rattle.bus_server.specs.History.{Ask, asked, claims, records, puts_back, Turn, State, OpenClaim, open_claim, closed_claims, after_turn, after_ask}
+use Rattle.bus_server.specs.History.{state_after, placed, begun}
+use Rattle.bus_server.specs.declared.book.Book.{Book}
+use Rattle.bus_server.specs.Book.{BookState, book_of, state_of, IsBook, HasGrown, recorded_in, turn_of}
+use Rattle.bus_server.specs.Delivery.{claim_of, claim_in, attempt_in, step_for, step_of, steps_in, IsOpen, IsIdle, IsFullAt, Delivers}
+use Rattle.bus_server.specs.Turns.{IsAdded, IsClaimedBy, IsRecordedBy}
+use Rattle.bus_server.proofs.PendingLemmas.{AreNumbered, marked_row_there}
+use Rattle.bus_server.proofs.HistoryLemmas.{placed_append, state_append}
+use Rattle.bus_server.proofs.BookLemmas.{steady_book, state_more}
+use Rattle.bus_server.proofs.RecordLemmas.{claim_there}
 
-and_swap : (a b : Outcome) (n : Counts) → and_one a (and_one b n) ≡ and_one b (and_one a n)
-and_swap Accepted Accepted n = refl
-and_swap Accepted TooOld n = refl
-and_swap TooOld Accepted n = refl
-and_swap TooOld TooOld n = refl
+-- the steps of added turns
+pub steps_added : (old new : BookState) (added : List Turn) → new.opened ≡ old.opened → new.turns ≡ old.turns ++ added
+    → steps_in new ≡ steps_in old ++ map step_of (placed (state_of old) added)
+steps_added old new added opened turns =
+    ap (λ (ts : List Turn). map step_of (placed new.opened ts)) turns
+    ∙ ap (λ (s : State). map step_of (placed s (old.turns ++ added))) opened
+    ∙ ap (map step_of) (placed_append old.opened old.turns added)
+    ∙ map-append step_of (placed old.opened old.turns) (placed (state_of old) added)
 
-steps_append : (t mid new : Tables) (gs : List ℕ) (g : ℕ) (ts more : List Turn) (n : Counts) (o : Outcome) → AreSteps t gs ts n mid → IsStep mid g more o new
-    → AreSteps t (gs ++ g ∷ []) (ts ++ more) (and_one o n) new
-steps_append t mid new [] g ts more n o (nothing, none, same) step = (
-  o,
-  new,
-  more,
-  [],
-  no_counts,
-  subst (λ (s : Tables). IsStep s g more o new) same step,
-  (refl, refl, refl),
-  ap (λ (xs : List Turn). xs ++ more) nothing ∙ sym (append-nil more),
-  ap (and_one o) none,
-)
-steps_append t mid new (r ∷ rs) g ts more n o (p, next, first, later, rest, step, steps, turns, counts) last = (
-  p,
-  next,
-  first,
-  later ++ more,
-  and_one o rest,
-  step,
-  steps_append next mid new rs g later more rest o steps last,
-  ap (λ (xs : List Turn). xs ++ more) turns ∙ append_assoc first later more,
-  ap (and_one o) counts ∙ and_swap o p rest,
-)
+-- the step of one added turn
+pub step_added : {seat : Seat} {ask : Ask} {old new : BookState} (a : IsAdded seat ask old new) → new.opened ≡ old.opened
+    → steps_in new ≡ steps_in old ++ step_for (state_of old) ask ∷ []
+step_added {seat} {ask} {old} {new} a opened =
+    steps_added old new (a.turn ∷ []) opened a.turns ∙ ap (λ k. steps_in old ++ step_for (state_of old) k ∷ []) a.from.made_for
 
--- one step more
-pub delivering_more : (old mid new : BookState) (ahead ahead_mid ahead_new : Option (ℕ → ℕ)) (n : Counts) (steps reading : ℕ) (o : Outcome)
-    → Delivering old mid ahead ahead_mid n steps → Gives ahead_mid ahead_new (reading ∷ []) → StepOf mid new reading (Made o)
-    → Delivering old new ahead ahead_new (and_one o n) (steps + 1)
-delivering_more old mid new ahead ahead_mid ahead_new n steps reading o d gave (more, step, turns) = record {
-  given = d.given ++ reading ∷ [];
-  made = d.made ++ more;
-  count = length-append d.given (reading ∷ []) ∙ ap (λ (k : ℕ). k + 1) d.count;
-  are_steps = steps_append old.tables mid.tables new.tables d.given reading d.made more n o d.are_steps step;
-  turns = turns ∙ ap (λ (ts : List Turn). ts ++ more) d.turns ∙ append_assoc old.turns d.made more;
-  readings = Gives-append d.readings gave;
-}
+-- the row that was claimed, before the claim
+row_before : (found : Option DutyRow) (n : ℕ) (row : DutyRow) (d : Duties) → pending_row n d ≡ found → AreNumbered d
+    → pending_row n (claimed_duties n d) ≡ Some row
+    → (was : DutyRow) × (pending_row n d ≡ Some was) × (record was { claimed = true } ≡ row)
+row_before None n row d there h e =
+    let nothing : pending_row n (claimed_duties n d) ≡ None = ap (λ x. pending_row n (marked_row true x d)) there ∙ there in
+    absurd (cc)
+row_before (Some was) n row d there h e =
+    let now : pending_row n (claimed_duties n d) ≡ Some (record was { claimed = true }) = marked_row_there true n was d h there in
+    let same : record was { claimed = true } ≡ row = cc in
+    (was, there, same)
 
--- the budget is used
-pub delivery_used : (budget : ℕ) (old now : BookState) (ahead ahead_now : Option (ℕ → ℕ)) (a b c : ℕ)
-    → Delivering old now ahead ahead_now (record { attempts = a; delivered = b; dropped = c }) budget
-    → DeliveryOf budget old now ahead ahead_now (record { attempts = a; delivered = b; dropped = c; ending = endings.Done })
-delivery_used budget old now ahead ahead_now a b c d = record {
-  given = d.given;
-  made = d.made;
-  steps = record {
-    made = d.given;
-    last = [];
-    stepping = d.made;
-    stopping = [];
-    mid = now.tables;
-    readings_are = sym (append-nil d.given);
-    turns_are = sym (append-nil d.made);
-    steps = d.are_steps;
-    stops = (inl (d.count, refl), refl, refl);
+pub claim_step : (seat : Seat) (reading : ℕ) (old new : BookState) (c : Claim) → old.opened ≡ begun first_tables → IsBook old → new.opened ≡ old.opened
+    → IsClaimedBy seat reading old new c → steps_in new ≡ steps_in old ++ step.claims c ∷ []
+claim_step seat reading old new c first h opened is =
+    let s = state_of old in
+    let n : ℕ = c.number in
+    let state : state_of new ≡ after_ask is.added.turn (claims n reading) s =
+    state_more old new is.added.turn opened is.added.turns ∙ ap (λ a. after_ask is.added.turn a s) is.added.from.made_for in
+    let there : pending_row n (claimed_duties n s.tables.duties) ≡ Some is.is_open.row =
+    ap (λ (now : State). pending_row n now.tables.duties) (sym state) ∙ is.is_open.pending in
+    let found = row_before (pending_row n s.tables.duties) n is.is_open.row s.tables.duties refl (steady_book old first).numbered there in
+    let was : DutyRow = found.0 in
+    let row : record was { claimed = true } ≡ is.is_open.row = found.2 in
+    let moment : moment_at s.tables reading ≡ c.moment = ap (λ (t : Tables). moment_at t reading) h.tables ∙ sym is.moment in
+    let claim : claim_of reading (moment_at s.tables reading) was ≡ c =
+    ap (λ x. claim_of x (moment_at s.tables reading) was) (sym is.at)
+    ∙ ap (λ x. claim_of c.reading x was) moment
+    ∙ ap (λ (r : DutyRow). claim_of c.reading c.moment r) row
+    ∙ is.is_open.claim in
+    step_added is.added opened
+    ∙ ap (λ x. steps_in old ++ unwrap_or (option_map (λ (r : DutyRow). step.claims (claim_of reading (moment_at s.tables reading) r)) x) other ∷ []) found.1
+    ∙ ap (λ x. steps_in old ++ step.claims x ∷ []) claim
+
+pub record_step : (seat : Seat) (old new : BookState) (c : Claim) (had : Outcome) (fate : Fate) → new.opened ≡ old.opened
+    → (is : IsRecordedBy seat c had fate old new)
+    → steps_in new ≡ steps_in old ++ step.records (record { claim = c; outcome = is.recorded; fate = fate }) ∷ []
+record_step seat old new c had fate opened is =
+    step_added is.added opened ∙ ap (λ x. steps_in old ++ unwrap_or (option_map step.records x) other ∷ []) is.attempt
+
+pub put_back_step : (seat : Seat) (old new : BookState) (c : Claim) → new.opened ≡ old.opened → IsOpen (state_of old) seat.pass c
+    → IsAdded seat (puts_back c.number) old new → steps_in new ≡ steps_in old ++ step.puts_back c ∷ []
+put_back_step seat old new c opened o a =
+    step_added a opened ∙ ap (λ x. steps_in old ++ unwrap_or (option_map step.puts_back x) other ∷ []) (claim_there (state_of old) seat.pass c o)
+
+-- a turn's steps are those of the turns that it added
+pub delivers : {budget : ℕ} {ahead ahead_new : Option (ℕ → ℕ)} {answered answered_new : Option (List Exchange)} {faults faults_new : ℕ}
+    {result : Result Turned TurnFault}
+    (old new : BookState) (more : List CodeTurn) → new.opened ≡ old.opened → new.turns ≡ old.turns ++ map turn_of more
+    → IsTurn budget (outside (steps_in old) ahead answered faults) (outside (steps_in new) ahead_new answered_new faults_new)
+    (IsIdle (state_of new)) ⊥ (IsFullAt (state_of new)) result
+    → Delivers budget old new ahead ahead_new result
+delivers {budget} {ahead} {ahead_new} {answered} {answered_new} {faults} {faults_new} {result} old new more opened turns t = record {
+  added = map turn_of more;
+  turns = turns;
+  readings = t.readings;
+  gives = t.gives;
+  delivered = record {
+    attempts = t.attempts;
+    last = t.last;
+    steps = append_cancel_left (steps_in old) _ _ (sym (steps_added old new (map turn_of more) opened turns) ∙ t.steps);
+    moments = t.moments;
+    within = t.within;
+    counts = t.counts;
+    reason = t.reason;
   };
-  turns = d.turns;
-  readings = d.readings;
 }
 
--- no duty is due
-pub delivery_idle : (budget : ℕ) (old mid new : BookState) (ahead ahead_mid ahead_new : Option (ℕ → ℕ)) (a b c steps reading : ℕ)
-    → Delivering old mid ahead ahead_mid (record { attempts = a; delivered = b; dropped = c }) steps → steps < budget
-    → Gives ahead_mid ahead_new (reading ∷ []) → StepOf mid new reading Idle
-    → DeliveryOf budget old new ahead ahead_new (record { attempts = a; delivered = b; dropped = c; ending = endings.Done })
-delivery_idle budget old mid new ahead ahead_mid ahead_new a b c steps reading d below gave (none, same) = record {
-  given = d.given ++ reading ∷ [];
-  made = d.made;
-  steps = record {
-    made = d.given;
-    last = reading ∷ [];
-    stepping = d.made;
-    stopping = [];
-    mid = mid.tables;
-    readings_are = refl;
-    turns_are = sym (append-nil d.made);
-    steps = d.are_steps;
-    stops = (inr (subst (λ (k : ℕ). k < budget) (sym d.count) below, (reading, refl, none)), refl, ap (λ (s : BookState). s.tables) same);
-  };
-  turns = ap (λ (s : BookState). s.turns) same ∙ d.turns;
-  readings = Gives-append d.readings gave;
-}
+-- the same of the code's books; `new` is what the borrowed book ended as
+pub delivered : {budget : ℕ} {ahead ahead_new : Option (ℕ → ℕ)} {answered answered_new : Option (List Exchange)} {faults faults_new : ℕ}
+    {result : Result Turned TurnFault}
+    (old now new : Book) → new ≡ now → HasGrown old now
+    → IsTurn budget (outside (steps_in (book_of old)) ahead answered faults) (outside (steps_in (book_of now)) ahead_new answered_new faults_new)
+    (IsIdle (state_of (book_of now))) ⊥ (IsFullAt (state_of (book_of now))) result
+    → Delivers budget (book_of old) (book_of new) ahead ahead_new result
+delivered {budget} {ahead} {ahead_new} {answered} {answered_new} {faults} {faults_new} {result} old now new e (more, is) t =
+    subst (λ (b : Book). Delivers budget (book_of old) (book_of b) ahead ahead_new result) (sym e)
+    (delivers (book_of old) (book_of now) more refl (ap (map turn_of) is ∙ map-append turn_of (recorded_in old.history) more) t)
 
--- a duty is due, and no further batch is numbered
-pub delivery_limited : (budget : ℕ) (old mid new : BookState) (ahead ahead_mid ahead_new : Option (ℕ → ℕ)) (a b c steps reading : ℕ)
-    → Delivering old mid ahead ahead_mid (record { attempts = a; delivered = b; dropped = c }) steps → steps < budget
-    → Gives ahead_mid ahead_new (reading ∷ []) → StepOf mid new reading Limited
-    → DeliveryOf budget old new ahead ahead_new (record { attempts = a; delivered = b; dropped = c; ending = endings.Limited })
-delivery_limited budget old mid new ahead ahead_mid ahead_new a b c steps reading d below gave (duty, next, full, is) =
-    let last : List Turn = record { ask = claims duty (moment_of reading); batch = None } ∷ record { ask = puts_back duty; batch = None } ∷ [] in
+abbrev NoneOpen : State → Type 0
+NoneOpen s = s.open_claims ≡ []
+
+-- the step of a claim
+abbrev IsClaiming : Step → Type 0
+IsClaiming (step.claims c) = Unit {0}
+IsClaiming (step.records a) = ⊥
+IsClaiming (step.puts_back c) = ⊥
+IsClaiming step.other = ⊥
+
+-- the step that ends a claim
+abbrev IsEnding : Step → Type 0
+IsEnding (step.claims c) = ⊥
+IsEnding (step.records a) = Unit {0}
+IsEnding (step.puts_back c) = Unit {0}
+IsEnding step.other = ⊥
+
+no_claiming_record : (a : Option Attempt) → IsClaiming (unwrap_or (option_map step.records a) other) → ⊥
+no_claiming_record None is = is
+no_claiming_record (Some a) is = is
+
+no_claiming_release : (c : Option Claim) → IsClaiming (unwrap_or (option_map step.puts_back c) other) → ⊥
+no_claiming_release None is = is
+no_claiming_release (Some c) is = is
+
+no_ending_claim : (to : DutyRow → Claim) (row : Option DutyRow) → IsEnding (unwrap_or (option_map (λ r. step.claims (to r)) row) other) → ⊥
+no_ending_claim to None is = is
+no_ending_claim to (Some row) is = is
+
+one_open : (x : OpenClaim) (n : ℕ) (c : OpenClaim) → open_claim n (x ∷ []) ≡ Some c → closed_claims n (x ∷ []) ≡ []
+one_open x n c e =
+    (elim (eqb x.duty n) as (λ b. cond b (Some x) None ≡ Some c → cond (not b) (x ∷ []) [] ≡ []) [
+      | true ↦ λ i. refl
+      | false ↦ λ i. absurd (cc)
+    ]) e
+
+-- the only open claim ends
+its_end : (cs : List OpenClaim) (x : OpenClaim) (n : ℕ) (found : Option OpenClaim) (to : OpenClaim → Option Claim) (shown : Option Claim → Step)
+    → (IsEnding (shown None) → ⊥) → cs ≡ x ∷ [] → open_claim n cs ≡ found → IsEnding (shown (option_and_then to found)) → closed_claims n cs ≡ []
+its_end cs x n None to shown never e there is = absurd (never is)
+its_end cs x n (Some c) to shown never e there is = ap (closed_claims n) e ∙ one_open x n c (ap (open_claim n) (sym e) ∙ there)
+
+made_claim : (s : State) (turn : Turn) (ask : Ask) → turn.ask ≡ ask → NoneOpen s → IsClaiming (step_for s ask)
+    → (x : OpenClaim) × ((after_turn turn s).open_claims ≡ x ∷ [])
+made_claim s turn (asked request) e none is = absurd is
+made_claim s turn (claims duty reading) e none is =
+    let x : OpenClaim = record { pass = turn.pass; duty = duty; reading = reading; moment = moment_at s.tables reading } in
+    (x, ap (λ a. (after_ask turn a s).open_claims) e ∙ ap (λ cs. x ∷ cs) none)
+made_claim s turn (records duty reading outcome) e none is = absurd (no_claiming_record (attempt_in s duty reading outcome) is)
+made_claim s turn (puts_back duty) e none is = absurd (no_claiming_release (claim_in s duty) is)
+
+ended_claim : (s : State) (turn : Turn) (ask : Ask) (x : OpenClaim) → turn.ask ≡ ask → s.open_claims ≡ x ∷ [] → IsEnding (step_for s ask)
+    → NoneOpen (after_turn turn s)
+ended_claim s turn (asked request) x e one is = absurd is
+ended_claim s turn (claims duty reading) x e one is =
+    absurd (no_ending_claim (λ row. claim_of reading (moment_at s.tables reading) row) (pending_row duty s.tables.duties) is)
+ended_claim s turn (records duty reading outcome) x e one is =
+    let attempt : Claim → Option Attempt = λ claim. option_map (λ (row : DutyRow). record {
+      claim = claim;
+      outcome = outcome;
+      fate = fate_after s.tables.duties.queues (moment_at s.tables reading) row outcome;
+    }) (pending_row duty s.tables.duties) in
+    ap (λ a. (after_ask turn a s).open_claims) e
+    ∙ its_end s.open_claims x duty (open_claim duty s.open_claims)
+    (λ (o : OpenClaim). option_map (claim_of o.reading o.moment) (pending_row duty s.tables.duties))
+    (λ c. unwrap_or (option_map step.records (option_and_then attempt c)) other) (λ q. q) one refl is
+ended_claim s turn (puts_back duty) x e one is =
+    ap (λ a. (after_ask turn a s).open_claims) e
+    ∙ its_end s.open_claims x duty (open_claim duty s.open_claims)
+    (λ (o : OpenClaim). option_map (claim_of o.reading o.moment) (pending_row duty s.tables.duties))
+    (λ c. unwrap_or (option_map step.puts_back c) other) (λ q. q) one refl is
+
+-- the state and the turns after a claim and its end
+pub record IsAfterPair (s : State) (turns : List Turn) (rest : List Step) : Type 0 where
+  pub next : State
+  pub left : List Turn
+  pub none : NoneOpen next
+  pub state : state_after turns s ≡ state_after left next
+  pub steps : map step_of (placed next left) ≡ rest
+
+after_pair : (s : State) (turns : List Turn) (p q : Step) (rest : List Step) → IsClaiming p → IsEnding q → NoneOpen s
+    → map step_of (placed s turns) ≡ p ∷ q ∷ rest → IsAfterPair s turns rest
+after_pair s [] p q rest claiming ending none e = absurd (cc)
+after_pair s (t ∷ []) p q rest claiming ending none e = absurd (cc)
+after_pair s (t ∷ u ∷ more) p q rest claiming ending none e =
+    let first : step_for s t.ask ≡ p = cc in
+    let second : step_for (after_turn t s) u.ask ≡ q = cc in
+    let others : map step_of (placed (after_turn u (after_turn t s)) more) ≡ rest = cc in
+    let made = made_claim s t t.ask refl none (subst IsClaiming (sym first) claiming) in
     record {
-      given = d.given ++ reading ∷ [];
-      made = d.made ++ last;
-      steps = record {
-        made = d.given;
-        last = reading ∷ [];
-        stepping = d.made;
-        stopping = last;
-        mid = mid.tables;
-        readings_are = refl;
-        turns_are = refl;
-        steps = d.are_steps;
-        stops = (subst (λ (k : ℕ). k < budget) (sym d.count) below, (reading, duty, refl, next, full, refl, ap (λ (s : BookState). s.tables) is));
-      };
-      turns = ap (λ (s : BookState). s.turns) is ∙ ap (λ (ts : List Turn). ts ++ last) d.turns ∙ append_assoc old.turns d.made last;
-      readings = Gives-append d.readings gave;
+      next = after_turn u (after_turn t s);
+      left = more;
+      none = ended_claim (after_turn t s) u u.ask made.0 refl made.1 (subst IsEnding (sym second) ending);
+      state = refl;
+      steps = others;
     }
+
+none_left : (s : State) (turns : List Turn) → NoneOpen s → map step_of (placed s turns) ≡ [] → NoneOpen (state_after turns s)
+none_left s [] none e = none
+none_left s (t ∷ turns) none e = absurd (cc)
+
+last_closed : (s : State) (turns : List Turn) (last : End) → NoneOpen s → map step_of (placed s turns) ≡ last_steps last → NoneOpen (state_after turns s)
+last_closed s turns at_budget none e = none_left s turns none e
+last_closed s turns (unclaimed moment) none e = none_left s turns none e
+last_closed s turns (unsent c) none e =
+    let pair = after_pair s turns (step.claims c) (step.puts_back c) [] tt tt none e in
+    ap (λ (now : State). now.open_claims) pair.state ∙ none_left pair.next pair.left pair.none pair.steps
+last_closed s turns (unrecorded c outcome) none e =
+    let pair = after_pair s turns (step.claims c) (step.puts_back c) [] tt tt none e in
+    ap (λ (now : State). now.open_claims) pair.state ∙ none_left pair.next pair.left pair.none pair.steps
+
+all_closed : (s : State) (turns : List Turn) (attempts : List Attempt) (last : End) → NoneOpen s
+    → map step_of (placed s turns) ≡ steps_of attempts ++ last_steps last → NoneOpen (state_after turns s)
+all_closed s turns [] last none e = last_closed s turns last none e
+all_closed s turns (a ∷ attempts) last none e =
+    let pair = after_pair s turns (step.claims a.claim) (step.records a) (steps_of attempts ++ last_steps last) tt tt none e in
+    ap (λ (now : State). now.open_claims) pair.state ∙ all_closed pair.next pair.left attempts last pair.none pair.steps
+
+-- each claim ends
+closed : {budget : ℕ} {old new : BookState} {ahead ahead_new : Option (ℕ → ℕ)} {result : Result Turned TurnFault} → new.opened ≡ old.opened
+    → Delivers budget old new ahead ahead_new result → NoneOpen (state_of old) → NoneOpen (state_of new)
+closed {budget} {old} {new} {ahead} {ahead_new} {result} opened d none =
+    ap (λ (ts : List Turn). (state_after ts new.opened).open_claims) d.turns
+    ∙ ap (λ (s : State). (state_after (old.turns ++ d.added) s).open_claims) opened
+    ∙ ap (λ (s : State). s.open_claims) (state_append old.opened old.turns d.added)
+    ∙ all_closed (state_of old) d.added d.delivered.attempts d.delivered.last none d.delivered.steps
+
+-- the same of the code's books
+pub closes : {budget : ℕ} {ahead ahead_new : Option (ℕ → ℕ)} {answered answered_new : Option (List Exchange)} {faults faults_new : ℕ}
+    {result : Result Turned TurnFault}
+    (old now new : Book) → new ≡ now → HasGrown old now
+    → IsTurn budget (outside (steps_in (book_of old)) ahead answered faults) (outside (steps_in (book_of now)) ahead_new answered_new faults_new)
+    (IsIdle (state_of (book_of now))) ⊥ (IsFullAt (state_of (book_of now))) result
+    → (state_of (book_of old)).open_claims ≡ [] → (state_of (book_of new)).open_claims ≡ []
+closes old now new e grown t none = closed refl (delivered old now new e grown t) none

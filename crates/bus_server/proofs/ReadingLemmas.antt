@@ -1,82 +1,140 @@
--- The readings of turns are some of the clock's. Other files cite `exchanges_read`.
-use Rattle.std.proofs.Common.{◌≡◌, ℕ, inl, inr, List, [], ◌∷◌, ◌++◌, map, None, sym, refl, subst}
-use Rattle.std.proofs.lemmas.List.{map-append}
-use Rattle.std.proofs.lemmas.Grind.{flat_map-append}
-use Rattle.api_replies.specs.Reply.{Counts}
-use Rattle.router_core.specs.Tables.{Tables}
-use Rattle.bus_server.specs.History.{Turn, claims, puts_back, readings_at, asked_readings, IsSublist}
-use Rattle.bus_server.specs.Exchange.{Exchange, moment_of, AreSteps, Stop, done, limited, IsStop, IsPosted, IsExchange, refused, answered, unrendered}
-use Rattle.bus_server.specs.Exchange.{delivered, out_of_memory, unposted, posted, AreExchanges, turns_of, readings_of}
+-- The turns of a DeliverDue: their readings are some of the clock's, and they go by the latest configuration version. Other files cite
+-- `delivered_read` and `delivered_latest`.
+use Rattle.std.proofs.Common.{◌≡◌, ℕ, inl, List, [], ◌∷◌, ◌++◌, map, Option, Some, None, Result, sym, refl, ap, ◌∙◌, subst}
+use Rattle.std.specs.Prelude.{unwrap_or, All}
+use Rattle.std.specs.Option.{option_map}
+use Rattle.std.proofs.lemmas.List.Elements.{All-nil, All-cons}
+use Rattle.delivery_duties.specs.declared.duty.DutyRow.{DutyRow}
+use Rattle.delivery_duties.specs.Duties.{pending_row}
+use Rattle.router_core.specs.Tables.{moment_at}
+use Rattle.courier_run.specs.declared.turned.Turned.{Turned}
+use Rattle.courier_run.specs.declared.fault.TurnFault.{TurnFault}
+use Rattle.courier_run.specs.Claim.{Claim, moment_of}
+use Rattle.courier_run.specs.Steps.{Attempt, Step, claims, records, puts_back, other, steps_of}
+use Rattle.courier_run.specs.Turn.{End, at_budget, unclaimed, unsent, unrecorded, last_steps, last_moments}
+use Rattle.bus_server.specs.History as history
+use Rattle.bus_server.specs.History.{State, Turn, Ask, placed, after_turn, readings_at, asked_readings, IsLegal, IsTurnFor, IsLatest}
+use Rattle.bus_server.specs.Sublist.{IsSublist}
+use Rattle.bus_server.specs.Delivery.{claim_of, claim_in, attempt_in, step_for, step_of, IsDelivered}
+use Rattle.bus_server.proofs.PlacedLemmas.{IsByLatest, sublist_same}
 
-sub_skip : (xs ys : List ℕ) (y : ℕ) → IsSublist xs ys → IsSublist xs (y ∷ ys)
-sub_skip [] ys y is = tt
-sub_skip (x ∷ xs) ys y is = inr is
+-- a turn with this step has these readings
+abbrev HasReadings : Step → List ℕ → Type 0
+HasReadings (claims c) readings = readings ≡ c.reading ∷ []
+HasReadings (records a) readings = readings ≡ []
+HasReadings (puts_back c) readings = readings ≡ []
+HasReadings other readings = Unit {0}
 
-sub_after : (xs ws ys : List ℕ) → IsSublist xs ws → IsSublist xs (ys ++ ws)
-sub_after xs ws [] is = is
-sub_after xs ws (y ∷ ys) is = sub_skip xs (ys ++ ws) y (sub_after xs ws ys is)
+claim_readings : (reading moment : ℕ) (found : Option DutyRow)
+    → HasReadings (unwrap_or (option_map (λ row. claims (claim_of reading moment row)) found) other) (reading ∷ [])
+claim_readings reading moment None = tt
+claim_readings reading moment (Some row) = refl
 
-sub_append : (xs ys zs ws : List ℕ) → IsSublist xs ys → IsSublist zs ws → IsSublist (xs ++ zs) (ys ++ ws)
-sub_append [] ys zs ws is more = sub_after zs ws ys more
-sub_append (x ∷ xs) [] zs ws is more = absurd is
-sub_append (x ∷ xs) (y ∷ ys) zs ws (inl both) more = inl (both.0, sub_append xs ys zs ws both.1 more)
-sub_append (x ∷ xs) (y ∷ ys) zs ws (inr later) more = inr (sub_append (x ∷ xs) ys zs ws later more)
+record_readings : (found : Option Attempt) → HasReadings (unwrap_or (option_map records found) other) []
+record_readings None = tt
+record_readings (Some a) = refl
 
-abbrev ReadAt : List Turn → List ℕ → Type 0
-ReadAt turns readings = IsSublist (asked_readings turns) (map moment_of readings)
+back_readings : (found : Option Claim) → HasReadings (unwrap_or (option_map puts_back found) other) []
+back_readings None = tt
+back_readings (Some c) = refl
 
-read_append : (xs ys : List Turn) (gs hs : List ℕ) → ReadAt xs gs → ReadAt ys hs → ReadAt (xs ++ ys) (gs ++ hs)
-read_append xs ys gs hs first later =
-    subst (λ (ms : List ℕ). IsSublist (asked_readings (xs ++ ys)) ms) (sym (map-append moment_of gs hs))
-    (subst (λ (rs : List ℕ). IsSublist rs (map moment_of gs ++ map moment_of hs)) (sym (flat_map-append (λ (t : Turn). readings_at t.ask) xs ys))
-    (sub_append (asked_readings xs) (map moment_of gs) (asked_readings ys) (map moment_of hs) first later))
+step_readings : (s : State) (ask : Ask) → HasReadings (step_for s ask) (readings_at ask)
+step_readings s (history.asked request) = tt
+step_readings s (history.claims duty reading) = claim_readings reading (moment_at s.tables reading) (pending_row duty s.tables.duties)
+step_readings s (history.records duty reading outcome) = record_readings (attempt_in s duty reading outcome)
+step_readings s (history.puts_back duty) = back_readings (claim_in s duty)
 
-read_nothing : (turns : List Turn) (readings : List ℕ) → turns ≡ [] → ReadAt turns readings
-read_nothing turns readings nothing = subst (λ (ts : List Turn). ReadAt ts readings) (sym nothing) tt
+readings_by : (s : State) (ask : Ask) (step : Step) → step_for s ask ≡ step → HasReadings step (readings_at ask)
+readings_by s ask step is = subst (λ (x : Step). HasReadings x (readings_at ask)) is (step_readings s ask)
 
-steps_read : (t : Tables) (readings : List ℕ) (turns : List Turn) (counts : Counts) (new : Tables) → AreSteps t readings turns counts new
-    → ReadAt turns readings
-steps_read t [] turns counts new (nothing, none, same) = read_nothing turns [] nothing
-steps_read t (r ∷ rs) turns counts new (outcome, mid, first, later, rest, step, steps, turns_are, counts_are) =
-    subst (λ (ts : List Turn). ReadAt ts (r ∷ rs)) (sym turns_are)
-    (read_append first later (r ∷ []) rs
-    (subst (λ (ts : List Turn). ReadAt ts (r ∷ [])) (sym step.turns_are) (inl (refl, tt)))
-    (steps_read mid rs later rest new steps))
+-- a turn that claims, and then one that ends the claim
+pair_readings : (first later : List ℕ) (reading : ℕ) → first ≡ reading ∷ [] → later ≡ [] → (rest : List ℕ) → first ++ (later ++ rest) ≡ reading ∷ rest
+pair_readings first later reading is none rest = ap (λ (xs : List ℕ). xs ++ (later ++ rest)) is ∙ ap (λ (xs : List ℕ). reading ∷ (xs ++ rest)) none
 
-back_read : (duty reading : ℕ)
-    → ReadAt (record { ask = claims duty (moment_of reading); batch = None } ∷ record { ask = puts_back duty; batch = None } ∷ []) (reading ∷ [])
-back_read duty reading = inl (refl, tt)
+none_left : (s : State) (turns : List Turn) → map step_of (placed s turns) ≡ [] → asked_readings turns ≡ []
+none_left s [] is = refl
+none_left s (t ∷ ts) is = cc
 
-stop_read : (budget made : ℕ) (t : Tables) (last : List ℕ) (turns : List Turn) (stop : Stop) (new : Tables) → IsStop budget made t last turns stop new
-    → ReadAt turns last
-stop_read budget made t last turns done new (cause, nothing, same) = read_nothing turns last nothing
-stop_read budget made t last turns limited new (fewer, (reading, duty, read, next, numbered, turns_are, now)) =
-    subst (λ (ts : List Turn). ReadAt ts last) (sym turns_are)
-    (subst (λ (ls : List ℕ). ReadAt
-    (record { ask = claims duty (moment_of reading); batch = None } ∷ record { ask = puts_back duty; batch = None } ∷ []) ls) (sym read)
-    (back_read duty reading))
+put_back_readings : (s : State) (turns : List Turn) (c : Claim) → map step_of (placed s turns) ≡ claims c ∷ puts_back c ∷ []
+    → asked_readings turns ≡ c.reading ∷ []
+put_back_readings s [] c is = cc
+put_back_readings s (t ∷ []) c is = cc
+put_back_readings s (t ∷ u ∷ []) c is =
+    let first : step_for s t.ask ≡ claims c = cc in
+    let later : step_for (after_turn t s) u.ask ≡ puts_back c = cc in
+    pair_readings (readings_at t.ask) (readings_at u.ask) c.reading (readings_by s t.ask (claims c) first)
+    (readings_by (after_turn t s) u.ask (puts_back c) later) []
+put_back_readings s (t ∷ u ∷ v ∷ ts) c is = cc
 
-posted_read : (t : Tables) (e : Exchange) (new : Tables) → IsPosted t e new → ReadAt e.turns (e.reading ∷ e.steps)
-posted_read t e new (refused c why is) = read_nothing e.turns (e.reading ∷ e.steps) is.no_turns
-posted_read t e new (answered r a is_asked is unread turns reply now) =
-    subst (λ (ts : List Turn). ReadAt ts (e.reading ∷ e.steps)) (sym turns) (inl (is_asked.read_at, tt))
-posted_read t e new (unrendered r a is_asked is unwritten unread turns reply same) =
-    subst (λ (ts : List Turn). ReadAt ts (e.reading ∷ e.steps)) (sym turns) (inl (is_asked.read_at, tt))
-posted_read t e new (delivered r budget counts stop is_asked due d reply) =
-    sub_skip (asked_readings e.turns) (map moment_of e.steps) (moment_of e.reading)
-    (subst (λ (ts : List Turn). ReadAt ts e.steps) (sym d.turns_are)
-    (subst (λ (gs : List ℕ). ReadAt (d.stepping ++ d.stopping) gs) (sym d.readings_are)
-    (read_append d.stepping d.stopping d.made d.last (steps_read t d.made d.stepping counts d.mid d.steps)
-    (stop_read _ _ d.mid d.last d.stopping stop new d.stops))))
-posted_read t e new (out_of_memory is) = read_nothing e.turns (e.reading ∷ e.steps) is.no_turns
+last_readings : (s : State) (turns : List Turn) (last : End) → map step_of (placed s turns) ≡ last_steps last
+    → IsSublist (asked_readings turns) (last_moments last)
+last_readings s turns at_budget is = subst (λ (rs : List ℕ). IsSublist rs []) (sym (none_left s turns is)) tt
+last_readings s turns (unclaimed moment) is = subst (λ (rs : List ℕ). IsSublist rs (moment ∷ [])) (sym (none_left s turns is)) tt
+last_readings s turns (unsent c) is =
+    subst (λ (rs : List ℕ). IsSublist rs (c.reading ∷ [])) (sym (put_back_readings s turns c is)) (sublist_same (c.reading ∷ []))
+last_readings s turns (unrecorded c outcome) is =
+    subst (λ (rs : List ℕ). IsSublist rs (c.reading ∷ [])) (sym (put_back_readings s turns c is)) (sublist_same (c.reading ∷ []))
 
-exchange_read : (t : Tables) (e : Exchange) (new : Tables) → IsExchange t e new → ReadAt e.turns (e.reading ∷ e.steps)
-exchange_read t e new (unposted method is) = read_nothing e.turns (e.reading ∷ e.steps) is.no_turns
-exchange_read t e new (posted method is) = posted_read t e new is
+steps_readings : (s : State) (turns : List Turn) (attempts : List Attempt) (last : End)
+    → map step_of (placed s turns) ≡ steps_of attempts ++ last_steps last
+    → IsSublist (asked_readings turns) (map (λ (a : Attempt). a.claim.reading) attempts ++ last_moments last)
+steps_readings s turns [] last is = last_readings s turns last is
+steps_readings s [] (a ∷ attempts) last is = cc
+steps_readings s (t ∷ []) (a ∷ attempts) last is = cc
+steps_readings s (t ∷ u ∷ ts) (a ∷ attempts) last is =
+    let first : step_for s t.ask ≡ claims a.claim = cc in
+    let later : step_for (after_turn t s) u.ask ≡ records a = cc in
+    let rest : map step_of (placed (after_turn u (after_turn t s)) ts) ≡ steps_of attempts ++ last_steps last = cc in
+    subst (λ (rs : List ℕ). IsSublist rs (a.claim.reading ∷ (map (λ (b : Attempt). b.claim.reading) attempts ++ last_moments last)))
+    (sym (pair_readings (readings_at t.ask) (readings_at u.ask) a.claim.reading (readings_by s t.ask (claims a.claim) first)
+    (readings_by (after_turn t s) u.ask (records a) later) (asked_readings ts)))
+    (inl (refl, steps_readings (after_turn u (after_turn t s)) ts attempts last rest))
 
--- the readings of exchanges are enough for their turns
-pub exchanges_read : (t : Tables) (es : List Exchange) (new : Tables) → AreExchanges t es new
-    → IsSublist (asked_readings (turns_of es)) (map moment_of (readings_of es))
-exchanges_read t [] new same = tt
-exchanges_read t (e ∷ es) new (mid, is, later) = read_append e.turns (turns_of es) (e.reading ∷ e.steps) (readings_of es) (exchange_read t e mid is)
-    (exchanges_read mid es new later)
+-- the turns of a DeliverDue
+pub delivered_read : (budget : ℕ) (s look : State) (turns : List Turn) (readings : List ℕ) (result : Result Turned TurnFault)
+    → IsDelivered budget (placed s turns) readings look result → IsSublist (asked_readings turns) (map moment_of readings)
+delivered_read budget s look turns readings result d =
+    subst (λ (ms : List ℕ). IsSublist (asked_readings turns) ms) (sym d.moments) (steps_readings s turns d.attempts d.last d.steps)
+
+-- no step is one of another user's turns
+abbrev NoneOther : List Step → Type 0
+NoneOther [] = Unit {0}
+NoneOther (claims c ∷ steps) = NoneOther steps
+NoneOther (records a ∷ steps) = NoneOther steps
+NoneOther (puts_back c ∷ steps) = NoneOther steps
+NoneOther (other ∷ steps) = ⊥
+
+last_none_other : (last : End) → NoneOther (last_steps last)
+last_none_other at_budget = tt
+last_none_other (unclaimed moment) = tt
+last_none_other (unsent c) = tt
+last_none_other (unrecorded c outcome) = tt
+
+none_other : (attempts : List Attempt) (last : End) → NoneOther (steps_of attempts ++ last_steps last)
+none_other [] last = last_none_other last
+none_other (a ∷ attempts) last = none_other attempts last
+
+first_other : (step : Step) (steps : List Step) → NoneOther (step ∷ steps) → (¬ (step ≡ other)) × NoneOther steps
+first_other (claims c) steps none = (λ is. cc, none)
+first_other (records a) steps none = (λ is. cc, none)
+first_other (puts_back c) steps none = (λ is. cc, none)
+first_other other steps none = absurd none
+
+by_latest : (s : State) (turn : Turn) (ask : Ask) → IsTurnFor s turn ask → ¬ (step_for s ask ≡ other) → IsLatest s turn
+by_latest s turn (history.asked request) legal own = absurd (own refl)
+by_latest s turn (history.claims duty reading) legal own = legal.latest
+by_latest s turn (history.records duty reading outcome) legal own = legal.ends.latest
+by_latest s turn (history.puts_back duty) legal own = legal.1.2.latest
+
+steps_latest : (s : State) (turns : List Turn) → IsLegal s turns → NoneOther (map step_of (placed s turns)) → All IsByLatest (placed s turns)
+steps_latest s [] legal none = All-nil IsByLatest
+steps_latest s (t ∷ ts) legal none =
+    let own = first_other (step_for s t.ask) (map step_of (placed (after_turn t s) ts)) none in
+    All-cons IsByLatest (record { before = s; turn = t }) (placed (after_turn t s) ts) (by_latest s t t.ask legal.0 own.0)
+    (steps_latest (after_turn t s) ts legal.1 own.1)
+
+-- the versions of the turns of a DeliverDue
+pub delivered_latest : (budget : ℕ) (s look : State) (turns : List Turn) (readings : List ℕ) (result : Result Turned TurnFault)
+    → IsLegal s turns → IsDelivered budget (placed s turns) readings look result → All IsByLatest (placed s turns)
+delivered_latest budget s look turns readings result legal d =
+    steps_latest s turns legal (subst NoneOther (sym d.steps) (none_other d.attempts d.last))

@@ -4,30 +4,26 @@ use Rattle.std.proofs.Common.{◌≡◌, ℕ, ◌+◌, ◌<◌, ◌≤◌, ◌�
 use Rattle.std.proofs.Common.{Ok, Err, sym, refl, ap, ◌∙◌, subst, arith, append_assoc, append-nil, length-append}
 use Rattle.std.specs.Prelude.{◌==◌}
 use Rattle.std.proofs.lemmas.List.{map-append}
-use Rattle.std.proofs.lemmas.Grind.{flat_map-append}
 use Rattle.std.specs.Io.KnownBytes.{Appends, Consumes, IsAtEnd}
-use Rattle.router_disk.specs.Clock.{Gives}
 use Rattle.router_disk.specs.Sink.{AppendsPart, WritesAll}
 use Rattle.router_disk.specs.declared.fault.Failed.{Failed}
 use Rattle.router_disk.proofs.StreamLemmas.{Consumes-append, Appends-append, Appends-none}
-use Rattle.router_disk.proofs.ClockLemmas.{Gives-none, Gives-append}
-use Rattle.router_core.specs.Tables.{Tables}
 use Rattle.api_messages.specs.declared.message.Message.{Message}
 use Rattle.api_messages.specs.Messages.{HoldsMessage, IsAwaited, IsStream}
 use Rattle.api_messages.specs.Between.{HasHead}
-use Rattle.bus_server.specs.Book.{BookState}
-use Rattle.bus_server.specs.Exchange.{Exchange, exchange_text, IsExchange, AreExchanges, turns_of, readings_of, messages_of}
+use Rattle.bus_server.specs.Exchange.{Exchange, exchange_text}
+use Rattle.bus_server.specs.Exchanges.{messages_of}
+use Rattle.bus_server.specs.World.{World, world}
 use Rattle.bus_server.specs.Session.{request_limit, closes, texts_from, texts_of, NoneCloses, OpenBefore, Course, piece_size, IsWholeNow, IsStarvedAt}
 use Rattle.bus_server.specs.Session.{EndsWith, WritesWhole, WritesNotLast, IsWritten, IsSession}
-use Rattle.bus_server.specs.Running.{IsRunning, ExchangeOf}
+use Rattle.bus_server.specs.Running.{AreMade, IsRunning, ExchangeOf}
 use Rattle.bus_server.specs.Served.{WritesAfter, IsServed}
 use Rattle.bus_server.specs.declared.session.SessionEnd.TheVariants as ends
 use Rattle.bus_server.specs.declared.incoming.Lack.{Lack}
 use Rattle.bus_server.specs.declared.incoming.Lack.TheVariants as lacks
 use Rattle.bus_server.specs.declared.session.SessionEnd.{SessionEnd}
 use Rattle.bus_server.specs.Incoming.{LackOf, IsFinish, closing_of, end_of}
-use Rattle.bus_server.proofs.LeadsLemmas.{exchanges_lead}
-use Rattle.bus_server.proofs.ReadingLemmas.{exchanges_read}
+use Rattle.bus_server.proofs.PlacedLemmas.{none_made, made_append}
 
 holds_more : (bytes after more : List ℕ) (m : Message) → HoldsMessage bytes m after → HoldsMessage (bytes ++ more) m (after ++ more)
 holds_more bytes after more m (front, is, whole) = (front, is, ap (λ b. b ++ more) whole ∙ append_assoc front after more)
@@ -41,10 +37,6 @@ stream_append : (bytes rest rest_new : List ℕ) (ms : List Message) (m : Messag
 stream_append bytes rest rest_new [] m is holds = (rest_new, subst (λ b. HoldsMessage b m rest_new) (sym is) holds, refl)
 stream_append bytes rest rest_new (n ∷ ms) m (after, first, later) holds = (after, first, stream_append after rest rest_new ms m later holds)
 
-exchanges_append : (t mid new : Tables) (es : List Exchange) (e : Exchange) → AreExchanges t es mid → IsExchange mid e new → AreExchanges t (es ++ e ∷ []) new
-exchanges_append t mid new [] e is last = (new, subst (λ s. IsExchange s e new) is last, refl)
-exchanges_append t mid new (d ∷ es) e (next, first, later) last = (next, first, exchanges_append next mid new es e later last)
-
 texts_append : (n : ℕ) (es : List Exchange) (e : Exchange) → texts_from n (es ++ e ∷ []) ≡ texts_from n es ++ exchange_text e (closes (n + length es) e)
 texts_append n [] e = append-nil _ ∙ ap (λ k. exchange_text e (closes k e)) (omega arith)
 texts_append n (d ∷ es) e =
@@ -55,13 +47,6 @@ texts_append n (d ∷ es) e =
 none_append : (es : List Exchange) (e : Exchange) → NoneCloses es → e.message.close ≡ false → NoneCloses (es ++ e ∷ [])
 none_append [] e none stays = (stays, tt)
 none_append (d ∷ es) e none stays = (none.0, none_append es e none.1 stays)
-
-turns_append : (es : List Exchange) (e : Exchange) → turns_of es ++ e.turns ≡ turns_of (es ++ e ∷ [])
-turns_append es e = sym (flat_map-append (λ (x : Exchange). x.turns) es (e ∷ []) ∙ ap (λ t. turns_of es ++ t) (append-nil e.turns))
-
-readings_append : (es : List Exchange) (e : Exchange) → readings_of es ++ e.reading ∷ e.steps ≡ readings_of (es ++ e ∷ [])
-readings_append es e = sym
-    (flat_map-append (λ (x : Exchange). x.reading ∷ x.steps) es (e ∷ []) ∙ ap (λ t. readings_of es ++ t) (append-nil (e.reading ∷ e.steps)))
 
 writes_after : (old mid new : Option (List ℕ)) (xs ys : List ℕ) (result : Result (Unit {0}) Failed) → Appends old mid xs
     → WritesAll mid new result ys → WritesAfter xs ys old new result
@@ -76,37 +61,36 @@ texts_whole before last =
     ap (λ (k : ℕ). texts_of before ++ exchange_text last (closes k last)) at ∙ sym (texts_append 0 before last)
 
 -- nothing was exchanged yet
-pub running_at_start : (old : BookState) (left written : Option (List ℕ)) (ahead : Option (ℕ → ℕ)) (rest : List ℕ) → rest ≡ []
-    → IsRunning old old left left written written ahead ahead rest 0
-running_at_start old left written ahead rest none = record {
+pub running_at_start : (old : World) (rest : List ℕ) → rest ≡ [] → IsRunning old old rest 0
+running_at_start old rest none = record {
   exchanged = [];
   count = refl;
   open_yet = tt;
   taken = [];
-  takes = consumes_none left;
+  takes = consumes_none old.left;
   stream = sym none;
   few = omega (arith, ap length none);
-  exchanges = refl;
-  turns = sym (append-nil old.turns);
-  readings = Gives-none ahead;
-  written_are = Appends-none written;
+  made = none_made old;
+  written_are = Appends-none old.written;
 }
   where
     consumes_none : (known : Option (List ℕ)) → Consumes known known []
     consumes_none None = tt
     consumes_none (Some xs) = refl
 
+-- the input and the output play no part in what was made
+made_at : (old now : World) (left written : Option (List ℕ)) (es : List Exchange) → AreMade old now es
+    → AreMade old (world now.book left written now.ahead) es
+made_at old now left written es made = record { exchanges = made.exchanges; readings = made.readings; asked_at = made.asked_at }
+
 -- one message more, and its exchange
-pub served_next : (old now new : BookState) (left left_now left_new written written_now written_new : Option (List ℕ))
-    (ahead ahead_now ahead_new : Option (ℕ → ℕ))
-    (rest rest_new : List ℕ) (served : ℕ) (m : Message) (close : Bool) (result : Result (Unit {0}) Failed)
-    → IsRunning old now left left_now written written_now ahead ahead_now rest served
-    → ((taken : List ℕ) × Consumes left_now left_new taken × HoldsMessage (rest ++ taken) m rest_new × (length rest_new < piece_size))
-    → ExchangeOf m close now new ahead_now ahead_new written_now written_new result
+pub served_next : (old now new : World) (rest rest_new : List ℕ) (served : ℕ) (m : Message) (close : Bool) (result : Result (Unit {0}) Failed)
+    → IsRunning old now rest served
+    → ((taken : List ℕ) × Consumes now.left new.left taken × HoldsMessage (rest ++ taken) m rest_new × (length rest_new < piece_size))
+    → ExchangeOf m close (world now.book new.left now.written now.ahead) new result
     → close ≡ (m.close || (served + 1 == request_limit))
-    → IsServed m old new left left_new written written_new ahead ahead_new rest_new served result
-served_next old now new left left_now left_new written written_now written_new ahead ahead_now ahead_new rest rest_new served m close result run
-    (more, takes, holds, few) x is =
+    → IsServed m old new rest_new served result
+served_next old now new rest rest_new served m close result run (more, takes, holds, few) x is =
     let e = x.exchanged in
     let es = run.exchanged in
     let closing : closes (length es) e ≡ close = ap (λ (k : ℕ). e.message.close || (k + 1 == request_limit)) run.count
@@ -118,24 +102,20 @@ served_next old now new left left_now left_new written written_now written_new a
       count = run.count;
       open_yet = run.open_yet;
       taken = run.taken ++ more;
-      takes = Consumes-append left left_now left_new run.taken more run.takes takes;
+      takes = Consumes-append old.left now.left new.left run.taken more run.takes takes;
       stream = subst (λ (ms : List Message). IsStream (run.taken ++ more) ms rest_new)
           (ap (λ (n : Message). messages_of es ++ n ∷ []) (sym x.message_is) ∙ sym (map-append (λ (d : Exchange). d.message) es (e ∷ [])))
           (stream_append (run.taken ++ more) (rest ++ more) rest_new (messages_of es) m (stream_more run.taken more rest (messages_of es) run.stream) holds);
       few = few;
-      exchanges = exchanges_append old.tables now.tables new.tables es e run.exchanges x.is_exchange;
-      turns = x.turns ∙ ap (λ t. t ++ e.turns) run.turns ∙ append_assoc old.turns (turns_of es) e.turns ∙ ap (λ t. old.turns ++ t) (turns_append es e);
-      readings = subst (λ (g : List ℕ). Gives ahead ahead_new g) (readings_append es e) (Gives-append run.readings x.readings);
-      written_are = subst (λ (c : Bool). WritesAfter (texts_of es) (exchange_text e c) written written_new result) (sym closing)
-          (writes_after written written_now written_new (texts_of es) (exchange_text e close) result run.written_are x.writes);
+      made = made_append old (world now.book new.left now.written now.ahead) new es e (made_at old now new.left now.written es run.made) x.made;
+      written_are = subst (λ (c : Bool). WritesAfter (texts_of es) (exchange_text e c) old.written new.written result) (sym closing)
+          (writes_after old.written now.written new.written (texts_of es) (exchange_text e close) result run.written_are x.writes);
     }
 
 -- the message asks for no end
-pub running_on : (m : Message) (old now : BookState) (left left_now written written_now : Option (List ℕ))
-    (ahead ahead_now : Option (ℕ → ℕ)) (rest : List ℕ) (served : ℕ)
-    → IsServed m old now left left_now written written_now ahead ahead_now rest served (Ok tt) → m.close ≡ false
-    → IsRunning old now left left_now written written_now ahead ahead_now rest (served + 1)
-running_on m old now left left_now written written_now ahead ahead_now rest served s stays = record {
+pub running_on : (m : Message) (old now : World) (rest : List ℕ) (served : ℕ) → IsServed m old now rest served (Ok tt) → m.close ≡ false
+    → IsRunning old now rest (served + 1)
+running_on m old now rest served s stays = record {
   exchanged = s.before ++ s.last ∷ [];
   count = length-append s.before (s.last ∷ []) ∙ ap (λ n. n + 1) s.count;
   open_yet = none_append s.before s.last s.open_yet (ap (λ (n : Message). n.close) s.message_is ∙ stays);
@@ -143,10 +123,8 @@ running_on m old now left left_now written written_now ahead ahead_now rest serv
   takes = s.takes;
   stream = s.stream;
   few = omega (arith, s.few);
-  exchanges = s.exchanges;
-  turns = s.turns;
-  readings = s.readings;
-  written_are = subst (Appends written written_now) (texts_whole s.before s.last) s.written_are;
+  made = s.made;
+  written_are = subst (Appends old.written now.written) (texts_whole s.before s.last) s.written_are;
 }
 
 open_before : (before : List Exchange) (last : Exchange) (close : Bool) → NoneCloses before → last.message.close ≡ close → OpenBefore (before ++ last ∷ [])
@@ -157,40 +135,34 @@ served_count : (before : List Exchange) (last : Exchange) (served : ℕ) → len
 served_count before last served is = length-append before (last ∷ []) ∙ ap (λ n. n + 1) is
 
 -- the last request that one session serves
-pub long_end : (m : Message) (old now : BookState) (left left_now written written_now : Option (List ℕ))
-    (ahead ahead_now : Option (ℕ → ℕ)) (rest : List ℕ) (served : ℕ)
-    → IsServed m old now left left_now written written_now ahead ahead_now rest served (Ok tt) → served + 1 ≡ request_limit
-    → IsSession old now left left_now written written_now ahead ahead_now ends.Long
-long_end m old now left left_now written written_now ahead ahead_now rest served s last = record {
+pub long_end : (m : Message) (old now : World) (rest : List ℕ) (served : ℕ) → IsServed m old now rest served (Ok tt) → served + 1 ≡ request_limit
+    → IsSession old now ends.Long
+long_end m old now rest served s last = record {
   course = record { exchanges = s.before ++ s.last ∷ []; rest = rest; closing = None };
   taken = s.taken;
   takes = s.takes;
   stream = s.stream;
-  exchanges = s.exchanges;
-  turns = s.turns;
-  history = exchanges_lead old.tables (s.before ++ s.last ∷ []) now.tables s.exchanges;
-  readings = s.readings;
-  asked_at = exchanges_read old.tables (s.before ++ s.last ∷ []) now.tables s.exchanges;
-  written_are = subst (Appends written written_now) (texts_whole s.before s.last ∙ sym (append-nil (texts_of (s.before ++ s.last ∷ [])))) s.written_are;
+  exchanges = s.made.exchanges;
+  readings = s.made.readings;
+  asked_at = s.made.asked_at;
+  written_are = subst (Appends old.written now.written)
+      (texts_whole s.before s.last ∙ sym (append-nil (texts_of (s.before ++ s.last ∷ [])))) s.written_are;
   ends = (served_count s.before s.last served s.count ∙ last, open_before s.before s.last _ s.open_yet refl, s.few, refl);
 }
 
 -- the message asks to close
-pub closed_end : (m : Message) (old now : BookState) (left left_now written written_now : Option (List ℕ))
-    (ahead ahead_now : Option (ℕ → ℕ)) (rest : List ℕ) (served : ℕ)
-    → IsServed m old now left left_now written written_now ahead ahead_now rest served (Ok tt) → served + 1 < request_limit → m.close ≡ true
-    → IsSession old now left left_now written written_now ahead ahead_now ends.Closed
-closed_end m old now left left_now written written_now ahead ahead_now rest served s below closes_it = record {
+pub closed_end : (m : Message) (old now : World) (rest : List ℕ) (served : ℕ) → IsServed m old now rest served (Ok tt)
+    → served + 1 < request_limit → m.close ≡ true → IsSession old now ends.Closed
+closed_end m old now rest served s below closes_it = record {
   course = record { exchanges = s.before ++ s.last ∷ []; rest = rest; closing = None };
   taken = s.taken;
   takes = s.takes;
   stream = s.stream;
-  exchanges = s.exchanges;
-  turns = s.turns;
-  history = exchanges_lead old.tables (s.before ++ s.last ∷ []) now.tables s.exchanges;
-  readings = s.readings;
-  asked_at = exchanges_read old.tables (s.before ++ s.last ∷ []) now.tables s.exchanges;
-  written_are = subst (Appends written written_now) (texts_whole s.before s.last ∙ sym (append-nil (texts_of (s.before ++ s.last ∷ [])))) s.written_are;
+  exchanges = s.made.exchanges;
+  readings = s.made.readings;
+  asked_at = s.made.asked_at;
+  written_are = subst (Appends old.written now.written)
+      (texts_whole s.before s.last ∙ sym (append-nil (texts_of (s.before ++ s.last ∷ [])))) s.written_are;
   ends = (
     subst (λ n. n < request_limit) (sym (served_count s.before s.last served s.count)) below,
     refl,
@@ -199,20 +171,16 @@ closed_end m old now left left_now written written_now ahead ahead_now rest serv
 }
 
 -- the reply could not be written
-pub write_end : (m : Message) (old now : BookState) (left left_now written written_now : Option (List ℕ))
-    (ahead ahead_now : Option (ℕ → ℕ)) (rest : List ℕ) (served : ℕ) (e : Failed)
-    → IsServed m old now left left_now written written_now ahead ahead_now rest served (Err e) → served + 1 ≤ request_limit
-    → IsSession old now left left_now written written_now ahead ahead_now ends.WriteFault
-write_end m old now left left_now written written_now ahead ahead_now rest served e s below = record {
+pub write_end : (m : Message) (old now : World) (rest : List ℕ) (served : ℕ) (e : Failed) → IsServed m old now rest served (Err e)
+    → served + 1 ≤ request_limit → IsSession old now ends.WriteFault
+write_end m old now rest served e s below = record {
   course = record { exchanges = s.before ++ s.last ∷ []; rest = rest; closing = None };
   taken = s.taken;
   takes = s.takes;
   stream = s.stream;
-  exchanges = s.exchanges;
-  turns = s.turns;
-  history = exchanges_lead old.tables (s.before ++ s.last ∷ []) now.tables s.exchanges;
-  readings = s.readings;
-  asked_at = exchanges_read old.tables (s.before ++ s.last ∷ []) now.tables s.exchanges;
+  exchanges = s.made.exchanges;
+  readings = s.made.readings;
+  asked_at = s.made.asked_at;
   written_are = (s.before, s.last, refl, s.written_are);
   ends = inl (
     subst (λ n. n ≤ request_limit) (sym (served_count s.before s.last served s.count)) below,
@@ -257,47 +225,45 @@ fault_ends (lacks.NoMemory true) es rest text left none below (at, cause) which 
 fault_ends (lacks.NoMemory false) es rest text left none below lacking which = cc
 
 -- no message comes
-pub lack_end : (old now : BookState) (left left_now left_new written written_now written_new : Option (List ℕ))
-    (ahead ahead_now : Option (ℕ → ℕ)) (rest : List ℕ) (served : ℕ)
-    (lack : Lack) (end : SessionEnd)
-    → IsRunning old now left left_now written written_now ahead ahead_now rest served
-    → ((taken : List ℕ) × Consumes left_now left_new taken × LackOf (rest ++ taken) left_new lack)
-    → IsFinish lack written_now written_new end → served < request_limit
-    → IsSession old now left left_new written written_new ahead ahead_now end
-lack_end old now left left_now left_new written written_now written_new ahead ahead_now rest served lack end run (more, takes, lacking) finish below =
+pub lack_end : (old now : World) (left_new written_new : Option (List ℕ)) (rest : List ℕ) (served : ℕ) (lack : Lack) (end : SessionEnd)
+    → IsRunning old now rest served
+    → ((taken : List ℕ) × Consumes now.left left_new taken × LackOf (rest ++ taken) left_new lack)
+    → IsFinish lack now.written written_new end → served < request_limit
+    → IsSession old (world now.book left_new written_new now.ahead) end
+lack_end old now left_new written_new rest served lack end run (more, takes, lacking) finish below =
     elim finish [
-      | inl done ↦ subst (IsSession old now left left_new written written_new ahead ahead_now) (sym done.0)
-          (ended (end_of lack) (all_written lack course written written_new
-          (Appends-append written written_now written_new _ _ run.written_are done.1))
+      | inl done ↦ subst (IsSession old new) (sym done.0)
+          (ended (end_of lack) (all_written lack course old.written written_new
+          (Appends-append old.written now.written written_new _ _ run.written_are done.1))
           (lack_ends lack run.exchanged (rest ++ more) left_new run.open_yet few lacking))
-      | inr failed ↦ subst (IsSession old now left left_new written written_new ahead ahead_now) (sym failed.0)
+      | inr failed ↦ subst (IsSession old new) (sym failed.0)
           (ended ends.WriteFault (part failed.1.0 failed.1.1 failed.1.2)
           (fault_ends lack run.exchanged (rest ++ more) failed.1.0 left_new run.open_yet few lacking failed.1.1))
     ]
   where
+    new : World
+    new = world now.book left_new written_new now.ahead
+
     course : Course
     course = record { exchanges = run.exchanged; rest = rest ++ more; closing = closing_of lack }
 
     few : length run.exchanged < request_limit
     few = subst (λ n. n < request_limit) (sym run.count) below
 
-    part : (text : List ℕ) → closing_of lack ≡ Some text → AppendsPart written_now written_new text → IsWritten ends.WriteFault course written written_new
+    part : (text : List ℕ) → closing_of lack ≡ Some text → AppendsPart now.written written_new text → IsWritten ends.WriteFault course old.written written_new
     part text is (first, after, whole, appended) =
-        subst (λ (c : Option (List ℕ)). WritesNotLast run.exchanged c written written_new) (sym is)
-        (first, after, whole, Appends-append written written_now written_new (texts_of run.exchanged) first run.written_are appended)
+        subst (λ (c : Option (List ℕ)). WritesNotLast run.exchanged c old.written written_new) (sym is)
+        (first, after, whole, Appends-append old.written now.written written_new (texts_of run.exchanged) first run.written_are appended)
 
-    ended : (stop : SessionEnd) → IsWritten stop course written written_new → EndsWith stop course (IsAtEnd left_new)
-        → IsSession old now left left_new written written_new ahead ahead_now stop
+    ended : (stop : SessionEnd) → IsWritten stop course old.written written_new → EndsWith stop course (IsAtEnd left_new) → IsSession old new stop
     ended stop is_written is_end = record {
       course = course;
       taken = run.taken ++ more;
-      takes = Consumes-append left left_now left_new run.taken more run.takes takes;
+      takes = Consumes-append old.left now.left left_new run.taken more run.takes takes;
       stream = stream_more run.taken more rest (messages_of run.exchanged) run.stream;
-      exchanges = run.exchanges;
-      turns = run.turns;
-      history = exchanges_lead old.tables run.exchanged now.tables run.exchanges;
-      readings = run.readings;
-      asked_at = exchanges_read old.tables run.exchanged now.tables run.exchanges;
+      exchanges = run.made.exchanges;
+      readings = run.made.readings;
+      asked_at = run.made.asked_at;
       written_are = is_written;
       ends = is_end;
     }

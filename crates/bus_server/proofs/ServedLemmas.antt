@@ -14,14 +14,13 @@ use Rattle.router_core.specs.Request.{Action, Request, create_event_bus, delete_
 use Rattle.router_core.specs.Request.{put_rule_state, describe_rule, list_rules, put_targets, remove_targets, list_targets_by_rule}
 use Rattle.router_core.specs.Request.{list_rule_names_by_target, put_policy, put_statement, remove_policy, remove_statement, put_events}
 use Rattle.router_core.specs.Request.{test_event_pattern, create_queue, peek_messages, deliver_due}
-use Rattle.router_core.specs.Tables.{Tables, is_full}
+use Rattle.router_core.specs.Tables.{Tables, is_full, moment_at}
 use Rattle.router_calls.specs.Accepted.{Given, events_in}
 use Rattle.router_calls.specs.Answer.{Answer, IsAnswer, IsAnswerAt, IsControlled, IsTargetsPut, IsPublished, IsTested, IsRuleDeleted}
-use Rattle.router_calls.specs.Answer.{AreTargetsRemoved, IsOnBus, IsStatementRemovedFrom}
-use Rattle.router_calls.specs.Answer.{writes, targets_answer, removals_answer, events_answer, policy_answer, statement_answer, removal_answer, moment_at}
-use Rattle.router_calls.specs.Permission.{has_statement}
+use Rattle.router_calls.specs.Answer.{AreTargetsRemoved, IsOnBus, IsGranted, IsRevoked, IsStatementRemovedFrom}
+use Rattle.router_calls.specs.Answer.{writes, targets_answer, removals_answer, events_answer}
 use Rattle.router_core.specs.Verdict.{IsPolicyOf}
-use Rattle.std.specs.Prelude.{if◌then◌else◌, nat_lt, length, Option, Some, None}
+use Rattle.std.specs.Prelude.{if◌then◌else◌, Option, Some, None}
 
 abbrev IsServed : Answer → Type 0
 IsServed a = IsServedStatus a.reply.status
@@ -61,13 +60,13 @@ events_served : (t : Tables) (moment : ℕ) (es : List batch.Accepted) (reply : 
 events_served t moment [] reply is = is
 events_served t moment (e ∷ es) reply is = writes_served t moment _ reply is
 
-published_served : (t : Tables) (caller : List ℕ) (moment : ℕ) (entries : List Given) (size : ℕ) (a : Answer) → IsPublished t caller moment entries size a → IsServed a
-published_served t caller moment entries size a (inl (large, e)) = so_served a _ e (inr (inl refl))
-published_served t caller moment entries size a (inr (fits, (all, placed, e))) = so_served a _ e (events_served t moment (events_in all) _ (inl refl))
+published_served : (t : Tables) (set : RuleSet) (caller : List ℕ) (moment : ℕ) (entries : List Given) (size : ℕ) (a : Answer)
+    → IsPublished t set caller moment entries size a → IsServed a
+published_served t set caller moment entries size a (inl (large, e)) = so_served a _ e (inr (inl refl))
+published_served t set caller moment entries size a (inr (fits, (all, placed, e))) = so_served a _ e (events_served t moment (events_in all) _ (inl refl))
 
 tested_served : (pattern : List ℕ) (event : Tree) (a : Answer) → IsTested pattern event a → IsServed a
-tested_served pattern event a (inl (holds, e)) = so_served a _ e (inl refl)
-tested_served pattern event a (inr (not, e)) = so_served a _ e (inl refl)
+tested_served pattern event a (matches, tested, e) = so_served a _ e (inl refl)
 
 on_bus_served : (name : List ℕ) (show : Bus → Reply) → ((bus : Bus) → IsServedStatus (show bus).status) → (bus : Option Bus)
     → IsServedStatus (on_bus name show bus).status
@@ -101,62 +100,60 @@ removed_served t moment bus rule ids a (inl (none, e)) = so_served a _ e (inr (i
 removed_served t moment bus rule ids a (inr (inl (there, lacks, e))) = so_served a _ e (inr (inl refl))
 removed_served t moment bus rule ids a (inr (inr (r, found, e))) = so_served a _ e (removals_served t moment bus rule _ _)
 
-policy_served : (t : Tables) (moment : ℕ) (bus policy : List ℕ) → IsServed (policy_answer t moment bus policy)
-policy_served t moment bus policy = one_answer_of (nat_lt 10240 (length policy)) _ _ (inr (inl refl)) (writes_served t moment _ _ (inl refl))
-
 bus_served : (t : Tables) (bus : List ℕ) (IsChanged : Bus → Answer → Type 0) (a : Answer) → ((b : Bus) → IsChanged b a → IsServed a)
     → IsOnBus t bus IsChanged a → IsServed a
 bus_served t bus IsChanged a each (inl (none, e)) = so_served a _ e (inr (inl refl))
 bus_served t bus IsChanged a each (inr (b, found, is)) = each b is
 
-statement_served : (t : Tables) (moment : ℕ) (bus sid : List ℕ) (account : Option (List ℕ)) (policy : Option Tree)
-    → IsServed (statement_answer t moment bus sid account policy)
-statement_served t moment bus sid account policy =
-    one_answer_of (has_statement sid policy) _ _ (inr (inl refl)) (policy_served t moment bus _)
+granted_served : (t : Tables) (moment : ℕ) (bus sid : List ℕ) (account : Option (List ℕ)) (policy : Option Tree) (a : Answer)
+    → IsGranted t moment bus sid account policy a → IsServed a
+granted_served t moment bus sid account policy a (inl (there, e)) = so_served a _ e (inr (inl refl))
+granted_served t moment bus sid account policy a (inr (new, is)) = controlled_served t moment _ _ a (inl refl) is
 
-granted_served : (t : Tables) (moment : ℕ) (bus sid : List ℕ) (account : Option (List ℕ)) (a : Answer) (b : Bus)
-    → ((policy : Option Tree) × IsPolicyOf b.policy policy × (a ≡ statement_answer t moment bus sid account policy)) → IsServed a
-granted_served t moment bus sid account a b (policy, of, e) = so_served a _ e (statement_served t moment bus sid account policy)
+statement_served : (t : Tables) (moment : ℕ) (bus sid : List ℕ) (account : Option (List ℕ)) (a : Answer) (b : Bus)
+    → ((policy : Option Tree) × IsPolicyOf b.policy policy × IsGranted t moment bus sid account policy a) → IsServed a
+statement_served t moment bus sid account a b (policy, of, is) = granted_served t moment bus sid account policy a is
 
-removal_served : (t : Tables) (moment : ℕ) (bus sid : List ℕ) (policy : Option Tree) → IsServed (removal_answer t moment bus sid policy)
-removal_served t moment bus sid None = inr (inl refl)
-removal_served t moment bus sid (Some policy) =
-    one_answer_of (has_statement sid (Some policy)) _ _ (writes_served t moment _ _ (inl refl)) (inr (inl refl))
+removal_served : (t : Tables) (moment : ℕ) (bus sid : List ℕ) (policy : Option Tree) (a : Answer) → IsRevoked t moment bus sid policy a → IsServed a
+removal_served t moment bus sid None a is = so_served a _ is (inr (inl refl))
+removal_served t moment bus sid (Some policy) a (inl (there, is)) = controlled_served t moment _ _ a (inl refl) is
+removal_served t moment bus sid (Some policy) a (inr (none, e)) = so_served a _ e (inr (inl refl))
 
 revoked_served : (t : Tables) (moment : ℕ) (bus : List ℕ) (sid : Option (List ℕ)) (b : Bus) (a : Answer) → IsStatementRemovedFrom t moment bus sid b a
     → IsServed a
 revoked_served t moment bus None b a is = so_served a _ is (inr (inl refl))
-revoked_served t moment bus (Some sid) b a (policy, of, e) = so_served a _ e (removal_served t moment bus sid policy)
+revoked_served t moment bus (Some sid) b a (policy, of, is) = removal_served t moment bus sid policy a is
 
-served_at : (t : Tables) (caller : List ℕ) (moment : ℕ) (action : Action) (a : Answer) → IsAnswerAt t caller moment action a → IsServed a
-served_at t caller moment (create_event_bus name) a is = controlled_served t moment _ _ a (inl refl) is
-served_at t caller moment (delete_event_bus name) a is = controlled_served t moment _ _ a (inl refl) is
-served_at t caller moment (describe_event_bus name) a is = so_served a _ is (shown_served t.set name _ (λ bus. inl refl))
-served_at t caller moment (list_event_buses prefix) a is = so_served a _ is (inl refl)
-served_at t caller moment (put_rule bus name pattern enabled) a is = controlled_served t moment _ _ a (inl refl) is
-served_at t caller moment (delete_rule bus name) a is = deleted_served t moment bus name a is
-served_at t caller moment (put_rule_state bus name enabled) a is = controlled_served t moment _ _ a (inl refl) is
-served_at t caller moment (describe_rule bus name) a is =
+served_at : (t : Tables) (set : RuleSet) (caller : List ℕ) (moment : ℕ) (action : Action) (a : Answer) → IsAnswerAt t set caller moment action a → IsServed a
+served_at t set caller moment (create_event_bus name) a is = controlled_served t moment _ _ a (inl refl) is
+served_at t set caller moment (delete_event_bus name) a is = controlled_served t moment _ _ a (inl refl) is
+served_at t set caller moment (describe_event_bus name) a is = so_served a _ is (shown_served t.set name _ (λ bus. inl refl))
+served_at t set caller moment (list_event_buses prefix) a is = so_served a _ is (inl refl)
+served_at t set caller moment (put_rule bus name pattern enabled) a is = controlled_served t moment _ _ a (inl refl) is
+served_at t set caller moment (delete_rule bus name) a is = deleted_served t moment bus name a is
+served_at t set caller moment (put_rule_state bus name enabled) a is = controlled_served t moment _ _ a (inl refl) is
+served_at t set caller moment (describe_rule bus name) a is =
     so_served a _ is (shown_served t.set bus _ (λ b. rule_served name _ (λ rule. inl refl) b))
-served_at t caller moment (list_rules bus prefix) a is = so_served a _ is (shown_served t.set bus _ (λ b. inl refl))
-served_at t caller moment (put_targets bus rule targets) a is = put_served t moment bus rule targets a is
-served_at t caller moment (remove_targets bus rule ids) a is = removed_served t moment bus rule ids a is
-served_at t caller moment (list_targets_by_rule bus rule) a is =
+served_at t set caller moment (list_rules bus prefix) a is = so_served a _ is (shown_served t.set bus _ (λ b. inl refl))
+served_at t set caller moment (put_targets bus rule targets) a is = put_served t moment bus rule targets a is
+served_at t set caller moment (remove_targets bus rule ids) a is = removed_served t moment bus rule ids a is
+served_at t set caller moment (list_targets_by_rule bus rule) a is =
     so_served a _ is (shown_served t.set bus _ (λ b. rule_served rule _ (λ r. inl refl) b))
-served_at t caller moment (list_rule_names_by_target arn bus) a is = so_served a _ is (shown_served t.set bus _ (λ b. inl refl))
-served_at t caller moment (put_policy bus policy) a is =
-    bus_served t bus (λ b answer. answer ≡ policy_answer t moment bus policy) a (λ b e. so_served a _ e (policy_served t moment bus policy)) is
-served_at t caller moment (put_statement bus sid account) a is =
-    bus_served t bus (λ b answer. (policy : Option Tree) × IsPolicyOf b.policy policy × (answer ≡ statement_answer t moment bus sid account policy))
-    a (granted_served t moment bus sid account a) is
-served_at t caller moment (remove_policy bus) a is = controlled_served t moment _ _ a (inl refl) is
-served_at t caller moment (remove_statement bus sid) a is = bus_served t bus (IsStatementRemovedFrom t moment bus sid) a (λ b. revoked_served t moment bus sid b a) is
-served_at t caller moment (put_events entries size) a is = published_served t caller moment entries size a is
-served_at t caller moment (test_event_pattern pattern event) a is = tested_served pattern event a is
-served_at t caller moment (create_queue name) a is = controlled_served t moment _ _ a (inl refl) is
-served_at t caller moment (peek_messages queue limit) a is =
+served_at t set caller moment (list_rule_names_by_target arn bus) a is = so_served a _ is (shown_served t.set bus _ (λ b. inl refl))
+served_at t set caller moment (put_policy bus policy) a is =
+    controlled_served t moment _ _ a (inl refl) is
+served_at t set caller moment (put_statement bus sid account) a is =
+    bus_served t bus (λ b answer. (policy : Option Tree) × IsPolicyOf b.policy policy × IsGranted t moment bus sid account policy answer)
+    a (statement_served t moment bus sid account a) is
+served_at t set caller moment (remove_policy bus) a is = controlled_served t moment _ _ a (inl refl) is
+served_at t set caller moment (remove_statement bus sid) a is =
+    bus_served t bus (IsStatementRemovedFrom t moment bus sid) a (λ b. revoked_served t moment bus sid b a) is
+served_at t set caller moment (put_events entries size) a is = published_served t set caller moment entries size a is
+served_at t set caller moment (test_event_pattern pattern event) a is = tested_served pattern event a is
+served_at t set caller moment (create_queue name) a is = controlled_served t moment _ _ a (inl refl) is
+served_at t set caller moment (peek_messages queue limit) a is =
     so_served a _ is (one_reply_of (has_queue queue t.set) _ _ (inl refl) (inr (inl refl)))
-served_at t caller moment (deliver_due budget) a is = absurd is
+served_at t set caller moment (deliver_due budget) a is = absurd is
 
-pub answer_served : (t : Tables) (r : Request) (a : Answer) → IsAnswer t r a → IsServedStatus a.reply.status
-answer_served t r a is = served_at t r.caller (moment_at t r.reading) r.action a is.answers
+pub answer_served : (t : Tables) (r : Request) (k : ℕ) (set : RuleSet) (a : Answer) → IsAnswer t r k set a → IsServedStatus a.reply.status
+answer_served t r k set a is = served_at t set r.caller (moment_at t r.reading) r.action a is.answers

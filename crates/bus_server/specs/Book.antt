@@ -1,22 +1,22 @@
--- The views of the router's guarded state in contracts.
-use Rattle.std.specs.Prelude.{List, map, Option, Some, None}
-use Rattle.router_core.specs.Tables.{Tables}
+-- The views of the router's guarded state in contracts, and what holds of it.
+use Rattle.std.specs.Prelude.{◌≡◌, ◌++◌, List, map, length, Option, Some, None}
+use Rattle.rule_table.specs.RuleSet.{rule_set_at}
+use Rattle.router_core.specs.Tables.{Tables, first_tables}
 use Rattle.router_core.specs.Batch.{Batch}
-use Rattle.router_core.specs.View.{request_of}
-use Rattle.router_core.specs.Ready.{batch_of}
-use Rattle.router_core.specs.Steps.{record_of}
+use Rattle.router_core.specs.View.{request_of, batch_of}
 use Rattle.bus_server.specs.declared.history.Ask.{Ask}
 use Rattle.bus_server.specs.declared.history.Ask.TheVariants.{Asked, Claims, Records, PutsBack}
 use Rattle.bus_server.specs.declared.history.Written.{Written}
-use Rattle.bus_server.specs.declared.history.Written.TheVariants.{Nothing, Change, Record}
+use Rattle.bus_server.specs.declared.history.Written.TheVariants.{Nothing, Changes}
 use Rattle.bus_server.specs.declared.history.Turn.{Turn}
 use Rattle.bus_server.specs.declared.history.History.{History}
 use Rattle.bus_server.specs.declared.book.Book.{Book}
 use Rattle.bus_server.specs.Firsts.{firsts}
 use Rattle.bus_server.specs.History as view
 
--- the tables, and all turns since the book was opened, oldest first
+-- the state in which the book was opened, its tables, and all turns since, oldest first
 pub record BookState : Type 0 where
+  pub opened : view.State
   pub tables : Tables
   pub turns : List view.Turn
 
@@ -30,17 +30,36 @@ ask_of (PutsBack duty) = view.puts_back duty
 -- the batch that a turn wrote, if any
 abbrev pub written_of : Written → Option Batch
 written_of Nothing = None
-written_of (Change ready) = Some (batch_of ready.value)
-written_of (Record moment duty outcome) = Some (record_of moment duty outcome)
+written_of (Changes batch) = Some (batch_of batch.value)
 
 -- the turn, with the views of its ask and its batch
 abbrev pub turn_of : Turn → view.Turn
-turn_of turn = record { ask = ask_of turn.ask; batch = written_of turn.written }
+turn_of turn = record { pass = turn.pass; connection = turn.connection; ask = ask_of turn.ask; k = turn.k; batch = written_of turn.written }
 
--- the turns, oldest first
+-- the turns of a history as they were recorded, oldest first
+abbrev pub recorded_in : History → List Turn
+recorded_in history = firsts history.log.items
+
+-- the turns of a history, oldest first
 abbrev pub turns_in : History → List view.Turn
-turns_in history = map turn_of (firsts history.log.items)
+turns_in history = map turn_of (recorded_in history)
 
--- the tables, and the turns of the history
+-- a book is opened with the first tables
 abbrev pub book_of : Book → BookState
-book_of b = record { tables = b.tables; turns = turns_in b.history }
+book_of b = record { opened = view.begun first_tables; tables = b.tables; turns = turns_in b.history }
+
+-- to the history of the book turns were only added
+abbrev pub HasGrown : Book → Book → Type 0
+HasGrown old new = (more : List Turn) × (recorded_in new.history ≡ recorded_in old.history ++ more)
+
+-- the state after all turns
+abbrev pub state_of : BookState → view.State
+state_of b = view.state_after b.turns b.opened
+
+-- What holds of a book: its turns are a legal history from the state in which it was opened, its tables are those after them, and its rule set is
+-- that of the latest configuration version.
+pub record IsBook (b : BookState) : Type 0 where
+  pub legal : view.IsLegal b.opened b.turns
+  pub tables : (state_of b).tables ≡ b.tables
+  pub set : b.tables.set ≡ rule_set_at (length (state_of b).controls) (state_of b).controls
+  pub version : b.tables.set.count ≡ length (state_of b).controls

@@ -1,7 +1,7 @@
 -- The program: its session, its status, and the line that reports the status.
 use Rattle.std.specs.Prelude.{◌≡◌, ◌≢◌, ℕ, ◌⊎◌, List, [], ◌∷◌, ◌++◌, Option, Some, None, Result, codes}
 use Rattle.std.specs.Io.KnownBytes.{Keeps}
-use Rattle.router_disk.specs.Clock.{repeating}
+use Rattle.router_disk.specs.Clock.{repeating, Gives}
 use Rattle.router_disk.specs.Faults.{CountsFaults, Rose}
 use Rattle.router_disk.specs.Sink.{WritesAll}
 use Rattle.router_disk.specs.declared.fault.Failed.{Failed}
@@ -10,8 +10,10 @@ use Rattle.bus_server.specs.declared.session.SessionEnd.{SessionEnd}
 use Rattle.bus_server.specs.declared.session.SessionEnd.TheVariants as ends
 use Rattle.bus_server.specs.declared.program.Status.{Status}
 use Rattle.bus_server.specs.declared.program.Status.TheVariants as statuses
-use Rattle.bus_server.specs.History.{IsLegal, state_after, batches_of, begun}
-use Rattle.bus_server.specs.Book.{BookState}
+use Rattle.bus_server.specs.History.{batches_of, begun}
+use Rattle.bus_server.specs.Folds.{without_claims}
+use Rattle.bus_server.specs.Book.{BookState, state_of, IsBook}
+use Rattle.bus_server.specs.World.{World, world}
 use Rattle.bus_server.specs.Session.{IsSession}
 
 -- the status of a session's end
@@ -61,29 +63,31 @@ pub record FaultsMatch (status : Status) (reads reads_new writes writes_new : �
 
 -- the book before any turn
 abbrev pub first_book : BookState
-first_book = record { tables = first_tables; turns = [] }
+first_book = record { opened = begun first_tables; tables = first_tables; turns = [] }
 
--- one session from the first book, over these ends of a source, a sink and a clock
-pub record RunsOnce (left left_new written written_new : Option (List ℕ)) (ahead ahead_new : Option (ℕ → ℕ)) (status : Status) : Type 0 where
-  pub book : BookState
+-- One session from the first book: its turns are a legal history that leaves no claim open, and the tables are the fold of its batches, claims
+-- set aside.
+pub record RunsOnce (old new : World) (status : Status) : Type 0 where
   pub end : SessionEnd
-  pub session : IsSession first_book book left left_new written written_new ahead ahead_new end
+  pub session : IsSession old new end
+  pub first : old.book ≡ first_book
   pub ends : status ≡ status_of end
-  -- all turns are a legal history from the first tables, which leaves no claim open; the tables are the fold of its batches
-  pub legal : IsLegal (begun first_tables) book.turns
-  pub none_open : state_after book.turns (begun first_tables) ≡ begun book.tables
-  pub tables : book.tables ≡ tables_after (batches_of book.turns) first_tables
+  pub book : IsBook new.book
+  pub none_open : (state_of new.book).open_claims ≡ []
+  pub tables : without_claims new.book.tables ≡ tables_after (batches_of new.book.turns) first_tables
 
--- nothing was read and nothing written
-abbrev pub IsUnbegun : Option (List ℕ) → Option (List ℕ) → Option (List ℕ) → Option (List ℕ) → Type 0
-IsUnbegun left left_new written written_new = Keeps left left_new × Keeps written written_new
+-- nothing was read and nothing written, and the clock was not read
+abbrev pub IsUnbegun : Option (List ℕ) → Option (List ℕ) → Option (List ℕ) → Option (List ℕ) → Option (ℕ → ℕ) → Option (ℕ → ℕ) → Type 0
+IsUnbegun left left_new written written_new ahead ahead_new = Keeps left left_new × Keeps written written_new × Gives ahead ahead_new []
 
--- The run of a program: one session, with the readings of the clock or with every reading the given one; or out of memory
--- before it.
+-- the run of a program: one session, with the readings of the clock, or with every reading the given one while the clock is not read; or out of
+-- memory before it
 abbrev pub IsRun : Option ℕ → Option (List ℕ) → Option (List ℕ) → Option (List ℕ) → Option (List ℕ) → Option (ℕ → ℕ) → Option (ℕ → ℕ) → Status → Type 0
 IsRun None left left_new written written_new ahead ahead_new status =
-    RunsOnce left left_new written written_new ahead ahead_new status
-    ⊎ ((status ≡ statuses.NoMemory) × IsUnbegun left left_new written written_new)
+    ((book : BookState) × RunsOnce (world first_book left written ahead) (world book left_new written_new ahead_new) status)
+    ⊎ ((status ≡ statuses.NoMemory) × IsUnbegun left left_new written written_new ahead ahead_new)
 IsRun (Some moment) left left_new written written_new ahead ahead_new status =
-    ((later : Option (ℕ → ℕ)) × RunsOnce left left_new written written_new (Some (repeating moment [])) later status)
-    ⊎ ((status ≡ statuses.NoMemory) × IsUnbegun left left_new written written_new)
+    ((book : BookState) × (later : Option (ℕ → ℕ))
+    × RunsOnce (world first_book left written (Some (repeating moment []))) (world book left_new written_new later) status
+    × Gives ahead ahead_new [])
+    ⊎ ((status ≡ statuses.NoMemory) × IsUnbegun left left_new written written_new ahead ahead_new)

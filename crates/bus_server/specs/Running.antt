@@ -1,37 +1,41 @@
 -- A session that has not ended.
-use Rattle.std.specs.Prelude.{◌≡◌, ℕ, ◌≤◌, Bool, List, ◌∷◌, ◌++◌, length, Option, Result}
+use Rattle.std.specs.Prelude.{◌≡◌, ℕ, ◌≤◌, Bool, List, [], ◌∷◌, length, map, Result}
 use Rattle.std.specs.Io.KnownBytes.{Appends, Consumes}
 use Rattle.router_disk.specs.Clock.{Gives}
 use Rattle.router_disk.specs.Sink.{WritesAll}
 use Rattle.router_disk.specs.declared.fault.Failed.{Failed}
 use Rattle.api_messages.specs.declared.message.Message.{Message}
 use Rattle.api_messages.specs.Messages.{IsStream}
-use Rattle.bus_server.specs.Book.{BookState}
-use Rattle.bus_server.specs.Exchange.{Exchange, exchange_text, IsExchange, AreExchanges, turns_of, readings_of, messages_of}
+use Rattle.courier_run.specs.Claim.{moment_of}
+use Rattle.bus_server.specs.History.{asked_readings}
+use Rattle.bus_server.specs.Sublist.{IsSublist}
+use Rattle.bus_server.specs.Exchange.{Exchange, exchange_text}
+use Rattle.bus_server.specs.Exchanges.{readings_of, messages_of, AreAdded}
 use Rattle.bus_server.specs.Session.{texts_of, NoneCloses, piece_size}
+use Rattle.bus_server.specs.World.{World}
+
+-- the exchanges were made: their turns, and their readings
+pub record AreMade (old now : World) (es : List Exchange) : Type 0 where
+  pub exchanges : AreAdded old.book now.book es
+  pub readings : Gives old.ahead now.ahead (readings_of es)
+  pub asked_at : IsSublist (asked_readings exchanges.added) (map moment_of (readings_of es))
 
 -- the exchanges so far: `served` requests, none of which asked to close
-pub record IsRunning (old now : BookState) (left left_now written written_now : Option (List ℕ)) (ahead ahead_now : Option (ℕ → ℕ)) (rest : List ℕ)
-    (served : ℕ) : Type 0 where
+pub record IsRunning (old now : World) (rest : List ℕ) (served : ℕ) : Type 0 where
   pub exchanged : List Exchange
   pub count : length exchanged ≡ served
   pub open_yet : NoneCloses exchanged
   pub taken : List ℕ
-  pub takes : Consumes left left_now taken
+  pub takes : Consumes old.left now.left taken
   pub stream : IsStream taken (messages_of exchanged) rest
   -- of the last piece that was read
   pub few : length rest ≤ piece_size
-  pub exchanges : AreExchanges old.tables exchanged now.tables
-  pub turns : now.turns ≡ old.turns ++ turns_of exchanged
-  pub readings : Gives ahead ahead_now (readings_of exchanged)
-  pub written_are : Appends written written_now (texts_of exchanged)
+  pub made : AreMade old now exchanged
+  pub written_are : Appends old.written now.written (texts_of exchanged)
 
 -- one exchange, of this message
-pub record ExchangeOf (message : Message) (close : Bool) (old new : BookState) (ahead ahead_new : Option (ℕ → ℕ))
-    (written written_new : Option (List ℕ)) (result : Result (Unit {0}) Failed) : Type 0 where
+pub record ExchangeOf (message : Message) (close : Bool) (old new : World) (result : Result (Unit {0}) Failed) : Type 0 where
   pub exchanged : Exchange
   pub message_is : exchanged.message ≡ message
-  pub is_exchange : IsExchange old.tables exchanged new.tables
-  pub turns : new.turns ≡ old.turns ++ exchanged.turns
-  pub readings : Gives ahead ahead_new (exchanged.reading ∷ exchanged.steps)
-  pub writes : WritesAll written written_new result (exchange_text exchanged close)
+  pub made : AreMade old new (exchanged ∷ [])
+  pub writes : WritesAll old.written new.written result (exchange_text exchanged close)

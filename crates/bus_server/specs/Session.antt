@@ -11,9 +11,12 @@ use Rattle.api_messages.specs.Between.{AreEmptyLines, HasHead}
 use Rattle.api_replies.specs.Written.{reply_text}
 use Rattle.bus_server.specs.declared.session.SessionEnd.{SessionEnd}
 use Rattle.bus_server.specs.declared.session.SessionEnd.TheVariants.{Closed, Cut, Refused, Long, ReadFault, WriteFault, NoMemory}
-use Rattle.bus_server.specs.Book.{BookState}
-use Rattle.bus_server.specs.History.{asked_readings, IsSublist, Leads}
-use Rattle.bus_server.specs.Exchange.{Exchange, exchange_text, moment_of, AreExchanges, turns_of, readings_of, messages_of}
+use Rattle.courier_run.specs.Claim.{moment_of}
+use Rattle.bus_server.specs.History.{asked_readings}
+use Rattle.bus_server.specs.Sublist.{IsSublist}
+use Rattle.bus_server.specs.Exchange.{Exchange, exchange_text}
+use Rattle.bus_server.specs.Exchanges.{readings_of, messages_of, AreAdded}
+use Rattle.bus_server.specs.World.{World}
 
 -- the number of requests that one session serves (this project's own limit)
 abbrev pub request_limit : ℕ
@@ -124,23 +127,18 @@ IsWritten ReadFault c old new = WritesWhole c.exchanges c.closing old new
 IsWritten WriteFault c old new = WritesNotLast c.exchanges c.closing old new
 IsWritten NoMemory c old new = WritesWhole c.exchanges c.closing old new
 
--- A session over a source with the bytes `left`, a sink that holds `written`, and a clock with the readings `ahead` to come,
--- each if it is known.
-pub record IsSession (old new : BookState) (left left_new written written_new : Option (List ℕ)) (ahead ahead_new : Option (ℕ → ℕ))
-    (end : SessionEnd) : Type 0 where
+-- A session, from the world before it to the world after it.
+pub record IsSession (old new : World) (end : SessionEnd) : Type 0 where
   pub course : Course
   -- the bytes read are the messages of the exchanges, and the rest
   pub taken : List ℕ
-  pub takes : Consumes left left_new taken
+  pub takes : Consumes old.left new.left taken
   pub stream : IsStream taken (messages_of course.exchanges) course.rest
-  -- each exchange is the router machine's, from the tables that the exchanges before it left
-  pub exchanges : AreExchanges old.tables course.exchanges new.tables
-  pub turns : new.turns ≡ old.turns ++ turns_of course.exchanges
-  -- these turns are a legal history, and the tables are the fold of their batches
-  pub history : Leads old.tables (turns_of course.exchanges) new.tables
+  -- each exchange is one of the router machine, by the states before its turns; these turns were added to the history, and no others
+  pub exchanges : AreAdded old.book new.book course.exchanges
   -- the clock gave these readings only; the readings of the turns are some of them, in order, each as a moment
-  pub readings : Gives ahead ahead_new (readings_of course.exchanges)
-  pub asked_at : IsSublist (asked_readings (turns_of course.exchanges)) (map moment_of (readings_of course.exchanges))
+  pub readings : Gives old.ahead new.ahead (readings_of course.exchanges)
+  pub asked_at : IsSublist (asked_readings exchanges.added) (map moment_of (readings_of course.exchanges))
   -- the replies are written, and nothing else
-  pub written_are : IsWritten end course written written_new
-  pub ends : EndsWith end course (IsAtEnd left_new)
+  pub written_are : IsWritten end course old.written new.written
+  pub ends : EndsWith end course (IsAtEnd new.left)

@@ -1,21 +1,25 @@
 //! The router's guarded state: its tables, and the history of its turns.
-ghost use Rattle.std.specs.Prelude.{◌≡◌, ◌++◌, ◌∷◌, [], Bool, Some, None, IfOk, IfSome, OnErr};
-ghost use Rattle.std.specs.Option.{option_map};
+ghost use Rattle.std.specs.Prelude.{◌≡◌, ◌++◌, ◌∷◌, [], Bool, Some, None, IfOk, IfSome, IfNone, IfErr, OnErr, true};
+ghost use Rattle.json_text.specs.Moment.{IsMoment};
 ghost use Rattle.router_core.specs.View.{request_of};
-ghost use Rattle.router_core.specs.Tables.{first_tables};
-ghost use Rattle.router_core.specs.Ready.{batch_of, IsReadyAt};
-ghost use Rattle.router_calls.specs.Answer.{moment_at};
-ghost use Rattle.bus_server.specs.Book.{ask_of, book_of};
-ghost use Rattle.bus_server.specs.History.{after_written};
-ghost use Rattle.bus_server.specs.Answered.{IsAskable, IsDecided, IsAnswered, IsRenderable};
-ghost use Rattle.bus_server.specs.Steps.{StepOf};
+ghost use Rattle.router_core.specs.Tables.{moment_at};
+ghost use Rattle.router_core.specs.Steps.{putting_back};
+ghost use Rattle.courier_run.specs.Claim.{FitsClaim};
+ghost use Rattle.bus_server.specs.History.{claims, puts_back, IsTurnOf};
+ghost use Rattle.bus_server.specs.Book.{book_of, state_of, IsBook, HasGrown};
+ghost use Rattle.bus_server.specs.Answered.{IsAskable, IsDecided, IsAnswered, IsRenderable, IsFrom};
+ghost use Rattle.bus_server.specs.Delivery.{held_claim, IsOpen, IsIdle};
+ghost use Rattle.bus_server.specs.Run.{first_book};
+ghost use Rattle.bus_server.specs.Turns.{IsLimited, IsAdded, IsClaimedBy, IsUnclaimed, IsRecordedBy};
 
+use crate::held::Held;
 use crate::history::{Ask, History, Turn, Written};
 use crate::text::reply_bytes;
-use delivery_duties::Outcome;
-use json_text::{Bytes, LAST_MOMENT, NoMemory};
+use courier_run::BookFault;
+use delivery_duties::{Fate, Outcome};
+use json_text::{Bytes, NoMemory};
 use router_calls::decide;
-use router_core::{Ready, Reply, Request, Tables};
+use router_core::{Ready, Reply, Request, Tables, see_plain};
 use std::alloc::Global;
 use std::snapshot::Snapshot;
 
@@ -26,15 +30,13 @@ pub struct Book {
     pub(crate) history: History,
 }
 
-/// What one step of delivery did.
+/// Whose turns they are.
 #[derive(Clone, Copy, Debug, PartialEq, Eq)]
-pub enum Step {
-    /// No delivery is due.
-    Idle,
-    /// A delivery is due, but the number limit is reached.
-    Limited,
-    /// One attempt was made, or was found too old.
-    Made(Outcome),
+pub struct Seat {
+    /// The number of the pass.
+    pub pass: u64,
+    /// The number of the connection that is served, if one is.
+    pub connection: Option<u64>,
 }
 
 /// The reply of a turn.
@@ -49,7 +51,8 @@ pub enum TurnReply {
 impl Book {
     /// The book before any turn.
     pub fn first(alloc: Global) -> Result<Book, NoMemory>
-        ensures { IfOk result (λ b. book_of b ≡ record { tables = first_tables; turns = [] }) }
+        ensures first { IfOk result (λ b. book_of b ≡ first_book) }
+        ensures book { IfOk result (λ b. IsBook (book_of b)) }
     {
         Ok(Book {
             tables: Tables::first(alloc)?,
@@ -62,135 +65,197 @@ impl Book {
     pub fn turn(
         &mut self,
         alloc: Global,
+        seat: Seat,
         request: Request,
         close: bool,
     ) -> Result<TurnReply, NoMemory>
-        requires { IsAskable (request_of request) }
-        ensures answered { IfOk result (λ reply. IsAnswered (book_of self.old) (book_of self.new) (request_of request) close reply) }
+        requires book { IsBook (book_of self.old) }
+        requires askable { IsAskable (request_of request) }
+        ensures book { IsBook (book_of self.new) }
+        ensures answered { IfOk result (λ reply. IsAnswered seat (book_of self.old) (book_of self.new) (request_of request) close reply) }
         ensures renderable { IfOk result (λ reply. IsRenderable reply) }
         ensures unchanged { OnErr result (book_of self.new ≡ book_of self.old) }
     {
-        self.turn_of(alloc, &request, close)
+        self.turn_of(alloc, seat, &request, close)
     }
 
     fn turn_of(
         &mut self,
         alloc: Global,
+        seat: Seat,
         request: &Request,
         close: bool,
     ) -> Result<TurnReply, NoMemory>
-        requires { IsAskable (request_of request.now) }
-        ensures answered { IfOk result (λ reply. IsAnswered (book_of self.old) (book_of self.new) (request_of request.now) close reply) }
+        requires book { IsBook (book_of self.old) }
+        requires askable { IsAskable (request_of request.now) }
+        ensures book { IsBook (book_of self.new) }
+        ensures answered { IfOk result (λ reply. IsAnswered seat (book_of self.old) (book_of self.new) (request_of request.now) close reply) }
         ensures renderable { IfOk result (λ reply. IsRenderable reply) }
         ensures unchanged { OnErr result (book_of self.new ≡ book_of self.old) }
     {
         let (ready, reply) = self.decided(alloc, request)?;
         match ready {
-            Some(ready) => self.write(alloc, request, ready, reply, close),
-            None => Ok(self.show(request, reply)),
+            Some(ready) => self.write(alloc, seat, request, ready, reply, close),
+            None => Ok(self.show(seat, request, reply)),
         }
     }
 
     /// Makes the turn of a request that changes the tables. The reply's bytes are made before.
-    #[tactic(auto, using(crate::proofs::AnsweredLemmas::answered))]
     fn write(
         &mut self,
         alloc: Global,
+        seat: Seat,
         request: &Request,
         ready: Ready,
         reply: Reply,
         close: bool,
     ) -> Result<TurnReply, NoMemory>
-        requires { IsDecided self.old.tables (request_of request.now) (Some ready, reply) }
-        ensures answered { IfOk result (λ reply. IsAnswered (book_of self.old) (book_of self.new) (request_of request.now) close reply) }
+        requires book { IsBook (book_of self.old) }
+        requires decided { IsDecided self.old.tables (request_of request.now) (Some ready, reply) }
+        ensures book { IsBook (book_of self.new) }
+        ensures answered { IfOk result (λ reply. IsAnswered seat (book_of self.old) (book_of self.new) (request_of request.now) close reply) }
         ensures renderable { IfOk result (λ reply. IsRenderable reply) }
         ensures unchanged { OnErr result (book_of self.new ≡ book_of self.old) }
     {
         let bytes = reply_bytes(alloc, &reply, close)?;
-        self.enter(Ask::Asked(Snapshot::of(request)), Some(ready));
+        self.history.push(&Turn {
+            pass: seat.pass,
+            connection: seat.connection,
+            ask: Ask::Asked(Snapshot::of(request)),
+            k: self.tables.set().control_count(),
+            written: Written::Changes(Snapshot::of(ready.batch())),
+        });
+        self.tables.apply(ready);
         Ok(TurnReply::Rendered(bytes))
     }
 
     /// Makes the turn of a request that changes nothing.
-    #[tactic(auto, using(crate::proofs::AnsweredLemmas::answered))]
-    fn show(&mut self, request: &Request, reply: Reply) -> TurnReply
-        requires { IsDecided self.old.tables (request_of request.now) (None, reply) }
-        ensures answered { (close : Bool) → IsAnswered (book_of self.old) (book_of self.new) (request_of request.now) close result }
+    fn show(&mut self, seat: Seat, request: &Request, reply: Reply) -> TurnReply
+        requires book { IsBook (book_of self.old) }
+        requires decided { IsDecided self.old.tables (request_of request.now) (None, reply) }
+        ensures book { IsBook (book_of self.new) }
+        ensures answered { (close : Bool) → IsAnswered seat (book_of self.old) (book_of self.new) (request_of request.now) close result }
         ensures renderable { IsRenderable result }
     {
-        self.enter(Ask::Asked(Snapshot::of(request)), None);
+        self.history.push(&Turn {
+            pass: seat.pass,
+            connection: seat.connection,
+            ask: Ask::Asked(Snapshot::of(request)),
+            k: self.tables.set().control_count(),
+            written: Written::Nothing,
+        });
         TurnReply::Unrendered(reply)
     }
 
-    /// The change that the request makes, if any, and its reply.
+    /// The batch that the request writes, if any, and its reply. Events are matched on the tables' own rule set.
     fn decided(&self, alloc: Global, request: &Request) -> Result<(Option<Ready>, Reply), NoMemory>
         requires { IsAskable (request_of request.now) }
         ensures { IfOk result (λ p. IsDecided self.now.tables (request_of request.now) p) }
     {
         let moment = turn_moment(&self.tables, request.reading);
-        let (ready, reply) = decide(alloc, &self.tables, request, moment)?;
+        let set = self.tables.set();
+        let _version = set.control_count();
+        let seen = see_plain(alloc, set, request)?;
+        let (ready, reply) = decide(alloc, &self.tables, request, moment, seen)?;
         Ok((ready, reply))
     }
 
-    /// Applies the change that is ready, if there is one, and adds the turn to the history.
-    fn enter(&mut self, ask: Ask, ready: Option<Ready>)
-        requires { IfSome ready (λ r. IsReadyAt self.old.tables r) }
-        ensures { book_of self.new ≡ record {
-          tables = after_written (option_map batch_of ready) (book_of self.old).tables;
-          turns = (book_of self.old).turns ++ record { ask = ask_of ask; batch = option_map batch_of ready } ∷ [];
-        } }
+    /// Claims the duty that is due first at this reading of the clock: one turn. If none is due, or at the number limit, or out of memory, there
+    /// is no turn.
+    pub fn claim(
+        &mut self,
+        alloc: Global,
+        seat: Seat,
+        reading: u64,
+    ) -> Result<Option<Held>, BookFault>
+        requires book { IsBook (book_of self.old) }
+        requires reading { IsMoment reading }
+        ensures book { IsBook (book_of self.new) }
+        ensures grows { HasGrown self.old self.new }
+        ensures held { IfOk result (λ found. IfSome found (λ held. IsClaimedBy seat reading (book_of self.old) (book_of self.new) (held_claim held))) }
+        ensures idle { IfOk result (λ found. IfNone found (IsIdle (state_of (book_of self.old)) reading × (book_of self.new ≡ book_of self.old))) }
+        ensures refused { IfErr result (λ fault. IsUnclaimed (book_of self.old) reading fault × (book_of self.new ≡ book_of self.old)) }
     {
-        match ready {
-            Some(ready) => {
-                let written = Written::Change(Snapshot::of(&ready));
-                self.tables.apply(ready);
-                self.history.push(&Turn { ask, written });
-            }
-            None => self.history.push(&Turn {
-                ask,
-                written: Written::Nothing,
-            }),
-        }
-    }
-
-    /// One step of delivery at this reading of the clock.
-    pub fn step(&mut self, reading: u64) -> Step
-        ensures { StepOf (book_of self.old) (book_of self.new) reading result }
-    {
-        let reading = reading.min(LAST_MOMENT);
         let moment = turn_moment(&self.tables, reading);
         let full = self.tables.full();
-        let claim = match self.tables.claim(moment) {
-            Some(claim) => claim,
-            None => return Step::Idle,
+        let errand = match self.tables.claim(alloc, moment) {
+            Ok(Some(errand)) => errand,
+            Ok(None) => return Ok(None),
+            Err(NoMemory) => return Err(BookFault::NoMemory),
         };
-        let duty = claim.number;
+        if full {
+            self.tables.put_back(errand);
+            return Err(BookFault::NumberLimit);
+        }
         self.history.push(&Turn {
-            ask: Ask::Claims { duty, reading },
+            pass: seat.pass,
+            connection: seat.connection,
+            ask: Ask::Claims {
+                duty: errand.number(),
+                reading,
+            },
+            k: self.tables.set().control_count(),
             written: Written::Nothing,
         });
-        if full {
-            self.tables.put_back(claim);
-            self.history.push(&Turn {
-                ask: Ask::PutsBack { duty },
-                written: Written::Nothing,
-            });
-            return Step::Limited;
+        Ok(Some(Held { errand, reading }))
+    }
+
+    /// Records the outcome of an attempt of the held duty: one turn, and one batch. If a queue accepted the text, the turn decides whether the queue
+    /// exists. At the number limit the claim is put back instead. Returns the duty's fate.
+    pub fn record(&mut self, seat: Seat, held: Held, outcome: Outcome) -> Result<Fate, BookFault>
+        requires book { IsBook (book_of self.old) }
+        requires is_open { IsOpen (state_of (book_of self.old)) seat.pass (held_claim held) }
+        requires fits { FitsClaim (held_claim held) outcome }
+        ensures book { IsBook (book_of self.new) }
+        ensures grows { HasGrown self.old self.new }
+        ensures recorded { IfOk result (λ fate. IsRecordedBy seat (held_claim held) outcome fate (book_of self.old) (book_of self.new)) }
+        ensures refused { IfErr result (λ fault. (fault ≡ BookFault.NumberLimit) × IsLimited (book_of self.new) held.reading
+            × IsAdded seat (puts_back (held_claim held).number) (book_of self.old) (book_of self.new)) }
+    {
+        if self.tables.full() {
+            self.put_back(seat, held);
+            return Err(BookFault::NumberLimit);
         }
-        let outcome = self.tables.record(claim, moment);
+        let Held {
+            mut errand,
+            reading,
+        } = held;
+        let moment = turn_moment(&self.tables, reading);
+        let outcome = self.tables.record_outcome(&mut errand, outcome, moment);
         self.history.push(&Turn {
+            pass: seat.pass,
+            connection: seat.connection,
             ask: Ask::Records {
-                duty,
+                duty: errand.number(),
                 reading,
                 outcome,
             },
-            written: Written::Record {
-                moment,
-                duty,
-                outcome,
-            },
+            k: self.tables.set().control_count(),
+            written: Written::Changes(Snapshot::of(errand.batch())),
         });
-        Step::Made(outcome)
+        Ok(self.tables.finish(errand))
+    }
+
+    /// Releases the claim of the held duty: one turn.
+    pub fn put_back(&mut self, seat: Seat, held: Held)
+        requires book { IsBook (book_of self.old) }
+        requires is_open { IsOpen (state_of (book_of self.old)) seat.pass (held_claim held) }
+        ensures book { IsBook (book_of self.new) }
+        ensures grows { HasGrown self.old self.new }
+        ensures added { IsAdded seat (puts_back (held_claim held).number) (book_of self.old) (book_of self.new) }
+        ensures tables { (book_of self.new).tables ≡ putting_back (held_claim held).number (book_of self.old).tables }
+    {
+        let Held { errand, reading: _ } = held;
+        self.history.push(&Turn {
+            pass: seat.pass,
+            connection: seat.connection,
+            ask: Ask::PutsBack {
+                duty: errand.number(),
+            },
+            k: self.tables.set().control_count(),
+            written: Written::Nothing,
+        });
+        self.tables.put_back(errand);
     }
 }
 

@@ -1,41 +1,50 @@
 //! One message and its reply.
-ghost use Rattle.std.specs.Prelude.{◌≡◌, ◌⊎◌, IfOk, MatchOption};
+ghost use Rattle.std.specs.Prelude.{◌≡◌, ◌⊎◌, ℕ, List, [], Option, IfOk, MatchOption};
 ghost use Rattle.api_replies.specs.Reply as replies;
 ghost use Rattle.router_core.specs.Request.{deliver_due, IsOneTurn};
 ghost use Rattle.router_core.specs.View.{action_of};
 ghost use Rattle.router_disk.specs.Faults.{CountsFaults};
 ghost use Rattle.router_disk.specs.Sink.{WritesAll};
 ghost use Rattle.api_replies.specs.Written.{reply_text};
-ghost use Rattle.bus_server.specs.Book.{book_of};
-ghost use Rattle.bus_server.specs.Exchange.{delivery_reply};
-ghost use Rattle.bus_server.specs.Steps.{counts_of, stop_of};
+ghost use Rattle.bus_server.specs.Book.{book_of, state_of, IsBook};
+ghost use Rattle.bus_server.specs.Exchange.{IsDeliveryReply};
 ghost use Rattle.bus_server.specs.Responses.{text_or, IsFaultText, IsUndelivered, DeliveredOf};
 ghost use Rattle.bus_server.specs.Running.{ExchangeOf};
+ghost use Rattle.courier_run.specs.declared.turned.Turned.{Turned as Counted};
+ghost use Rattle.bus_server.specs.World.{world};
 
-use crate::book::Book;
-use crate::delivery::{Delivery, Ending, deliver};
+use crate::book::{Book, Seat};
+use crate::delivery::deliver;
 use crate::text::{reply_bytes, turn_bytes};
 use api_replies::{Cause, refused_reply};
 use api_wire::{
     CallFault, CountsReply, Message, Method, no_memory_reply, not_post_head, not_post_reply,
     read_call,
 };
+use courier_run::{TurnFault, Turned};
 use json_text::{Bytes, LAST_MOMENT, NoMemory};
 use router_core::{Action, limit_reply};
-use router_disk::{Clock, Failed, Sink};
+use router_disk::{Clock, Failed, Link, Sink};
 use std::alloc::Global;
 
 /// Answers the message, and writes the reply. `close` is true if the session ends after it. A HEAD gets the reply's head alone.
 #[tactic(auto, using(crate::proofs::BoundLemmas::asked_askable))]
-pub(crate) fn answer_message<K: Sink, C: Clock>(
+pub(crate) fn answer_message<K: Sink, L: Link, C: Clock>(
     alloc: Global,
     book: &mut Book,
+    seat: Seat,
     message: &Message,
     close: bool,
     output: &mut K,
+    link: &mut L,
     clock: &mut C,
 ) -> Result<(), Failed>
-    ensures exchange { ExchangeOf message.now close (book_of book.old) (book_of book.new) (C.ahead clock.old) (C.ahead clock.new) (K.written output.old) (K.written output.new) result }
+    requires { IsBook (book_of book.old) }
+    ensures book { IsBook (book_of book.new) }
+    ensures closed { (state_of (book_of book.old)).open_claims ≡ [] → (state_of (book_of book.new)).open_claims ≡ [] }
+    ensures exchange { (left : Option (List ℕ)) → ExchangeOf message.now close
+        (world (book_of book.old) left (K.written output.old) (C.ahead clock.old))
+        (world (book_of book.new) left (K.written output.new) (C.ahead clock.new)) result }
     ensures count { CountsFaults (K.faults output.old) (K.faults output.new) result }
 {
     let reading = clock.now();
@@ -47,9 +56,9 @@ pub(crate) fn answer_message<K: Sink, C: Clock>(
     match read_call(alloc, message, reading.min(LAST_MOMENT)) {
         Ok(request) => {
             if let Some(budget) = delivery_budget(&request.action) {
-                return answer_delivery(alloc, book, budget, close, output, clock);
+                return answer_delivery(alloc, book, seat, budget, close, output, link, clock);
             }
-            match book.turn(alloc, request, close) {
+            match book.turn(alloc, seat, request, close) {
                 Ok(reply) => respond(turn_bytes(alloc, reply, close), close, output),
                 Err(NoMemory) => respond(Err(NoMemory), close, output),
             }
@@ -121,21 +130,29 @@ fn refused_bytes(alloc: Global, cause: &Cause, close: bool) -> Result<Bytes, NoM
 }
 
 /// Makes the steps of a DeliverDue, and writes its reply. The memory of the reply is allocated before the first step.
-fn answer_delivery<K: Sink, C: Clock>(
+fn answer_delivery<K: Sink, L: Link, C: Clock>(
     alloc: Global,
     book: &mut Book,
+    seat: Seat,
     budget: u32,
     close: bool,
     output: &mut K,
+    link: &mut L,
     clock: &mut C,
 ) -> Result<(), Failed>
-    ensures delivered { DeliveredOf budget close (book_of book.old) (book_of book.new) (C.ahead clock.old) (C.ahead clock.new) (K.written output.old) (K.written output.new) result
-        ⊎ IsUndelivered close (book_of book.old) (book_of book.new) (C.ahead clock.old) (C.ahead clock.new) (K.written output.old) (K.written output.new) result }
+    requires { IsBook (book_of book.old) }
+    ensures book { IsBook (book_of book.new) }
+    ensures closed { (state_of (book_of book.old)).open_claims ≡ [] → (state_of (book_of book.new)).open_claims ≡ [] }
+    ensures delivered { (left : Option (List ℕ)) →
+        DeliveredOf budget close (world (book_of book.old) left (K.written output.old) (C.ahead clock.old))
+        (world (book_of book.new) left (K.written output.new) (C.ahead clock.new)) result
+        ⊎ IsUndelivered close (world (book_of book.old) left (K.written output.old) (C.ahead clock.old))
+        (world (book_of book.new) left (K.written output.new) (C.ahead clock.new)) result }
     ensures count { CountsFaults (K.faults output.old) (K.faults output.new) result }
 {
     match delivery_room(alloc, close) {
         Ok((room, limit)) => {
-            let made = deliver(book, budget, clock);
+            let made = deliver(book, alloc, seat, link, clock, budget);
             write_delivery(room, limit.as_slice(), made, close, output)
         }
         Err(NoMemory) => output.write_all(no_memory_reply(close)),
@@ -146,20 +163,30 @@ fn answer_delivery<K: Sink, C: Clock>(
 fn write_delivery<K: Sink>(
     mut room: CountsReply,
     limit: &[u8],
-    made: Delivery,
+    made: Result<Turned, TurnFault>,
     close: bool,
     output: &mut K,
 ) -> Result<(), Failed>
-    requires { limit.now ≡ reply_text replies.limit_reply close }
-    ensures writes { WritesAll (K.written output.old) (K.written output.new) result (reply_text (delivery_reply (counts_of made) (stop_of made.ending)) close) }
+    requires limit { limit.now ≡ reply_text replies.limit_reply close }
+    requires no_disk { (turned : Counted) → ¬ (made ≡ Err (TurnFault.DiskFault turned)) }
+    ensures writes { (reply : replies.Reply) × IsDeliveryReply made reply
+        × WritesAll (K.written output.old) (K.written output.new) result (reply_text reply close) }
     ensures count { CountsFaults (K.faults output.old) (K.faults output.new) result }
 {
-    match made.ending {
-        Ending::Done => {
-            let text = room.fill(made.attempts, made.delivered, made.dropped, close);
+    match made {
+        Ok(turned) => {
+            let text = room.fill(
+                turned.attempts,
+                turned.delivered,
+                turned.dead,
+                turned.dropped,
+                close,
+            );
             output.write_all(text)
         }
-        Ending::Limited => output.write_all(limit),
+        Err(TurnFault::NumberLimit(_)) => output.write_all(limit),
+        Err(TurnFault::NoMemory(_)) => output.write_all(no_memory_reply(close)),
+        Err(TurnFault::DiskFault(_)) => unreachable!(),
     }
 }
 

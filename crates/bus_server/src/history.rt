@@ -1,10 +1,10 @@
 //! The history of turns. Only contracts see it, and it takes no memory.
 ghost use Rattle.std.specs.Prelude.{◌≡◌, ◌++◌, ◌∷◌, []};
-ghost use Rattle.bus_server.specs.Book.{turn_of, turns_in};
+ghost use Rattle.bus_server.specs.Book.{turn_of, turns_in, recorded_in};
 
 use delivery_duties::Outcome;
 use http_server::Log;
-use router_core::{Ready, Request};
+use router_core::{Batch, Request};
 use std::snapshot::Snapshot;
 
 /// What a turn was made for.
@@ -29,18 +29,19 @@ pub enum Ask {
 #[derive(Drop)]
 pub enum Written {
     Nothing,
-    Change(Snapshot<Ready>),
-    Record {
-        moment: u64,
-        duty: u64,
-        outcome: Outcome,
-    },
+    Changes(Snapshot<Batch>),
 }
 
 /// One turn.
 #[derive(Drop)]
 pub struct Turn {
+    /// The number of the pass that made it.
+    pub pass: u64,
+    /// The number of the connection that it served, if it served one.
+    pub connection: Option<u64>,
     pub ask: Ask,
+    /// The configuration version by which it went.
+    pub k: u64,
     pub written: Written,
 }
 
@@ -52,7 +53,7 @@ pub struct History {
 
 impl History {
     ghost use Rattle.std.specs.Prelude.{◌≡◌, ◌++◌, ◌∷◌, []};
-    ghost use Rattle.bus_server.specs.Book.{turn_of, turns_in};
+    ghost use Rattle.bus_server.specs.Book.{turn_of, turns_in, recorded_in};
 
     pub fn new() -> History
         ensures { turns_in result ≡ [] }
@@ -61,7 +62,8 @@ impl History {
     }
 
     pub fn push(&mut self, turn: &Turn)
-        ensures { turns_in self.new ≡ turns_in self.old ++ turn_of turn.now ∷ [] }
+        ensures turns { turns_in self.new ≡ turns_in self.old ++ turn_of turn.now ∷ [] }
+        ensures recorded { recorded_in self.new ≡ recorded_in self.old ++ turn.now ∷ [] }
     {
         self.log = self.log.and(turn, &());
     }

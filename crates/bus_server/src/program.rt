@@ -2,13 +2,14 @@
 ghost use Rattle.std.specs.Prelude.{◌≡◌, ℕ, List, Option, map, string_bytes};
 ghost use Rattle.bus_host.specs.Host.{SameFaults};
 ghost use Rattle.bus_server.specs.Run.{IsRun, IsReported, FaultsMatch, RunsOnce, IsUnbegun, code_of, first_book, fault_line, status_of};
-ghost use Rattle.bus_server.specs.Book.{book_of};
+ghost use Rattle.bus_server.specs.Book.{book_of, BookState, IsBook};
+ghost use Rattle.bus_server.specs.World.{world};
 ghost use Rattle.bus_server.specs.Words.{IsLine};
 
-use crate::book::Book;
+use crate::book::{Book, Seat};
 use crate::session::{SessionEnd, run_session};
 use crate::words::read_words;
-use bus_host::Host;
+use bus_host::{Host, NoLink};
 use json_text::NoMemory;
 use router_disk::{Clock, MemClock, Sink, Source};
 use std::alloc::Global;
@@ -83,7 +84,8 @@ pub fn run<Rt: Wait + Threads + Sync, S: Source, K: Sink, E: Sink, H: Host, C: C
     ensures run { (now : Option ℕ) → IsLine (map string_bytes words.now) now
         → IsRun now (S.left input.old) (S.left input.new) (K.written output.old) (K.written output.new) (C.ahead clock.old) (C.ahead clock.new) result }
     ensures usage { ((now : Option ℕ) → ¬ IsLine (map string_bytes words.now) now)
-        → (result ≡ Status.Usage) × IsUnbegun (S.left input.old) (S.left input.new) (K.written output.old) (K.written output.new) }
+        → (result ≡ Status.Usage) × IsUnbegun (S.left input.old) (S.left input.new) (K.written output.old) (K.written output.new)
+        (C.ahead clock.old) (C.ahead clock.new) }
     ensures reported { IsReported result (E.written faults.old) (E.written faults.new) (E.faults faults.old) (E.faults faults.new) }
     ensures counts { FaultsMatch result (S.faults input.old) (S.faults input.new) (K.faults output.old) (K.faults output.new) }
     ensures host { SameFaults H.disk_faults H.door_faults H.link_faults host.old host.new }
@@ -131,7 +133,7 @@ fn once<S: Source, K: Sink, C: Clock>(
     }
 }
 
-/// One session over the book.
+/// One session over the book. No target is an HTTP endpoint yet, so nothing is sent.
 fn over<S: Source, K: Sink, C: Clock>(
     alloc: Global,
     mut book: Book,
@@ -139,11 +141,18 @@ fn over<S: Source, K: Sink, C: Clock>(
     output: &mut K,
     clock: &mut C,
 ) -> Status
-    requires { book_of book ≡ first_book }
-    ensures run { RunsOnce (S.left input.old) (S.left input.new) (K.written output.old) (K.written output.new) (C.ahead clock.old) (C.ahead clock.new) result }
+    requires first { book_of book ≡ first_book }
+    requires book { IsBook (book_of book) }
+    ensures run { (after : BookState) × RunsOnce (world first_book (S.left input.old) (K.written output.old) (C.ahead clock.old))
+        (world after (S.left input.new) (K.written output.new) (C.ahead clock.new)) result }
     ensures counts { FaultsMatch result (S.faults input.old) (S.faults input.new) (K.faults output.old) (K.faults output.new) }
 {
-    let end = run_session(alloc, &mut book, input, output, clock);
+    let seat = Seat {
+        pass: 0,
+        connection: Some(0),
+    };
+    let mut link = NoLink::default();
+    let end = run_session(alloc, &mut book, seat, input, output, &mut link, clock);
     Status::of(end)
 }
 

@@ -1,16 +1,17 @@
 //! Sessions.
-ghost use Rattle.std.specs.Prelude.{◌≡◌, ◌≢◌, ◌||◌};
+ghost use Rattle.std.specs.Prelude.{◌≡◌, ◌≢◌, ◌||◌, []};
 ghost use Rattle.router_disk.specs.Faults.{Rose};
-ghost use Rattle.bus_server.specs.Book.{book_of};
+ghost use Rattle.bus_server.specs.Book.{book_of, state_of, IsBook};
+ghost use Rattle.bus_server.specs.World.{world};
 ghost use Rattle.bus_server.specs.Session.{IsSession};
 ghost use Rattle.bus_server.specs.Incoming.{IsFinish};
 
-use crate::book::Book;
+use crate::book::{Book, Seat};
 use crate::exchange::answer_message;
 use crate::incoming::{Incoming, Lack, next_message};
 use crate::text::refusal_bytes;
 use api_wire::{Message, WireIn, no_memory_reply};
-use router_disk::{Clock, Failed, Sink, Source};
+use router_disk::{Clock, Failed, Link, Sink, Source};
 use std::alloc::Global;
 
 /// The number of requests that one session serves.
@@ -38,15 +39,22 @@ pub enum SessionEnd {
     NoMemory,
 }
 
-/// Serves the requests of `input` in order, until it ends or a message, a fault or a limit ends the session.
-pub fn run_session<S: Source, K: Sink, C: Clock>(
+/// Serves the requests of `input` in order, from the seat, until it ends or a message, a fault or a limit ends the session.
+pub fn run_session<S: Source, K: Sink, L: Link, C: Clock>(
     alloc: Global,
     book: &mut Book,
+    seat: Seat,
     input: &mut S,
     output: &mut K,
+    link: &mut L,
     clock: &mut C,
 ) -> SessionEnd
-    ensures session { IsSession (book_of book.old) (book_of book.new) (S.left input.old) (S.left input.new) (K.written output.old) (K.written output.new) (C.ahead clock.old) (C.ahead clock.new) result }
+    requires { IsBook (book_of book.old) }
+    ensures book { IsBook (book_of book.new) }
+    ensures closed { (state_of (book_of book.old)).open_claims ≡ [] → (state_of (book_of book.new)).open_claims ≡ [] }
+    ensures session { IsSession
+        (world (book_of book.old) (S.left input.old) (K.written output.old) (C.ahead clock.old))
+        (world (book_of book.new) (S.left input.new) (K.written output.new) (C.ahead clock.new)) result }
     ensures read_fault { result ≡ SessionEnd.ReadFault → Rose (S.faults input.old) (S.faults input.new) }
     ensures input_faultless { result ≢ SessionEnd.ReadFault → S.faults input.new ≡ S.faults input.old }
     ensures write_fault { result ≡ SessionEnd.WriteFault → Rose (K.faults output.old) (K.faults output.new) }
@@ -63,7 +71,7 @@ pub fn run_session<S: Source, K: Sink, C: Clock>(
         served += 1;
         let last = served == REQUEST_LIMIT;
         let close = closes_after(&message, last);
-        match answer_message(alloc, book, &message, close, output, clock) {
+        match answer_message(alloc, book, seat, &message, close, output, link, clock) {
             Ok(()) => {}
             Err(Failed) => return SessionEnd::WriteFault,
         }

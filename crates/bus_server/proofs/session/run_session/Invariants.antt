@@ -1,16 +1,18 @@
-use Rattle.std.proofs.Common.{◌≡◌, ◌-◌, ◌<◌, None}
-use Rattle.bus_server.specs.Book.{book_of}
+use Rattle.std.proofs.Common.{◌≡◌, ◌-◌, ◌<◌, [], None}
+use Rattle.bus_server.specs.Book.{book_of, state_of, IsBook}
 use Rattle.bus_server.specs.Session.{request_limit}
+use Rattle.bus_server.specs.World.{world}
 use Rattle.bus_server.specs.Running.{IsRunning}
 use Rattle.bus_server.proofs.session.run_session.Given as goal
 
 abbrev pub invariant-loop-message : goal.invariant-loop-message
 invariant-loop-message g l = record {
-  running : IsRunning (book_of l.initial.book) (book_of l.book)
-      (g.S.Source.left l.initial.input) (g.S.Source.left l.input)
-      (g.K.Sink.written l.initial.output) (g.K.Sink.written l.output)
-      (g.C.Clock.ahead l.initial.clock) (g.C.Clock.ahead l.clock)
+  running : IsRunning
+      (world (book_of l.initial.book) (g.S.Source.left l.initial.input) (g.K.Sink.written l.initial.output) (g.C.Clock.ahead l.initial.clock))
+      (world (book_of l.book) (g.S.Source.left l.input) (g.K.Sink.written l.output) (g.C.Clock.ahead l.clock))
       l.wire.rest l.served;
+  book : IsBook (book_of l.book);
+  closed : (state_of (book_of l.initial.book)).open_claims ≡ [] → (state_of (book_of l.book)).open_claims ≡ [];
   unrefused : l.wire.refused ≡ None;
   below : l.served < request_limit;
   input_faultless : g.S.Source.faults l.input ≡ g.S.Source.faults l.initial.input;

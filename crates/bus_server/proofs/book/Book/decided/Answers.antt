@@ -1,22 +1,18 @@
+use Rattle.std.proofs.Common.{subst}
+use Rattle.rule_table.specs.RuleSet.{RuleSet, IsSound}
+use Rattle.router_core.specs.Matching.{IsSeen}
+use Rattle.router_core.specs.Request.{Request}
+use Rattle.router_core.specs.Tables.{Tables}
 use Rattle.router_core.specs.View.{request_of}
-use Rattle.bus_server.proofs.ServedLemmas.{answer_served}
+use Rattle.bus_server.proofs.AnsweredLemmas.{matched_on, decided_by}
 use Rattle.bus_server.proofs.book.Book.decided.Goals as goal
 
-pub decide-requires-clause-reading : goal.decide-requires-clause-reading
-decide-requires-clause-reading c = c.requires.reading
-
-pub decide-requires-clause-few : goal.decide-requires-clause-few
-decide-requires-clause-few c = c.requires.bounded
-
-pub decide-requires-clause-entitled : goal.decide-requires-clause-entitled
-decide-requires-clause-entitled c = c.requires.entitled
-
-pub decide-requires-clause-one_turn : goal.decide-requires-clause-one_turn
-decide-requires-clause-one_turn c = c.requires.one_turn
-
 pub returns : goal.returns
-returns c = record {
-  answer = c.in_ok-ready.ensures.answer;
-  ready = c.in_ok-ready.ensures.ready;
-  status = answer_served c.args.self.now.tables (request_of c.args.request.now) _ c.in_ok-ready.ensures.answer;
-}
+returns c =
+    let t : Tables = c.args.self.now.tables in
+    let request : Request = request_of c.args.request.now in
+    let seen = c.in_ok-seen.seen in
+    let is : IsSeen t.set request seen = subst (λ (set : RuleSet). IsSeen set request seen) c.set-set.ensures c.in_ok-seen.ensures in
+    let sound : IsSound t.set = subst IsSound c.set-set.ensures c.control_count-version.ensures.sound in
+    decided_by t request seen (c.in_ok-ready.ready, c.in_ok-ready.reply) is
+    (c.in_ok-ready.ensures.answer t.set (matched_on t request seen sound is)) c.in_ok-ready.ensures.ready

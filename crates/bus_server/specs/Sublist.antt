@@ -1,0 +1,8 @@
+-- Some numbers of a list, in their order.
+use Rattle.std.specs.Prelude.{◌≡◌, ◌⊎◌, ℕ, List, [], ◌∷◌}
+
+-- the numbers are some of the others, in their order
+abbrev pub IsSublist : List ℕ → List ℕ → Type 0
+IsSublist [] ys = Unit {0}
+IsSublist (x ∷ xs) [] = ⊥
+IsSublist (x ∷ xs) (y ∷ ys) = ((x ≡ y) × IsSublist xs ys) ⊎ IsSublist (x ∷ xs) ys
