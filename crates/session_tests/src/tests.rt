@@ -3,9 +3,9 @@ use crate::first_run::{
     LAST_MOMENT_REPLY, NO_MESSAGES_REPLY, PEEK_MESSAGES, PEEK_MESSAGES_REPLY, PUT_EVENTS,
     PUT_EVENTS_REPLY, PUT_RULE, PUT_RULE_REPLY, PUT_TARGETS, PUT_TARGETS_REPLY,
 };
-use bus_server::{Book, SessionEnd, run_session};
+use bus_server::{Book, Seat, SessionEnd, run_session};
 use json_text::NoMemory;
-use router_disk::{Clock, Failing, MemClock, MemSink, MemSource, Sink, Source};
+use router_disk::{Clock, Failing, LinkFault, MemClock, MemLink, MemSink, MemSource, Sink, Source};
 use std::alloc::{AllocError, Global};
 use std::test::Fail;
 
@@ -51,7 +51,7 @@ fn replies(alloc: Global) -> Result<Vec<u8>, AllocError> {
     )
 }
 
-/// How a session over the first tables ends.
+/// How a session over the first book ends. Its link gives no answer.
 fn session<S: Source, K: Sink, C: Clock>(
     alloc: Global,
     input: &mut S,
@@ -59,7 +59,14 @@ fn session<S: Source, K: Sink, C: Clock>(
     clock: &mut C,
 ) -> Result<SessionEnd, NoMemory> {
     let mut book = Book::first(alloc)?;
-    Ok(run_session(alloc, &mut book, input, output, clock))
+    let seat = Seat {
+        pass: 0,
+        connection: Some(0),
+    };
+    let mut link = MemLink::always(alloc, Err(LinkFault::Failed));
+    Ok(run_session(
+        alloc, &mut book, seat, input, output, &mut link, clock,
+    ))
 }
 
 #[test]
