@@ -6,6 +6,7 @@
 //! - `json`: standard input, read and written SIZE times; NUMBER is ignored.
 //! - `events`: SIZE events with standard input as their detail; NUMBER is ignored.
 //! - `holds_*`: a pattern on two events in turn, SIZE times; each event has a list of NUMBER objects.
+//! - `share`: a rule set of SIZE rules, at most 300, shared NUMBER times.
 //! - `pattern`: standard input, read as a pattern and read as JSON, SIZE times each; NUMBER is ignored.
 #![tactic(auto)]
 
@@ -13,6 +14,7 @@ mod events;
 mod patterns;
 mod ranges;
 mod reading;
+mod sharing;
 mod texts;
 mod wildcards;
 
@@ -68,6 +70,10 @@ fn measure(
             figures.pattern.as_micros(),
             figures.json.as_micros()
         )?;
+    } else if word == "share" {
+        let figures = sharing::measure(rt, rt.alloc(), size, number)?;
+        println!(rt; "{}", figures.changes)?;
+        eprintln!(rt; "{}", figures.took.as_micros())?;
     } else if word.starts_with("ranges") {
         let figures = ranges::measure(rt, rt.alloc(), word, size, number)?;
         println!(rt; "{}", figures.hit)?;
