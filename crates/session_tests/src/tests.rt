@@ -64,9 +64,7 @@ fn session<S: Source, K: Sink, C: Clock>(
         connection: Some(0),
     };
     let mut link = MemLink::always(alloc, Err(LinkFault::Failed));
-    Ok(run_session(
-        alloc, &mut book, seat, input, output, &mut link, clock,
-    ))
+    Ok(run_session(alloc, &mut book, seat, input, output, &mut link, clock))
 }
 
 #[test]
