@@ -24,7 +24,8 @@ pub enum Cause {
     NotFound { kind: Kind, name: Text },
     Exists { kind: Kind, name: Text },
     LimitReached(Kind),
-    /// What is to be deleted is still used: an event bus by a rule, a queue by a target.
+    /// What is to be deleted is still used: an event bus by a rule; a queue by a target, a dead-letter setting, a pending delivery
+    /// or a message.
     InUse { kind: Kind, name: Text },
     /// The rule that is to be deleted has targets.
     HasTargets { name: Text },

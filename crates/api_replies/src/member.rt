@@ -39,11 +39,12 @@ pub enum Member {
     StatementId,
     TargetArn,
     Targets,
+    Through,
     Time,
 }
 
 impl Member {
-    /// The member's name, as requests spell it (API Reference of Amazon EventBridge; `QueueName`, `Limit`, `Budget`: own).
+    /// The member's name, as requests spell it (API Reference of Amazon EventBridge; `QueueName`, `Limit`, `Through`, `Budget`: own).
     pub fn name(self) -> &'static str
         ensures { result.now ≡ member_name self }
     {
@@ -81,6 +82,7 @@ impl Member {
             Member::StatementId => "StatementId",
             Member::TargetArn => "TargetArn",
             Member::Targets => "Targets",
+            Member::Through => "Through",
             Member::Time => "Time",
         }
     }

@@ -98,6 +98,7 @@ fn is_refused(alloc: Global, cause: &Cause, type_name: &str, message: &str) -> R
 fn each_refused_deletion_has_its_type_and_message(rt: HostRuntime) -> Result<(), Fail> {
     let alloc = rt.alloc();
     let bus = Text::from_str(alloc, "orders")?;
+    let queue = Text::from_str(alloc, "q")?;
     let rule = Text::from_str(alloc, "r")?;
     let rows = [
         (
@@ -107,6 +108,19 @@ fn each_refused_deletion_has_its_type_and_message(rt: HostRuntime) -> Result<(),
             },
             "ValidationException",
             "Event bus orders is in use.",
+        ),
+        (
+            Cause::InUse {
+                kind: Kind::Queue,
+                name: queue,
+            },
+            "ValidationException",
+            "Queue q is in use.",
+        ),
+        (
+            Cause::NotValid(Member::Through),
+            "ValidationException",
+            "Member Through is not valid.",
         ),
         (
             Cause::HasTargets { name: rule },
