@@ -9,13 +9,13 @@ use Rattle.name_rows.proofs.RowLemmas.{by_test}
 use Rattle.rule_table.specs.declared.control.Target.{Target}
 use Rattle.rule_table.specs.declared.control.ControlFault.{ControlFault}
 use Rattle.rule_table.specs.Control.{Control, bus_created, bus_deleted, rule_put, rule_deleted, state_put, targets_put, targets_removed, policy_put}
-use Rattle.rule_table.specs.Control.{queue_created}
-use Rattle.rule_table.specs.RuleSet.{Rule, RuleSet, put_target, rules_of, rule_at, has_bus, has_queue, AreGoodTargets, AreRemovable}
+use Rattle.rule_table.specs.Control.{queue_created, queue_deleted}
+use Rattle.rule_table.specs.RuleSet.{Rule, RuleSet, put_target, rules_of, rule_at, has_bus, has_queue, is_queue_used, AreGoodTargets, AreRemovable}
 use Rattle.rule_table.specs.RuleSet.{ForRule, IsAllowed}
 use Rattle.rule_table.specs.Refusal.{HasFaultyTarget, IsTooLong, IsRefused, HasNoRule, no_such_bus, no_such_rule, no_pattern, rule_without_bus, rule_limit}
 use Rattle.rule_table.specs.Refusal.{no_rule_to_put_to, faulty_targets, queue_exists, queue_limit, bus_exists, bus_limit, default_stays, no_bus_to_delete}
 use Rattle.rule_table.specs.Refusal.{bus_in_use, no_rule_to_delete, rule_has_targets, no_rule_to_remove_from, faulty_ids}
-use Rattle.rule_table.specs.Refusal.{no_policy, policy_without_bus, policy_too_long}
+use Rattle.rule_table.specs.Refusal.{no_policy, policy_without_bus, policy_too_long, no_queue_to_delete, queue_in_use}
 use Rattle.rule_table.proofs.RefusalLemmas.{by_option, target_decided}
 
 abbrev IsUnrefused : Control → RuleSet → Type 0
@@ -75,6 +75,14 @@ queue_allowed name set none =
     by_test (has_queue name set)
     (λ there. absurd (none _ (queue_exists there)))
     (λ absent. elim (leb_tells 1000 (length set.queues)) [ inl (_, full) ↦ absurd (none _ (queue_limit absent full)) | inr (_, few) ↦ (absent, few) ])
+
+queue_deletion_allowed : (name : List ℕ) (set : RuleSet) → IsUnrefused (queue_deleted name) set → IsAllowed (queue_deleted name) set
+queue_deletion_allowed name set none =
+    by_test (has_queue name set)
+    (λ there. by_test (is_queue_used name set)
+    (λ used. absurd (none _ (queue_in_use there used)))
+    (λ free. (there, free)))
+    (λ absent. absurd (none _ (no_queue_to_delete absent)))
 
 bus_deletion_allowed : (name : List ℕ) (set : RuleSet) → IsUnrefused (bus_deleted name) set → IsAllowed (bus_deleted name) set
 bus_deletion_allowed name set none =
@@ -156,3 +164,4 @@ unrefused_allowed (targets_put bus rule targets) set none never = never (targets
 unrefused_allowed (targets_removed bus rule ids) set none never = never (removal_allowed bus rule ids set none)
 unrefused_allowed (policy_put bus policy) set none never = policy_allowed bus policy set none never
 unrefused_allowed (queue_created name) set none never = never (queue_allowed name set none)
+unrefused_allowed (queue_deleted name) set none never = never (queue_deletion_allowed name set none)

@@ -4,7 +4,7 @@ use Rattle.std.specs.Str.{bytes_eq}
 use Rattle.name_rows.specs.Rows.{named, replacing}
 use Rattle.name_rows.proofs.RowLemmas.{by_test}
 use Rattle.rule_table.specs.Control.{Control, bus_created, bus_deleted, rule_put, rule_deleted, state_put, targets_put, targets_removed, policy_put}
-use Rattle.rule_table.specs.Control.{queue_created}
+use Rattle.rule_table.specs.Control.{queue_created, queue_deleted}
 use Rattle.rule_table.specs.Altered.{changed_bus, matching_of, matching_of_rule}
 use Rattle.rule_table.specs.RuleSet.{Rule, Bus, RuleSet, changed, with_rule_changed, applied, new_rule, put_rule, without_rule, put_targets, without_targets}
 use Rattle.rule_table.specs.declared.control.Target.{Target}
@@ -41,6 +41,7 @@ other_stays (targets_removed name rule ids) set bus apart =
     bus_stays name bus (with_rule_changed rule (λ r. record r { targets = without_targets ids r.targets })) set (λ b. refl) apart
 other_stays (policy_put name policy) set bus apart = bus_stays name bus (λ b. record b { policy = policy }) set (λ b. refl) apart
 other_stays (queue_created name) set bus apart = refl
+other_stays (queue_deleted name) set bus apart = refl
 
 -- ---- what matching reads
 

@@ -1,4 +1,4 @@
--- What an allowed change takes away: `bus_kept`, `rule_kept` and `target_kept`.
+-- What an allowed change takes away: `bus_kept`, `rule_kept`, `target_kept` and `queue_kept`.
 use Rattle.std.proofs.Common.{◌≡◌, ◌⊎◌, ℕ, true, false, List, [], ◌∷◌, Option, Some, None, inl, inr, is_some, refl, sym, ap, ◌∙◌, subst, arith}
 use Rattle.std.specs.List.{Contains}
 use Rattle.std.specs.Str.{bytes_eq}
@@ -8,9 +8,10 @@ use Rattle.name_rows.specs.Rows.{AreSorted, named, replacing, without}
 use Rattle.name_rows.proofs.RowLemmas.{by_test}
 use Rattle.rule_table.specs.declared.control.Target.{Target}
 use Rattle.rule_table.specs.Control.{Control, bus_created, bus_deleted, rule_put, rule_deleted, state_put, targets_put, targets_removed, policy_put}
-use Rattle.rule_table.specs.Control.{queue_created}
+use Rattle.rule_table.specs.Control.{queue_created, queue_deleted}
 use Rattle.rule_table.specs.RuleSet.{Rule, Bus, RuleSet, changed, with_rule_changed, applied, new_rule, keeping_targets, put_bus, without_bus, put_rule, without_rule}
-use Rattle.rule_table.specs.RuleSet.{put_target, put_targets, without_targets, rules_in, rules_of, rule_at, targets_in, has_bus, ForRule, IsAllowed, IsSound}
+use Rattle.rule_table.specs.RuleSet.{put_target, put_targets, without_targets, rules_in, rules_of, rule_at, targets_in}
+use Rattle.rule_table.specs.RuleSet.{has_bus, has_queue, is_queue_used, ForRule, IsAllowed, IsSound}
 use Rattle.rule_table.specs.Altered.{has_rule, has_target_of_rule}
 use Rattle.rule_table.proofs.RowLemmas.{All_named, bytes_same, bytes_differ, named_without, named_put, named_put_same, after_changed, joined_placed}
 use Rattle.rule_table.proofs.RefusalLemmas.{none_of, by_option}
@@ -64,6 +65,7 @@ bus_kept (targets_removed name rule ids) set bus a there =
     inl (bus_stays_there name bus (with_rule_changed rule (λ r. record r { targets = without_targets ids r.targets })) set (λ b. refl) there)
 bus_kept (policy_put name policy) set bus a there = inl (bus_stays_there name bus (λ b. record b { policy = policy }) set (λ b. refl) there)
 bus_kept (queue_created name) set bus a there = inl there
+bus_kept (queue_deleted name) set bus a there = inl there
 
 -- ---- facts of the rules of a bus
 
@@ -128,6 +130,7 @@ rule_kept (policy_put on policy) set bus name a there =
     inl (after_changed bus_name on bus (λ b. record b { policy = policy }) set.buses (λ b. refl) (λ o. IsIn rule_name name (rules_in o)) there
     (λ b same is. subst (λ o. IsIn rule_name name (rules_in o)) is there))
 rule_kept (queue_created queue) set bus name a there = inl there
+rule_kept (queue_deleted queue) set bus name a there = inl there
 
 -- ---- targets
 
@@ -226,3 +229,25 @@ target_kept (policy_put on policy) set bus rule id a k there =
     inl (after_changed bus_name on bus (λ b. record b { policy = policy }) set.buses (λ b. refl) (λ o. HasIt rule id (rules_in o)) there
     (λ b same is. subst (λ o. HasIt rule id (rules_in o)) is there))
 target_kept (queue_created queue) set bus rule id a k there = inl there
+target_kept (queue_deleted queue) set bus rule id a k there = inl there
+
+-- ---- queues
+
+abbrev itself : List ℕ → List ℕ
+itself name = name
+
+pub queue_kept : (control : Control) (set : RuleSet) (queue : List ℕ) → IsAllowed control set → has_queue queue set ≡ true
+    → (has_queue queue (applied control set) ≡ true) ⊎ ((control ≡ queue_deleted queue) × (is_queue_used queue set ≡ false))
+queue_kept (bus_created name) set queue a there = inl there
+queue_kept (bus_deleted name) set queue a there = inl there
+queue_kept (rule_put bus name pattern enabled) set queue a there = inl there
+queue_kept (rule_deleted bus name) set queue a there = inl there
+queue_kept (state_put bus name enabled) set queue a there = inl there
+queue_kept (targets_put bus rule targets) set queue a there = inl there
+queue_kept (targets_removed bus rule ids) set queue a there = inl there
+queue_kept (policy_put bus policy) set queue a there = inl there
+queue_kept (queue_created name) set queue a there = inl (named_placed itself replacing name queue set.queues (λ old. refl) there)
+queue_kept (queue_deleted name) set queue a there =
+    by_names name queue
+    (λ same. inr (ap queue_deleted same, subst (λ n. is_queue_used n set ≡ false) same a.1))
+    (λ apart. inl (ap is_some (named_without itself name queue set.queues apart) ∙ there))

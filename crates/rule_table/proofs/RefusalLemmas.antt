@@ -1,4 +1,5 @@
--- Targets and changes are accepted or have one first refusal: `target_decided`, `one_fault` and `faulty_not_good` of a target,
+-- Targets and changes are accepted or have one first refusal: `target_decided`, `one_fault`, `faulty_not_good` and `good_form` of a target,
+-- `faulty_not_formed` of its members alone, `queue_found` and `dead_letter_found` of its queues,
 -- `one_refusal` and `refused_not_allowed` of a change, `none_of`, `when_none`, `no_rule_at`; `good_few` and `good_there` of targets that are accepted one by
 -- one.
 use Rattle.std.proofs.Common.{◌≡◌, ◌≤◌, ◌⊎◌, ℕ, Bool, true, false, List, [], ◌∷◌, length, drop, Option, Some, None}
@@ -10,6 +11,8 @@ use Rattle.std.proofs.lemmas.Bool.{false≢true}
 use Rattle.std.proofs.lemmas.Bool.Decides.{leb_tells}
 use Rattle.std.proofs.lemmas.Slice.Eq.{bytes_eq-Decides}
 use Rattle.event_shape.specs.Names.{default_bus, is_name_byte, is_queue_byte, IsNameOf, IsShortName, IsQueueName, IsQueueArn, queue_arn}
+use Rattle.http_target.specs.Endpoint.{is_endpoint}
+use Rattle.api_replies.specs.declared.member.Member.{Member}
 use Rattle.name_rows.specs.Rows.{named, replacing}
 use Rattle.name_rows.proofs.RowLemmas.{by_test, All_placed}
 use Rattle.rule_table.specs.declared.control.Target.{Target}
@@ -17,10 +20,14 @@ use Rattle.rule_table.specs.declared.control.TargetFault.{TargetFault}
 use Rattle.rule_table.specs.declared.control.TargetFault.TheVariants as target_fault
 use Rattle.rule_table.specs.declared.control.ControlFault.{ControlFault}
 use Rattle.rule_table.specs.Control.{Control, bus_created, bus_deleted, rule_put, rule_deleted, state_put, targets_put, targets_removed, policy_put}
-use Rattle.rule_table.specs.Control.{queue_created}
-use Rattle.rule_table.specs.RuleSet.{Rule, RuleSet, put_target, put_targets, rules_in, rule_at, has_bus, has_queue, IsQueueThere}
-use Rattle.rule_table.specs.RuleSet.{IsGoodTarget, AreGoodTargets, AreRemovable, IsNoneOrStored, ForRule, IsAllowed}
-use Rattle.rule_table.specs.Refusal.{HasTargetFault, bad_id, bad_arn, unsupported, no_queue, sixth, HasFaultyTarget}
+use Rattle.rule_table.specs.Control.{queue_created, queue_deleted}
+use Rattle.rule_table.specs.TargetForm.{is_retry_valid, IsTargetArn, IsDeadLetterArn, IsWellFormedTarget}
+use Rattle.rule_table.specs.TargetForm.{HasMemberFault, bad_id, bad_arn, unsupported, bad_retry, bad_dead_letter}
+use Rattle.rule_table.specs.RuleSet.{Rule, RuleSet, put_target, put_targets, rules_in, rule_at, has_bus, has_queue, is_queue_used, IsQueueThere}
+use Rattle.rule_table.specs.RuleSet.{IsArnThere, IsDeadLetterThere, IsSoundTarget, IsGoodTarget, AreGoodTargets, AreRemovable}
+use Rattle.rule_table.specs.RuleSet.{IsNoneOrStored, ForRule, IsAllowed}
+use Rattle.rule_table.specs.Refusal.{IsQueueMissing, IsDeadLetterMissing}
+use Rattle.rule_table.specs.Refusal.{HasTargetFault, bad_member, no_queue, no_dead_letter_queue, sixth, HasFaultyTarget}
 use Rattle.rule_table.specs.Refusal.{IsRuleRefused, no_pattern, rule_without_bus, rule_limit}
 use Rattle.rule_table.specs.Refusal.{AreTargetsRefused, no_rule_to_put_to, faulty_targets}
 use Rattle.rule_table.specs.Refusal.{IsBusRefused, bus_exists, bus_limit}
@@ -28,7 +35,7 @@ use Rattle.rule_table.specs.Refusal.{IsBusDeletionRefused, default_stays, no_bus
 use Rattle.rule_table.specs.Refusal.{HasNoRule, no_such_bus, no_such_rule, IsRuleDeletionRefused, no_rule_to_delete, rule_has_targets}
 use Rattle.rule_table.specs.Refusal.{AreRemovalsRefused, no_rule_to_remove_from, faulty_ids}
 use Rattle.rule_table.specs.Refusal.{IsTooLong, IsPolicyRefused, no_policy, policy_without_bus, policy_too_long}
-use Rattle.rule_table.specs.Refusal.{IsQueueRefused, queue_exists, queue_limit, IsRefused}
+use Rattle.rule_table.specs.Refusal.{IsQueueRefused, queue_exists, queue_limit, IsQueueDeletionRefused, no_queue_to_delete, queue_in_use, IsRefused}
 
 -- ---- what can be decided
 
@@ -65,45 +72,22 @@ arn_decided arn =
     let inside : queue_arn (name_in arn) ≡ queue_arn queue = ap queue_arn (ap name_in is ∙ name_in_arn queue) in
     false≢true (sym e ∙ same.1 (is ∙ sym inside))))
 
--- ---- one target
-
-abbrev IsDecided : RuleSet → List Target → Target → Type 0
-IsDecided set targets target = IsGoodTarget set targets target ⊎ ((fault : TargetFault) × HasTargetFault set targets target fault)
-
-room_decided : (set : RuleSet) (targets : List Target) (target : Target) → IsShortName target.id → IsQueueThere set target.arn
-    → target.unbuilt ≡ None → IsDecided set targets target
-room_decided set targets target id there none = elim (leb_tells (length (put_target target targets)) 5) [
-  | inl (_, few) ↦ inl (record { id = id; queue = there; supported = none; few = few })
-  | inr (_, many) ↦ inr (target_fault.Sixth, sixth id there none many)
+-- the kind of an ARN is decided by whether it is a queue's, and then by whether it is an endpoint
+target_arn_decided : (arn : List ℕ) → IsTargetArn arn ⊎ (¬ IsTargetArn arn)
+target_arn_decided arn = elim (arn_decided arn) [
+  | inl queue ↦ inl (inl queue)
+  | inr none ↦ by_test (is_endpoint arn)
+      (λ e. inl (inr e))
+      (λ e. inr (λ is. elim is [ inl named ↦ none named.0 named.1 | inr endpoint ↦ false≢true (sym e ∙ endpoint) ]))
 ]
 
-queue_decided : (set : RuleSet) (targets : List Target) (target : Target) → IsShortName target.id → (queue : List ℕ) → IsQueueArn target.arn queue
-    → target.unbuilt ≡ None → IsDecided set targets target
-queue_decided set targets target id queue arn none =
-    by_test (has_queue queue set)
-    (λ there. room_decided set targets target id (queue, arn, there) none)
-    (λ absent. inr (target_fault.NoQueue, no_queue id queue arn none absent))
+dead_letter_decided : (arn : Option (List ℕ)) → IsDeadLetterArn arn ⊎ (¬ IsDeadLetterArn arn)
+dead_letter_decided None = inl tt
+dead_letter_decided (Some arn) = elim (arn_decided arn) [ inl queue ↦ inl queue | inr none ↦ inr (λ is. none is.0 is.1) ]
 
 pub by_option : {A G : Type 0} (o : Option A) → (o ≡ None → G) → ((a : A) → o ≡ Some a → G) → G
 by_option None none some = none refl
 by_option (Some a) none some = some a refl
-
-pub target_decided : (set : RuleSet) (targets : List Target) (target : Target)
-    → IsGoodTarget set targets target ⊎ ((fault : TargetFault) × HasTargetFault set targets target fault)
-target_decided set targets target = elim (name_decided is_name_byte 64 target.id) [
-  | inr wrong ↦ inr (_, bad_id wrong)
-  | inl id ↦ elim (arn_decided target.arn) [
-    | inr none ↦ inr (_, bad_arn id none)
-    | inl (queue, arn) ↦ by_option target.unbuilt
-        (λ none. queue_decided set targets target id queue arn none)
-        (λ first is. inr (target_fault.Member first, unsupported first id queue arn is))
-  ]
-]
-
--- what a call says of the answer `None`, if the answer is not `Some`
-pub when_none : {A : Type 0} (P : Type 0) (Q : A → Type 0) (o : Option A) → is_some o ≡ false → MatchOption o P Q → P
-when_none P Q None absent p = p
-when_none P Q (Some a) absent q = absurd (false≢true (sym absent))
 
 some_once : {A : Type 0} (o : Option A) (a b : A) → o ≡ Some a → o ≡ Some b → a ≡ b
 some_once o a b p q = cc
@@ -114,46 +98,174 @@ not_both o a p q = cc
 true_and_false : (b : Bool) → b ≡ true → b ≡ false → ⊥
 true_and_false b t f = false≢true (sym f ∙ t)
 
+-- ---- the members of one target
+
+abbrev IsFormDecided : Target → Type 0
+IsFormDecided target = IsWellFormedTarget target ⊎ ((first : Member) × HasMemberFault target first)
+
+retry_decided : (target : Target) → IsShortName target.id → IsTargetArn target.arn → target.unbuilt ≡ None → IsFormDecided target
+retry_decided target id arn none =
+    by_test (is_retry_valid target.retry)
+    (λ valid. elim (dead_letter_decided target.dead_letter) [
+      | inl dead ↦ inl (record { id = id; arn = arn; supported = none; retry = valid; dead_letter = dead })
+      | inr wrong ↦ inr (_, bad_dead_letter id arn none valid wrong)
+    ])
+    (λ wrong. inr (_, bad_retry id arn none wrong))
+
+form_decided : (target : Target) → IsFormDecided target
+form_decided target = elim (name_decided is_name_byte 64 target.id) [
+  | inr wrong ↦ inr (_, bad_id wrong)
+  | inl id ↦ elim (target_arn_decided target.arn) [
+    | inr absent ↦ inr (_, bad_arn id absent)
+    | inl arn ↦ by_option target.unbuilt
+        (λ none. retry_decided target id arn none)
+        (λ first is. inr (first, unsupported first id arn is))
+  ]
+]
+
+one_member : (target : Target) (a b : Member) → HasMemberFault target a → HasMemberFault target b → a ≡ b
+one_member t a b (bad_id n) (bad_id m) = refl
+one_member t a b (bad_id n) (bad_arn jd gone) = absurd (n jd)
+one_member t a b (bad_id n) (unsupported g jd brn so) = absurd (n jd)
+one_member t a b (bad_id n) (bad_retry jd brn also bad) = absurd (n jd)
+one_member t a b (bad_id n) (bad_dead_letter jd brn also good bad) = absurd (n jd)
+one_member t a b (bad_arn id absent) (bad_id m) = absurd (m id)
+one_member t a b (bad_arn id absent) (bad_arn jd gone) = refl
+one_member t a b (bad_arn id absent) (unsupported g jd brn so) = absurd (absent brn)
+one_member t a b (bad_arn id absent) (bad_retry jd brn also bad) = absurd (absent brn)
+one_member t a b (bad_arn id absent) (bad_dead_letter jd brn also good bad) = absurd (absent brn)
+one_member t a b (unsupported f id arn is) (bad_id m) = absurd (m id)
+one_member t a b (unsupported f id arn is) (bad_arn jd gone) = absurd (gone arn)
+one_member t a b (unsupported f id arn is) (unsupported g jd brn so) = some_once t.unbuilt f g is so
+one_member t a b (unsupported f id arn is) (bad_retry jd brn also bad) = absurd (not_both t.unbuilt f is also)
+one_member t a b (unsupported f id arn is) (bad_dead_letter jd brn also good bad) = absurd (not_both t.unbuilt f is also)
+one_member t a b (bad_retry id arn none wrong) (bad_id m) = absurd (m id)
+one_member t a b (bad_retry id arn none wrong) (bad_arn jd gone) = absurd (gone arn)
+one_member t a b (bad_retry id arn none wrong) (unsupported g jd brn so) = absurd (not_both t.unbuilt g so none)
+one_member t a b (bad_retry id arn none wrong) (bad_retry jd brn also bad) = refl
+one_member t a b (bad_retry id arn none wrong) (bad_dead_letter jd brn also good bad) = absurd (true_and_false (is_retry_valid t.retry) good wrong)
+one_member t a b (bad_dead_letter id arn none valid wrong) (bad_id m) = absurd (m id)
+one_member t a b (bad_dead_letter id arn none valid wrong) (bad_arn jd gone) = absurd (gone arn)
+one_member t a b (bad_dead_letter id arn none valid wrong) (unsupported g jd brn so) = absurd (not_both t.unbuilt g so none)
+one_member t a b (bad_dead_letter id arn none valid wrong) (bad_retry jd brn also bad) = absurd (true_and_false (is_retry_valid t.retry) valid bad)
+one_member t a b (bad_dead_letter id arn none valid wrong) (bad_dead_letter jd brn also good bad) = refl
+
+pub faulty_not_formed : (target : Target) (first : Member) → HasMemberFault target first → ¬ IsWellFormedTarget target
+faulty_not_formed t f (bad_id n) form = n form.id
+faulty_not_formed t f (bad_arn id absent) form = absent form.arn
+faulty_not_formed t f (unsupported first id arn is) form = not_both t.unbuilt first is form.supported
+faulty_not_formed t f (bad_retry id arn none wrong) form = true_and_false (is_retry_valid t.retry) form.retry wrong
+faulty_not_formed t f (bad_dead_letter id arn none valid wrong) form = wrong form.dead_letter
+
+-- ---- the queues of one target
+
+-- a queue exists or it is missing, and an endpoint is there
+queue_there : (set : RuleSet) (arn : List ℕ) → IsTargetArn arn → IsArnThere set arn ⊎ IsQueueMissing set arn
+queue_there set arn is = elim (arn_decided arn) [
+  | inl (queue, named) ↦ by_test (has_queue queue set)
+      (λ there. inl (inl (queue, named, there)))
+      (λ absent. inr (queue, named, absent))
+  | inr none ↦ elim is [ inl named ↦ absurd (none named.0 named.1) | inr endpoint ↦ inl (inr (none, endpoint)) ]
+]
+
+dead_letter_there : (set : RuleSet) (arn : Option (List ℕ)) → IsDeadLetterArn arn → IsDeadLetterThere set arn ⊎ IsDeadLetterMissing set arn
+dead_letter_there set None is = inl tt
+dead_letter_there set (Some arn) (queue, named) =
+    by_test (has_queue queue set) (λ there. inl (queue, named, there)) (λ absent. inr (queue, named, absent))
+
+pub queue_found : (set : RuleSet) (arn : List ℕ) → IsTargetArn arn → ¬ IsQueueMissing set arn → IsArnThere set arn
+queue_found set arn is never = elim (queue_there set arn is) [ inl there ↦ there | inr missing ↦ absurd (never missing) ]
+
+pub dead_letter_found : (set : RuleSet) (arn : Option (List ℕ)) → IsDeadLetterArn arn → ¬ IsDeadLetterMissing set arn → IsDeadLetterThere set arn
+dead_letter_found set arn is never = elim (dead_letter_there set arn is) [ inl there ↦ there | inr missing ↦ absurd (never missing) ]
+
 no_queue_there : (set : RuleSet) (arn queue : List ℕ) → IsQueueArn arn queue → has_queue queue set ≡ false → ¬ IsQueueThere set arn
 no_queue_there set arn queue is none (other, so, there) =
     let same = one_queue arn other queue so is in
     true_and_false (has_queue queue set) (subst (λ q. has_queue q set ≡ true) same there) none
 
+missing_not_there : (set : RuleSet) (arn : List ℕ) → IsQueueMissing set arn → ¬ IsArnThere set arn
+missing_not_there set arn (queue, is, absent) (inl there) = no_queue_there set arn queue is absent there
+missing_not_there set arn (queue, is, absent) (inr other) = other.0 queue is
+
+dead_letter_not_there : (set : RuleSet) (arn : Option (List ℕ)) → IsDeadLetterMissing set arn → ¬ IsDeadLetterThere set arn
+dead_letter_not_there set None missing there = missing
+dead_letter_not_there set (Some arn) (queue, is, absent) there = no_queue_there set arn queue is absent there
+
+-- ---- one target
+
+abbrev IsDecided : RuleSet → List Target → Target → Type 0
+IsDecided set targets target = IsGoodTarget set targets target ⊎ ((fault : TargetFault) × HasTargetFault set targets target fault)
+
+room_decided : (set : RuleSet) (targets : List Target) (target : Target) → IsWellFormedTarget target → IsArnThere set target.arn
+    → IsDeadLetterThere set target.dead_letter → IsDecided set targets target
+room_decided set targets target form arn dead = elim (leb_tells (length (put_target target targets)) 5) [
+  | inl (_, few) ↦
+      let sound : IsSoundTarget set target = record { arn = arn; supported = form.supported; retry = form.retry; dead_letter = dead } in
+      inl (record { id = form.id; sound = sound; few = few })
+  | inr (_, many) ↦ inr (target_fault.Sixth, sixth form arn dead many)
+]
+
+pub target_decided : (set : RuleSet) (targets : List Target) (target : Target)
+    → IsGoodTarget set targets target ⊎ ((fault : TargetFault) × HasTargetFault set targets target fault)
+target_decided set targets target = elim (form_decided target) [
+  | inr (first, is) ↦ inr (target_fault.Member first, bad_member first is)
+  | inl form ↦ elim (queue_there set target.arn form.arn) [
+    | inr missing ↦ inr (target_fault.NoQueue, no_queue form missing)
+    | inl arn ↦ elim (dead_letter_there set target.dead_letter form.dead_letter) [
+      | inr missing ↦ inr (target_fault.NoDeadLetterQueue, no_dead_letter_queue form arn missing)
+      | inl dead ↦ room_decided set targets target form arn dead
+    ]
+  ]
+]
+
+-- what a call says of the answer `None`, if the answer is not `Some`
+pub when_none : {A : Type 0} (P : Type 0) (Q : A → Type 0) (o : Option A) → is_some o ≡ false → MatchOption o P Q → P
+when_none P Q None absent p = p
+when_none P Q (Some a) absent q = absurd (false≢true (sym absent))
+
 pub one_fault : (set : RuleSet) (targets : List Target) (target : Target) (a b : TargetFault) → HasTargetFault set targets target a
     → HasTargetFault set targets target b → a ≡ b
-one_fault set ts t a b (bad_id n) (bad_id m) = refl
-one_fault set ts t a b (bad_id n) (bad_arn id absent) = absurd (n id)
-one_fault set ts t a b (bad_id n) (unsupported f id q arn is) = absurd (n id)
-one_fault set ts t a b (bad_id n) (no_queue id q arn none absent) = absurd (n id)
-one_fault set ts t a b (bad_id n) (sixth id there none many) = absurd (n id)
-one_fault set ts t a b (bad_arn id absent) (bad_id n) = absurd (n id)
-one_fault set ts t a b (bad_arn id absent) (bad_arn jd so) = refl
-one_fault set ts t a b (bad_arn id absent) (unsupported f jd q arn is) = absurd (absent q arn)
-one_fault set ts t a b (bad_arn id absent) (no_queue jd q arn none gone) = absurd (absent q arn)
-one_fault set ts t a b (bad_arn id absent) (sixth jd (q, arn, there) none many) = absurd (absent q arn)
-one_fault set ts t a b (unsupported f id q arn is) (bad_id n) = absurd (n id)
-one_fault set ts t a b (unsupported f id q arn is) (bad_arn jd absent) = absurd (absent q arn)
-one_fault set ts t a b (unsupported f id q arn is) (unsupported g jd r brn so) = ap target_fault.Member (some_once t.unbuilt f g is so)
-one_fault set ts t a b (unsupported f id q arn is) (no_queue jd r brn none absent) = absurd (not_both t.unbuilt f is none)
-one_fault set ts t a b (unsupported f id q arn is) (sixth jd there none many) = absurd (not_both t.unbuilt f is none)
-one_fault set ts t a b (no_queue id q arn none absent) (bad_id n) = absurd (n id)
-one_fault set ts t a b (no_queue id q arn none absent) (bad_arn jd so) = absurd (so q arn)
-one_fault set ts t a b (no_queue id q arn none absent) (unsupported f jd r brn is) = absurd (not_both t.unbuilt f is none)
-one_fault set ts t a b (no_queue id q arn none absent) (no_queue jd r brn so also) = refl
-one_fault set ts t a b (no_queue id q arn none absent) (sixth jd there so many) = absurd (no_queue_there set t.arn q arn absent there)
-one_fault set ts t a b (sixth id there none many) (bad_id n) = absurd (n id)
-one_fault set ts t a b (sixth id (q, arn, there) none many) (bad_arn jd so) = absurd (so q arn)
-one_fault set ts t a b (sixth id there none many) (unsupported f jd r brn is) = absurd (not_both t.unbuilt f is none)
-one_fault set ts t a b (sixth id there none many) (no_queue jd q arn so absent) = absurd (no_queue_there set t.arn q arn absent there)
-one_fault set ts t a b (sixth id there none many) (sixth jd also so more) = refl
+one_fault set ts t a b (bad_member first is) (bad_member other so) = ap target_fault.Member (one_member t first other is so)
+one_fault set ts t a b (bad_member first is) (no_queue formed gone) = absurd (faulty_not_formed t first is formed)
+one_fault set ts t a b (bad_member first is) (no_dead_letter_queue formed brn gone) = absurd (faulty_not_formed t first is formed)
+one_fault set ts t a b (bad_member first is) (sixth formed brn lost more) = absurd (faulty_not_formed t first is formed)
+one_fault set ts t a b (no_queue form missing) (bad_member other so) = absurd (faulty_not_formed t other so form)
+one_fault set ts t a b (no_queue form missing) (no_queue formed gone) = refl
+one_fault set ts t a b (no_queue form missing) (no_dead_letter_queue formed brn gone) = absurd (missing_not_there set t.arn missing brn)
+one_fault set ts t a b (no_queue form missing) (sixth formed brn lost more) = absurd (missing_not_there set t.arn missing brn)
+one_fault set ts t a b (no_dead_letter_queue form arn missing) (bad_member other so) = absurd (faulty_not_formed t other so form)
+one_fault set ts t a b (no_dead_letter_queue form arn missing) (no_queue formed gone) = absurd (missing_not_there set t.arn gone arn)
+one_fault set ts t a b (no_dead_letter_queue form arn missing) (no_dead_letter_queue formed brn gone) = refl
+one_fault set ts t a b (no_dead_letter_queue form arn missing) (sixth formed brn lost more) = absurd (dead_letter_not_there set t.dead_letter missing lost)
+one_fault set ts t a b (sixth form arn dead many) (bad_member other so) = absurd (faulty_not_formed t other so form)
+one_fault set ts t a b (sixth form arn dead many) (no_queue formed gone) = absurd (missing_not_there set t.arn gone arn)
+one_fault set ts t a b (sixth form arn dead many) (no_dead_letter_queue formed brn gone) = absurd (dead_letter_not_there set t.dead_letter gone dead)
+one_fault set ts t a b (sixth form arn dead many) (sixth formed brn lost more) = refl
+
+arn_formed : (set : RuleSet) (arn : List ℕ) → IsArnThere set arn → IsTargetArn arn
+arn_formed set arn (inl (queue, is, there)) = inl (queue, is)
+arn_formed set arn (inr other) = inr other.1
+
+dead_letter_formed : (set : RuleSet) (arn : Option (List ℕ)) → IsDeadLetterThere set arn → IsDeadLetterArn arn
+dead_letter_formed set None there = tt
+dead_letter_formed set (Some arn) (queue, is, there) = (queue, is)
+
+pub good_form : (set : RuleSet) (targets : List Target) (target : Target) → IsGoodTarget set targets target → IsWellFormedTarget target
+good_form set targets target g = record {
+  id = g.id;
+  arn = arn_formed set target.arn g.sound.arn;
+  supported = g.sound.supported;
+  retry = g.sound.retry;
+  dead_letter = dead_letter_formed set target.dead_letter g.sound.dead_letter;
+}
 
 pub faulty_not_good : (set : RuleSet) (targets : List Target) (target : Target) (fault : TargetFault) → HasTargetFault set targets target fault
     → ¬ IsGoodTarget set targets target
-faulty_not_good set ts t f (bad_id n) g = n g.id
-faulty_not_good set ts t f (bad_arn id absent) g = absent g.queue.0 g.queue.1
-faulty_not_good set ts t f (unsupported first id q arn is) g = not_both t.unbuilt first is g.supported
-faulty_not_good set ts t f (no_queue id q arn none absent) g = no_queue_there set t.arn q arn absent g.queue
-faulty_not_good set ts t f (sixth id there none many) g = omega (arith, many, g.few)
+faulty_not_good set ts t f (bad_member first is) g = faulty_not_formed t first is (good_form set ts t g)
+faulty_not_good set ts t f (no_queue form missing) g = missing_not_there set t.arn missing g.sound.arn
+faulty_not_good set ts t f (no_dead_letter_queue form arn missing) g = dead_letter_not_there set t.dead_letter missing g.sound.dead_letter
+faulty_not_good set ts t f (sixth form arn dead many) g = omega (arith, many, g.few)
 
 -- ---- targets one by one
 
@@ -166,14 +278,13 @@ pub good_few : (set : RuleSet) (news targets : List Target) → AreGoodTargets s
 good_few set [] targets good few = few
 good_few set (new ∷ news) targets good few = good_few set news (put_target new targets) good.1 good.0.few
 
-pub good_there : (set : RuleSet) (news targets : List Target) → AreGoodTargets set news targets
-    → All (λ target. IsQueueThere set target.arn × (target.unbuilt ≡ None)) targets
-    → All (λ target. IsQueueThere set target.arn × (target.unbuilt ≡ None)) (put_targets news targets)
+pub good_there : (set : RuleSet) (news targets : List Target) → AreGoodTargets set news targets → All (IsSoundTarget set) targets
+    → All (IsSoundTarget set) (put_targets news targets)
 good_there set [] targets good all = all
 good_there set (new ∷ news) targets good all =
-    let Fits : Target → Type 0 = λ t. IsQueueThere set t.arn × (t.unbuilt ≡ None) in
-    let fits : Fits new = (good.0.queue, good.0.supported) in
-    good_there set news (put_target new targets) good.1 (All_placed Fits (λ target. target.id) replacing new targets fits (λ old p. fits) all)
+    let fits : IsSoundTarget set new = good.0.sound in
+    good_there set news (put_target new targets) good.1
+    (All_placed (IsSoundTarget set) (λ target. target.id) replacing new targets fits (λ old p. fits) all)
 
 -- ---- a change
 
@@ -202,6 +313,12 @@ one_of_queue name set a b (queue_exists there) (queue_exists also) = refl
 one_of_queue name set a b (queue_exists there) (queue_limit absent full) = absurd (true_and_false (has_queue name set) there absent)
 one_of_queue name set a b (queue_limit absent full) (queue_exists there) = absurd (true_and_false (has_queue name set) there absent)
 one_of_queue name set a b (queue_limit absent full) (queue_limit none many) = refl
+
+one_of_queue_deletion : (name : List ℕ) (set : RuleSet) (a b : ControlFault) → IsQueueDeletionRefused name set a → IsQueueDeletionRefused name set b → a ≡ b
+one_of_queue_deletion name set a b (no_queue_to_delete absent) (no_queue_to_delete gone) = refl
+one_of_queue_deletion name set a b (no_queue_to_delete absent) (queue_in_use there used) = absurd (true_and_false (has_queue name set) there absent)
+one_of_queue_deletion name set a b (queue_in_use there used) (no_queue_to_delete absent) = absurd (true_and_false (has_queue name set) there absent)
+one_of_queue_deletion name set a b (queue_in_use there used) (queue_in_use also so) = refl
 
 one_of_bus : (name : List ℕ) (set : RuleSet) (a b : ControlFault) → IsBusRefused name set a → IsBusRefused name set b → a ≡ b
 one_of_bus name set a b (bus_exists there) (bus_exists also) = refl
@@ -289,6 +406,7 @@ one_refusal (targets_put bus rule targets) set a b p q = one_of_targets bus rule
 one_refusal (targets_removed bus rule ids) set a b p q = one_of_removals bus rule ids set a b p q
 one_refusal (policy_put bus policy) set a b p q = one_of_policy bus policy set a b p q
 one_refusal (queue_created name) set a b p q = one_of_queue name set a b p q
+one_refusal (queue_deleted name) set a b p q = one_of_queue_deletion name set a b p q
 
 rule_not_allowed : (bus name pattern : List ℕ) (enabled : Bool) (set : RuleSet) (fault : ControlFault) → IsRuleRefused bus name pattern set fault
     → ¬ IsAllowed (rule_put bus name pattern enabled) set
@@ -300,6 +418,11 @@ rule_not_allowed bus name pattern enabled set f (rule_limit p is there new full)
 queue_not_allowed : (name : List ℕ) (set : RuleSet) (fault : ControlFault) → IsQueueRefused name set fault → ¬ IsAllowed (queue_created name) set
 queue_not_allowed name set f (queue_exists there) (absent, few) = true_and_false (has_queue name set) there absent
 queue_not_allowed name set f (queue_limit absent full) (none, few) = omega (arith, full, few)
+
+queue_deletion_not_allowed : (name : List ℕ) (set : RuleSet) (fault : ControlFault) → IsQueueDeletionRefused name set fault
+    → ¬ IsAllowed (queue_deleted name) set
+queue_deletion_not_allowed name set f (no_queue_to_delete absent) (there, free) = true_and_false (has_queue name set) there absent
+queue_deletion_not_allowed name set f (queue_in_use so used) (there, free) = true_and_false (is_queue_used name set) used free
 
 bus_not_allowed : (name : List ℕ) (set : RuleSet) (fault : ControlFault) → IsBusRefused name set fault → ¬ IsAllowed (bus_created name) set
 bus_not_allowed name set f (bus_exists there) (absent, few) = true_and_false (has_bus name set) there absent
@@ -361,3 +484,4 @@ refused_not_allowed (targets_put bus rule targets) set f p = targets_not_allowed
 refused_not_allowed (targets_removed bus rule ids) set f p = removal_not_allowed bus rule ids set f p
 refused_not_allowed (policy_put bus policy) set f p = policy_not_allowed bus policy set f p
 refused_not_allowed (queue_created name) set f p = queue_not_allowed name set f p
+refused_not_allowed (queue_deleted name) set f p = queue_deletion_not_allowed name set f p

@@ -1,7 +1,8 @@
 -- An allowed change leads from a sound rule set to a sound one: `sound_applied`.
 use Rattle.std.proofs.Common.{◌≡◌, ℕ, ◌+◌, ◌<◌, ◌≤◌, ◌⊎◌, true, false, Bool, List, [], ◌∷◌, length, Option, Some, None, refl, sym, ap, ◌∙◌}
 use Rattle.std.proofs.Common.{subst, arith, inl, inr, is_some, suc}
-use Rattle.std.specs.Prelude.{All}
+use Rattle.std.specs.Prelude.{All, ◌||◌}
+use Rattle.std.specs.List.{list_any}
 use Rattle.std.specs.Cmp.Lexicographic.{slice_cmp}
 use Rattle.std.specs.Ordering.{nat_cmp}
 use Rattle.std.specs.Str.{bytes_eq}
@@ -9,15 +10,16 @@ use Rattle.std.specs.declared.cmp.Ordering.TheVariants.{Less}
 use Rattle.std.proofs.lemmas.Bool.{false≢true}
 use Rattle.std.proofs.lemmas.List.{length-map}
 use Rattle.std.proofs.lemmas.List.Elements.{All-head, All-tail, All-cons, All-nil, All-weaker}
-use Rattle.event_shape.specs.Names.{default_bus, rule_arn}
+use Rattle.event_shape.specs.Names.{default_bus, rule_arn, queue_arn, IsQueueArn}
 use Rattle.name_rows.specs.Rows.{named, placed, replacing, without, AreSorted}
 use Rattle.name_rows.proofs.NameOrder.{Less_from_Greater, same_name, bytes_eq_Less}
 use Rattle.name_rows.proofs.RowLemmas.{by_cmp, by_test, named_none, none_greater, others_after, All_placed, sorted_placed, sorted_without}
 use Rattle.rule_table.specs.RuleSet.{Rule, Bus, RuleSet, changed, new_rule, keeping_targets, put_bus, without_bus, put_rule, without_rule, put_target}
-use Rattle.rule_table.specs.RuleSet.{put_targets, without_targets, with_rule_changed, rules_in, rules_of, rule_at, applied, IsQueueThere}
+use Rattle.rule_table.specs.RuleSet.{put_targets, without_targets, with_rule_changed, rules_in, rules_of, rule_at, applied}
+use Rattle.rule_table.specs.RuleSet.{is_dead_letter_of, is_used_by_target, is_used_by_rule, is_used_by_bus, has_queue, IsQueueThere, IsArnThere, IsDeadLetterThere, IsSoundTarget}
 use Rattle.rule_table.specs.RuleSet.{AreGoodTargets, IsNoneOrStored, ForRule, IsAllowed, HasSoundTargets, HasItsArn, IsSound}
 use Rattle.rule_table.specs.Control.{Control, bus_created, bus_deleted, rule_put, rule_deleted, state_put, targets_put, targets_removed, policy_put}
-use Rattle.rule_table.specs.Control.{queue_created}
+use Rattle.rule_table.specs.Control.{queue_created, queue_deleted}
 use Rattle.rule_table.specs.declared.control.Target.{Target}
 use Rattle.rule_table.proofs.RowLemmas.{changed_none, named_same, named_other, named_name, All_named, bytes_same, bytes_differ, named_without, after_changed, All_without, length_without}
 use Rattle.rule_table.proofs.RefusalLemmas.{good_few, good_there}
@@ -145,6 +147,47 @@ short_put : (new : Rule) (rules : List Rule) → AreSorted (λ rule. rule.name) 
 short_put new rules o small (inl some) = let e = length_placed_same (λ rule. rule.name) keeping_targets new rules o some in omega (arith, e)
 short_put new rules o small (inr room) = let e = length_placed (λ rule. rule.name) keeping_targets new rules in omega (arith, e, room)
 
+-- ---- targets stay sound if their queues stay
+
+abbrev Stays : RuleSet → RuleSet → List ℕ → Type 0
+Stays set next arn = (queue : List ℕ) → IsQueueArn arn queue → has_queue queue set ≡ true → has_queue queue next ≡ true
+
+queue_still : (set next : RuleSet) (arn : List ℕ) → Stays set next arn → IsQueueThere set arn → IsQueueThere next arn
+queue_still set next arn stays (queue, is, there) = (queue, is, stays queue is there)
+
+arn_still : (set next : RuleSet) (arn : List ℕ) → Stays set next arn → IsArnThere set arn → IsArnThere next arn
+arn_still set next arn stays (inl there) = inl (queue_still set next arn stays there)
+arn_still set next arn stays (inr other) = inr other
+
+dead_letter_still : (set next : RuleSet) (dead : Option (List ℕ)) → ((arn : List ℕ) → dead ≡ Some arn → Stays set next arn)
+    → IsDeadLetterThere set dead → IsDeadLetterThere next dead
+dead_letter_still set next None stays there = tt
+dead_letter_still set next (Some arn) stays there = queue_still set next arn (stays arn refl) there
+
+target_still : (set next : RuleSet) (target : Target) → Stays set next target.arn → ((arn : List ℕ) → target.dead_letter ≡ Some arn → Stays set next arn)
+    → IsSoundTarget set target → IsSoundTarget next target
+target_still set next target own dead sound = record {
+  arn = arn_still set next target.arn own sound.arn;
+  supported = sound.supported;
+  retry = sound.retry;
+  dead_letter = dead_letter_still set next target.dead_letter dead sound.dead_letter;
+}
+
+-- the targets of all rules are still sound if the queues are the same
+targets_still : (set next : RuleSet) (buses : List Bus) → next.queues ≡ set.queues → All (λ b. All (HasSoundTargets set) b.rules) buses
+    → All (λ b. All (HasSoundTargets next) b.rules) buses
+targets_still set next buses same all =
+    let stays : (arn : List ℕ) → Stays set next arn =
+    λ arn queue is there. subst (λ queues. is_some (named (λ (q : List ℕ). q) queue queues) ≡ true) (sym same) there in
+    let fits : (target : Target) → IsSoundTarget set target → IsSoundTarget next target =
+    λ target sound. target_still set next target (stays target.arn) (λ arn is. stays arn) sound in
+    let have : (rule : Rule) → HasSoundTargets set rule → HasSoundTargets next rule =
+    λ rule h. (h.0, All-weaker (IsSoundTarget set) (IsSoundTarget next) fits rule.targets h.1) in
+    All-weaker (λ b. All (HasSoundTargets set) b.rules) (λ b. All (HasSoundTargets next) b.rules)
+    (λ b h. All-weaker (HasSoundTargets set) (HasSoundTargets next) have b.rules h) buses all
+
+-- ---- each change
+
 sound_rule : (bus name pattern : List ℕ) (enabled : Bool) (set : RuleSet) → IsAllowed (rule_put bus name pattern enabled) set
     → IsSound set → IsSound (applied (rule_put bus name pattern enabled) set)
 sound_rule bus name pattern enabled set a k =
@@ -167,9 +210,10 @@ sound_rule bus name pattern enabled set a k =
       arns = All_changed_named HaveArns bus_name bus change set.buses k.bus_order (λ b is h.
           let its_arn : HasItsArn b.name new = ap (λ n. rule_arn n name) (sym (named_name bus_name bus set.buses b is)) in
           All_placed (HasItsArn b.name) rule_name keeping_targets new b.rules its_arn (λ old p. its_arn) h) k.arns;
-      targets = All_changed HaveTargets HaveTargets bus_name bus change set.buses (λ b h. h)
+      targets = targets_still set (applied (rule_put bus name pattern enabled) set) _ refl
+          (All_changed HaveTargets HaveTargets bus_name bus change set.buses (λ b h. h)
           (λ b h. All_placed (HasSoundTargets set) rule_name keeping_targets new b.rules
-          (omega arith, All-nil (λ target. IsQueueThere set target.arn × (target.unbuilt ≡ None))) (λ old p. p) h) k.targets;
+          (omega arith, All-nil (IsSoundTarget set)) (λ old p. p) h) k.targets);
       queues = k.queues;
       default = default_stays bus change set (λ b. refl) k;
       policies = All_changed HasPolicy HasPolicy bus_name bus change set.buses (λ b h. h) (λ b h. h) k.policies;
@@ -204,7 +248,8 @@ sound_rule_changed bus rule change set named_so arn_so good ordered k =
       rules = All_changed IsShort IsShort bus_name bus with_rule set.buses (λ b h. h) (λ b h. rw length-map h) k.rules;
       arns = All_changed HaveArns HaveArns bus_name bus with_rule set.buses (λ b h. h)
           (λ b h. All_changed (HasItsArn b.name) (HasItsArn b.name) rule_name rule change b.rules (λ r p. p) (λ r p. arn_so b.name r p) h) k.arns;
-      targets = All_changed_named HaveTargets bus_name bus with_rule set.buses k.bus_order have k.targets;
+      targets = targets_still set (record set { buses = changed (λ b. b.name) bus with_rule set.buses; count = set.count + 1 }) _ refl
+          (All_changed_named HaveTargets bus_name bus with_rule set.buses k.bus_order have k.targets);
       queues = k.queues;
       default = default_stays bus with_rule set (λ b. refl) k;
       policies = All_changed HasPolicy HasPolicy bus_name bus with_rule set.buses (λ b h. h) (λ b h. h) k.policies;
@@ -230,7 +275,7 @@ sound_removal bus rule ids set k =
     sound_rule_changed bus rule (λ r. record r { targets = without_targets ids r.targets }) set (λ r. refl) (λ b r p. p)
     (λ r there p. (
       omega (arith, length_without_targets ids r.targets, p.0),
-      All_without_targets (λ target. IsQueueThere set target.arn × (target.unbuilt ≡ None)) ids r.targets p.1,
+      All_without_targets (IsSoundTarget set) ids r.targets p.1,
     ))
     (λ r o. sorted_without_targets ids r.targets o) k
 
@@ -252,8 +297,9 @@ sound_deletion bus name set k =
       rules = All_changed IsShort IsShort bus_name bus change set.buses (λ b h. h) (λ b h. omega (arith, length_without rule_name name b.rules, h)) k.rules;
       arns = All_changed HaveArns HaveArns bus_name bus change set.buses (λ b h. h)
           (λ b h. All_without (HasItsArn b.name) rule_name name b.rules h) k.arns;
-      targets = All_changed HaveTargets HaveTargets bus_name bus change set.buses (λ b h. h)
-          (λ b h. All_without (HasSoundTargets set) rule_name name b.rules h) k.targets;
+      targets = targets_still set (applied (rule_deleted bus name) set) _ refl
+          (All_changed HaveTargets HaveTargets bus_name bus change set.buses (λ b h. h)
+          (λ b h. All_without (HasSoundTargets set) rule_name name b.rules h) k.targets);
       queues = k.queues;
       default = default_stays bus change set (λ b. refl) k;
       policies = All_changed HasPolicy HasPolicy bus_name bus change set.buses (λ b h. h) (λ b h. h) k.policies;
@@ -277,7 +323,8 @@ sound_policy bus policy set a k =
       buses = rw length-map k.buses;
       rules = All_changed IsShort IsShort bus_name bus change set.buses (λ b h. h) (λ b h. h) k.rules;
       arns = All_changed HaveArns HaveArns bus_name bus change set.buses (λ b h. h) (λ b h. h) k.arns;
-      targets = All_changed HaveTargets HaveTargets bus_name bus change set.buses (λ b h. h) (λ b h. h) k.targets;
+      targets = targets_still set (applied (policy_put bus policy) set) _ refl
+          (All_changed HaveTargets HaveTargets bus_name bus change set.buses (λ b h. h) (λ b h. h) k.targets);
       queues = k.queues;
       default = default_stays bus change set (λ b. refl) k;
       policies = All_changed HasPolicy HasPolicy bus_name bus change set.buses (λ b h. h) (λ b h. a.0) k.policies;
@@ -297,7 +344,8 @@ sound_creation name set a k =
       buses = omega (arith, length_placed bus_name replacing new set.buses, a.1);
       rules = put (λ b. length b.rules ≤ 300) (omega arith) k.rules;
       arns = put HaveArns (All-nil (HasItsArn name)) k.arns;
-      targets = put (λ b. All (HasSoundTargets set) b.rules) (All-nil (HasSoundTargets set)) k.targets;
+      targets = targets_still set (applied (bus_created name) set) _ refl
+          (put (λ b. All (HasSoundTargets set) b.rules) (All-nil (HasSoundTargets set)) k.targets);
       queues = k.queues;
       default = named_placed bus_name replacing new default_bus set.buses (λ old. refl) k.default;
       policies = put (λ b. IsNoneOrStored b.policy) tt k.policies;
@@ -315,7 +363,7 @@ sound_bus_deletion name set a k =
       buses = omega (arith, length_without bus_name name set.buses, k.buses);
       rules = rest (λ b. length b.rules ≤ 300) k.rules;
       arns = rest HaveArns k.arns;
-      targets = rest (λ b. All (HasSoundTargets set) b.rules) k.targets;
+      targets = targets_still set (applied (bus_deleted name) set) _ refl (rest (λ b. All (HasSoundTargets set) b.rules) k.targets);
       queues = k.queues;
       default = ap is_some (named_without bus_name name default_bus set.buses (bytes_differ name default_bus a.0)) ∙ k.default;
       policies = rest (λ b. IsNoneOrStored b.policy) k.policies;
@@ -329,11 +377,11 @@ sound_queue : (name : List ℕ) (set : RuleSet) → IsAllowed (queue_created nam
 sound_queue name set a k =
     let next = applied (queue_created name) set in
     let itself : List ℕ → List ℕ = λ queue. queue in
-    let fits : RuleSet → Target → Type 0 = λ s target. IsQueueThere s target.arn × (target.unbuilt ≡ None) in
-    let stays : (target : Target) → fits set target → fits next target =
-    λ target h. ((h.0.0, h.0.1, named_placed itself replacing name h.0.0 set.queues (λ old. refl) h.0.2), h.1) in
+    let stays : (arn : List ℕ) → Stays set next arn = λ arn queue is there. named_placed itself replacing name queue set.queues (λ old. refl) there in
+    let fits : (target : Target) → IsSoundTarget set target → IsSoundTarget next target =
+    λ target sound. target_still set next target (stays target.arn) (λ arn is. stays arn) sound in
     let targets : (rule : Rule) → HasSoundTargets set rule → HasSoundTargets next rule =
-    λ rule h. (h.0, All-weaker (fits set) (fits next) stays rule.targets h.1) in
+    λ rule h. (h.0, All-weaker (IsSoundTarget set) (IsSoundTarget next) fits rule.targets h.1) in
     record {
       buses = k.buses;
       rules = k.rules;
@@ -349,6 +397,57 @@ sound_queue name set a k =
       queue_order = sorted_placed itself replacing name set.queues (λ old. refl) k.queue_order;
     }
 
+neither : (a b : Bool) → (a || b) ≡ false → (a ≡ false) × (b ≡ false)
+neither true b e = absurd (false≢true (sym e))
+neither false b e = (refl, e)
+
+-- a fact of rows, none of which passes the test
+All_unless : {A : Type 0} (P Q : A → Type 0) (test : A → Bool) (rows : List A) → ((row : A) → test row ≡ false → P row → Q row)
+    → list_any test rows ≡ false → All P rows → All Q rows
+All_unless P Q test [] step none all = All-nil Q
+All_unless P Q test (row ∷ rows) step none all =
+    let both = neither (test row) (list_any test rows) none in
+    All-cons Q row rows (step row both.0 (All-head P row rows all)) (All_unless P Q test rows step both.1 (All-tail P row rows all))
+
+-- a queue of another ARN stays
+spared : (name arn : List ℕ) (set : RuleSet) → bytes_eq arn (queue_arn name) ≡ false → Stays set (applied (queue_deleted name) set) arn
+spared name arn set other queue is there =
+    let apart : ¬ (name ≡ queue) = λ same. bytes_differ arn (queue_arn name) other (is.1 ∙ ap queue_arn (sym same)) in
+    ap is_some (named_without (λ (q : List ℕ). q) name queue set.queues apart) ∙ there
+
+dead_letter_spared : (name : List ℕ) (dead : Option (List ℕ)) (set : RuleSet) → is_dead_letter_of name dead ≡ false
+    → (arn : List ℕ) → dead ≡ Some arn → Stays set (applied (queue_deleted name) set) arn
+dead_letter_spared name dead set other arn is = spared name arn set (subst (λ d. is_dead_letter_of name d ≡ false) is other)
+
+target_spared : (name : List ℕ) (set : RuleSet) (target : Target) → is_used_by_target name target ≡ false → IsSoundTarget set target
+    → IsSoundTarget (applied (queue_deleted name) set) target
+target_spared name set target free sound =
+    let both = neither (bytes_eq target.arn (queue_arn name)) (is_dead_letter_of name target.dead_letter) free in
+    target_still set (applied (queue_deleted name) set) target (spared name target.arn set both.0)
+    (dead_letter_spared name target.dead_letter set both.1) sound
+
+sound_queue_deletion : (name : List ℕ) (set : RuleSet) → IsAllowed (queue_deleted name) set → IsSound set
+    → IsSound (applied (queue_deleted name) set)
+sound_queue_deletion name set a k =
+    let next = applied (queue_deleted name) set in
+    let itself : List ℕ → List ℕ = λ queue. queue in
+    let rule_spared : (rule : Rule) → is_used_by_rule name rule ≡ false → HasSoundTargets set rule → HasSoundTargets next rule =
+    λ rule free h. (h.0, All_unless (IsSoundTarget set) (IsSoundTarget next) (is_used_by_target name) rule.targets (target_spared name set) free h.1) in
+    record {
+      buses = k.buses;
+      rules = k.rules;
+      arns = k.arns;
+      targets = All_unless (λ b. All (HasSoundTargets set) b.rules) (λ b. All (HasSoundTargets next) b.rules) (is_used_by_bus name) set.buses
+          (λ b free h. All_unless (HasSoundTargets set) (HasSoundTargets next) (is_used_by_rule name) b.rules rule_spared free h) a.1 k.targets;
+      queues = omega (arith, length_without itself name set.queues, k.queues);
+      default = k.default;
+      policies = k.policies;
+      bus_order = k.bus_order;
+      rule_order = k.rule_order;
+      target_order = k.target_order;
+      queue_order = sorted_without itself name set.queues k.queue_order;
+    }
+
 pub sound_applied : (control : Control) (set : RuleSet) → IsAllowed control set → IsSound set → IsSound (applied control set)
 sound_applied (bus_created name) set a k = sound_creation name set a k
 sound_applied (bus_deleted name) set a k = sound_bus_deletion name set a k
@@ -359,3 +458,4 @@ sound_applied (targets_put bus rule targets) set a k = sound_targets bus rule ta
 sound_applied (targets_removed bus rule ids) set a k = sound_removal bus rule ids set k
 sound_applied (policy_put bus policy) set a k = sound_policy bus policy set a k
 sound_applied (queue_created name) set a k = sound_queue name set a k
+sound_applied (queue_deleted name) set a k = sound_queue_deletion name set a k

@@ -1,7 +1,8 @@
 -- What a change may alter: the bus that it names, what matching reads of a rule set, and the rules and targets that are there.
 use Rattle.std.specs.Prelude.{ℕ, Bool, List, Option, Some, None, map, is_some}
 use Rattle.name_rows.specs.Rows.{named}
-use Rattle.rule_table.specs.Control.{Control, bus_created, bus_deleted, rule_put, rule_deleted, state_put, targets_put, targets_removed, policy_put, queue_created}
+use Rattle.rule_table.specs.Control.{Control, bus_created, bus_deleted, rule_put, rule_deleted, state_put, targets_put, targets_removed, policy_put}
+use Rattle.rule_table.specs.Control.{queue_created, queue_deleted}
 use Rattle.rule_table.specs.RuleSet.{Rule, RuleSet, rule_at, targets_in}
 
 -- the bus that the change names, if any
@@ -15,6 +16,7 @@ changed_bus (rule_put bus name pattern enabled) = Some bus
 changed_bus (targets_put bus rule targets) = Some bus
 changed_bus (policy_put bus policy) = Some bus
 changed_bus (queue_created name) = None
+changed_bus (queue_deleted name) = None
 
 -- a rule's name, its pattern's text, and whether it is enabled
 abbrev pub matching_of_rule : Rule → List ℕ × List ℕ × Bool

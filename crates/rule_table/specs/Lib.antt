@@ -1,3 +1,4 @@
+pub mod TargetForm
 pub mod Control
 pub mod RuleSet
 pub mod Target

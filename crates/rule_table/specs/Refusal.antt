@@ -1,7 +1,7 @@
 -- Why a target or a change is refused: its first fault, in the order in which the call reports them.
 use Rattle.std.specs.Prelude.{◌≡◌, ◌<◌, ◌≤◌, ◌⊎◌, ℕ, true, false, List, [], ◌∷◌, length, Option, Some, None}
 use Rattle.std.specs.Str.{bytes_eq}
-use Rattle.event_shape.specs.Names.{default_bus, IsShortName, IsQueueArn}
+use Rattle.event_shape.specs.Names.{default_bus, IsQueueArn}
 use Rattle.pattern_meaning.specs.Pattern.{Pattern}
 use Rattle.pattern_read.specs.Text.{IsPatternText}
 use Rattle.api_replies.specs.declared.kind.Kind.TheVariants as kind
@@ -12,24 +12,32 @@ use Rattle.rule_table.specs.declared.control.TargetFault.{TargetFault}
 use Rattle.rule_table.specs.declared.control.TargetFault.TheVariants as target_fault
 use Rattle.rule_table.specs.declared.control.ControlFault.{ControlFault}
 use Rattle.rule_table.specs.declared.control.ControlFault.TheVariants.{ResourceNotFound, AlreadyExists, LimitExceeded, Validation, InUse, HasTargets, DefaultBus, PolicyTooLong}
-use Rattle.rule_table.specs.Control.{Control, bus_created, bus_deleted, rule_put, rule_deleted, state_put, targets_put, targets_removed, policy_put, queue_created}
-use Rattle.rule_table.specs.RuleSet.{Rule, RuleSet, put_target, has_bus, has_queue, rule_at, rules_of, IsQueueThere, AreRemovable, IsNoneOrStored}
+use Rattle.rule_table.specs.Control.{Control, bus_created, bus_deleted, rule_put, rule_deleted, state_put, targets_put, targets_removed, policy_put}
+use Rattle.rule_table.specs.Control.{queue_created, queue_deleted}
+use Rattle.rule_table.specs.TargetForm.{IsWellFormedTarget, HasMemberFault}
+use Rattle.rule_table.specs.RuleSet.{Rule, RuleSet, put_target, has_bus, has_queue, is_queue_used, rule_at, rules_of, IsArnThere, IsDeadLetterThere}
+use Rattle.rule_table.specs.RuleSet.{AreRemovable, IsNoneOrStored}
+
+-- the text is the ARN of a queue that does not exist
+abbrev pub IsQueueMissing : RuleSet → List ℕ → Type 0
+IsQueueMissing set arn = (queue : List ℕ) × IsQueueArn arn queue × (has_queue queue set ≡ false)
+
+-- the same of the ARN of a dead-letter queue, if one is given
+abbrev pub IsDeadLetterMissing : RuleSet → Option (List ℕ) → Type 0
+IsDeadLetterMissing set None = ⊥
+IsDeadLetterMissing set (Some arn) = IsQueueMissing set arn
 
 -- the first fault of a target that is put to a rule which has these targets
 pub data HasTargetFault (set : RuleSet) (targets : List Target) (target : Target) : TargetFault → Type 0 where
-  -- its id is outside the syntax
-  bad_id : ¬ IsShortName target.id → HasTargetFault set targets target (target_fault.Member member.Id)
-  -- its ARN is no queue's
-  bad_arn : IsShortName target.id → ((queue : List ℕ) → ¬ IsQueueArn target.arn queue)
-      → HasTargetFault set targets target (target_fault.Member member.Arn)
-  -- it has a member that is not supported yet
-  unsupported : (first : Member) → IsShortName target.id → (queue : List ℕ) → IsQueueArn target.arn queue → target.unbuilt ≡ Some first
-      → HasTargetFault set targets target (target_fault.Member first)
+  -- a member is outside its syntax or its limits, or not supported yet
+  bad_member : (first : Member) → HasMemberFault target first → HasTargetFault set targets target (target_fault.Member first)
   -- its queue does not exist
-  no_queue : IsShortName target.id → (queue : List ℕ) → IsQueueArn target.arn queue → target.unbuilt ≡ None → has_queue queue set ≡ false
-      → HasTargetFault set targets target target_fault.NoQueue
+  no_queue : IsWellFormedTarget target → IsQueueMissing set target.arn → HasTargetFault set targets target target_fault.NoQueue
+  -- its dead-letter queue does not exist
+  no_dead_letter_queue : IsWellFormedTarget target → IsArnThere set target.arn → IsDeadLetterMissing set target.dead_letter
+      → HasTargetFault set targets target target_fault.NoDeadLetterQueue
   -- with it the rule would have more than five
-  sixth : IsShortName target.id → IsQueueThere set target.arn → target.unbuilt ≡ None → 5 < length (put_target target targets)
+  sixth : IsWellFormedTarget target → IsArnThere set target.arn → IsDeadLetterThere set target.dead_letter → 5 < length (put_target target targets)
       → HasTargetFault set targets target target_fault.Sixth
 
 -- one of the new targets has a fault once those before it are put to the rule's targets
@@ -61,6 +69,11 @@ pub data AreTargetsRefused (bus rule : List ℕ) (targets : List Target) (set : 
 pub data IsQueueRefused (name : List ℕ) (set : RuleSet) : ControlFault → Type 0 where
   queue_exists : has_queue name set ≡ true → IsQueueRefused name set (AlreadyExists kind.Queue)
   queue_limit : has_queue name set ≡ false → 1000 ≤ length set.queues → IsQueueRefused name set (LimitExceeded kind.Queue)
+
+-- the first refusal of the change that deletes a queue
+pub data IsQueueDeletionRefused (name : List ℕ) (set : RuleSet) : ControlFault → Type 0 where
+  no_queue_to_delete : has_queue name set ≡ false → IsQueueDeletionRefused name set (ResourceNotFound kind.Queue)
+  queue_in_use : has_queue name set ≡ true → is_queue_used name set ≡ true → IsQueueDeletionRefused name set (InUse kind.Queue)
 
 -- the first refusal of the change that creates a bus
 pub data IsBusRefused (name : List ℕ) (set : RuleSet) : ControlFault → Type 0 where
@@ -107,3 +120,4 @@ IsRefused (policy_put bus policy) set fault = IsPolicyRefused bus policy set fau
 IsRefused (rule_put bus name pattern enabled) set fault = IsRuleRefused bus name pattern set fault
 IsRefused (targets_put bus rule targets) set fault = AreTargetsRefused bus rule targets set fault
 IsRefused (queue_created name) set fault = IsQueueRefused name set fault
+IsRefused (queue_deleted name) set fault = IsQueueDeletionRefused name set fault

@@ -1,8 +1,11 @@
 -- The rule set: buses with their rules, queues, and the number of changes that made it; what a change does, and which
 -- changes are allowed. The data model is the public API's; the limits are this project's own, but for that on targets.
-use Rattle.std.specs.Prelude.{◌≡◌, ℕ, ◌+◌, ◌<◌, ◌≤◌, ◌⊎◌, Bool, true, false, if◌then◌else◌, List, [], ◌∷◌, length, map, take, Option, Some, None, All, is_some}
+use Rattle.std.specs.Prelude.{◌≡◌, ℕ, ◌+◌, ◌<◌, ◌≤◌, ◌⊎◌, Bool, true, false, ◌||◌, if◌then◌else◌, List, [], ◌∷◌, length, map, take}
+use Rattle.std.specs.Prelude.{Option, Some, None, All, is_some}
+use Rattle.std.specs.List.{list_any}
 use Rattle.std.specs.Str.{bytes_eq}
-use Rattle.event_shape.specs.Names.{default_bus, IsShortName, IsQueueArn, rule_arn}
+use Rattle.event_shape.specs.Names.{default_bus, IsShortName, IsQueueArn, rule_arn, queue_arn}
+use Rattle.http_target.specs.Endpoint.{is_endpoint}
 use Rattle.name_rows.specs.Rows.{AreSorted, named, placed, replacing, without}
 use Rattle.pattern_meaning.specs.Pattern.{Pattern}
 use Rattle.pattern_read.specs.Text.{IsPatternText}
@@ -10,7 +13,9 @@ use Rattle.json_text.specs.Tree.{Tree}
 use Rattle.json_text.specs.Compact.{compact_text}
 use Rattle.bus_policy.specs.Text.{IsPolicyText}
 use Rattle.rule_table.specs.declared.control.Target.{Target}
-use Rattle.rule_table.specs.Control.{Control, bus_created, bus_deleted, rule_put, rule_deleted, state_put, targets_put, targets_removed, policy_put, queue_created}
+use Rattle.rule_table.specs.TargetForm.{is_retry_valid}
+use Rattle.rule_table.specs.Control.{Control, bus_created, bus_deleted, rule_put, rule_deleted, state_put, targets_put, targets_removed, policy_put}
+use Rattle.rule_table.specs.Control.{queue_created, queue_deleted}
 
 -- a rule: its ARN, its name, its pattern's text, whether it is enabled, and its targets in the byte order of their ids
 pub record Rule : Type 0 where
@@ -82,6 +87,10 @@ without_rule = without (λ rule. rule.name)
 abbrev pub put_queue : List ℕ → List (List ℕ) → List (List ℕ)
 put_queue = placed (λ name. name) replacing
 
+-- the queues without the one of this name
+abbrev pub without_queue : List ℕ → List (List ℕ) → List (List ℕ)
+without_queue = without (λ name. name)
+
 -- the rules of the bus; none if there is no bus
 abbrev pub rules_in : Option Bus → List Rule
 rules_in None = []
@@ -107,6 +116,27 @@ has_bus bus set = is_some (named (λ b. b.name) bus set.buses)
 -- there is a queue of this name
 abbrev pub has_queue : List ℕ → RuleSet → Bool
 has_queue name set = is_some (named (λ queue. queue) name set.queues)
+
+-- the ARN of a dead-letter queue, if one is given, is that of the queue of this name
+abbrev pub is_dead_letter_of : List ℕ → Option (List ℕ) → Bool
+is_dead_letter_of queue None = false
+is_dead_letter_of queue (Some arn) = bytes_eq arn (queue_arn queue)
+
+-- the target names the queue, as its own or as its dead-letter queue
+abbrev pub is_used_by_target : List ℕ → Target → Bool
+is_used_by_target queue target = bytes_eq target.arn (queue_arn queue) || is_dead_letter_of queue target.dead_letter
+
+-- a target of the rule names the queue
+abbrev pub is_used_by_rule : List ℕ → Rule → Bool
+is_used_by_rule queue rule = list_any (is_used_by_target queue) rule.targets
+
+-- a target of a rule of the bus names the queue
+abbrev pub is_used_by_bus : List ℕ → Bus → Bool
+is_used_by_bus queue bus = list_any (is_used_by_rule queue) bus.rules
+
+-- a target of a rule of some bus names the queue
+abbrev pub is_queue_used : List ℕ → RuleSet → Bool
+is_queue_used queue set = list_any (is_used_by_bus queue) set.buses
 
 -- the bus with a change of its rule of this name
 abbrev pub with_rule_changed : List ℕ → (Rule → Rule) → Bus → Bus
@@ -142,6 +172,7 @@ applied (targets_put bus rule targets) set = record set {
   count = set.count + 1;
 }
 applied (queue_created name) set = record set { queues = put_queue name set.queues; count = set.count + 1 }
+applied (queue_deleted name) set = record set { queues = without_queue name set.queues; count = set.count + 1 }
 
 -- the rule set after these changes, oldest first
 abbrev pub applied_all : List Control → RuleSet → RuleSet
@@ -156,12 +187,28 @@ rule_set_at k controls = applied_all (take k controls) first_set
 abbrev pub IsQueueThere : RuleSet → List ℕ → Type 0
 IsQueueThere set arn = (queue : List ℕ) × IsQueueArn arn queue × (has_queue queue set ≡ true)
 
--- A target is accepted if it is put to a rule that has these targets: its id has the syntax, its queue exists, it has no member
--- that is not supported yet, and the rule has at most five targets afterwards.
+-- the text is the ARN of a queue of the rule set, or an endpoint that is no queue's ARN
+abbrev pub IsArnThere : RuleSet → List ℕ → Type 0
+IsArnThere set arn = IsQueueThere set arn ⊎ (((queue : List ℕ) → ¬ IsQueueArn arn queue) × (is_endpoint arn ≡ true))
+
+-- there is no dead-letter queue, or it is a queue of the rule set
+abbrev pub IsDeadLetterThere : RuleSet → Option (List ℕ) → Type 0
+IsDeadLetterThere set None = Unit {0}
+IsDeadLetterThere set (Some arn) = IsQueueThere set arn
+
+-- The target may be stored: its queue exists or it has an endpoint, it has no member that is not supported yet, its retry policy is valid, and
+-- its dead-letter queue exists.
+pub record IsSoundTarget (set : RuleSet) (target : Target) : Type 0 where
+  pub arn : IsArnThere set target.arn
+  pub supported : target.unbuilt ≡ None
+  pub retry : is_retry_valid target.retry ≡ true
+  pub dead_letter : IsDeadLetterThere set target.dead_letter
+
+-- A target is accepted if it is put to a rule that has these targets: its id has the syntax, it may be stored, and the rule has at most five
+-- targets afterwards.
 pub record IsGoodTarget (set : RuleSet) (targets : List Target) (target : Target) : Type 0 where
   pub id : IsShortName target.id
-  pub queue : IsQueueThere set target.arn
-  pub supported : target.unbuilt ≡ None
+  pub sound : IsSoundTarget set target
   pub few : length (put_target target targets) ≤ 5
 
 -- each of the new targets is accepted once those before it are put to the rule's targets
@@ -193,7 +240,8 @@ AreRemovable (id ∷ ids) targets =
 -- `default`, and has no rule. A rule that is deleted: it exists and has no target. A state: its rule exists. Targets that are removed: their
 -- rule exists, there is at least one, and each is there, once. A policy: its text is as it is stored, and its bus exists. A rule: its text is
 -- a pattern, its bus exists, and the bus has the rule already or has fewer than 300. Targets: their rule exists, there is at least one, and
--- each is accepted after those before it. A queue: no queue has its name, and there are fewer than 1,000.
+-- each is accepted after those before it. A queue that is created: no queue has its name, and there are fewer than 1,000. One that is
+-- deleted: it exists, and no target names it.
 abbrev pub IsAllowed : Control → RuleSet → Type 0
 IsAllowed (bus_created name) set = (has_bus name set ≡ false) × (length set.buses < 100)
 IsAllowed (bus_deleted name) set = (bytes_eq name default_bus ≡ false) × (has_bus name set ≡ true) × (rules_of name set ≡ [])
@@ -207,10 +255,11 @@ IsAllowed (rule_put bus name pattern enabled) set =
 IsAllowed (targets_put bus rule targets) set =
     ForRule (rule_at bus rule set) (λ r. (1 ≤ length targets) × AreGoodTargets set targets r.targets)
 IsAllowed (queue_created name) set = (has_queue name set ≡ false) × (length set.queues < 1000)
+IsAllowed (queue_deleted name) set = (has_queue name set ≡ true) × (is_queue_used name set ≡ false)
 
--- the rule has at most five targets; the queue of each exists, and none has a member that is not supported yet
+-- the rule has at most five targets, each of which may be stored
 abbrev pub HasSoundTargets : RuleSet → Rule → Type 0
-HasSoundTargets set rule = (length rule.targets ≤ 5) × All (λ target. IsQueueThere set target.arn × (target.unbuilt ≡ None)) rule.targets
+HasSoundTargets set rule = (length rule.targets ≤ 5) × All (IsSoundTarget set) rule.targets
 
 -- the rule's ARN names the rule and this bus
 abbrev pub HasItsArn : List ℕ → Rule → Type 0

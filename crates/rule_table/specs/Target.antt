@@ -1,30 +1,61 @@
--- What matching and delivery need of the targets of rules: a row for each target.
-use Rattle.std.specs.Prelude.{◌≡◌, List, [], map, Option, Some, None}
+-- What a rule stores of its targets, and what matching and delivery need of them: a row for each target.
+use Rattle.std.specs.Prelude.{◌≡◌, ℕ, Bool, if◌then◌else◌, List, [], map, Option, Some, None, is_some, unwrap_or}
 use Rattle.shared_text.specs.declared.row.TargetRow.{TargetRow}
 use Rattle.rule_table.specs.declared.control.Target.{Target}
+use Rattle.rule_table.specs.declared.control.RetryPolicy.{RetryPolicy}
 use Rattle.rule_table.specs.RuleSet.{Rule}
 
--- what matching and delivery need of a target of the rule: by default at most 185 retries, within 86,400 seconds
+-- a target as a rule stores it: its row, and whether it was put with a retry policy
+pub record StoredTarget : Type 0 where
+  pub row : TargetRow
+  pub has_retry_policy : Bool
+
+-- the maximum number of retry attempts, by default 185
+abbrev pub attempts_of : Option RetryPolicy → ℕ
+attempts_of None = 185
+attempts_of (Some policy) = unwrap_or policy.attempts 185
+
+-- the maximum age of an event, by default 86,400 seconds
+abbrev pub age_of : Option RetryPolicy → ℕ
+age_of None = 86400
+age_of (Some policy) = unwrap_or policy.age 86400
+
+-- what matching and delivery need of a target of the rule
 abbrev pub row_of : Rule → Target → TargetRow
 row_of rule target = record {
   rule_arn = rule.arn;
   rule_name = rule.name;
   target_id = target.id;
   endpoint = target.arn;
-  dead_letter = None;
-  attempts = 185;
-  age = 86400;
+  dead_letter = target.dead_letter;
+  attempts = attempts_of target.retry;
+  age = age_of target.retry;
 }
 
--- the target that has this row, as a request puts it
-abbrev pub target_of : TargetRow → Target
-target_of row = record { id = row.target_id; arn = row.endpoint; unbuilt = None }
+-- the target, as the rule stores it
+abbrev pub stored_of : Rule → Target → StoredTarget
+stored_of rule target = record { row = row_of rule target; has_retry_policy = is_some target.retry }
 
--- the row is that of a target of the rule
-abbrev pub IsRowOf : Rule → TargetRow → Type 0
-IsRowOf rule row = row ≡ row_of rule (target_of row)
+-- the retry policy that it was put with, if any
+abbrev pub retry_of : StoredTarget → Option RetryPolicy
+retry_of stored =
+    if stored.has_retry_policy then Some (record { attempts = Some stored.row.attempts; age = Some stored.row.age }) else None
 
--- the rows of the rule's targets; none if there is no rule
-abbrev pub target_rows : Option Rule → List TargetRow
-target_rows None = []
-target_rows (Some rule) = map (row_of rule) rule.targets
+-- the target that is stored so, as a request puts it
+abbrev pub target_of : StoredTarget → Target
+target_of stored = record {
+  id = stored.row.target_id;
+  arn = stored.row.endpoint;
+  unbuilt = None;
+  retry = retry_of stored;
+  dead_letter = stored.row.dead_letter;
+}
+
+-- the rule stores its target so
+abbrev pub IsStoredOf : Rule → StoredTarget → Type 0
+IsStoredOf rule stored = stored ≡ stored_of rule (target_of stored)
+
+-- the rule's targets, as it stores them; none if there is no rule
+abbrev pub stored_in : Option Rule → List StoredTarget
+stored_in None = []
+stored_in (Some rule) = map (stored_of rule) rule.targets

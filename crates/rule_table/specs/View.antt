@@ -1,8 +1,9 @@
 -- The view of a configuration change in contracts.
-use Rattle.rule_table.specs.Control.{Control, bus_created, bus_deleted, rule_put, rule_deleted, state_put, targets_put, targets_removed, policy_put, queue_created}
+use Rattle.rule_table.specs.Control.{Control, bus_created, bus_deleted, rule_put, rule_deleted, state_put, targets_put, targets_removed, policy_put}
+use Rattle.rule_table.specs.Control.{queue_created, queue_deleted}
 use Rattle.rule_table.specs.declared.control.Control.{Control as CodeControl}
 use Rattle.rule_table.specs.declared.control.Control.TheVariants.{BusCreated, BusDeleted, RulePut, RuleDeleted, StatePut, TargetsPut}
-use Rattle.rule_table.specs.declared.control.Control.TheVariants.{TargetsRemoved, PolicyPut, QueueCreated}
+use Rattle.rule_table.specs.declared.control.Control.TheVariants.{TargetsRemoved, PolicyPut, QueueCreated, QueueDeleted}
 
 -- the change, with its targets and ids as lists
 abbrev pub control_of : CodeControl → Control
@@ -15,3 +16,4 @@ control_of (TargetsRemoved bus rule ids) = targets_removed bus rule ids.items
 control_of (TargetsPut bus rule targets) = targets_put bus rule targets.items
 control_of (PolicyPut bus policy) = policy_put bus policy
 control_of (QueueCreated name) = queue_created name
+control_of (QueueDeleted name) = queue_deleted name

@@ -1,11 +1,13 @@
 -- What a change has to be whatever the rule set is: the syntax of its names, its pattern, its policy and its targets. The syntax and the
 -- numbers are the public API Reference's.
-use Rattle.std.specs.Prelude.{◌≡◌, ◌≤◌, ℕ, List, length, None, All}
-use Rattle.event_shape.specs.Names.{IsBusName, IsShortName, IsQueueName, IsQueueArn}
+use Rattle.std.specs.Prelude.{◌≤◌, ℕ, List, length, All}
+use Rattle.event_shape.specs.Names.{IsBusName, IsShortName, IsQueueName}
 use Rattle.pattern_meaning.specs.Pattern.{Pattern}
 use Rattle.pattern_read.specs.Text.{IsPatternText}
 use Rattle.rule_table.specs.declared.control.Target.{Target}
-use Rattle.rule_table.specs.Control.{Control, bus_created, bus_deleted, rule_put, rule_deleted, state_put, targets_put, targets_removed, policy_put, queue_created}
+use Rattle.rule_table.specs.TargetForm.{IsWellFormedTarget}
+use Rattle.rule_table.specs.Control.{Control, bus_created, bus_deleted, rule_put, rule_deleted, state_put, targets_put, targets_removed, policy_put}
+use Rattle.rule_table.specs.Control.{queue_created, queue_deleted}
 use Rattle.rule_table.specs.RuleSet.{IsNoneOrStored}
 
 -- the names of a bus and of a rule
@@ -15,12 +17,6 @@ NamesRule bus name = IsBusName bus × IsShortName name
 -- a pattern's text
 abbrev pub IsSomePattern : List ℕ → Type 0
 IsSomePattern text = (p : Pattern) × IsPatternText text p
-
--- a target with the ARN of a queue, which may be missing, and without a member that is not supported yet
-pub record IsWellFormedTarget (target : Target) : Type 0 where
-  pub id : IsShortName target.id
-  pub arn : (queue : List ℕ) × IsQueueArn target.arn queue
-  pub supported : target.unbuilt ≡ None
 
 -- from 1 to 100 targets
 abbrev pub AreWellFormedTargets : List Target → Type 0
@@ -41,3 +37,4 @@ IsWellFormed (targets_put bus rule targets) = NamesRule bus rule × AreWellForme
 IsWellFormed (targets_removed bus rule ids) = NamesRule bus rule × AreWellFormedIds ids
 IsWellFormed (policy_put bus policy) = IsBusName bus × IsNoneOrStored policy
 IsWellFormed (queue_created name) = IsQueueName name
+IsWellFormed (queue_deleted name) = IsQueueName name

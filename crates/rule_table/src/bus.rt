@@ -106,6 +106,19 @@ impl Bus {
         self.rules.reach(1)
     }
 
+    /// Whether a target of a rule names the queue, as its own or as its dead-letter queue.
+    pub(crate) fn uses_queue(&self, queue: &str) -> bool
+        ensures { result ≡ spec.is_used_by_bus queue.now self.now }
+    {
+        let mut rules = self.rules();
+        while let Some(rule) = rules.next() {
+            if rule.uses_queue(queue) {
+                return true;
+            }
+        }
+        false
+    }
+
     /// The bus without the rule of this name.
     pub(crate) fn without(&self, alloc: Global, name: &str) -> Result<Bus, NoMemory>
         ensures { IfOk result (λ bus. bus ≡ record self.now { rules = spec.without_rule name.now self.now.rules }) }

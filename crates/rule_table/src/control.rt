@@ -7,14 +7,26 @@ use name_rows::Row;
 use std::alloc::{AllocError, AllocFailed, Global};
 use thiserror::Error;
 
-/// A target as a request puts it: its id, which is unique in the rule, and the ARN of its queue. `unbuilt` is the first member that it has of
-/// those that are not supported yet: Input, InputPath, InputTransformer, RetryPolicy, DeadLetterConfig. A target that a
-/// rule stores has none.
+/// A retry policy as a request puts it. A number is `None` if its spelling is no whole number that fits.
+#[derive(Clone, Copy, Debug, PartialEq, Eq)]
+pub struct RetryPolicy {
+    /// The maximum number of retry attempts.
+    pub attempts: Option<u16>,
+    /// The maximum age of an event, in seconds.
+    pub age: Option<u32>,
+}
+
+/// A target as a request puts it: its id, which is unique in the rule, and the ARN of its queue or the URL of its HTTP endpoint.
 #[derive(Debug, Drop)]
 pub struct Target {
     pub id: Text,
     pub arn: Text,
+    /// The first member that it has of those that are not supported yet: Input, InputPath, InputTransformer. A target that a
+    /// rule stores has none.
     pub unbuilt: Option<Member>,
+    pub retry: Option<RetryPolicy>,
+    /// The ARN of the dead-letter queue.
+    pub dead_letter: Option<Text>,
 }
 
 impl Row for Target {
@@ -34,7 +46,19 @@ impl Target {
             id: self.id.copy(alloc)?,
             arn: self.arn.copy(alloc)?,
             unbuilt: self.unbuilt,
+            retry: self.retry,
+            dead_letter: copy_optional(alloc, &self.dead_letter)?,
         })
+    }
+}
+
+/// A copy of the text, if there is one.
+pub(crate) fn copy_optional(alloc: Global, text: &Option<Text>) -> Result<Option<Text>, NoMemory>
+    ensures { IfOk result (λ copy. copy ≡ text.now) }
+{
+    match text {
+        Some(text) => Ok(Some(text.copy(alloc)?)),
+        None => Ok(None),
     }
 }
 
@@ -88,15 +112,21 @@ pub enum Control {
     QueueCreated {
         name: Text,
     },
+    /// Deletes a queue, which no target names.
+    QueueDeleted {
+        name: Text,
+    },
 }
 
 /// Why a target is not put to a rule, in the order of the checks.
 #[derive(Clone, Copy, Debug, PartialEq, Eq)]
 pub enum TargetFault {
-    /// The member is outside its syntax, or not supported yet.
+    /// The member is outside its syntax or its limits, or not supported yet.
     Member(Member),
     /// The queue of its ARN does not exist.
     NoQueue,
+    /// Its dead-letter queue does not exist.
+    NoDeadLetterQueue,
     /// The rule would have more than five targets.
     Sixth,
 }

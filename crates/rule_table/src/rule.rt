@@ -2,12 +2,12 @@
 ghost use Rattle.std.specs.Prelude.{◌≡◌, map, All, IfOk, MatchOption};
 ghost use Rattle.pattern_meaning.specs.Pattern.{Pattern as Meaning};
 ghost use Rattle.pattern_read.specs.Text.{IsPatternText};
-ghost use Rattle.rule_table.specs.RuleSet.{new_rule};
-ghost use Rattle.rule_table.specs.Target.{row_of, target_of, IsRowOf};
+ghost use Rattle.rule_table.specs.RuleSet.{new_rule, is_used_by_rule};
+ghost use Rattle.rule_table.specs.Target.{stored_of, target_of, IsStoredOf};
 
 use crate::control::Target;
 use crate::rule_target::RuleTarget;
-use crate::targets::pointers;
+use crate::targets::{any_uses, pointers};
 use event_shape::rule_arn;
 use json_text::{NoMemory, Text};
 use name_rows::Row;
@@ -43,7 +43,7 @@ impl Model for Rule {
     ghost use Rattle.std.specs.Prelude.{map, All};
     ghost use Rattle.std.specs.Arc.{arc_value};
     ghost use Rattle.rule_table.specs.RuleSet.{Rule as View};
-    ghost use Rattle.rule_table.specs.Target.{target_of, IsRowOf};
+    ghost use Rattle.rule_table.specs.Target.{target_of, IsStoredOf};
 
     ghost Value = { View };
 
@@ -55,7 +55,7 @@ impl Model for Rule {
       targets = map target_of r.targets.items;
     } };
 
-    ghost invariant = { λ r. All (IsRowOf (record {
+    ghost invariant = { λ r. All (IsStoredOf (record {
       arn = r.arn;
       name = r.name;
       pattern = arc_value r.pattern;
@@ -113,9 +113,16 @@ impl Rule {
     /// The targets in the byte order of their ids. Rule sets share them.
     pub fn targets(&self) -> &[RuleTarget]
         ensures targets { map target_of result.now ≡ self.now.targets }
-        ensures rows { result.now ≡ map (row_of self.now) self.now.targets }
+        ensures rows { result.now ≡ map (stored_of self.now) self.now.targets }
     {
         self.targets.as_slice()
+    }
+
+    /// Whether a target of the rule names the queue, as its own or as its dead-letter queue.
+    pub(crate) fn uses_queue(&self, queue: &str) -> bool
+        ensures { result ≡ is_used_by_rule queue.now self.now }
+    {
+        any_uses(self.targets(), queue)
     }
 
     pub fn pattern(&self) -> &PatternText
@@ -126,7 +133,7 @@ impl Rule {
 
     /// The target, as this rule stores it.
     pub(crate) fn stored(&self, alloc: Global, target: &Target) -> Result<RuleTarget, NoMemory>
-        ensures { IfOk result (λ row. row ≡ row_of self.now target.now) }
+        ensures { IfOk result (λ stored. stored ≡ stored_of self.now target.now) }
     {
         RuleTarget::new(alloc, &self.arn, &self.name, target)
     }
@@ -155,7 +162,7 @@ impl Rule {
         alloc: Global,
         targets: Vec<RuleTarget>,
     ) -> Result<Rule, NoMemory>
-        requires { All (IsRowOf self.now) targets.items }
+        requires { All (IsStoredOf self.now) targets.items }
         ensures { IfOk result (λ rule. rule ≡ record self.now { targets = map target_of targets.items }) }
     {
         Ok(Rule {

@@ -1,14 +1,16 @@
 //! Rule sets, and the rule set after a change.
-ghost use Rattle.std.specs.Prelude.{◌≡◌, ◌⊎◌, ◌+◌, ◌^◌, ◌<◌, ◌≤◌, ℕ, List, Option, [], None, false, Some, All, map, IfOk, IfErr, MatchOption, length};
+ghost use Rattle.std.specs.Prelude.{◌≡◌, ◌↔◌, ◌⊎◌, ◌+◌, ◌^◌, ◌<◌, ◌≤◌, ℕ, List, Option, [], None, false, Some, All, map, IfOk, IfErr, IsTrue, MatchOption, length};
 ghost use Rattle.std.specs.Str.{bytes_eq};
-ghost use Rattle.event_shape.specs.Names.{default_bus, IsShortName};
+ghost use Rattle.event_shape.specs.Names.{default_bus};
 ghost use Rattle.name_rows.specs.Rows.{named, placed, replacing};
 ghost use Rattle.rule_table.specs.Control.{bus_created, bus_deleted, rule_put, rule_deleted, state_put, targets_put, targets_removed, policy_put};
-ghost use Rattle.rule_table.specs.Control.{queue_created};
+ghost use Rattle.rule_table.specs.Control.{queue_created, queue_deleted};
+ghost use Rattle.rule_table.specs.TargetForm.{IsWellFormedTarget};
 ghost use Rattle.rule_table.specs.RuleSet as spec;
-ghost use Rattle.rule_table.specs.Refusal.{HasTargetFault, HasFaultyTarget, IsBusRefused, IsBusDeletionRefused, IsRuleRefused, HasNoRule};
-ghost use Rattle.rule_table.specs.Refusal.{IsRuleDeletionRefused, AreTargetsRefused, AreRemovalsRefused, IsTooLong, IsPolicyRefused, IsQueueRefused, IsRefused};
-ghost use Rattle.rule_table.specs.Target.{target_of, target_rows, IsRowOf};
+ghost use Rattle.rule_table.specs.Refusal.{IsQueueMissing, IsDeadLetterMissing, HasTargetFault, HasFaultyTarget, IsBusRefused, IsBusDeletionRefused, IsRuleRefused, HasNoRule};
+ghost use Rattle.rule_table.specs.Refusal.{IsRuleDeletionRefused, AreTargetsRefused, AreRemovalsRefused, IsTooLong, IsPolicyRefused, IsQueueRefused};
+ghost use Rattle.rule_table.specs.Refusal.{IsQueueDeletionRefused, IsRefused};
+ghost use Rattle.rule_table.specs.Target.{target_of, stored_in, IsStoredOf};
 ghost use Rattle.rule_table.specs.View.{control_of};
 ghost use Rattle.rule_table.specs.declared.control.Target.{Target as RequestTarget};
 
@@ -17,9 +19,10 @@ use crate::control::{Control, ControlFault, Target, TargetFault};
 use crate::policy::{is_too_long, read_policy};
 use crate::rule::{Rule, read_rule_pattern};
 use crate::rule_target::RuleTarget;
+use crate::target_form::member_fault;
 use crate::targets::{after_removal, is_sixth, pointers, put_in_order};
 use api_replies::{Kind, Member};
-use event_shape::{DEFAULT_BUS, is_target_id, queue_of};
+use event_shape::{DEFAULT_BUS, queue_of};
 use json_text::{NoMemory, Text};
 use name_rows::{Rows, RowsFrom};
 use std::alloc::Global;
@@ -103,6 +106,7 @@ impl RuleSet {
             }
             Control::PolicyPut { bus, policy } => self.put_policy(alloc, bus, policy),
             Control::QueueCreated { name } => self.create_queue(alloc, name),
+            Control::QueueDeleted { name } => self.delete_queue(alloc, name),
         }
     }
 
@@ -137,7 +141,7 @@ impl RuleSet {
     /// The targets of the rule, in the byte order of their ids; none if there is no such rule. Rule sets share them.
     pub fn targets(&self, bus: &str, rule: &str) -> &[RuleTarget]
         ensures targets { map target_of result.now ≡ spec.targets_in (spec.rule_at bus.now rule.now self.now) }
-        ensures rows { result.now ≡ target_rows (spec.rule_at bus.now rule.now self.now) }
+        ensures rows { result.now ≡ stored_in (spec.rule_at bus.now rule.now self.now) }
     {
         match self.rule(bus, rule) {
             Some(rule) => rule.targets(),
@@ -146,54 +150,81 @@ impl RuleSet {
     }
 
     /// The first fault of the target if it is put to a rule that has these targets. `apply` decides on targets by the same checks.
-    pub fn target_fault(&self, targets: &[Target], target: &Target) -> Option<TargetFault>
-        ensures { MatchOption result
+    pub fn target_fault(
+        &self,
+        alloc: Global,
+        targets: &[Target],
+        target: &Target,
+    ) -> Result<Option<TargetFault>, NoMemory>
+        ensures { IfOk result (λ found. MatchOption found
             (spec.IsGoodTarget self.now targets.now target.now)
-            (λ fault. HasTargetFault self.now targets.now target.now fault) }
+            (λ fault. HasTargetFault self.now targets.now target.now fault)) }
     {
-        if let Some(fault) = self.own_fault(target) {
-            return Some(fault);
+        if let Some(fault) = self.own_fault(alloc, target)? {
+            return Ok(Some(fault));
         }
         if is_sixth(targets, target.id.as_str()) {
-            return Some(TargetFault::Sixth);
+            return Ok(Some(TargetFault::Sixth));
         }
-        None
+        Ok(None)
     }
 
     /// The same, of the targets that a rule stores.
-    fn stored_fault(&self, targets: &[RuleTarget], target: &Target) -> Option<TargetFault>
-        ensures { MatchOption result
+    fn stored_fault(
+        &self,
+        alloc: Global,
+        targets: &[RuleTarget],
+        target: &Target,
+    ) -> Result<Option<TargetFault>, NoMemory>
+        ensures { IfOk result (λ found. MatchOption found
             (spec.IsGoodTarget self.now (map target_of targets.now) target.now)
-            (λ fault. HasTargetFault self.now (map target_of targets.now) target.now fault) }
+            (λ fault. HasTargetFault self.now (map target_of targets.now) target.now fault)) }
     {
-        if let Some(fault) = self.own_fault(target) {
-            return Some(fault);
+        if let Some(fault) = self.own_fault(alloc, target)? {
+            return Ok(Some(fault));
         }
         if is_sixth(targets, target.id.as_str()) {
-            return Some(TargetFault::Sixth);
+            return Ok(Some(TargetFault::Sixth));
         }
-        None
+        Ok(None)
     }
 
     /// The first fault of the target, whatever targets the rule has.
-    fn own_fault(&self, target: &Target) -> Option<TargetFault>
-        ensures { MatchOption result
-            (IsShortName target.now.id × spec.IsQueueThere self.now target.now.arn × (target.now.unbuilt ≡ None))
-            (λ fault. (targets : List RequestTarget) → HasTargetFault self.now targets target.now fault) }
+    fn own_fault(&self, alloc: Global, target: &Target) -> Result<Option<TargetFault>, NoMemory>
+        ensures { IfOk result (λ found. MatchOption found
+            (IsWellFormedTarget target.now × spec.IsSoundTarget self.now target.now)
+            (λ fault. (targets : List RequestTarget) → HasTargetFault self.now targets target.now fault)) }
     {
-        if !is_target_id(target.id.as_str()) {
-            return Some(TargetFault::Member(Member::Id));
+        if let Some(member) = member_fault(alloc, target)? {
+            return Ok(Some(TargetFault::Member(member)));
         }
-        let Some(queue) = queue_of(target.arn.as_str()) else {
-            return Some(TargetFault::Member(Member::Arn));
-        };
-        if let Some(member) = target.unbuilt {
-            return Some(TargetFault::Member(member));
+        if self.is_queue_missing(target.arn.as_str()) {
+            return Ok(Some(TargetFault::NoQueue));
         }
-        if !self.queue(queue) {
-            return Some(TargetFault::NoQueue);
+        if self.is_dead_letter_missing(&target.dead_letter) {
+            return Ok(Some(TargetFault::NoDeadLetterQueue));
         }
-        None
+        Ok(None)
+    }
+
+    /// Whether the text is the ARN of a queue that does not exist.
+    fn is_queue_missing(&self, arn: &str) -> bool
+        ensures { IsTrue result ↔ IsQueueMissing self.now arn.now }
+    {
+        match queue_of(arn) {
+            Some(queue) => !self.queue(queue),
+            None => false,
+        }
+    }
+
+    /// Whether the ARN of a dead-letter queue is given, and is that of a queue that does not exist.
+    fn is_dead_letter_missing(&self, arn: &Option<Text>) -> bool
+        ensures { IsTrue result ↔ IsDeadLetterMissing self.now arn.now }
+    {
+        match arn {
+            Some(arn) => self.is_queue_missing(arn.as_str()),
+            None => false,
+        }
     }
 
     /// Whether a queue has this name.
@@ -271,14 +302,14 @@ impl RuleSet {
         ensures { IfOk result (λ found. MatchOption found
             ((news.now ≡ []) ⊎ HasFaultyTarget self.now news.now rule.now.targets)
             (λ others. (1 ≤ length news.now) × spec.AreGoodTargets self.now news.now rule.now.targets
-            × (map target_of others.items ≡ spec.put_targets news.now rule.now.targets) × All (IsRowOf rule.now) others.items)) }
+            × (map target_of others.items ≡ spec.put_targets news.now rule.now.targets) × All (IsStoredOf rule.now) others.items)) }
     {
         if news.is_empty() {
             return Ok(None);
         }
         let mut others = pointers(alloc, rule.targets())?;
         for new in news {
-            if self.stored_fault(&others, new).is_some() {
+            if self.stored_fault(alloc, &others, new)?.is_some() {
                 return Ok(None);
             }
             put_in_order(&mut others, rule.stored(alloc, new)?)?;
@@ -435,6 +466,34 @@ impl RuleSet {
         Ok(self.with_queue(alloc, name.copy(alloc)?)?)
     }
 
+    fn delete_queue(&self, alloc: Global, name: &Text) -> Result<RuleSet, ControlFault>
+        requires { self.now.count < 2 ^ 63 }
+        ensures applied { IfOk result (λ set. spec.IsAllowed (queue_deleted name.now) self.now × (set ≡ spec.applied (queue_deleted name.now) self.now)) }
+        ensures refused { IfErr result (λ fault. (fault ≡ ControlFault.NoMemory) ⊎ IsQueueDeletionRefused name.now self.now fault) }
+    {
+        if !self.queue(name.as_str()) {
+            return Err(ControlFault::ResourceNotFound(Kind::Queue));
+        }
+        if self.uses_queue(name.as_str()) {
+            return Err(ControlFault::InUse(Kind::Queue));
+        }
+        Ok(self.without_queue(alloc, name)?)
+    }
+
+    /// Whether a target of some rule names the queue, as its own or as its dead-letter queue, in a rule set that is sound.
+    fn uses_queue(&self, queue: &str) -> bool
+        ensures used { result ≡ spec.is_queue_used queue.now self.now }
+        ensures sound { spec.IsSound self.now }
+    {
+        let mut buses = self.buses.iter();
+        while let Some(bus) = buses.next() {
+            if bus.uses_queue(queue) {
+                return true;
+            }
+        }
+        false
+    }
+
     /// The bus with this name, of a rule set that is sound.
     fn found(&self, name: &str) -> Option<&Bus>
         ensures found { MatchOption result
@@ -489,6 +548,19 @@ impl RuleSet {
         Ok(RuleSet {
             buses: self.buses.share()?,
             queues: self.queues.with(alloc, queue)?,
+            count: self.next_count(),
+        })
+    }
+
+    /// The set without the queue of this name.
+    fn without_queue(&self, alloc: Global, name: &Text) -> Result<RuleSet, NoMemory>
+        requires count { self.now.count < 2 ^ 63 }
+        requires sound { spec.IsSound (record self.now { queues = spec.without_queue name.now self.now.queues; count = self.now.count + 1 }) }
+        ensures { IfOk result (λ set. set ≡ record self.now { queues = spec.without_queue name.now self.now.queues; count = self.now.count + 1 }) }
+    {
+        Ok(RuleSet {
+            buses: self.buses.share()?,
+            queues: self.queues.without(alloc, name.as_str())?,
             count: self.next_count(),
         })
     }

@@ -1,36 +1,37 @@
 //! The stored targets of rules.
-ghost use Rattle.std.specs.Prelude.{◌≡◌, None, IfOk};
-ghost use Rattle.rule_table.specs.RuleSet.{Rule};
-ghost use Rattle.rule_table.specs.Target.{row_of, target_of};
+ghost use Rattle.std.specs.Prelude.{◌≡◌, IfOk};
+ghost use Rattle.std.specs.Option.{option_map};
+ghost use Rattle.rule_table.specs.RuleSet.{Rule, is_used_by_target};
+ghost use Rattle.rule_table.specs.Target as spec;
+ghost use Rattle.rule_table.specs.Target.{stored_of, retry_of, target_of};
 
-use crate::control::Target;
+use crate::control::{RetryPolicy, Target, copy_optional};
+use crate::target_form::{GREATEST_AGE, MOST_ATTEMPTS};
+use event_shape::is_queue_arn;
 use json_text::{NoMemory, Text};
 use name_rows::Row;
 use shared_text::{SharedRow, TargetRow};
 use std::alloc::Global;
 use std::marker::Model;
 
-/// The number of retry attempts, and the age of an event in seconds, that a target without a retry policy has.
-const MOST_ATTEMPTS: u16 = 185;
-
-const GREATEST_AGE: u32 = 86_400;
-
 /// A target of a stored rule. Rule sets share its row, as do matches and deliveries.
 #[derive(Debug, Drop)]
 pub struct RuleTarget {
     row: SharedRow,
+    /// Whether the target was put with a retry policy.
+    has_retry_policy: bool,
 }
 
 impl Model for RuleTarget {
-    ghost use Rattle.shared_text.specs.declared.row.TargetRow.{TargetRow};
+    ghost use Rattle.rule_table.specs.Target.{StoredTarget};
 
-    ghost Value = { TargetRow };
+    ghost Value = { StoredTarget };
 
-    ghost view = { λ t. t.row };
+    ghost view = { λ t. record { row = t.row; has_retry_policy = t.has_retry_policy } };
 }
 
 impl Row for RuleTarget {
-    ghost name_of = { λ row. row.target_id };
+    ghost name_of = { λ stored. stored.row.target_id };
 
     fn row_name(&self) -> &str {
         self.id()
@@ -45,47 +46,69 @@ impl RuleTarget {
         name: &Text,
         target: &Target,
     ) -> Result<RuleTarget, NoMemory>
-        ensures { (rule : Rule) → rule.arn ≡ arn.now → rule.name ≡ name.now → IfOk result (λ row. row ≡ row_of rule target.now) }
+        ensures { (rule : Rule) → rule.arn ≡ arn.now → rule.name ≡ name.now → IfOk result (λ stored. stored ≡ stored_of rule target.now) }
     {
         let row = TargetRow {
             rule_arn: arn.copy(alloc)?,
             rule_name: name.copy(alloc)?,
             target_id: target.id.copy(alloc)?,
             endpoint: target.arn.copy(alloc)?,
-            dead_letter: None,
-            attempts: MOST_ATTEMPTS,
-            age: GREATEST_AGE,
+            dead_letter: copy_optional(alloc, &target.dead_letter)?,
+            attempts: attempts_of(&target.retry),
+            age: age_of(&target.retry),
         };
         Ok(RuleTarget {
             row: SharedRow::new(alloc, row)?,
+            has_retry_policy: target.retry.is_some(),
         })
     }
 
     pub fn id(&self) -> &str
-        ensures { result.now ≡ self.now.target_id }
+        ensures { result.now ≡ self.now.row.target_id }
     {
         self.row.target_id()
     }
 
     pub fn arn(&self) -> &str
-        ensures { result.now ≡ self.now.endpoint }
+        ensures { result.now ≡ self.now.row.endpoint }
     {
         self.row.endpoint()
     }
 
+    /// The retry policy that the target was put with, if any. Both its numbers are given.
+    pub fn retry(&self) -> Option<RetryPolicy>
+        ensures { result ≡ retry_of self.now }
+    {
+        if !self.has_retry_policy {
+            return None;
+        }
+        Some(RetryPolicy {
+            attempts: Some(self.row.attempts()),
+            age: Some(self.row.age()),
+        })
+    }
+
+    /// The ARN of the dead-letter queue, if the target has one.
+    pub fn dead_letter(&self) -> Option<&str>
+        ensures { option_map (λ arn. arn.now) result ≡ self.now.row.dead_letter }
+    {
+        self.row.dead_letter()
+    }
+
     /// What matching and delivery need of the target. The row stays valid after the rule set is dropped.
     pub fn row(&self) -> &SharedRow
-        ensures { result.now ≡ self.now }
+        ensures { result.now ≡ self.now.row }
     {
         &self.row
     }
 
     /// Another pointer to the same target. Allocates nothing.
     pub(crate) fn share(&self) -> Result<RuleTarget, NoMemory>
-        ensures { IfOk result (λ row. row ≡ self.now) }
+        ensures { IfOk result (λ other. other ≡ self.now) }
     {
         Ok(RuleTarget {
             row: self.row.share()?,
+            has_retry_policy: self.has_retry_policy,
         })
     }
 
@@ -97,6 +120,50 @@ impl RuleTarget {
             id: Text::from_str(alloc, self.id())?,
             arn: Text::from_str(alloc, self.arn())?,
             unbuilt: None,
+            retry: self.retry(),
+            dead_letter: self.copy_dead_letter(alloc)?,
         })
+    }
+
+    fn copy_dead_letter(&self, alloc: Global) -> Result<Option<Text>, NoMemory>
+        ensures { IfOk result (λ arn. arn ≡ self.now.row.dead_letter) }
+    {
+        match self.dead_letter() {
+            Some(arn) => Ok(Some(Text::from_str(alloc, arn)?)),
+            None => Ok(None),
+        }
+    }
+
+    /// Whether the target names the queue, as its own or as its dead-letter queue.
+    pub(crate) fn uses_queue(&self, queue: &str) -> bool
+        ensures { result ≡ is_used_by_target queue.now (target_of self.now) }
+    {
+        if is_queue_arn(self.arn(), queue) {
+            return true;
+        }
+        match self.dead_letter() {
+            Some(arn) => is_queue_arn(arn, queue),
+            None => false,
+        }
+    }
+}
+
+/// The maximum number of retry attempts.
+fn attempts_of(retry: &Option<RetryPolicy>) -> u16
+    ensures { result ≡ spec.attempts_of retry.now }
+{
+    match retry {
+        Some(policy) => policy.attempts.unwrap_or(MOST_ATTEMPTS),
+        None => MOST_ATTEMPTS,
+    }
+}
+
+/// The maximum age of an event, in seconds.
+fn age_of(retry: &Option<RetryPolicy>) -> u32
+    ensures { result ≡ spec.age_of retry.now }
+{
+    match retry {
+        Some(policy) => policy.age.unwrap_or(GREATEST_AGE),
+        None => GREATEST_AGE,
     }
 }

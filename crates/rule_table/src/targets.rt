@@ -1,9 +1,10 @@
 //! Targets of one rule, in the byte order of their ids.
 ghost use Rattle.std.specs.Prelude.{◌≡◌, ◌↔◌, ◌<◌, ◌≤◌, ◌⊎◌, [], map, All, IfOk, OnOk, OnErr, MatchOption, IsTrue, length};
+ghost use Rattle.std.specs.List.{list_any};
 ghost use Rattle.name_rows.specs.Place.{IsPlace};
 ghost use Rattle.name_rows.specs.Rows.{AreSorted, placed, replacing};
 ghost use Rattle.rule_table.specs.RuleSet as spec;
-ghost use Rattle.rule_table.specs.Target.{target_of, IsRowOf};
+ghost use Rattle.rule_table.specs.Target.{target_of, IsStoredOf};
 
 use crate::control::Target;
 use crate::rule::Rule;
@@ -25,6 +26,13 @@ pub(crate) fn pointers(alloc: Global, targets: &[RuleTarget]) -> Result<Vec<Rule
         others.push(target.share()?)?;
     }
     Ok(others)
+}
+
+/// Whether one of the targets names the queue, as its own or as its dead-letter queue.
+pub(crate) fn any_uses(targets: &[RuleTarget], queue: &str) -> bool
+    ensures { result ≡ list_any (λ stored. spec.is_used_by_target queue.now (target_of stored)) targets.now }
+{
+    targets.iter().any(|target| target.uses_queue(queue))
 }
 
 /// The place of the id in the targets.
@@ -82,7 +90,7 @@ pub(crate) fn after_removal(
     ensures { IfOk result (λ found. MatchOption found
         ((ids.now ≡ []) ⊎ (¬ spec.AreRemovable ids.now rule.now.targets))
         (λ others. (1 ≤ length ids.now) × spec.AreRemovable ids.now rule.now.targets
-        × (map target_of others.items ≡ spec.without_targets ids.now rule.now.targets) × All (IsRowOf rule.now) others.items)) }
+        × (map target_of others.items ≡ spec.without_targets ids.now rule.now.targets) × All (IsStoredOf rule.now) others.items)) }
 {
     if ids.is_empty() {
         return Ok(None);

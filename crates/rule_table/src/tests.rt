@@ -1,23 +1,21 @@
-use crate::{
-    Control, ControlFault, Rule, RuleSet, Target, TargetFault, is_well_formed, put_target,
-};
-use api_replies::Member;
+use crate::{Control, ControlFault, Rule, RuleSet, Target, is_well_formed};
 use event_shape::{queue_arn, queue_of};
 use json_text::{NoMemory, Text};
 use pattern_meaning::Pattern;
-use shared_text::SharedRow;
 use std::alloc::Global;
 use std::test::Fail;
 
 /// A change, in short.
 #[derive(Clone, Copy)]
-enum Step {
+pub(crate) enum Step {
     /// A bus, a rule and its pattern.
     Rule(&'static str, &'static str, &'static str),
     /// A rule of the bus `default` that is not enabled.
     Off(&'static str),
     /// A rule of the bus `default`, a target's id and its queue.
     Put(&'static str, &'static str, &'static str),
+    /// A rule of the bus `default`, a target's id, its URL and its dead-letter queue.
+    Url(&'static str, &'static str, &'static str, &'static str),
     /// A bus, a rule and its new state.
     State(&'static str, &'static str, bool),
     /// A bus, a rule and the ids of the targets that are removed.
@@ -30,9 +28,11 @@ enum Step {
     /// A bus and its policy.
     Policy(&'static str, Option<&'static str>),
     Queue(&'static str),
+    /// The queue that is deleted.
+    NoQueue(&'static str),
 }
 
-const X: &str = "{\"source\":[\"x\"]}";
+pub(crate) const X: &str = "{\"source\":[\"x\"]}";
 
 /// Changes in turn, the refusal of each as a kind and an object (none: it is made), and the rules of the bus `default`
 /// afterwards. Worked by hand.
@@ -60,7 +60,7 @@ const STEPS: [(Step, &str, &str, &str); 11] = [
     (Step::Off("q"), "", "", "q-;r+ a=q b=q;"),
 ];
 
-fn text(alloc: Global, text: &str) -> Result<Text, Fail> {
+pub(crate) fn text(alloc: Global, text: &str) -> Result<Text, Fail> {
     Ok(Text::from_str(alloc, text)?)
 }
 
@@ -90,8 +90,35 @@ fn targets_put(alloc: Global, rule: &str, id: &str, queue: &str) -> Result<Contr
 fn one_target(alloc: Global, id: &str, queue: &str) -> Result<Vec<Target>, Fail> {
     let arn = queue_arn(alloc, queue)?;
     let mut targets = Vec::new(alloc);
-    targets.push(target_of(alloc, id, arn.as_str(), None)?)?;
+    targets.push(plain_target(alloc, id, arn.as_str())?)?;
     Ok(targets)
+}
+
+/// A target with neither a retry policy nor a dead-letter queue.
+pub(crate) fn plain_target(alloc: Global, id: &str, arn: &str) -> Result<Target, NoMemory> {
+    Ok(Target {
+        id: Text::from_str(alloc, id)?,
+        arn: Text::from_str(alloc, arn)?,
+        unbuilt: None,
+        retry: None,
+        dead_letter: None,
+    })
+}
+
+fn url_put(alloc: Global, rule: &str, id: &str, url: &str, queue: &str) -> Result<Control, Fail> {
+    let mut targets = Vec::new(alloc);
+    targets.push(Target {
+        id: text(alloc, id)?,
+        arn: text(alloc, url)?,
+        unbuilt: None,
+        retry: None,
+        dead_letter: Some(queue_arn(alloc, queue)?),
+    })?;
+    Ok(Control::TargetsPut {
+        bus: text(alloc, "default")?,
+        rule: text(alloc, rule)?,
+        targets,
+    })
 }
 
 fn targets_removed(alloc: Global, bus: &str, rule: &str, ids: &[&str]) -> Result<Control, Fail> {
@@ -137,6 +164,7 @@ fn control(alloc: Global, step: Step) -> Result<Control, Fail> {
         Step::Rule(bus, name, pattern) => rule_put(alloc, bus, name, pattern, true),
         Step::Off(name) => rule_put(alloc, "default", name, X, false),
         Step::Put(rule, id, queue) => targets_put(alloc, rule, id, queue),
+        Step::Url(rule, id, url, queue) => url_put(alloc, rule, id, url, queue),
         Step::State(bus, name, enabled) => state_put(alloc, bus, name, enabled),
         Step::Remove(bus, rule, ids) => targets_removed(alloc, bus, rule, ids),
         Step::NoRule(bus, name) => rule_deleted(alloc, bus, name),
@@ -148,6 +176,9 @@ fn control(alloc: Global, step: Step) -> Result<Control, Fail> {
             name: text(alloc, name)?,
         }),
         Step::Queue(name) => Ok(Control::QueueCreated {
+            name: text(alloc, name)?,
+        }),
+        Step::NoQueue(name) => Ok(Control::QueueDeleted {
             name: text(alloc, name)?,
         }),
     }
@@ -181,7 +212,7 @@ fn applied(
 }
 
 /// The set after the change.
-fn after(alloc: Global, set: &RuleSet, step: Step) -> Result<RuleSet, Fail> {
+pub(crate) fn after(alloc: Global, set: &RuleSet, step: Step) -> Result<RuleSet, Fail> {
     match applied(alloc, set, step)? {
         Ok(next) => Ok(next),
         Err(_) => Err(Fail::from("a change is refused")),
@@ -331,6 +362,53 @@ const REMOVALS: [(Step, &str, &str, &str); 19] = [
     (Step::NoRule("default", "r"), "", "", ""),
     (Step::NoRule("default", "r"), "no", "Rule", ""),
 ];
+
+/// Changes in turn of the queues `q` and `d`, of which the rule `r` has the targets `a` and `b`, as in `STEPS`. Worked by hand.
+const DELETIONS: [(Step, &str, &str, &str); 14] = [
+    (Step::NoQueue("none"), "no", "Queue", "r+ a=q b=q;"),
+    (Step::NoQueue("q"), "in use", "Queue", "r+ a=q b=q;"),
+    (
+        Step::Url("r", "u", URL, "d"),
+        "not valid",
+        "Targets",
+        "r+ a=q b=q;",
+    ),
+    (Step::Queue("d"), "", "", "r+ a=q b=q;"),
+    (Step::Url("r", "u", URL, "d"), "", "", "r+ a=q b=q u=?;"),
+    (Step::NoQueue("d"), "in use", "Queue", "r+ a=q b=q u=?;"),
+    (Step::Remove("default", "r", &["a"]), "", "", "r+ b=q u=?;"),
+    (Step::NoQueue("q"), "in use", "Queue", "r+ b=q u=?;"),
+    (Step::Put("r", "b", "d"), "", "", "r+ b=d u=?;"),
+    (Step::NoQueue("q"), "", "", "r+ b=d u=?;"),
+    (Step::NoQueue("q"), "no", "Queue", "r+ b=d u=?;"),
+    (
+        Step::Put("r", "a", "q"),
+        "not valid",
+        "Targets",
+        "r+ b=d u=?;",
+    ),
+    (Step::Remove("default", "r", &["b", "u"]), "", "", "r+;"),
+    (Step::NoQueue("d"), "", "", "r+;"),
+];
+
+const URL: &str = "http://localhost:8080/";
+
+/// The index of the first step that differs from its row.
+fn deleted_otherwise(alloc: Global, set: &mut RuleSet) -> Result<Option<usize>, Fail> {
+    for (place, (step, kind, object, rules)) in DELETIONS.iter().enumerate() {
+        if !is_made(alloc, set, *step, kind, object)? || !is_shown(alloc, set, rules)? {
+            return Ok(Some(place));
+        }
+    }
+    Ok(None)
+}
+
+#[test]
+fn a_queue_in_use_stays(rt: HostRuntime) -> Result<(), Fail> {
+    let mut set = with_targets(rt.alloc())?;
+    assert_eq!(rt; deleted_otherwise(rt.alloc(), &mut set)?, None);
+    Ok(())
+}
 
 /// The first set with the queue `q`, and the rule `r` with the targets `a` and `b`.
 fn with_targets(alloc: Global) -> Result<RuleSet, Fail> {
@@ -549,7 +627,7 @@ fn a_policy_has_at_most_10240_bytes(rt: HostRuntime) -> Result<(), Fail> {
 }
 
 /// Changes, and whether they are well formed, whatever the rule set is. Worked by hand from the syntax of names.
-const FORMS: [(Step, bool); 21] = [
+const FORMS: [(Step, bool); 26] = [
     (Step::Bus("a.B-c_9"), true),
     (Step::Bus("a/b"), false),
     (Step::Bus(""), false),
@@ -566,11 +644,16 @@ const FORMS: [(Step, bool); 21] = [
     (Step::Put("r", "t", "none"), true),
     (Step::Put("r", "t", "a.b"), false),
     (Step::Put("r", "a b", "q"), false),
+    (Step::Url("r", "t", URL, "none"), true),
+    (Step::Url("r", "t", "http://example.com/", "none"), false),
+    (Step::Url("r", "t", URL, "a.b"), false),
     (Step::Remove("b", "r", &["a", "a"]), true),
     (Step::Remove("b", "r", &[]), false),
     (Step::Remove("b", "r", &["a b"]), false),
     (Step::Queue("q-1_A"), true),
     (Step::Queue("q.1"), false),
+    (Step::NoQueue("q-1_A"), true),
+    (Step::NoQueue("q.1"), false),
 ];
 
 /// The same of policies.
@@ -613,95 +696,10 @@ fn changes_are_well_formed(rt: HostRuntime) -> Result<(), Fail> {
     Ok(())
 }
 
-/// A queue that exists, one that does not, and texts that are no queue's ARN.
-const Q: &str = "arn:aws:sqs:us-east-1:111122223333:q";
-
-const NONE: &str = "arn:aws:sqs:us-east-1:111122223333:none";
-
-const URL: &str = "http://localhost:8080/";
-
-/// The number of the targets there, a target's id, ARN and unsupported member, and its fault. Worked by hand.
-const TARGETS: [(usize, &str, &str, Option<Member>, Option<TargetFault>); 7] = [
-    (4, "t", Q, None, None),
-    (5, "t", Q, None, Some(TargetFault::Sixth)),
-    (5, "5", Q, None, None),
-    (5, "t", NONE, None, Some(TargetFault::NoQueue)),
-    (
-        5,
-        "t",
-        NONE,
-        Some(Member::Input),
-        Some(TargetFault::Member(Member::Input)),
-    ),
-    (
-        0,
-        "t",
-        URL,
-        Some(Member::InputPath),
-        Some(TargetFault::Member(Member::Arn)),
-    ),
-    (5, "a b", URL, None, Some(TargetFault::Member(Member::Id))),
-];
-
-const IDS: [&str; 5] = ["5", "3", "1", "4", "2"];
-
-/// The first `count` of five targets, put in another order than that of their ids.
-fn targets_there(alloc: Global, count: usize) -> Result<Vec<Target>, Fail> {
-    let mut targets = Vec::new(alloc);
-    for (place, id) in IDS.iter().enumerate() {
-        if place < count {
-            put_target(&mut targets, target_of(alloc, id, Q, None)?)?;
-        }
-    }
-    Ok(targets)
-}
-
-fn target_of(
-    alloc: Global,
-    id: &str,
-    arn: &str,
-    unbuilt: Option<Member>,
-) -> Result<Target, NoMemory> {
-    Ok(Target {
-        id: Text::from_str(alloc, id)?,
-        arn: Text::from_str(alloc, arn)?,
-        unbuilt,
-    })
-}
-
-fn is_fault(
-    alloc: Global,
-    set: &RuleSet,
-    count: usize,
-    target: &Target,
-    fault: Option<TargetFault>,
-) -> Result<bool, Fail> {
-    let targets = targets_there(alloc, count)?;
-    Ok(set.target_fault(&targets, target) == fault)
-}
-
-/// The index of the first target whose fault differs from its row.
-fn found_otherwise(alloc: Global, set: &RuleSet) -> Result<Option<usize>, Fail> {
-    for (place, (count, id, arn, unbuilt, fault)) in TARGETS.iter().enumerate() {
-        let target = target_of(alloc, id, arn, *unbuilt)?;
-        if !is_fault(alloc, set, *count, &target, *fault)? {
-            return Ok(Some(place));
-        }
-    }
-    Ok(None)
-}
-
 /// The first set with the queue.
-fn with_queue(alloc: Global, name: &'static str) -> Result<RuleSet, Fail> {
+pub(crate) fn with_queue(alloc: Global, name: &'static str) -> Result<RuleSet, Fail> {
     let first = RuleSet::first(alloc)?;
     after(alloc, &first, Step::Queue(name))
-}
-
-#[test]
-fn a_target_has_its_first_fault(rt: HostRuntime) -> Result<(), Fail> {
-    let set = with_queue(rt.alloc(), "q")?;
-    assert_eq!(rt; found_otherwise(rt.alloc(), &set)?, None);
-    Ok(())
 }
 
 /// How many rules the bus has; none if there is no such bus.
@@ -750,8 +748,10 @@ fn a_set_shows_its_queues(rt: HostRuntime) -> Result<(), Fail> {
     Ok(())
 }
 
+pub(crate) const R_ARN: &str = "arn:aws:events:us-east-1:111122223333:rule/r";
+
 /// The first set with the queue `a` and the rule `r`.
-fn with_rule(alloc: Global) -> Result<RuleSet, Fail> {
+pub(crate) fn with_rule(alloc: Global) -> Result<RuleSet, Fail> {
     let set = with_queue(alloc, "a")?;
     after(alloc, &set, Step::Rule("default", "r", X))
 }
@@ -793,47 +793,5 @@ fn a_bus_shows_its_rule(rt: HostRuntime) -> Result<(), Fail> {
     assert!(rt; is_default_named(&set));
     assert_eq!(rt; rule_count(&set, "default"), Some(1));
     assert!(rt; has_rule_r(&set) && has_pattern(&set));
-    Ok(())
-}
-
-const R_ARN: &str = "arn:aws:events:us-east-1:111122223333:rule/r";
-
-const A_ARN: &str = "arn:aws:sqs:us-east-1:111122223333:a";
-
-/// Whether the row is that of the target `t` of the rule `r`.
-fn is_row_of_r(row: &SharedRow) -> bool {
-    row.rule_arn() == R_ARN
-        && row.rule_name() == "r"
-        && row.target_id() == "t"
-        && row.endpoint() == A_ARN
-        && row.dead_letter().is_none()
-        && row.attempts() == 185
-        && row.age() == 86_400
-}
-
-/// Whether the rule `r` has the one target `t`.
-fn has_target_t(set: &RuleSet) -> bool {
-    match set.targets("default", "r") {
-        [target] => target.id() == "t" && is_row_of_r(target.row()),
-        _ => false,
-    }
-}
-
-/// Whether a set with a target for the rule `r` has it, also when the rule is put again, and the set that it was made from has none.
-fn has_its_target(alloc: Global, set: &RuleSet) -> Result<bool, Fail> {
-    let put = after(alloc, set, Step::Put("r", "t", "a"))?;
-    let again = after(alloc, &put, Step::Off("r"))?;
-    Ok(
-        has_target_t(&put)
-            && has_target_t(&again)
-            && put.targets("nope", "r").is_empty()
-            && set.targets("default", "r").is_empty(),
-    )
-}
-
-#[test]
-fn a_rule_shows_its_target(rt: HostRuntime) -> Result<(), Fail> {
-    let set = with_rule(rt.alloc())?;
-    assert!(rt; has_its_target(rt.alloc(), &set)?);
     Ok(())
 }

@@ -2,13 +2,15 @@
 ghost use Rattle.std.specs.Prelude.{◌≡◌, ◌↔◌, IfOk, IsTrue};
 ghost use Rattle.event_shape.specs.Names.{IsBusName};
 ghost use Rattle.rule_table.specs.RuleSet.{IsNoneOrStored};
-ghost use Rattle.rule_table.specs.WellFormed.{NamesRule, IsSomePattern, IsWellFormedTarget, AreWellFormedTargets, AreWellFormedIds, IsWellFormed};
+ghost use Rattle.rule_table.specs.TargetForm.{IsWellFormedTarget};
+ghost use Rattle.rule_table.specs.WellFormed.{NamesRule, IsSomePattern, AreWellFormedTargets, AreWellFormedIds, IsWellFormed};
 ghost use Rattle.rule_table.specs.View.{control_of};
 
 use crate::control::{Control, Target};
 use crate::policy::SharedPolicy;
 use crate::rule::read_rule_pattern;
-use event_shape::{is_bus_name, is_queue_name, is_rule_name, is_target_id, queue_of};
+use crate::target_form::member_fault;
+use event_shape::{is_bus_name, is_queue_name, is_rule_name, is_target_id};
 use json_text::{NoMemory, Text};
 use std::alloc::Global;
 
@@ -36,11 +38,12 @@ pub fn is_well_formed(alloc: Global, control: &Control) -> Result<bool, NoMemory
             enabled: _,
         } => Ok(names_rule(bus, name)),
         Control::TargetsPut { bus, rule, targets } => {
-            Ok(names_rule(bus, rule) && are_targets(targets))
+            are_targets_well_formed(alloc, bus, rule, targets)
         }
         Control::TargetsRemoved { bus, rule, ids } => Ok(names_rule(bus, rule) && are_ids(ids)),
         Control::PolicyPut { bus, policy } => is_policy_well_formed(alloc, bus, policy),
         Control::QueueCreated { name } => Ok(is_queue_name(name.as_str())),
+        Control::QueueDeleted { name } => Ok(is_queue_name(name.as_str())),
     }
 }
 
@@ -82,26 +85,38 @@ fn is_policy_well_formed(alloc: Global, bus: &Text, policy: &Option<Text>) -> Re
     }
 }
 
-fn are_targets(targets: &[Target]) -> bool
-    ensures { IsTrue result ↔ AreWellFormedTargets targets.now }
+fn are_targets_well_formed(
+    alloc: Global,
+    bus: &Text,
+    rule: &Text,
+    targets: &[Target],
+) -> Result<bool, NoMemory>
+    ensures { IfOk result (λ yes. IsTrue yes ↔ (NamesRule bus.now rule.now × AreWellFormedTargets targets.now)) }
 {
-    if targets.is_empty() || targets.len() > MOST_IN_CHANGE {
-        return false;
+    if !names_rule(bus, rule) {
+        return Ok(false);
     }
-    for target in targets {
-        if !is_target_well_formed(target) {
-            return false;
-        }
-    }
-    true
+    Ok(are_targets(alloc, targets)?)
 }
 
-fn is_target_well_formed(target: &Target) -> bool
-    ensures { IsTrue result ↔ IsWellFormedTarget target.now }
+fn are_targets(alloc: Global, targets: &[Target]) -> Result<bool, NoMemory>
+    ensures { IfOk result (λ yes. IsTrue yes ↔ AreWellFormedTargets targets.now) }
 {
-    is_target_id(target.id.as_str())
-        && queue_of(target.arn.as_str()).is_some()
-        && target.unbuilt.is_none()
+    if targets.is_empty() || targets.len() > MOST_IN_CHANGE {
+        return Ok(false);
+    }
+    for target in targets {
+        if !is_target_well_formed(alloc, target)? {
+            return Ok(false);
+        }
+    }
+    Ok(true)
+}
+
+fn is_target_well_formed(alloc: Global, target: &Target) -> Result<bool, NoMemory>
+    ensures { IfOk result (λ yes. IsTrue yes ↔ IsWellFormedTarget target.now) }
+{
+    Ok(member_fault(alloc, target)?.is_none())
 }
 
 fn are_ids(ids: &[Text]) -> bool

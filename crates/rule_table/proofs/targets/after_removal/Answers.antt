@@ -5,7 +5,7 @@ use Rattle.name_rows.specs.Place.{IsHere, IsBefore}
 use Rattle.name_rows.specs.Rows.{AreSorted, named, without}
 use Rattle.name_rows.proofs.RowLemmas.{named_here, named_before, sorted_without, sorted_unmap, here_map, before_map}
 use Rattle.rule_table.specs.RuleSet.{without_targets, AreRemovable}
-use Rattle.rule_table.specs.Target.{target_of, IsRowOf}
+use Rattle.rule_table.specs.Target.{target_of, IsStoredOf}
 use Rattle.rule_table.proofs.RowLemmas.{here_within, removed_here, All_without}
 use Rattle.rule_table.proofs.TargetLemmas.{row_id, id_of, rows_made, target_removed}
 use Rattle.rule_table.proofs.targets.after_removal.Goals as goal
@@ -56,7 +56,7 @@ loop-id-preserved c =
           (subst (λ is. AreRemovable is targets) (sym cons) (found, subst (AreRemovable rest) made good));
       needed = λ good. let both = subst (λ is. AreRemovable is targets) cons (c.loop-id.invariant.needed good) in
           subst (AreRemovable rest) (sym made) both.1;
-      rows = subst (All (IsRowOf rule)) (sym left) (All_without (IsRowOf rule) row_id id others c.loop-id.invariant.rows);
+      rows = subst (All (IsStoredOf rule)) (sym left) (All_without (IsStoredOf rule) row_id id others c.loop-id.invariant.rows);
     }
 
 pub loop-id-init : goal.loop-id-init
@@ -70,5 +70,5 @@ loop-id-init c =
       removed = ap (without_targets ids) same;
       removable = subst (AreRemovable ids) (sym same);
       needed = subst (AreRemovable ids) same;
-      rows = subst (All (IsRowOf rule)) (sym rows) (rows_made rule rule.targets);
+      rows = subst (All (IsStoredOf rule)) (sym rows) (rows_made rule rule.targets);
     }

@@ -2,7 +2,7 @@ use Rattle.std.proofs.Common.{◌≡◌, drop, map}
 use Rattle.std.specs.Prelude.{All}
 use Rattle.name_rows.specs.Rows.{AreSorted}
 use Rattle.rule_table.specs.RuleSet.{without_targets, AreRemovable}
-use Rattle.rule_table.specs.Target.{target_of, IsRowOf}
+use Rattle.rule_table.specs.Target.{target_of, IsStoredOf}
 use Rattle.rule_table.proofs.targets.after_removal.Given as goal
 
 abbrev pub invariant-loop-id : goal.invariant-loop-id
@@ -11,5 +11,5 @@ invariant-loop-id l = record {
   removed : without_targets l.ids l.rule.targets ≡ without_targets (drop l.id-index l.ids) (map target_of l.others.items);
   removable : AreRemovable (drop l.id-index l.ids) (map target_of l.others.items) → AreRemovable l.ids l.rule.targets;
   needed : AreRemovable l.ids l.rule.targets → AreRemovable (drop l.id-index l.ids) (map target_of l.others.items);
-  rows : All (IsRowOf l.rule) l.others.items;
+  rows : All (IsStoredOf l.rule) l.others.items;
 }

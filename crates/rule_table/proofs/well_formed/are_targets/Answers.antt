@@ -1,12 +1,12 @@
 use Rattle.std.proofs.Common.{◌≤◌, length, refl, arith}
-use Rattle.rule_table.specs.WellFormed.{IsWellFormedTarget}
+use Rattle.rule_table.specs.TargetForm.{IsWellFormedTarget}
 use Rattle.rule_table.proofs.FormLemmas.{all_to_end, all_one_more, not_empty}
 use Rattle.rule_table.proofs.well_formed.are_targets.Goals as goal
 
 pub loop-target-preserved : goal.loop-target-preserved
 loop-target-preserved c =
     all_one_more IsWellFormedTarget c.args.targets.now c.loop-target.target-index c.target-item.result c.loop-target-test.true c.target-item.is
-    c.loop-target.invariant (c.if-not-is_target_well_formed.ensures.0 refl)
+    c.loop-target.invariant (c.in_ok-is_target_well_formed.ensures.0 c.if-not-branch.false)
 
 pub returns : goal.returns
 returns c =

@@ -1,12 +1,10 @@
-use Rattle.std.proofs.Common.{refl, sym, subst}
-use Rattle.rule_table.specs.WellFormed.{AreWellFormedTargets}
+use Rattle.std.proofs.Common.{subst}
+use Rattle.std.specs.Prelude.{◌↔◌, IfOk, IsTrue}
+use Rattle.rule_table.specs.WellFormed.{NamesRule, AreWellFormedTargets}
 use Rattle.rule_table.proofs.well_formed.is_well_formed.Goals as goal
 
-pub returns-then-names_rule : goal.returns-then-names_rule
-returns-then-names_rule c =
-    let names = c.if-names_rule.ensures.0 refl in
-    let same = c.deref.ensures.value in
-    rw c.in-TargetsPut.is (
-      λ yes. (names, subst AreWellFormedTargets same (c.are_targets.ensures.0 yes)),
-      λ form. c.are_targets.ensures.1 (subst AreWellFormedTargets (sym same) form.1),
-    )
+pub returns-in-TargetsPut : goal.returns-in-TargetsPut
+returns-in-TargetsPut c =
+    rw c.in-TargetsPut.is (subst (λ targets. IfOk c.are_targets_well_formed.result (λ yes.
+    IsTrue yes ↔ (NamesRule c.in-TargetsPut.bus c.in-TargetsPut.rule × AreWellFormedTargets targets)))
+    c.deref.ensures.value c.are_targets_well_formed.ensures)

@@ -1,7 +1,7 @@
 use Rattle.std.proofs.Common.{◌≡◌, map, ◌∙◌, subst}
 use Rattle.std.specs.Arc.{arc_value}
 use Rattle.rule_table.specs.RuleSet.{Rule}
-use Rattle.rule_table.specs.Target.{row_of, target_of}
+use Rattle.rule_table.specs.Target.{stored_of, target_of}
 use Rattle.rule_table.proofs.TargetLemmas.{rows_again}
 use Rattle.rule_table.proofs.rule.Rule.targets.Goals as goal
 
@@ -15,4 +15,4 @@ returns-clause-rows c =
       enabled = c.self.inside.enabled;
       targets = map target_of rows;
     } in
-    c.as_slice.ensures.value ∙ subst (λ (r : Rule). rows ≡ map (row_of r) r.targets) c.self.view_is (rows_again view rows c.self.invariant)
+    c.as_slice.ensures.value ∙ subst (λ (r : Rule). rows ≡ map (stored_of r) r.targets) c.self.view_is (rows_again view rows c.self.invariant)

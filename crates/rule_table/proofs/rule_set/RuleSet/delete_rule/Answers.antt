@@ -4,7 +4,7 @@ use Rattle.std.proofs.lemmas.List.{nil_from_length}
 use Rattle.name_rows.specs.Rows.{named}
 use Rattle.rule_table.specs.Control.{rule_deleted}
 use Rattle.rule_table.specs.RuleSet.{Rule, Bus, has_bus, without_rule, IsSound}
-use Rattle.rule_table.specs.Target.{row_of, target_of}
+use Rattle.rule_table.specs.Target.{stored_of, target_of}
 use Rattle.rule_table.specs.Refusal.{no_such_bus, no_rule_to_delete, rule_has_targets}
 use Rattle.rule_table.proofs.SortedLemmas.{sound_applied}
 use Rattle.rule_table.proofs.ChangeLemmas.{IsFound, IsFoundIn, no_rule, rule_found, for_rule, found_changed}
@@ -29,7 +29,7 @@ returns-then-not-is_empty-clause-refused c =
     let r = c.in-Some-rule.rule.now in
     let found = subst (λ name. IsFound set name old) c.as_str.ensures c.in-Some.ensures.found in
     let there = subst (λ name. IsFoundIn old name r) c.as_str-2.ensures c.in-Some-rule.ensures.found in
-    inr (rule_has_targets r (rule_found c.args.bus.now c.args.name.now set old r found there) (λ none. false≢true (c.if-not-is_empty.ensures ∙ eq-eqb (length c.targets.result.now) 0 (ap length (c.targets.ensures.rows ∙ ap (map (row_of r)) none)))))
+    inr (rule_has_targets r (rule_found c.args.bus.now c.args.name.now set old r found there) (λ none. false≢true (c.if-not-is_empty.ensures ∙ eq-eqb (length c.targets.result.now) 0 (ap length (c.targets.ensures.rows ∙ ap (map (stored_of r)) none)))))
 
 pub with_bus-requires-clause-sound : goal.with_bus-requires-clause-sound
 with_bus-requires-clause-sound c =
