@@ -1,12 +1,13 @@
 -- What replies show of the configuration. The members and their order are those of the public API; a list is whole and in the byte order of
 -- names.
-use Rattle.std.specs.Prelude.{ℕ, Bool, true, if◌then◌else◌, List, [], ◌∷◌, map, filter, eqb, Option, Some, None, codes}
+use Rattle.std.specs.Prelude.{ℕ, Bool, true, if◌then◌else◌, List, [], ◌∷◌, ◌++◌, map, filter, eqb, Option, Some, None, codes, decimal}
 use Rattle.std.specs.List.{list_any, starts_with}
 use Rattle.std.specs.Str.{bytes_eq}
-use Rattle.json_text.specs.Tree.{Tree, text, list, object, items_of, members_of}
+use Rattle.json_text.specs.Tree.{Tree, number, text, list, object, items_of, members_of}
 use Rattle.event_shape.specs.Names.{bus_arn}
 use Rattle.name_rows.specs.Rows.{named}
 use Rattle.rule_table.specs.declared.control.Target.{Target}
+use Rattle.rule_table.specs.declared.control.RetryPolicy.{RetryPolicy}
 use Rattle.rule_table.specs.RuleSet.{Rule, Bus, RuleSet}
 use Rattle.api_replies.specs.declared.kind.Kind.TheVariants as kind
 use Rattle.api_replies.specs.declared.cause.Cause.TheVariants as cause
@@ -90,9 +91,32 @@ rule_items bus prefix rules = map (λ rule. object (members_of (rule_members bus
 abbrev pub listed_rules : List ℕ → Option (List ℕ) → RuleSet → Reply
 listed_rules bus prefix set = on_bus_of set bus (λ b. listing (codes "Rules") (rule_items bus prefix b.rules))
 
+-- a number as a member, if it is given
+abbrev pub number_member : List ℕ → Option ℕ → List (List ℕ × Tree)
+number_member key None = []
+number_member key (Some n) = (key, number (decimal n)) ∷ []
+
+-- what a reply shows of a retry policy: a target that a rule stores has both numbers
+abbrev pub retry_members : RetryPolicy → List (List ℕ × Tree)
+retry_members policy =
+    number_member (codes "MaximumRetryAttempts") policy.attempts ++ number_member (codes "MaximumEventAgeInSeconds") policy.age
+
+-- a target's retry policy as a member, if one was given
+abbrev pub retry_member : Option RetryPolicy → List (List ℕ × Tree)
+retry_member None = []
+retry_member (Some policy) = (codes "RetryPolicy", object (members_of (retry_members policy))) ∷ []
+
+-- a target's dead-letter queue as a member, if it has one
+abbrev pub dead_letter_member : Option (List ℕ) → List (List ℕ × Tree)
+dead_letter_member None = []
+dead_letter_member (Some arn) = (codes "DeadLetterConfig", object (members_of ((codes "Arn", text arn) ∷ []))) ∷ []
+
 -- what a reply shows of a target
 abbrev pub target_members : Target → List (List ℕ × Tree)
-target_members target = (codes "Id", text target.id) ∷ (codes "Arn", text target.arn) ∷ []
+target_members target =
+    (codes "Id", text target.id)
+    ∷ (codes "Arn", text target.arn)
+    ∷ (retry_member target.retry ++ dead_letter_member target.dead_letter)
 
 -- the items of these targets
 abbrev pub target_items : List Target → List Tree

@@ -1,19 +1,21 @@
 //! ListTargetsByRule and ListRuleNamesByTarget.
-ghost use Rattle.std.specs.Prelude.{◌≡◌, map, IfOk};
+ghost use Rattle.std.specs.Prelude.{◌≡◌, ◌++◌, ◌∷◌, [], map, codes, decimal, IfOk, OnOk};
 ghost use Rattle.std.specs.List.{list_any};
+ghost use Rattle.std.specs.Option.{option_map};
 ghost use Rattle.std.specs.Str.{bytes_eq};
-ghost use Rattle.json_text.specs.View.{trees_of, pairs_of};
+ghost use Rattle.json_text.specs.Tree.{number, text, object, members_of};
+ghost use Rattle.json_text.specs.View.{tree_of, trees_of, pairs_of};
 ghost use Rattle.api_replies.specs.View.{reply_of};
 ghost use Rattle.rule_table.specs.Target.{target_of};
 ghost use Rattle.config_views.specs.Views as spec;
 
 use crate::parts::{listing, no_bus, no_rule};
 use api_replies::Reply;
-use json_text::{Items, Json, Members, NoMemory, Text, push_text};
-use rule_table::{Bus, Rule, RuleSet, RuleTarget};
+use json_text::{Items, Json, Members, NoMemory, Text, push_member, push_text};
+use rule_table::{Bus, RetryPolicy, Rule, RuleSet, RuleTarget};
 use std::alloc::Global;
 
-/// The reply to a ListTargetsByRule: each target's id and ARN.
+/// The reply to a ListTargetsByRule: each target's id, its ARN, its retry policy if one was given, and its dead-letter queue if it has one.
 pub fn list_targets_by_rule(
     alloc: Global,
     set: &RuleSet,
@@ -66,10 +68,86 @@ fn target_items(alloc: Global, targets: &[RuleTarget]) -> Result<Items, NoMemory
 fn target_members(alloc: Global, target: &RuleTarget) -> Result<Members, NoMemory>
     ensures { IfOk result (λ members. pairs_of members.items ≡ spec.target_members (target_of target.now)) }
 {
-    let mut members: Members = Vec::with_capacity(alloc, 2)?;
+    let mut members: Members = Vec::with_capacity(alloc, 4)?;
     push_text(alloc, &mut members, "Id", target.id())?;
     push_text(alloc, &mut members, "Arn", target.arn())?;
+    push_retry(alloc, &mut members, target.retry())?;
+    push_dead_letter(alloc, &mut members, target.dead_letter())?;
     Ok(members)
+}
+
+/// Appends the retry policy, if there is one.
+fn push_retry(
+    alloc: Global,
+    members: &mut Members,
+    retry: Option<RetryPolicy>,
+) -> Result<(), NoMemory>
+    ensures { OnOk result (pairs_of members.new.items ≡ pairs_of members.old.items ++ spec.retry_member retry) }
+{
+    match retry {
+        Some(policy) => push_member(alloc, members, "RetryPolicy", retry_json(alloc, policy)?),
+        None => Ok(()),
+    }
+}
+
+fn retry_json(alloc: Global, policy: RetryPolicy) -> Result<Json, NoMemory>
+    ensures { IfOk result (λ json. tree_of json ≡ object (members_of (spec.retry_members policy))) }
+{
+    let mut members: Members = Vec::with_capacity(alloc, 2)?;
+    let attempts = wide(policy.attempts);
+    push_number(alloc, &mut members, "MaximumRetryAttempts", attempts)?;
+    push_number(alloc, &mut members, "MaximumEventAgeInSeconds", policy.age)?;
+    Ok(Json::Obj(members))
+}
+
+/// The same number.
+fn wide(value: Option<u16>) -> Option<u32>
+    ensures { result ≡ value }
+{
+    match value {
+        Some(value) => Some(u32::from(value)),
+        None => None,
+    }
+}
+
+/// Appends the number, if it is given.
+fn push_number(
+    alloc: Global,
+    members: &mut Members,
+    key: &str,
+    value: Option<u32>,
+) -> Result<(), NoMemory>
+    ensures { OnOk result (pairs_of members.new.items ≡ pairs_of members.old.items ++ spec.number_member key.now value) }
+{
+    match value {
+        Some(value) => push_member(alloc, members, key, number_json(alloc, value)?),
+        None => Ok(()),
+    }
+}
+
+fn number_json(alloc: Global, value: u32) -> Result<Json, NoMemory>
+    ensures { IfOk result (λ json. tree_of json ≡ number (decimal value)) }
+{
+    Ok(Json::Num(Text::from(format!(in alloc; "{value}")?)))
+}
+
+/// Appends the dead-letter queue of this ARN, if there is one.
+fn push_dead_letter(alloc: Global, members: &mut Members, arn: Option<&str>) -> Result<(), NoMemory>
+    ensures { OnOk result (pairs_of members.new.items ≡ pairs_of members.old.items ++ spec.dead_letter_member (option_map (λ a. a.now) arn.entry)) }
+{
+    match arn {
+        Some(arn) => push_member(alloc, members, "DeadLetterConfig", arn_json(alloc, arn)?),
+        None => Ok(()),
+    }
+}
+
+/// An object whose only member is the ARN.
+fn arn_json(alloc: Global, arn: &str) -> Result<Json, NoMemory>
+    ensures { IfOk result (λ json. tree_of json ≡ object (members_of ((codes "Arn", text arn.now) ∷ []))) }
+{
+    let mut members: Members = Vec::with_capacity(alloc, 1)?;
+    push_text(alloc, &mut members, "Arn", arn)?;
+    Ok(Json::Obj(members))
 }
 
 /// The names of the bus's rules that have a target with this ARN.
@@ -89,12 +167,12 @@ fn rule_names(alloc: Global, bus: &Bus, arn: &str) -> Result<Items, NoMemory>
 fn has_target_arn(rule: &Rule, arn: &str) -> bool
     ensures { result ≡ spec.has_target_arn arn.now rule.now }
 {
-    is_endpoint(rule.targets(), arn)
+    is_arn_of_any(rule.targets(), arn)
 }
 
 /// Whether the ARN is that of a target.
-fn is_endpoint(targets: &[RuleTarget], arn: &str) -> bool
-    ensures { result ≡ list_any (λ row. bytes_eq row.endpoint arn.now) targets.now }
+fn is_arn_of_any(targets: &[RuleTarget], arn: &str) -> bool
+    ensures { result ≡ list_any (λ stored. bytes_eq stored.row.endpoint arn.now) targets.now }
 {
     targets.iter().any(|target| target.arn() == arn)
 }

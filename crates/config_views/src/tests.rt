@@ -5,7 +5,7 @@ use crate::{
 use api_replies::Reply;
 use event_shape::queue_arn;
 use json_text::{Bytes, Text, write};
-use rule_table::{Control, RuleSet, Target};
+use rule_table::{Control, RetryPolicy, RuleSet, Target};
 use std::alloc::Global;
 use std::test::Fail;
 
@@ -18,6 +18,8 @@ enum Step {
     Rule(&'static str, &'static str, bool),
     /// A rule of the bus `orders`, a target's id and its queue.
     Put(&'static str, &'static str, &'static str),
+    /// A rule of the bus `orders`, a target's id, its URL, its number of retry attempts and its dead-letter queue.
+    Retried(&'static str, &'static str, &'static str, u16, &'static str),
     /// The bus `orders` gets this policy.
     Policy(&'static str),
 }
@@ -39,7 +41,7 @@ const PATTERN: &str = "{\"source\":[\"a\"]}";
 const POLICY: &str =
     "{\"Version\":\"2012-10-17\",\"Statement\":[{\"Sid\":\"s\",\"Effect\":\"Allow\",\"Principal\":\"*\",\"Action\":\"events:PutEvents\",\"Resource\":\"arn:aws:events:us-east-1:111122223333:event-bus/orders\"}]}";
 
-const STEPS: [Step; 10] = [
+const STEPS: [Step; 11] = [
     Step::Queue("p"),
     Step::Queue("q"),
     Step::Bus("orders"),
@@ -49,6 +51,7 @@ const STEPS: [Step; 10] = [
     Step::Put("r", "a", "q"),
     Step::Put("r", "b", "q"),
     Step::Put("late", "a", "p"),
+    Step::Retried("late", "u", "http://localhost/", 0, "q"),
     Step::Policy(POLICY),
 ];
 
@@ -68,7 +71,7 @@ const NO_RULE: &str =
     "400 {\"__type\":\"ResourceNotFoundException\",\"message\":\"Rule n does not exist.\"}";
 
 /// Calls on the configuration before its policy is put, and their replies. Worked out by hand.
-const CALLS: [(Call, &str); 19] = [
+const CALLS: [(Call, &str); 20] = [
     (Call::Bus("default"), DEFAULT_SHOWN),
     (Call::Bus("b"), NO_BUS),
     (Call::Buses(None), ALL_BUSES),
@@ -97,6 +100,10 @@ const CALLS: [(Call, &str); 19] = [
         Call::Targets("orders", "r"),
         "200 {\"Targets\":[{\"Id\":\"a\",\"Arn\":\"arn:aws:sqs:us-east-1:111122223333:q\"},{\"Id\":\"b\",\"Arn\":\"arn:aws:sqs:us-east-1:111122223333:q\"}]}",
     ),
+    (
+        Call::Targets("orders", "late"),
+        "200 {\"Targets\":[{\"Id\":\"a\",\"Arn\":\"arn:aws:sqs:us-east-1:111122223333:p\"},{\"Id\":\"u\",\"Arn\":\"http://localhost/\",\"RetryPolicy\":{\"MaximumRetryAttempts\":0,\"MaximumEventAgeInSeconds\":60},\"DeadLetterConfig\":{\"Arn\":\"arn:aws:sqs:us-east-1:111122223333:q\"}}]}",
+    ),
     (Call::Targets("b", "n"), NO_BUS),
     (Call::Targets("orders", "n"), NO_RULE),
     (Call::Names("q", "orders"), "200 {\"RuleNames\":[\"r\"]}"),
@@ -115,6 +122,30 @@ fn one_target(alloc: Global, id: &str, queue: &str) -> Result<Vec<Target>, Fail>
         id: text(alloc, id)?,
         arn: queue_arn(alloc, queue)?,
         unbuilt: None,
+        retry: None,
+        dead_letter: None,
+    })?;
+    Ok(targets)
+}
+
+/// A target of this URL with retries for 60 seconds and this dead-letter queue.
+fn retried_target(
+    alloc: Global,
+    id: &str,
+    url: &str,
+    attempts: u16,
+    queue: &str,
+) -> Result<Vec<Target>, Fail> {
+    let mut targets = Vec::new(alloc);
+    targets.push(Target {
+        id: text(alloc, id)?,
+        arn: text(alloc, url)?,
+        unbuilt: None,
+        retry: Some(RetryPolicy {
+            attempts: Some(attempts),
+            age: Some(60),
+        }),
+        dead_letter: Some(queue_arn(alloc, queue)?),
     })?;
     Ok(targets)
 }
@@ -128,11 +159,11 @@ fn rule_put(alloc: Global, bus: &str, name: &str, enabled: bool) -> Result<Contr
     })
 }
 
-fn targets_put(alloc: Global, rule: &str, id: &str, queue: &str) -> Result<Control, Fail> {
+fn targets_put(alloc: Global, rule: &str, targets: Vec<Target>) -> Result<Control, Fail> {
     Ok(Control::TargetsPut {
         bus: text(alloc, "orders")?,
         rule: text(alloc, rule)?,
-        targets: one_target(alloc, id, queue)?,
+        targets,
     })
 }
 
@@ -152,7 +183,11 @@ fn control(alloc: Global, step: Step) -> Result<Control, Fail> {
             name: text(alloc, name)?,
         }),
         Step::Rule(bus, name, enabled) => rule_put(alloc, bus, name, enabled),
-        Step::Put(rule, id, queue) => targets_put(alloc, rule, id, queue),
+        Step::Put(rule, id, queue) => targets_put(alloc, rule, one_target(alloc, id, queue)?),
+        Step::Retried(rule, id, url, attempts, queue) => {
+            let targets = retried_target(alloc, id, url, attempts, queue)?;
+            targets_put(alloc, rule, targets)
+        }
         Step::Policy(policy) => policy_put(alloc, policy),
     }
 }
@@ -219,7 +254,7 @@ fn shown_otherwise(alloc: Global, set: &RuleSet) -> Result<Option<usize>, Fail> 
 
 #[test]
 fn the_configuration_is_shown(rt: HostRuntime) -> Result<(), Fail> {
-    let set = configured(rt.alloc(), &STEPS[..9])?;
+    let set = configured(rt.alloc(), &STEPS[..10])?;
     assert_eq!(rt; shown_otherwise(rt.alloc(), &set)?, None);
     Ok(())
 }
