@@ -10,7 +10,7 @@ found_here key v rest = rw (eq-eqb key key refl) refl
 pub placed_here : {V : Type 0} (key : ℕ) (v : V) (es : List (ℕ × V)) → value_at key es ≡ None → value_at key (placed (key, v) es) ≡ Some v
 placed_here key v es none = value_at-placed key (key, v) es (others key es none) ∙ rw (eq-eqb key key refl) refl
 
-placed_other : {V : Type 0} (key n : ℕ) (v : V) (es : List (ℕ × V)) → value_at key es ≡ None → key ≢ n → value_at n (placed (key, v) es) ≡ value_at n es
+pub placed_other : {V : Type 0} (key n : ℕ) (v : V) (es : List (ℕ × V)) → value_at key es ≡ None → key ≢ n → value_at n (placed (key, v) es) ≡ value_at n es
 placed_other key n v es none ne = value_at-placed n (key, v) es (others key es none) ∙ rw (ne_eqb key n ne) refl
 
 apart : {V : Type 0} (key n : ℕ) (w : V) (es : List (ℕ × V)) → value_at key es ≡ None → value_at n es ≡ Some w → key ≢ n

@@ -12,4 +12,5 @@ mod StepLemmas
 mod AddLemmas
 mod SettleLemmas
 mod DeadLemmas
+mod FateLemmas
 pub mod ClaimLemmas

@@ -3,6 +3,8 @@ use Rattle.std.proofs.Common.{◌≡◌, ℕ, ◌+◌, ◌<◌, ◌≤◌, Bool,
 use Rattle.std.specs.Prelude.{All, filter, nat_le}
 use Rattle.std.proofs.lemmas.Bool.{leb-false}
 use Rattle.std.proofs.lemmas.Bool.Decides.{nat_tests}
+use Rattle.std.specs.List.{take_while}
+use Rattle.std.proofs.lemmas.List.Sums.{take_while-cons}
 use Rattle.std.proofs.lemmas.List.Elements.{All-nil, All-cons, All-head, All-tail, All-push, All-weaker, All-filter}
 use Rattle.delivery_duties.specs.declared.stored.StoredMessage.{StoredMessage}
 use Rattle.delivery_duties.specs.Queues.{Queue, messages_after, messages_through}
@@ -69,6 +71,29 @@ after_all through (m ∷ ms) r e =
     let above : through < m.number = leb-false m.number through e in
     after_greater through (m ∷ ms) (All-cons (λ (o : StoredMessage). through < o.number) m ms above
     (All-weaker (Below m) (λ o. through < o.number) (λ o lt. omega (arith, above, lt)) ms r.0))
+
+none_through : (through : ℕ) (xs : List StoredMessage) → All (λ o. through < o.number) xs → messages_through through xs ≡ []
+none_through through [] a = refl
+none_through through (m ∷ ms) a =
+    let P : StoredMessage → Type 0 = λ o. through < o.number in
+    let test : nat_le m.number through ≡ false = greater_test m.number through (All-head P m ms a) in
+    rw test (none_through through ms (All-tail P m ms a))
+
+-- the messages up to the number come first
+pub through_front : (through : ℕ) (xs : List StoredMessage) → AreRising xs
+    → length (take_while (λ m. nat_le m.number through) xs) ≡ length (messages_through through xs)
+through_front through [] r = refl
+through_front through (m ∷ ms) r =
+    let test : StoredMessage → Bool = λ o. nat_le o.number through in
+    ap (length {A = StoredMessage}) (take_while-cons test m ms)
+    ∙ (elim (nat_le m.number through) as (λ b. nat_le m.number through ≡ b
+    → length (cond b (m ∷ take_while test ms) []) ≡ length (cond b (m ∷ messages_through through ms) (messages_through through ms))) [
+      | true ↦ λ _. omega (arith, through_front through ms r.1)
+      | false ↦ λ e.
+          let above : through < m.number = leb-false m.number through e in
+          sym (ap (length {A = StoredMessage})
+          (none_through through ms (All-weaker (Below m) (λ o. through < o.number) (λ o lt. omega (arith, above, lt)) ms r.0)))
+    ]) refl
 
 -- both parts together
 pub through_count : (through : ℕ) (xs : List StoredMessage) → length (messages_through through xs) + length (messages_after through xs) ≡ length xs

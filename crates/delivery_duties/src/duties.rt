@@ -6,6 +6,7 @@ ghost use Rattle.event_shape.specs.Names.{queue_arn};
 ghost use Rattle.delivery_duties.specs.declared.duty.DutyRow.{DutyRow};
 ghost use Rattle.delivery_duties.specs.DeadLetter.{shown};
 ghost use Rattle.delivery_duties.specs.Retry.{after_attempt, dead_letter_queue, failed_fate, fate_of, waits};
+ghost use Rattle.delivery_duties.specs.Fate.{AreNumbered};
 ghost use Rattle.delivery_duties.specs.Places.{IsFirstAt};
 ghost use Rattle.delivery_duties.specs.Queues.{IsArnOfOne, has_arn, has_queue, messages_of, messages_through};
 ghost use Rattle.delivery_duties.specs.Duties as spec;
@@ -213,6 +214,7 @@ impl Duties {
         ensures sum { result.created ≡ result.pending + result.delivered + result.dead_lettered + result.dropped }
         ensures each { (n : ℕ) → 1 ≤ n → n ≤ self.now.created → spec.HasOneFate n self.now }
         ensures ordered { spec.IsOrdered self.now }
+        ensures numbered { AreNumbered self.now }
     {
         let (delivered, dead_lettered, dropped) = self.ended.counts();
         Counts {
@@ -266,11 +268,22 @@ impl Duties {
         }
     }
 
+    /// The number of messages of the queue with numbers up to this one; 0 if there is no such queue. Visits these messages alone.
+    pub fn count_through(&self, queue: &str, through: u64) -> u64
+        ensures { result ≡ length (messages_through through (messages_of queue.now self.now.queues)) }
+    {
+        match self.queues.find(queue) {
+            Some(found) => found.count_through(through),
+            None => 0,
+        }
+    }
+
     /// Deletes the messages of the queue with numbers up to this one. Returns how many they were; 0 if there is no such queue. Later
     /// messages go on with the numbers. Takes no memory.
     pub fn delete_through(&mut self, queue: &str, through: u64) -> u64
         ensures deleted { self.new ≡ spec.with_deleted queue.now through self.old }
         ensures count { result ≡ length (messages_through through (messages_of queue.now self.old.queues)) }
+        ensures queues { map (λ m. m.name) self.new.queues ≡ map (λ m. m.name) self.old.queues }
         ensures still_out { (n : ℕ) → spec.IsOut n self.old → spec.IsOut n self.new }
     {
         self.queues.delete_through(queue, through)

@@ -28,7 +28,11 @@ pub use counts::Counts;
 pub use duties::Duties;
 pub use duty::{DutyRow, NewDuty};
 pub use failure::{Cause, Failure, RetryLimit};
-pub use laws::a_claim_put_back_changes_nothing;
+pub use laws::{
+    a_claim_put_back_changes_nothing, a_duty_begins_in_its_first_state,
+    a_fate_is_that_of_the_recorded_attempts, an_attempt_changes_the_state_of_its_duty_alone,
+    no_other_act_changes_a_state,
+};
 pub use message::{DeadLetterAttributes, QueueMessage};
 pub use new_duties::NewDuties;
 pub use new_queue::NewQueue;

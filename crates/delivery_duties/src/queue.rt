@@ -74,6 +74,16 @@ impl Queue {
         self.messages.is_empty()
     }
 
+    /// The number of messages with numbers up to this one. Visits these messages alone.
+    pub(crate) fn count_through(&self, through: u64) -> u64
+        ensures { result ≡ length (spec.messages_through through self.now.messages) }
+    {
+        self.messages
+            .iter()
+            .take_while(|message| message.number <= through)
+            .count() as u64
+    }
+
     /// Deletes the messages with numbers up to this one. Returns how many they were.
     pub(crate) fn delete_through(&mut self, through: u64) -> u64
         ensures left { self.new ≡ spec.without_through through self.old }

@@ -71,13 +71,15 @@ enum Act {
     Try(u32, Outcome),
     /// A duty with this text, which may be too long, at the moment.
     Add(&'static str, bool, u32),
+    /// The messages of `q` with numbers up to this one are counted.
+    Count(u64),
     /// The messages of `q` with numbers up to this one are deleted.
     Delete(u64),
     /// The queue `d` is deleted.
     Forget,
 }
 
-/// Does it. Adds the number and the fate of a duty that was tried to the text.
+/// Does it. Adds the number and the fate of a duty that was tried to the text, and the number of messages that were counted or deleted.
 fn apply(
     alloc: Global,
     duties: &mut Duties,
@@ -94,15 +96,29 @@ fn apply(
             }
             Ok(())
         }
-        Act::Delete(through) => {
-            duties.delete_through("q", through);
-            Ok(())
-        }
+        Act::Count(through) => push_count(
+            alloc,
+            said,
+            "counted",
+            duties.count_through("q", through),
+        ),
+        Act::Delete(through) => push_count(
+            alloc,
+            said,
+            "deleted",
+            duties.delete_through("q", through),
+        ),
         Act::Forget => {
             duties.forget("d");
             Ok(())
         }
     }
+}
+
+fn push_count(alloc: Global, said: &mut String, word: &str, count: u64) -> Result<(), Fail> {
+    let part = format!(in alloc; "{word} {count}, ")?;
+    said.push_str(&part)?;
+    Ok(())
 }
 
 /// Appends the number and the fate, `0-` if no duty was due.
@@ -308,9 +324,35 @@ fn numbers_go_on_after_a_delete(rt: HostRuntime) -> Result<(), Fail> {
     let next = Act::Try(1000, Outcome::Accepted);
     let acts = [next, Act::Add("y", false, 1000), next, Act::Delete(1)];
     let said = played(rt.alloc(), QUEUE, "q", &acts)?;
-    assert_eq!(rt; said.as_str(), "1delivered 2delivered 2:y;");
+    assert_eq!(rt; said.as_str(), "1delivered 2delivered deleted 1, 2:y;");
     let acts = [next, Act::Delete(9), Act::Add("z", false, 1000), next];
     let said = played(rt.alloc(), QUEUE, "q", &acts)?;
-    assert_eq!(rt; said.as_str(), "1delivered 2delivered 2:z;");
+    assert_eq!(rt; said.as_str(), "1delivered deleted 1, 2delivered 2:z;");
+    Ok(())
+}
+
+// The queue has the messages 1 and 2; then it has message 2 alone.
+#[test]
+fn messages_up_to_a_number_are_counted(rt: HostRuntime) -> Result<(), Fail> {
+    let next = Act::Try(1000, Outcome::Accepted);
+    let acts = [
+        Act::Count(9),
+        next,
+        Act::Add("y", false, 1000),
+        next,
+        Act::Count(0),
+        Act::Count(1),
+        Act::Count(2),
+        Act::Count(9),
+        Act::Delete(0),
+        Act::Delete(1),
+        Act::Count(1),
+        Act::Count(2),
+    ];
+    let said = played(rt.alloc(), QUEUE, "q", &acts)?;
+    assert_eq!(rt;
+        said.as_str(),
+        "counted 0, 1delivered 2delivered counted 0, counted 1, counted 2, counted 2, deleted 0, deleted 1, counted 0, counted 1, 2:y;"
+    );
     Ok(())
 }
