@@ -15,8 +15,7 @@ use Rattle.pattern_read.proofs.SoundLemmas.{text_lacks_id}
 use Rattle.rule_table.specs.declared.control.Target.{Target}
 use Rattle.name_rows.specs.Rows.{named}
 use Rattle.rule_table.specs.RuleSet.{Rule, Bus, RuleSet, IsSound, HasSoundTargets, rules_of, rules_in}
-use Rattle.rule_table.specs.Target.{row_of}
-use Rattle.shared_text.specs.declared.row.TargetRow.{TargetRow}
+use Rattle.rule_table.specs.Target.{StoredTarget, stored_of}
 use Rattle.router_core.specs.declared.seen.SeenTarget.{SeenTarget}
 use Rattle.router_core.specs.declared.seen.SeenEntry.{SeenEntry}
 use Rattle.router_core.specs.Matching.{Matches, seen_target, AreMatched, IsSeenEntry, AreSeenEntries}
@@ -120,11 +119,11 @@ matched_numbered (rule ∷ rules) e n m targets (rest, are, which) = (
 )
 
 -- the target of a row
-abbrev pub seen_row : TargetRow → SeenTarget
-seen_row row = record { row = row }
+abbrev pub seen_row : StoredTarget → SeenTarget
+seen_row stored = record { row = stored.row }
 
 -- the targets of the rows of a rule
-seen_rows : (rule : Rule) (targets : List Target) → map seen_row (map (row_of rule) targets) ≡ map (seen_target rule) targets
+seen_rows : (rule : Rule) (targets : List Target) → map seen_row (map (stored_of rule) targets) ≡ map (seen_target rule) targets
 seen_rows rule [] = refl
 seen_rows rule (target ∷ targets) = ap (λ (ts : List SeenTarget). seen_target rule target ∷ ts) (seen_rows rule targets)
 
@@ -138,11 +137,11 @@ seen_more set caller (e ∷ entries) entry [] seen are is = absurd are
 seen_more set caller (e ∷ entries) entry (s ∷ all) seen (first, others) is = (first, seen_more set caller entries entry all seen others is)
 
 -- the targets of all rows of a rule
-pub rows_done : (rule : Rule) (before now : List SeenTarget) (rows : List TargetRow) (n : ℕ) → now ≡ before ++ map seen_row (take n rows)
-    → length rows ≤ n → rows ≡ map (row_of rule) rule.targets → now ≡ before ++ map (seen_target rule) rule.targets
+pub rows_done : (rule : Rule) (before now : List SeenTarget) (rows : List StoredTarget) (n : ℕ) → now ≡ before ++ map seen_row (take n rows)
+    → length rows ≤ n → rows ≡ map (stored_of rule) rule.targets → now ≡ before ++ map (seen_target rule) rule.targets
 rows_done rule before now rows n is all same =
     is
-    ∙ ap (λ (rs : List TargetRow). before ++ map seen_row rs) (take_all n rows all ∙ same)
+    ∙ ap (λ (rs : List StoredTarget). before ++ map seen_row rs) (take_all n rows all ∙ same)
     ∙ ap (λ (ts : List SeenTarget). before ++ ts) (seen_rows rule rule.targets)
 
 -- with the result of the next entry

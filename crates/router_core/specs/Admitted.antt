@@ -1,17 +1,18 @@
 -- Which batches the tables admit, whoever made them: nothing here depends on why an entry was written. A journal may hold any admitted
 -- batch, and no other.
-use Rattle.std.specs.Prelude.{◌≡◌, ◌≤◌, ◌+◌, ◌⊎◌, ℕ, true, false, List, [], ◌∷◌, length, Some, All}
+use Rattle.std.specs.Prelude.{◌≡◌, ◌<◌, ◌≤◌, ◌+◌, ◌^◌, ◌⊎◌, ℕ, true, false, List, [], ◌∷◌, length, Some, All}
 use Rattle.json_text.specs.Moment.{IsMoment}
 use Rattle.event_shape.specs.Names.{IsBusName, IsQueueArn}
 use Rattle.event_shape.specs.Event.{Event, IsEventText}
+use Rattle.rule_table.specs.Control.{Control, queue_deleted}
 use Rattle.rule_table.specs.RuleSet.{IsAllowed}
 use Rattle.rule_table.specs.WellFormed.{IsWellFormed}
 use Rattle.delivery_duties.specs.declared.duty.DutyRow.{DutyRow}
 use Rattle.delivery_duties.specs.declared.outcome.Outcome.{Outcome}
 use Rattle.delivery_duties.specs.declared.outcome.Outcome.TheVariants.{Accepted}
-use Rattle.delivery_duties.specs.Queues.{has_queue}
-use Rattle.delivery_duties.specs.Duties.{pending_row}
-use Rattle.router_core.specs.Batch.{Accepted as AcceptedEvent, Entry, control, accepted, attempt, Batch}
+use Rattle.delivery_duties.specs.Queues.{has_queue, messages_of, messages_through}
+use Rattle.delivery_duties.specs.Duties.{Duties, IsNamed, pending_row}
+use Rattle.router_core.specs.Batch.{Accepted as AcceptedEvent, Entry, control, accepted, attempt, messages_deleted, Batch}
 use Rattle.router_core.specs.Tables.{Tables, after_entry, is_full}
 
 -- the next event: its bus has a bus's name, its configuration version is known, its text is an event's, and it has at most 1,500 duties
@@ -31,11 +32,23 @@ pub record IsAttemptAdmitted (t : Tables) (moment duty : ℕ) (outcome : Outcome
   pub due : row.due ≤ moment
   pub queue : outcome ≡ Accepted → (queue : List ℕ) → IsQueueArn row.duty.target.endpoint queue → has_queue queue t.duties.queues ≡ true
 
--- the entry is admitted at the moment: a change is well formed and allowed
+-- a deletion of messages: the queue exists, and at least one of its messages has a number up to this one, which is below 2^48
+pub record IsDeletionAdmitted (t : Tables) (queue : List ℕ) (through : ℕ) : Type 0 where
+  pub there : has_queue queue t.duties.queues ≡ true
+  pub bounded : through < 2 ^ 48
+  pub some : 1 ≤ length (messages_through through (messages_of queue t.duties.queues))
+
+-- no pending duty and no message names a queue that the change deletes
+abbrev pub IsUnnamed : Control → Duties → Type 0
+IsUnnamed (queue_deleted name) duties = ¬ IsNamed name duties
+IsUnnamed _ duties = Unit {0}
+
+-- the entry is admitted at the moment: a change is well formed and allowed, and deletes no queue that is named
 abbrev pub IsEntryAdmitted : ℕ → Entry → Tables → Type 0
-IsEntryAdmitted moment (control c) t = IsWellFormed c × IsAllowed c t.set
+IsEntryAdmitted moment (control c) t = IsWellFormed c × IsAllowed c t.set × IsUnnamed c t.duties
 IsEntryAdmitted moment (accepted e) t = IsEventAdmitted t e
 IsEntryAdmitted moment (attempt duty outcome) t = IsAttemptAdmitted t moment duty outcome
+IsEntryAdmitted moment (messages_deleted queue through) t = IsDeletionAdmitted t queue through
 
 -- each entry is admitted on the tables after the entries before it
 abbrev pub AreAdmitted : ℕ → List Entry → Tables → Type 0
@@ -47,12 +60,14 @@ abbrev pub IsAnEvent : Entry → Type 0
 IsAnEvent (control c) = ⊥
 IsAnEvent (accepted e) = Unit {0}
 IsAnEvent (attempt duty outcome) = ⊥
+IsAnEvent (messages_deleted queue through) = ⊥
 
 -- the entry is no change of the configuration
 abbrev pub IsNoChange : Entry → Type 0
 IsNoChange (control c) = ⊥
 IsNoChange (accepted e) = Unit {0}
 IsNoChange (attempt duty outcome) = Unit {0}
+IsNoChange (messages_deleted queue through) = Unit {0}
 
 -- one entry, or one to ten events
 abbrev pub AreOfOneTurn : List Entry → Type 0

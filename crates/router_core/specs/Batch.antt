@@ -14,11 +14,13 @@ pub record Accepted : Type 0 where
   pub text : List ℕ
   pub duties : List NewDuty
 
--- one entry: a change of the configuration, an accepted event, or the outcome of an attempt of the duty with this number
+-- one entry: a change of the configuration, an accepted event, the outcome of an attempt of the duty with this number, or the deletion of the
+-- queue's messages with numbers up to this one
 pub data Entry : Type 0 where
   control : Control → Entry
   accepted : Accepted → Entry
   attempt : (duty : ℕ) (outcome : Outcome) → Entry
+  messages_deleted : (queue : List ℕ) (through : ℕ) → Entry
 
 -- one turn: its moment, and its entries in order
 pub record Batch : Type 0 where

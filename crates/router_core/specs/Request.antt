@@ -30,8 +30,11 @@ pub data Action : Type 0 where
   put_events : (entries : List (Result Unnumbered EntryFault)) (size : ℕ) → Action
   test_event_pattern : (pattern : List ℕ) (event : Tree) → Action
   create_queue : (name : List ℕ) → Action
+  delete_queue : (name : List ℕ) → Action
   peek_messages : (queue : List ℕ) (limit : ℕ) → Action
+  delete_messages : (queue : List ℕ) (through : ℕ) → Action
   deliver_due : (budget : ℕ) → Action
+  duty_counts : Action
 
 -- the action is made by one turn; the steps of a DeliverDue are turns of their own
 abbrev pub IsOneTurn : Action → Type 0

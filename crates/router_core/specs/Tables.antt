@@ -1,10 +1,10 @@
 -- The tables of the router, as a fold over batches.
 use Rattle.std.specs.Prelude.{◌≡◌, ℕ, ◌+◌, ◌^◌, ◌<◌, ◌≤◌, max, Bool, ◌||◌, nat_le, List, [], ◌∷◌, map}
 use Rattle.json_text.specs.Moment.{IsMoment}
-use Rattle.rule_table.specs.Control.{Control, queue_created}
+use Rattle.rule_table.specs.Control.{Control, queue_created, queue_deleted}
 use Rattle.rule_table.specs.RuleSet.{RuleSet, first_set, applied}
-use Rattle.delivery_duties.specs.Duties.{Duties, no_duties, with_new_queue, added, settled}
-use Rattle.router_core.specs.Batch.{Entry, control, accepted, attempt, Batch}
+use Rattle.delivery_duties.specs.Duties.{Duties, no_duties, with_new_queue, forgotten, with_deleted, added, settled}
+use Rattle.router_core.specs.Batch.{Entry, control, accepted, attempt, messages_deleted, Batch}
 
 -- the rule set, the duties with the queues' messages, the numbers of accepted events, of entries and of batches so far, and the moment
 -- of the last batch
@@ -20,9 +20,10 @@ pub record Tables : Type 0 where
 abbrev pub first_tables : Tables
 first_tables = record { set = first_set; duties = no_duties; events = 0; entries = 0; batches = 0; moment = 0 }
 
--- the duties after a change of the configuration: a created queue is added, with no message
+-- the duties after a change of the configuration: a created queue is added, with no message; a deleted queue is forgotten
 abbrev pub duties_after : Control → Duties → Duties
 duties_after (queue_created name) duties = with_new_queue name duties
+duties_after (queue_deleted name) duties = forgotten name duties
 duties_after _ duties = duties
 
 -- the tables after an entry at the moment; the duties of an event are due at once
@@ -30,6 +31,7 @@ abbrev pub after_entry : ℕ → Entry → Tables → Tables
 after_entry moment (control c) t = record t { set = applied c t.set; duties = duties_after c t.duties; entries = t.entries + 1 }
 after_entry moment (accepted e) t = record t { duties = added e.duties moment t.duties; events = t.events + 1; entries = t.entries + 1 }
 after_entry moment (attempt duty outcome) t = record t { duties = settled duty moment outcome t.duties; entries = t.entries + 1 }
+after_entry moment (messages_deleted queue through) t = record t { duties = with_deleted queue through t.duties; entries = t.entries + 1 }
 
 -- the tables after entries at the moment, in their order
 abbrev pub after_entries : ℕ → List Entry → Tables → Tables

@@ -34,8 +34,11 @@ action_of (action.RemoveStatement bus sid) = request.remove_statement bus sid
 action_of (action.PutEvents entries size) = request.put_events entries.items size
 action_of (action.TestEventPattern pattern event) = request.test_event_pattern pattern (tree_of event)
 action_of (action.CreateQueue name) = request.create_queue name
+action_of (action.DeleteQueue name) = request.delete_queue name
 action_of (action.PeekMessages queue limit) = request.peek_messages queue limit
+action_of (action.DeleteMessages queue through) = request.delete_messages queue through
 action_of (action.DeliverDue budget) = request.deliver_due budget
+action_of action.DutyCounts = request.duty_counts
 
 -- the request, with the view of its action
 abbrev pub request_of : Request → request.Request
@@ -50,6 +53,7 @@ abbrev pub entry_of : Entry → batch.Entry
 entry_of (entry.Control c) = batch.control (control_of c)
 entry_of (entry.Accepted e) = batch.accepted (accepted_of e)
 entry_of (entry.Attempt duty outcome) = batch.attempt duty outcome
+entry_of (entry.MessagesDeleted queue through) = batch.messages_deleted queue through
 
 -- the batch, with its entries as a list
 abbrev pub batch_of : Batch → batch.Batch

@@ -30,6 +30,8 @@ pub enum Entry {
     Accepted(AcceptedEvent),
     /// The outcome of an attempt of the duty of this number.
     Attempt { duty: u64, outcome: Outcome },
+    /// The messages of the queue with numbers up to this one are deleted.
+    MessagesDeleted { queue: Text, through: u64 },
 }
 
 /// The changes of one turn.

@@ -74,8 +74,11 @@ fn found(
         | Action::RemovePolicy { .. }
         | Action::RemoveStatement { .. }
         | Action::CreateQueue { .. }
+        | Action::DeleteQueue { .. }
         | Action::PeekMessages { .. }
-        | Action::DeliverDue { .. } => Ok(SeenResult::Nothing),
+        | Action::DeleteMessages { .. }
+        | Action::DeliverDue { .. }
+        | Action::DutyCounts => Ok(SeenResult::Nothing),
     }
 }
 

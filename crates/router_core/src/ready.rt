@@ -1,20 +1,26 @@
 //! Batches that are ready to be applied.
-ghost use Rattle.std.specs.Prelude.{◌≡◌, ◌⊎◌, ◌<◌, ◌^◌, ◌∷◌, [], IfOk, IfErr, MatchOption};
+ghost use Rattle.std.specs.Prelude.{◌≡◌, ◌⊎◌, ◌<◌, ◌^◌, ◌∷◌, [], ℕ, IfOk, IfErr, IfSome, IfNone, MatchOption, List, Option, map};
+ghost use Rattle.rule_table.specs.Control.{Control as Change};
 ghost use Rattle.rule_table.specs.RuleSet.{RuleSet as Set, IsAllowed};
 ghost use Rattle.rule_table.specs.Refusal.{IsRefused};
 ghost use Rattle.rule_table.specs.View.{control_of};
 ghost use Rattle.router_core.specs.Batch.{control as change, accepted};
-ghost use Rattle.router_core.specs.View.{accepted_of};
-ghost use Rattle.router_core.specs.Ready.{IsPartOf, HasPlace};
+ghost use Rattle.router_core.specs.View.{accepted_of, entry_of};
+ghost use Rattle.router_core.specs.Ready.{IsPartOf, IsOneChange, HasPlace};
+ghost use Rattle.router_core.specs.declared.ready.Part.{Part as PartView};
+ghost use Rattle.router_core.specs.declared.ready.Part.TheVariants.{Configuration};
 
-use crate::batch::{AcceptedEvent, Batch};
+use crate::batch::{AcceptedEvent, Batch, Entry};
 use delivery_duties::{NewDuties, NewDuty, NewQueue};
 use json_text::NoMemory;
 use rule_table::{Control, ControlFault, RuleSet};
 use std::alloc::Global;
 use std::collections::VecDeque;
 
-/// What applying one entry of a batch needs. All its memory is allocated.
+/// What applying one entry of a batch needs. All its memory is allocated. A part is made from its entry, and of a change also from the rule
+/// set before it; nothing else of the tables is in it. So a journal that reads batches back can make their parts again, each on the rule
+/// set after the entries before it. An attempt has no part: `Tables::finish` applies it with its claim. Such a journal will need one for it,
+/// for which `Nothing` serves: `Tables::apply` then claims the duty by its number and settles it, both without memory.
 #[derive(Drop)]
 pub enum Part {
     /// Of a change: the rule set after it, and the new queue if it creates one.
@@ -26,6 +32,8 @@ pub enum Part {
     Event {
         duties: NewDuties,
     },
+    /// Of deleted messages.
+    Nothing,
 }
 
 /// A batch, with one part for each of its entries.
@@ -70,6 +78,45 @@ impl Ready {
     {
         &self.batch
     }
+
+    /// The change and the rule set after it, if the batch is one change.
+    pub fn control(&self) -> Option<(&Control, &RuleSet)>
+        ensures some { IfSome result (λ found. IsOneChange self.now (control_of found.0.now) found.1.now) }
+        ensures none { IfNone result ((c : Change) (set : Set) → ¬ IsOneChange self.now c set) }
+    {
+        match only_change(&self.batch.entries) {
+            Some(control) => match first_set(&self.parts) {
+                Some(set) => Some((control, set)),
+                None => None,
+            },
+            None => None,
+        }
+    }
+}
+
+/// The change, if it is the only entry.
+fn only_change(entries: &[Entry]) -> Option<&Control>
+    ensures { MatchOption result
+        ((c : Change) → ¬ (map entry_of entries.now ≡ change c ∷ []))
+        (λ control. map entry_of entries.now ≡ change (control_of control.now) ∷ []) }
+{
+    match entries {
+        [Entry::Control(control)] => Some(control),
+        [Entry::Accepted(_)] | [Entry::Attempt { .. }] | [Entry::MessagesDeleted { .. }] => None,
+        [] | [_, _, ..] => None,
+    }
+}
+
+/// The rule set of the first part, if that is a change's.
+fn first_set(parts: &VecDeque<Part>) -> Option<&RuleSet>
+    ensures { MatchOption result
+        ((set : Set) (queue : Option (List ℕ)) (others : List PartView) → ¬ (parts.now.items ≡ Configuration set queue ∷ others))
+        (λ set. (queue : Option (List ℕ)) × (others : List PartView) × (parts.now.items ≡ Configuration set.now queue ∷ others)) }
+{
+    match parts.front() {
+        Some(Part::Configuration { set, .. }) => Some(set),
+        Some(Part::Event { .. }) | Some(Part::Nothing) | None => None,
+    }
 }
 
 /// The queue that the change creates, if it creates one.
@@ -85,7 +132,8 @@ fn new_queue(alloc: Global, control: &Control) -> Result<Option<NewQueue>, NoMem
         | Control::StatePut { .. }
         | Control::TargetsPut { .. }
         | Control::TargetsRemoved { .. }
-        | Control::PolicyPut { .. } => Ok(None),
+        | Control::PolicyPut { .. }
+        | Control::QueueDeleted { .. } => Ok(None),
     }
 }
 

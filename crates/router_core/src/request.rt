@@ -108,15 +108,26 @@ pub enum Action {
     CreateQueue {
         name: Text,
     },
+    /// Delete a queue. It has no message, and no target and no pending duty names it.
+    DeleteQueue {
+        name: Text,
+    },
     /// Show the oldest messages of a queue, at most `limit`.
     PeekMessages {
         queue: Text,
         limit: u32,
     },
+    /// Delete the messages of a queue with numbers up to this one.
+    DeleteMessages {
+        queue: Text,
+        through: u64,
+    },
     /// Make at most `budget` steps of delivery.
     DeliverDue {
         budget: u32,
     },
+    /// Show the number of duties made so far, and the number in each state.
+    DutyCounts,
 }
 
 /// A request.

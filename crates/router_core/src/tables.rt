@@ -1,17 +1,19 @@
 //! The router's tables, and the calls that change them.
 ghost use Rattle.std.specs.Prelude.{◌≡◌, ◌+◌, ◌*◌, ◌^◌, ◌<◌, ◌≤◌, ◌⊎◌, ℕ, List, IfOk, IfSome, IfNone, OnErr, Some, true, false, length};
+ghost use Rattle.std.specs.Option.{option_copied};
 ghost use Rattle.json_text.specs.Moment.{IsMoment};
 ghost use Rattle.delivery_duties.specs.declared.duty.DutyRow.{DutyRow};
 ghost use Rattle.delivery_duties.specs.declared.outcome.Outcome.{Outcome as Ended};
 ghost use Rattle.delivery_duties.specs.Duties.{NoneDue, IsOut, added, pending_row};
-ghost use Rattle.router_core.specs.Batch.{Entry as BatchEntry};
-ghost use Rattle.router_core.specs.View.{batch_of};
+ghost use Rattle.router_core.specs.Batch.{messages_deleted};
+ghost use Rattle.router_core.specs.View.{batch_of, entry_of};
 ghost use Rattle.router_core.specs.Tables.{first_tables, after_entry, after_batch, is_full, number_limit, IsConsistent};
 ghost use Rattle.router_core.specs.Admitted.{IsAdmitted, IsEntryAdmitted};
 ghost use Rattle.router_core.specs.Ready.{HasPlace, IsPartOf, IsReadyFor};
-ghost use Rattle.router_core.specs.Parts.{with_created, with_set, with_duties};
+ghost use Rattle.router_core.specs.Parts.{deleted_by, deleted_in, with_created, with_forgotten, with_set, with_duties};
 ghost use Rattle.rule_table.specs.Control.{Control as Change};
 ghost use Rattle.rule_table.specs.RuleSet.{IsAllowed, applied};
+ghost use Rattle.rule_table.specs.View.{control_of};
 ghost use Rattle.router_core.specs.Steps.{IsErrandOf, IsClaimed, IsRecordedAs, record_of, putting_back, fate_after};
 
 use crate::batch::{Batch, Entry};
@@ -20,7 +22,7 @@ use crate::ready::{Part, Ready};
 use delivery_duties::{Duties, Fate, NewDuties, NewQueue, Outcome};
 use event_shape::queue_of;
 use json_text::NoMemory;
-use rule_table::RuleSet;
+use rule_table::{Control, RuleSet};
 use shared_text::{SharedRow, SharedText};
 use std::alloc::Global;
 use std::marker::Model;
@@ -122,35 +124,44 @@ impl Tables {
         let Ready { batch, mut parts } = ready;
         let moment = batch.moment;
         let batches = self.batches + 1;
-        while let Some(part) = parts.pop_front() {
-            self.join(part, moment);
+        for entry in &batch.entries {
+            match parts.pop_front() {
+                Some(part) => self.join(entry, part, moment),
+                None => unreachable!(),
+            }
         }
         self.batches = batches;
         self.moment = moment;
     }
 
     /// Applies one entry, whose part this is.
-    fn join(&mut self, part: Part, moment: u64)
-        requires entry { (e : BatchEntry) × IsPartOf self.old.set e part × IsEntryAdmitted moment e self.old }
+    fn join(&mut self, entry: &Entry, part: Part, moment: u64)
+        requires part { IsPartOf self.old.set (entry_of entry.now) part }
+        requires admitted { IsEntryAdmitted moment (entry_of entry.now) self.old }
         requires entries { self.old.entries + 1 < number_limit + 2 ^ 20 }
         requires created { self.old.duties.created + 1500 < number_limit + 2 ^ 20 }
-        ensures joined { (e : BatchEntry) → IsPartOf self.old.set e part → self.new ≡ after_entry moment e self.old }
+        ensures joined { self.new ≡ after_entry moment (entry_of entry.now) self.old }
         ensures created { self.new.duties.created ≤ self.old.duties.created + 1500 }
     {
         match part {
-            Part::Configuration { set, new_queue } => self.configure(set, new_queue),
+            Part::Configuration { set, new_queue } => {
+                self.configure(set, new_queue, deleted_queue(entry));
+            }
             Part::Event { duties } => self.publish(duties, moment),
+            Part::Nothing => self.delete_messages(entry),
         }
     }
 
-    /// Applies a change, with the rule set after it and the new queue, if there is one.
-    fn configure(&mut self, set: RuleSet, new_queue: Option<NewQueue>)
-        requires change { (c : Change) × (set ≡ applied c self.old.set) × HasPlace c new_queue × IsAllowed c self.old.set }
+    /// Applies a change, with the rule set after it, and the queue that it creates or deletes, if there is one.
+    fn configure(&mut self, set: RuleSet, new_queue: Option<NewQueue>, deleted: Option<&str>)
+        requires change { (c : Change) × (set ≡ applied c self.old.set) × HasPlace c new_queue × (option_copied deleted ≡ deleted_by c)
+            × IsAllowed c self.old.set }
         requires entries { self.old.entries + 1 < number_limit + 2 ^ 20 }
-        ensures { self.new ≡ with_set set new_queue self.old }
+        ensures { self.new ≡ with_set set new_queue (option_copied deleted.entry) self.old }
     {
         self.set = set;
         create_queue(&mut self.duties, new_queue);
+        forget_queue(&mut self.duties, deleted);
         self.entries += 1;
     }
 
@@ -164,6 +175,22 @@ impl Tables {
         self.duties.add(duties, moment);
         self.events += 1;
         self.entries += 1;
+    }
+
+    /// Applies the deletion of messages that is this entry.
+    fn delete_messages(&mut self, entry: &Entry)
+        requires deletion { (queue : List ℕ) × (through : ℕ) × (entry_of entry.now ≡ messages_deleted queue through) }
+        requires entries { self.old.entries + 1 < number_limit + 2 ^ 20 }
+        ensures deleted { (moment : ℕ) → self.new ≡ after_entry moment (entry_of entry.now) self.old }
+        ensures created { self.new.duties.created ≡ self.old.duties.created }
+    {
+        match entry {
+            Entry::MessagesDeleted { queue, through } => {
+                self.duties.delete_through(queue.as_str(), *through);
+                self.entries += 1;
+            }
+            Entry::Control(_) | Entry::Accepted(_) | Entry::Attempt { .. } => unreachable!(),
+        }
     }
 
     /// Claims the duty that is due first; none if no unclaimed duty is due. No batch records it. After an error nothing is claimed.
@@ -327,5 +354,42 @@ fn create_queue(duties: &mut Duties, new_queue: Option<NewQueue>)
 {
     if let Some(new_queue) = new_queue {
         duties.create_queue(new_queue);
+    }
+}
+
+/// Deletes the queue of this name with its messages, if there is one to delete.
+fn forget_queue(duties: &mut Duties, deleted: Option<&str>)
+    ensures { duties.new ≡ with_forgotten (option_copied deleted.entry) duties.old }
+{
+    if let Some(queue) = deleted {
+        duties.forget(queue);
+    }
+}
+
+/// The name of the queue that the entry deletes, if it deletes one.
+fn deleted_queue(entry: &Entry) -> Option<&str>
+    ensures { option_copied result ≡ deleted_in (entry_of entry.now) }
+{
+    match entry {
+        Entry::Control(control) => deleted_by(control),
+        Entry::Accepted(_) | Entry::Attempt { .. } | Entry::MessagesDeleted { .. } => None,
+    }
+}
+
+/// The name of the queue that the change deletes, if it deletes one.
+fn deleted_by(control: &Control) -> Option<&str>
+    ensures { option_copied result ≡ deleted_by (control_of control.now) }
+{
+    match control {
+        Control::QueueDeleted { name } => Some(name.as_str()),
+        Control::BusCreated { .. }
+        | Control::BusDeleted { .. }
+        | Control::RulePut { .. }
+        | Control::RuleDeleted { .. }
+        | Control::StatePut { .. }
+        | Control::TargetsPut { .. }
+        | Control::TargetsRemoved { .. }
+        | Control::PolicyPut { .. }
+        | Control::QueueCreated { .. } => None,
     }
 }

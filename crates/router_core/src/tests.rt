@@ -27,6 +27,8 @@ fn target(alloc: Global, id: &str) -> Result<Target, Fail> {
         id: Text::from_str(alloc, id)?,
         arn: queue_arn(alloc, "q")?,
         unbuilt: None,
+        retry: None,
+        dead_letter: None,
     })
 }
 
