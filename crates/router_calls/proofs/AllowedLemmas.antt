@@ -11,7 +11,8 @@ use Rattle.rule_table.specs.RuleSet.{RuleSet}
 use Rattle.router_core.specs.Batch as batch
 use Rattle.router_core.specs.Request.{Action, create_event_bus, delete_event_bus, describe_event_bus, list_event_buses, put_rule, delete_rule, put_rule_state}
 use Rattle.router_core.specs.Request.{describe_rule, list_rules, put_targets, remove_targets, list_targets_by_rule, list_rule_names_by_target, put_policy}
-use Rattle.router_core.specs.Request.{put_statement, remove_policy, remove_statement, put_events, test_event_pattern, create_queue, peek_messages, deliver_due}
+use Rattle.router_core.specs.Request.{put_statement, remove_policy, remove_statement, put_events, test_event_pattern, create_queue, delete_queue}
+use Rattle.router_core.specs.Request.{peek_messages, delete_messages, duty_counts, deliver_due}
 use Rattle.router_core.specs.Request.{Request, IsPublishing}
 use Rattle.router_core.specs.Tables.{Tables, is_full, moment_at}
 use Rattle.router_core.specs.Verdict.{IsEntryVerdict}
@@ -114,7 +115,10 @@ publishing_allowed t set caller moment (remove_statement bus sid) a p h = absurd
 publishing_allowed t set caller moment (put_events entries size) a p h = published_allowed t set caller moment entries size a h
 publishing_allowed t set caller moment (test_event_pattern pattern event) a p h = absurd p
 publishing_allowed t set caller moment (create_queue name) a p h = absurd p
+publishing_allowed t set caller moment (delete_queue name) a p h = absurd p
 publishing_allowed t set caller moment (peek_messages queue limit) a p h = absurd p
+publishing_allowed t set caller moment (delete_messages queue through) a p h = absurd p
+publishing_allowed t set caller moment duty_counts a p h = absurd p
 publishing_allowed t set caller moment (deliver_due budget) a p h = absurd p
 
 pub stranger_publishes : (t : Tables) (r : Request) (k : ℕ) (set : RuleSet) (a : Answer) → IsAnswer t r k set a → ¬ (r.caller ≡ owner)

@@ -9,7 +9,8 @@ use Rattle.api_replies.specs.Reply.{Reply}
 use Rattle.api_replies.specs.declared.reply.Reply.{Reply as CodeReply}
 use Rattle.router_core.specs.Request.{Action, create_event_bus, delete_event_bus, describe_event_bus, list_event_buses, put_rule, delete_rule, put_rule_state}
 use Rattle.router_core.specs.Request.{describe_rule, list_rules, put_targets, remove_targets, list_targets_by_rule, list_rule_names_by_target, put_policy}
-use Rattle.router_core.specs.Request.{put_statement, remove_policy, remove_statement, put_events, test_event_pattern, create_queue, peek_messages, deliver_due}
+use Rattle.router_core.specs.Request.{put_statement, remove_policy, remove_statement, put_events, test_event_pattern, create_queue, delete_queue}
+use Rattle.router_core.specs.Request.{peek_messages, delete_messages, duty_counts, deliver_due}
 use Rattle.router_core.specs.Request.{Request}
 use Rattle.router_core.specs.Tables.{Tables, moment_at}
 use Rattle.router_core.specs.Matching.{HasValue, IsSeen}
@@ -75,7 +76,10 @@ answer_at t set caller seen moment (remove_statement bus sid) a is h = h
 answer_at t set caller seen moment (put_events entries size) a is h = h set caller is
 answer_at t set caller seen moment (test_event_pattern pattern event) a is h = h set caller is
 answer_at t set caller seen moment (create_queue name) a is h = h
+answer_at t set caller seen moment (delete_queue name) a is h = h
 answer_at t set caller seen moment (peek_messages queue limit) a is h = h
+answer_at t set caller seen moment (delete_messages queue through) a is h = h
+answer_at t set caller seen moment duty_counts a is h = h
 answer_at t set caller seen moment (deliver_due budget) a is h = h
 
 -- what was matched on a rule set was seen on it
@@ -126,6 +130,9 @@ bounded_value (remove_policy bus) h = tt
 bounded_value (remove_statement bus sid) h = tt
 bounded_value (put_events entries size) h = tt
 bounded_value (create_queue name) h = tt
+bounded_value (delete_queue name) h = tt
 bounded_value (peek_messages queue limit) h = tt
+bounded_value (delete_messages queue through) h = tt
+bounded_value duty_counts h = tt
 bounded_value (deliver_due budget) h = tt
 bounded_value (test_event_pattern pattern event) h = h.1

@@ -1,27 +1,30 @@
 -- A request writes no change of the configuration but the one that it asks for: `its_change`, which the law of src/laws.rt cites. The other
 -- lemmas lead to it.
-use Rattle.std.proofs.Common.{◌≡◌, ℕ, inl, inr, Bool, true, false, List, [], ◌∷◌, map, Option, Some, None, sym, refl, subst, arith}
+use Rattle.std.proofs.Common.{◌≡◌, ℕ, inl, inr, Bool, true, false, List, [], ◌∷◌, length, map, Option, Some, None, sym, refl, subst, arith}
 use Rattle.std.specs.Prelude.{All, cond}
 use Rattle.std.specs.List.{Contains}
 use Rattle.std.proofs.lemmas.List.Elements.{All-cons, All-map, All-contains}
 use Rattle.json_text.specs.Tree.{Tree}
 use Rattle.rule_table.specs.declared.control.Target.{Target}
 use Rattle.rule_table.specs.Control.{Control, targets_put, targets_removed}
-use Rattle.rule_table.specs.RuleSet.{Bus, RuleSet}
+use Rattle.rule_table.specs.RuleSet.{Bus, RuleSet, has_queue}
+use Rattle.delivery_duties.specs.declared.stored.StoredMessage.{StoredMessage}
+use Rattle.delivery_duties.specs.Queues.{messages_of, messages_through}
 use Rattle.api_replies.specs.declared.cause.Cause.{Cause}
 use Rattle.api_replies.specs.declared.cause.Cause.TheVariants as cause
 use Rattle.api_replies.specs.Reply.{Reply, refused}
 use Rattle.router_core.specs.Batch as batch
 use Rattle.router_core.specs.Request.{Action, create_event_bus, delete_event_bus, describe_event_bus, list_event_buses, put_rule, delete_rule, put_rule_state}
 use Rattle.router_core.specs.Request.{describe_rule, list_rules, put_targets, remove_targets, list_targets_by_rule, list_rule_names_by_target, put_policy}
-use Rattle.router_core.specs.Request.{put_statement, remove_policy, remove_statement, put_events, test_event_pattern, create_queue, peek_messages, deliver_due}
+use Rattle.router_core.specs.Request.{put_statement, remove_policy, remove_statement, put_events, test_event_pattern, create_queue, delete_queue}
+use Rattle.router_core.specs.Request.{peek_messages, delete_messages, duty_counts, deliver_due}
 use Rattle.router_core.specs.Request.{Request}
 use Rattle.router_core.specs.Tables.{Tables, is_full, moment_at}
 use Rattle.router_core.specs.Verdict.{IsPolicyOf}
 use Rattle.router_calls.specs.Accepted.{Given, events_in}
-use Rattle.router_calls.specs.Answer.{Answer, IsAnswer, IsAnswerAt, IsControlled, IsPublished, IsTargetsPut, AreTargetsRemoved, IsRuleDeleted}
+use Rattle.router_calls.specs.Answer.{Answer, IsAnswer, IsAnswerAt, IsControlled, IsPublished, IsTargetsPut, AreTargetsRemoved, IsRuleDeleted, IsQueueDeleted}
 use Rattle.router_calls.specs.Answer.{IsOnBus, IsGranted, IsRevoked, IsStatementRemovedFrom, events_answer, entries_reply, targets_answer, removals_answer}
-use Rattle.router_calls.specs.Answer.{reply_alone, writes}
+use Rattle.router_calls.specs.Answer.{reply_alone, writes, deletion_answer, deletion_reply, messages_deletion}
 use Rattle.router_calls.specs.Changes.{MayMake}
 use Rattle.router_calls.specs.Removals.{removed_ids, failed_ids}
 use Rattle.router_calls.proofs.TargetLemmas.{split_within}
@@ -37,6 +40,7 @@ abbrev IsOnly : (Control → Type 0) → batch.Entry → Type 0
 IsOnly P (batch.control c) = P c
 IsOnly P (batch.accepted e) = Unit {0}
 IsOnly P (batch.attempt duty outcome) = Unit {0}
+IsOnly P (batch.messages_deleted queue through) = Unit {0}
 
 entries_only : (P : Control → Type 0) (moment : ℕ) (entries : List batch.Entry) → All (IsOnly P) entries
     → MakesOnly P (Some (record { moment = moment; entries = entries }))
@@ -108,6 +112,28 @@ deleted_only : (t : Tables) (moment : ℕ) (bus name : List ℕ) (a : Answer) �
 deleted_only t moment bus name a (inl (lacks, is)) = as_answer _ a _ is tt
 deleted_only t moment bus name a (inr (has, is)) = controlled_only (MayMake (delete_rule bus name)) t moment _ _ a is refl
 
+queue_deleted_only : (t : Tables) (moment : ℕ) (name : List ℕ) (a : Answer) → IsQueueDeleted t moment name a
+    → MakesOnly (MayMake (delete_queue name)) a.batch
+queue_deleted_only t moment name a (inl (there, named, is)) = as_answer _ a _ is tt
+queue_deleted_only t moment name a (inr (free, is)) = controlled_only (MayMake (delete_queue name)) t moment _ _ a is refl
+
+deletion_only : (P : Control → Type 0) (t : Tables) (moment : ℕ) (queue : List ℕ) (through : ℕ) (messages : List StoredMessage)
+    → MakesOnly P (deletion_answer t moment queue through messages).batch
+deletion_only P t moment queue through [] = tt
+deletion_only P t moment queue through (m ∷ ms) =
+    let entry = batch.messages_deleted queue through in
+    written_only (is_full t) P moment (entry ∷ []) (refused cause.NumberLimit) (deletion_reply (length (m ∷ ms))) (one_of (IsOnly P) entry tt)
+
+either_only : (P : Control → Type 0) (b : Bool) (x y : Answer) → MakesOnly P x.batch → MakesOnly P y.batch → MakesOnly P (cond b x y).batch
+either_only P true x y h g = h
+either_only P false x y h g = g
+
+messages_only : (P : Control → Type 0) (t : Tables) (moment : ℕ) (queue : List ℕ) (through : ℕ)
+    → MakesOnly P (messages_deletion t moment queue through).batch
+messages_only P t moment queue through =
+    either_only P (has_queue queue t.set) _ _
+    (deletion_only P t moment queue through (messages_through through (messages_of queue t.duties.queues))) tt
+
 on_bus_only : (P : Control → Type 0) (t : Tables) (bus : List ℕ) (IsChanged : Bus → Answer → Type 0) (a : Answer)
     → ((b : Bus) → IsChanged b a → MakesOnly P a.batch) → IsOnBus t bus IsChanged a → MakesOnly P a.batch
 on_bus_only P t bus IsChanged a only (inl (none, is)) = as_answer P a _ is tt
@@ -161,7 +187,10 @@ answer_only t set caller moment (remove_statement bus sid) a h =
 answer_only t set caller moment (put_events entries size) a h = published_only _ t set caller moment entries size a h
 answer_only t set caller moment (test_event_pattern pattern event) a (matches, is, e) = as_answer _ a _ e tt
 answer_only t set caller moment (create_queue name) a h = controlled_only _ t moment _ _ a h refl
+answer_only t set caller moment (delete_queue name) a h = queue_deleted_only t moment name a h
 answer_only t set caller moment (peek_messages queue limit) a h = as_answer _ a _ h tt
+answer_only t set caller moment (delete_messages queue through) a h = as_answer _ a _ h (messages_only _ t moment queue through)
+answer_only t set caller moment duty_counts a h = as_answer _ a _ h tt
 answer_only t set caller moment (deliver_due budget) a h = absurd h
 
 batch_only : (P : Control → Type 0) (o : Option batch.Batch) (b : batch.Batch) (c : Control) → o ≡ Some b → MakesOnly P o

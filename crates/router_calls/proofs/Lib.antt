@@ -2,6 +2,7 @@ pub mod CallLemmas
 pub mod EntryLemmas
 pub mod TargetLemmas
 pub mod RemovalLemmas
+pub mod QueueLemmas
 pub mod PolicyLemmas
 pub mod OneLemmas
 pub mod AllowedLemmas

@@ -1,5 +1,5 @@
 -- A request has at most one answer: `one_answer`, which the law of src/laws.rt cites. The other lemmas lead to it.
-use Rattle.std.proofs.Common.{◌≡◌, ℕ, ◌+◌, inl, inr, Bool, false, true, List, [], ◌∷◌, ◌++◌, map, drop, Option, Some, None, is_some, Ok, Err}
+use Rattle.std.proofs.Common.{◌≡◌, ◌⊎◌, ℕ, ◌+◌, inl, inr, Bool, false, true, List, [], ◌∷◌, ◌++◌, map, drop, Option, Some, None, is_some, Ok, Err}
 use Rattle.std.proofs.Common.{sym, refl, ap, ◌∙◌, subst, arith}
 use Rattle.std.proofs.lemmas.Bool.{false≢true}
 use Rattle.json_text.specs.Tree.{Tree, no_items}
@@ -18,7 +18,7 @@ use Rattle.bus_policy.specs.Verdict.{Asker, Verdict as PolicyVerdict, IsBusVerdi
 use Rattle.bus_policy.specs.Parts.{statements_of}
 use Rattle.bus_policy.proofs.LawLemmas.{verdict_once as policy_verdict_once}
 use Rattle.bus_policy.proofs.ReadLemmas.{one_policy}
-use Rattle.rule_table.specs.RuleSet.{Rule, Bus, RuleSet, put_target, rules_of, rule_at, has_bus}
+use Rattle.rule_table.specs.RuleSet.{Rule, Bus, RuleSet, put_target, rules_of, rule_at, has_bus, has_queue}
 use Rattle.rule_table.proofs.RefusalLemmas.{one_fault, faulty_not_good, no_rule_at, one_refusal, refused_not_allowed}
 use Rattle.delivery_duties.specs.declared.duty.NewDuty.{NewDuty}
 use Rattle.api_replies.specs.declared.kind.Kind.TheVariants as kind
@@ -33,14 +33,15 @@ use Rattle.router_core.specs.declared.seen.SeenVerdict.{SeenVerdict}
 use Rattle.router_core.specs.declared.seen.SeenVerdict.TheVariants as verdict
 use Rattle.router_core.specs.Request.{Action, create_event_bus, delete_event_bus, describe_event_bus, list_event_buses, put_rule, delete_rule, put_rule_state}
 use Rattle.router_core.specs.Request.{describe_rule, list_rules, put_targets, remove_targets, list_targets_by_rule, list_rule_names_by_target, put_policy}
-use Rattle.router_core.specs.Request.{put_statement, remove_policy, remove_statement, put_events, test_event_pattern, create_queue, peek_messages, deliver_due}
+use Rattle.router_core.specs.Request.{put_statement, remove_policy, remove_statement, put_events, test_event_pattern, create_queue, delete_queue}
+use Rattle.router_core.specs.Request.{peek_messages, delete_messages, duty_counts, deliver_due}
 use Rattle.router_core.specs.Request.{Request}
 use Rattle.router_core.specs.Tables.{Tables, moment_at}
 use Rattle.router_calls.specs.Causes.{IsCause, IsTargetCause}
 use Rattle.router_calls.specs.Accepted.{Given, Placed, IsAcceptedAs, IsPlacedBy, IsPlaced, ArePlaced, number_after, events_in}
 use Rattle.router_calls.specs.Targets.{AreSplit}
 use Rattle.router_calls.specs.Answer.{Answer, IsAnswer, IsAnswerAt, IsControlled, IsPublished, IsTargetsPut, IsTested, targets_answer, events_answer}
-use Rattle.router_calls.specs.Answer.{entries_reply, reply_alone, tested_reply, IsRuleDeleted, AreTargetsRemoved, removals_answer, IsOnBus}
+use Rattle.router_calls.specs.Answer.{entries_reply, reply_alone, tested_reply, IsQueueDeleted, IsRuleDeleted, AreTargetsRemoved, removals_answer, IsOnBus}
 use Rattle.router_calls.specs.Answer.{IsGranted, IsStatementPut, IsRevoked, IsStatementRemovedFrom, IsStatementRemoved}
 use Rattle.router_calls.specs.Removals.{removed_ids, failed_ids}
 
@@ -142,10 +143,18 @@ name_once a b same = sym (name_after a) ∙ ap (drop 35) same ∙ name_after b
 queues_once : (arn a b : List ℕ) → arn ≡ queue_arn a → arn ≡ queue_arn b → a ≡ b
 queues_once arn a b p q = name_once a b (sym p ∙ q)
 
+dead_letters_once : (arn : Option (List ℕ)) (a b : List ℕ) → arn ≡ Some (queue_arn a) → arn ≡ Some (queue_arn b) → a ≡ b
+dead_letters_once arn a b p q =
+    let both : Some (queue_arn a) ≡ Some (queue_arn b) = sym p ∙ q in
+    let same : queue_arn a ≡ queue_arn b = cc in
+    name_once a b same
+
 target_cause_once : (target : Target) (f : TargetFault) (c d : Cause) → IsTargetCause target f c → IsTargetCause target f d → c ≡ d
 target_cause_once target (target_fault.Member member) c d p q = p ∙ sym q
 target_cause_once target target_fault.NoQueue c d (a, is, e) (b, so, f) =
     e ∙ ap (cause.NotFound kind.Queue) (queues_once target.arn a b is so) ∙ sym f
+target_cause_once target target_fault.NoDeadLetterQueue c d (a, is, e) (b, so, f) =
+    e ∙ ap (cause.NotFound kind.Queue) (dead_letters_once target.dead_letter a b is so) ∙ sym f
 target_cause_once target target_fault.Sixth c d p q = p ∙ sym q
 
 split_once : (set : RuleSet) (have targets xs ys : List Target) (fs gs : List (List ℕ × Cause)) → AreSplit set have targets xs fs
@@ -222,7 +231,17 @@ same_test pattern event false false p q = refl
 tested_once : (pattern : List ℕ) (event : Tree) (a b : Answer) → IsTested pattern event a → IsTested pattern event b → a ≡ b
 tested_once pattern event a b (x, is, e) (y, so, f) = e ∙ ap (λ (m : Bool). reply_alone (tested_reply m)) (same_test pattern event x y is so) ∙ sym f
 
--- ---- rules that are deleted, targets that are removed, policies
+-- ---- queues and rules that are deleted, targets that are removed, policies
+
+free_once : (b : Bool) (Named : Type 0) → (b ≡ false) ⊎ ¬ Named → b ≡ true → Named → ⊥
+free_once b Named (inl none) there named = false≢true (sym none ∙ there)
+free_once b Named (inr unnamed) there named = unnamed named
+
+queue_deleted_once : (t : Tables) (moment : ℕ) (name : List ℕ) (a b : Answer) → IsQueueDeleted t moment name a → IsQueueDeleted t moment name b → a ≡ b
+queue_deleted_once t moment name a b (inl (there, named, e)) (inl (also, so, f)) = e ∙ sym f
+queue_deleted_once t moment name a b (inl (there, named, e)) (inr (free, is)) = absurd (free_once (has_queue name t.set) _ free there named)
+queue_deleted_once t moment name a b (inr (free, is)) (inl (there, named, f)) = absurd (free_once (has_queue name t.set) _ free there named)
+queue_deleted_once t moment name a b (inr (free, is)) (inr (also, so)) = controlled_once t moment _ _ a b is so
 
 deleted_once : (t : Tables) (moment : ℕ) (bus name : List ℕ) (a b : Answer) → IsRuleDeleted t moment bus name a → IsRuleDeleted t moment bus name b
     → a ≡ b
@@ -322,7 +341,10 @@ answer_once t set caller moment (remove_statement bus sid) a b p q = statement_r
 answer_once t set caller moment (put_events entries size) a b p q = published_once t set caller moment entries size a b p q
 answer_once t set caller moment (test_event_pattern pattern event) a b p q = tested_once pattern event a b p q
 answer_once t set caller moment (create_queue name) a b p q = controlled_once t moment _ _ a b p q
+answer_once t set caller moment (delete_queue name) a b p q = queue_deleted_once t moment name a b p q
 answer_once t set caller moment (peek_messages queue limit) a b p q = p ∙ sym q
+answer_once t set caller moment (delete_messages queue through) a b p q = p ∙ sym q
+answer_once t set caller moment duty_counts a b p q = p ∙ sym q
 answer_once t set caller moment (deliver_due budget) a b p q = absurd p
 
 pub one_answer : (t : Tables) (r : Request) (k : ℕ) (set : RuleSet) (a b : Answer) → IsAnswer t r k set a → IsAnswer t r k set b → a ≡ b

@@ -1,6 +1,5 @@
--- The targets of a PutTargets: `queue_named` (a queue that does not exist has a name), `adds_none`, `adds_target` (one target and those after
--- it) and `all_split`; `targets_answered` (the accepted ones are an allowed change), `put_answered` (of a result) and `targets_unwritten` (there is
--- none); `split_within` (the accepted ones are of those of the request) and `put_form` (their change is well formed).
+-- The targets of a PutTargets: `adds_none`, `adds_target` (one target and those after it) and `all_split`; `targets_answered` (the accepted ones are an allowed change), `put_answered` (of a result) and
+-- `targets_unwritten` (there is none); `split_within` (the accepted ones are of those of the request) and `put_form` (their change is well formed).
 use Rattle.std.proofs.Common.{◌≡◌, ℕ, suc, ◌≤◌, ◌<◌, inl, inr, List, [], ◌∷◌, ◌++◌, length, map, Some, sym, refl, ap, ◌∙◌, subst, arith, append_assoc}
 use Rattle.std.proofs.Common.{append-nil}
 use Rattle.std.specs.Prelude.{codes, Option, None, Result, Ok, Err, IfOk, All}
@@ -10,13 +9,10 @@ use Rattle.std.proofs.lemmas.List.{length-map}
 use Rattle.json_text.specs.View.{tree_of, trees_of}
 use Rattle.rule_table.specs.declared.control.Target.{Target}
 use Rattle.rule_table.specs.Control.{targets_put}
-use Rattle.event_shape.specs.Names.{queue_arn}
-use Rattle.rule_table.specs.declared.control.TargetFault.{TargetFault}
-use Rattle.rule_table.specs.declared.control.TargetFault.TheVariants.{NoQueue}
-use Rattle.rule_table.specs.Refusal.{HasTargetFault, bad_id, bad_arn, unsupported, no_queue, sixth}
 use Rattle.rule_table.specs.RuleSet.{Rule, RuleSet, put_target, rule_at, AreGoodTargets, ForRule, IsAllowed}
-use Rattle.rule_table.specs.WellFormed.{IsWellFormed, IsWellFormedTarget, NamesRule}
-use Rattle.rule_table.proofs.RefusalLemmas.{refused_not_allowed}
+use Rattle.rule_table.specs.TargetForm.{IsWellFormedTarget}
+use Rattle.rule_table.specs.WellFormed.{IsWellFormed, NamesRule}
+use Rattle.rule_table.proofs.RefusalLemmas.{good_form, refused_not_allowed}
 use Rattle.api_replies.specs.declared.cause.Cause.{Cause}
 use Rattle.api_replies.specs.Reply.{Reply}
 use Rattle.api_replies.specs.declared.reply.Reply.{Reply as CodeReply}
@@ -28,14 +24,6 @@ use Rattle.router_calls.specs.Targets.{AreSplit}
 use Rattle.router_calls.specs.Answer.{Answer, IsControlled, IsTargetsPut, target_report, targets_answer, targets_reply, items_reply, reply_alone, writes}
 use Rattle.router_calls.specs.Steps.{AddsTargets, AreAllSplit, IsOneSplit}
 use Rattle.router_calls.specs.declared.put_targets.SplitTargets.{SplitTargets}
-
-pub queue_named : (set : RuleSet) (have : List Target) (target : Target) (f : TargetFault) → HasTargetFault set have target f → f ≡ NoQueue
-    → (queue : List ℕ) × (target.arn ≡ queue_arn queue)
-queue_named set have target f (bad_id wrong) e = cc
-queue_named set have target f (bad_arn id wrong) e = cc
-queue_named set have target f (unsupported m id queue arn is) e = cc
-queue_named set have target f (no_queue id queue arn is lacks) e = (queue, arn.1)
-queue_named set have target f (sixth id there is many) e = cc
 
 pub adds_none : (set : RuleSet) (old : SplitTargets) → AddsTargets set [] old old
 adds_none set old = record {
@@ -187,8 +175,7 @@ split_few set have (target ∷ targets) accepted failed (inr (fault, c, rest, is
 good_formed : (set : RuleSet) (news have : List Target) → AreGoodTargets set news have → All IsWellFormedTarget news
 good_formed set [] have good = none_of IsWellFormedTarget
 good_formed set (new ∷ news) have (good, more) =
-    All-cons IsWellFormedTarget new news (record { id = good.id; arn = (good.queue.0, good.queue.1); supported = good.supported })
-    (good_formed set news (put_target new have) more)
+    All-cons IsWellFormedTarget new news (good_form set have new good) (good_formed set news (put_target new have) more)
 
 allowed_formed : (set : RuleSet) (o : Option Rule) (news : List Target) → ForRule o (λ r. (1 ≤ length news) × AreGoodTargets set news r.targets)
     → (1 ≤ length news) × All IsWellFormedTarget news

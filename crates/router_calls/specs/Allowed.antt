@@ -21,6 +21,7 @@ abbrev pub IsAllowedEntry : RuleSet → List ℕ → List Given → batch.Entry 
 IsAllowedEntry set caller entries (batch.accepted e) = IsAllowedEvent set caller entries e
 IsAllowedEntry set caller entries (batch.control c) = ⊥
 IsAllowedEntry set caller entries (batch.attempt duty outcome) = ⊥
+IsAllowedEntry set caller entries (batch.messages_deleted queue through) = ⊥
 
 -- nothing is written, or a batch of such events
 abbrev pub IsPublishedBy : RuleSet → List ℕ → List Given → Option batch.Batch → Type 0

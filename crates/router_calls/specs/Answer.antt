@@ -9,14 +9,16 @@ use Rattle.event_shape.specs.Id.{event_id}
 use Rattle.rule_table.specs.declared.control.Target.{Target}
 use Rattle.rule_table.specs.declared.control.ControlFault.{ControlFault}
 use Rattle.rule_table.specs.Control.{Control, bus_created, bus_deleted, rule_put, rule_deleted, state_put, targets_put}
-use Rattle.rule_table.specs.Control.{targets_removed, policy_put, queue_created}
+use Rattle.rule_table.specs.Control.{targets_removed, policy_put, queue_created, queue_deleted}
 use Rattle.name_rows.specs.Rows.{named}
 use Rattle.rule_table.specs.RuleSet.{Rule, Bus, RuleSet, IsAllowed, has_bus, has_queue, rule_at}
 use Rattle.rule_table.specs.Refusal.{IsRefused}
 use Rattle.delivery_duties.specs.declared.message.QueueMessage.{QueueMessage}
 use Rattle.delivery_duties.specs.declared.message.DeadLetterAttributes.{DeadLetterAttributes}
+use Rattle.delivery_duties.specs.declared.stored.StoredMessage.{StoredMessage}
 use Rattle.delivery_duties.specs.DeadLetter.{shown}
-use Rattle.delivery_duties.specs.Queues.{messages_of}
+use Rattle.delivery_duties.specs.Queues.{messages_of, messages_through}
+use Rattle.delivery_duties.specs.Duties.{Duties, IsNamed, delivered_of, dead_lettered_of, dropped_of}
 use Rattle.api_replies.specs.declared.kind.Kind.TheVariants as kind
 use Rattle.api_replies.specs.declared.cause.Cause.{Cause}
 use Rattle.api_replies.specs.declared.cause.Cause.TheVariants as cause
@@ -25,7 +27,7 @@ use Rattle.api_replies.specs.Reply.{Reply, served, refused}
 use Rattle.router_core.specs.Request.{Action, Request, create_event_bus, delete_event_bus, describe_event_bus, list_event_buses, put_rule, delete_rule}
 use Rattle.router_core.specs.Request.{put_rule_state, describe_rule, list_rules, put_targets, remove_targets, list_targets_by_rule}
 use Rattle.router_core.specs.Request.{list_rule_names_by_target, put_policy, put_statement, remove_policy, remove_statement, put_events}
-use Rattle.router_core.specs.Request.{test_event_pattern, create_queue, peek_messages, deliver_due}
+use Rattle.router_core.specs.Request.{test_event_pattern, create_queue, delete_queue, peek_messages, delete_messages, duty_counts, deliver_due}
 use Rattle.router_core.specs.Batch as batch
 use Rattle.router_core.specs.Tables.{Tables, is_full, moment_at}
 use Rattle.router_core.specs.Matching.{IsTestedAs}
@@ -150,6 +152,39 @@ IsTested pattern event a = (matches : Bool) × IsTestedAs pattern event matches 
 abbrev pub empty_reply : Reply
 empty_reply = served []
 
+-- DeleteQueue: a queue that a pending duty or a message names is in use; else the queue is deleted, or the change is refused. One that does not
+-- exist is refused as such, whatever names it.
+abbrev pub IsQueueDeleted : Tables → ℕ → List ℕ → Answer → Type 0
+IsQueueDeleted t moment name a =
+    ((has_queue name t.set ≡ true) × IsNamed name t.duties × (a ≡ reply_alone (refused (cause.InUse kind.Queue name))))
+    ⊎ (((has_queue name t.set ≡ false) ⊎ ¬ (IsNamed name t.duties)) × IsControlled t moment (queue_deleted name) empty_reply a)
+
+-- the reply to a DeleteMessages: how many messages it deletes
+abbrev pub deletion_reply : ℕ → Reply
+deletion_reply count = served ((codes "Deleted", number (decimal count)) ∷ [])
+
+-- the answer to a DeleteMessages that is to delete these messages, which have the numbers up to `through`; without one nothing is written
+abbrev pub deletion_answer : Tables → ℕ → List ℕ → ℕ → List StoredMessage → Answer
+deletion_answer t moment queue through [] = reply_alone (deletion_reply 0)
+deletion_answer t moment queue through (m ∷ ms) =
+    writes t moment (batch.messages_deleted queue through ∷ []) (deletion_reply (length (m ∷ ms)))
+
+-- DeleteMessages: the queue's messages with numbers up to `through` are deleted
+abbrev pub messages_deletion : Tables → ℕ → List ℕ → ℕ → Answer
+messages_deletion t moment queue through =
+    if has_queue queue t.set then deletion_answer t moment queue through (messages_through through (messages_of queue t.duties.queues))
+    else reply_alone (refused (cause.NotFound kind.Queue queue))
+
+-- the reply to a DutyCounts: the number of duties made so far, and the number in each state
+abbrev pub duties_reply : Duties → Reply
+duties_reply duties = served (
+    (codes "Created", number (decimal duties.created))
+    ∷ (codes "Pending", number (decimal (length duties.pending)))
+    ∷ (codes "Delivered", number (decimal (delivered_of duties.ended)))
+    ∷ (codes "DeadLettered", number (decimal (dead_lettered_of duties.ended)))
+    ∷ (codes "Dropped", number (decimal (dropped_of duties.ended)))
+    ∷ [])
+
 -- the bus exists, and the rule does not
 abbrev pub lacks_rule : List ℕ → List ℕ → RuleSet → Bool
 lacks_rule bus name set = has_bus bus set && not (is_some (rule_at bus name set))
@@ -237,7 +272,10 @@ IsAnswerAt t set caller moment (put_events entries size) a = IsPublished t set c
 IsAnswerAt t set caller moment (test_event_pattern pattern event) a = IsTested pattern event a
 IsAnswerAt t set caller moment (create_queue name) a =
     IsControlled t moment (queue_created name) (served ((codes "QueueArn", text (queue_arn name)) ∷ [])) a
+IsAnswerAt t set caller moment (delete_queue name) a = IsQueueDeleted t moment name a
 IsAnswerAt t set caller moment (peek_messages queue limit) a = a ≡ peeked t queue limit
+IsAnswerAt t set caller moment (delete_messages queue through) a = a ≡ messages_deletion t moment queue through
+IsAnswerAt t set caller moment duty_counts a = a ≡ reply_alone (duties_reply t.duties)
 IsAnswerAt t set caller moment (deliver_due budget) a = ⊥
 
 -- The answer to the request, from these tables, with configuration version k, whose rule set is `set`. Events may be matched on an earlier

@@ -1,5 +1,5 @@
 -- Why a change, an entry or a target is refused, as replies report it.
-use Rattle.std.specs.Prelude.{◌≡◌, ℕ, List}
+use Rattle.std.specs.Prelude.{◌≡◌, ℕ, List, Some}
 use Rattle.event_shape.specs.Names.{queue_arn}
 use Rattle.event_shape.specs.declared.entry.EntryFault.{EntryFault}
 use Rattle.event_shape.specs.declared.entry.EntryFault.TheVariants.{Source, DetailType, Detail, Time, Bus, Malformed, NotAuthorized}
@@ -9,7 +9,7 @@ use Rattle.api_replies.specs.declared.member.Member.TheVariants as member
 use Rattle.api_replies.specs.declared.cause.Cause.{Cause}
 use Rattle.api_replies.specs.declared.cause.Cause.TheVariants as cause
 use Rattle.rule_table.specs.Control.{Control, bus_created, bus_deleted, rule_put, rule_deleted, state_put, targets_put}
-use Rattle.rule_table.specs.Control.{targets_removed, policy_put, queue_created}
+use Rattle.rule_table.specs.Control.{targets_removed, policy_put, queue_created, queue_deleted}
 use Rattle.rule_table.specs.declared.control.Target.{Target}
 use Rattle.rule_table.specs.declared.control.TargetFault.{TargetFault}
 use Rattle.rule_table.specs.declared.control.TargetFault.TheVariants as target_fault
@@ -32,6 +32,7 @@ name_in (bus_created name) _ = name
 name_in (bus_deleted name) _ = name
 name_in (policy_put bus policy) _ = bus
 name_in (queue_created name) _ = name
+name_in (queue_deleted name) _ = name
 
 -- the change's refusal for this fault
 abbrev pub IsCause : Control → ControlFault → Cause → Type 0
@@ -45,10 +46,12 @@ IsCause control (fault.Validation member) c = c ≡ cause.NotValid member
 IsCause control fault.PolicyTooLong c = c ≡ cause.PolicyTooLong
 IsCause control fault.NoMemory c = ⊥
 
--- the refusal of a target that has this fault; the name of its queue is that in its ARN
+-- the refusal of a target that has this fault; the name of a missing queue is that in the target's ARN, or in that of its dead-letter queue
 abbrev pub IsTargetCause : Target → TargetFault → Cause → Type 0
 IsTargetCause target (target_fault.Member member) c = c ≡ cause.NotValid member
 IsTargetCause target target_fault.NoQueue c = (queue : List ℕ) × (target.arn ≡ queue_arn queue) × (c ≡ cause.NotFound kind.Queue queue)
+IsTargetCause target target_fault.NoDeadLetterQueue c =
+    (queue : List ℕ) × (target.dead_letter ≡ Some (queue_arn queue)) × (c ≡ cause.NotFound kind.Queue queue)
 IsTargetCause target target_fault.Sixth c = c ≡ cause.LimitReached kind.Target
 
 -- the refusal of an entry with this fault of its own

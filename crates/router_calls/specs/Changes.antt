@@ -3,9 +3,9 @@ use Rattle.std.specs.Prelude.{◌≡◌, ℕ, List, Option, Some, None, All}
 use Rattle.std.specs.List.{Contains}
 use Rattle.rule_table.specs.declared.control.Target.{Target}
 use Rattle.rule_table.specs.Control.{Control, bus_created, bus_deleted, rule_put, rule_deleted, state_put, targets_put}
-use Rattle.rule_table.specs.Control.{targets_removed, policy_put, queue_created}
+use Rattle.rule_table.specs.Control.{targets_removed, policy_put, queue_created, queue_deleted}
 use Rattle.router_core.specs.Request.{Action, create_event_bus, delete_event_bus, put_rule, delete_rule, put_rule_state, put_targets, remove_targets}
-use Rattle.router_core.specs.Request.{put_policy, put_statement, remove_policy, remove_statement, create_queue}
+use Rattle.router_core.specs.Request.{put_policy, put_statement, remove_policy, remove_statement, create_queue, delete_queue}
 
 -- the change is one that the action makes: a PutTargets puts some of its targets, and a RemoveTargets removes some of its ids
 abbrev pub MayMake : Action → Control → Type 0
@@ -21,4 +21,5 @@ MayMake (put_statement bus sid account) c = (policy : List ℕ) × (c ≡ policy
 MayMake (remove_policy bus) c = c ≡ policy_put bus None
 MayMake (remove_statement bus sid) c = (policy : Option (List ℕ)) × (c ≡ policy_put bus policy)
 MayMake (create_queue name) c = c ≡ queue_created name
+MayMake (delete_queue name) c = c ≡ queue_deleted name
 MayMake _ c = ⊥

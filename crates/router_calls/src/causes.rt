@@ -1,8 +1,10 @@
 //! Why a change, an entry or a target is refused, as replies report it.
-ghost use Rattle.std.specs.Prelude.{◌≡◌, ℕ, List, IfOk};
+ghost use Rattle.std.specs.Prelude.{◌≡◌, ℕ, List, Some, IfOk};
 ghost use Rattle.event_shape.specs.Names.{queue_arn};
 ghost use Rattle.rule_table.specs.View.{control_of};
-ghost use Rattle.rule_table.specs.declared.control.TargetFault.TheVariants.{NoQueue};
+ghost use Rattle.rule_table.specs.declared.control.TargetFault.TheVariants.{NoDeadLetterQueue, NoQueue};
+ghost use Rattle.api_replies.specs.declared.kind.Kind.TheVariants as kind_is;
+ghost use Rattle.api_replies.specs.declared.cause.Cause.TheVariants as cause_is;
 ghost use Rattle.router_calls.specs.Causes as spec;
 
 use event_shape::{EntryFault, queue_name_in};
@@ -63,7 +65,8 @@ fn name_in(control: &Control, kind: Kind) -> &Text
         Control::PolicyPut { bus, .. } => bus,
         Control::BusCreated { name }
         | Control::BusDeleted { name }
-        | Control::QueueCreated { name } => name,
+        | Control::QueueCreated { name }
+        | Control::QueueDeleted { name } => name,
     }
 }
 
@@ -73,19 +76,32 @@ pub(crate) fn target_cause(
     target: &Target,
     fault: TargetFault,
 ) -> Result<Cause, NoMemory>
-    requires { fault ≡ NoQueue → (queue : List ℕ) × (target.now.arn ≡ queue_arn queue) }
+    requires queue { fault ≡ NoQueue → (queue : List ℕ) × (target.now.arn ≡ queue_arn queue) }
+    requires dead_letter_queue { fault ≡ NoDeadLetterQueue → (queue : List ℕ) × (target.now.dead_letter ≡ Some (queue_arn queue)) }
     ensures { IfOk result (λ cause. spec.IsTargetCause target.now fault cause) }
 {
     match fault {
         TargetFault::Member(member) => Ok(Cause::NotValid(member)),
-        TargetFault::NoQueue => match queue_name_in(target.arn.as_str()) {
-            Some(queue) => Ok(Cause::NotFound {
-                kind: Kind::Queue,
-                name: Text::from_str(alloc, queue)?,
-            }),
+        TargetFault::NoQueue => no_queue(alloc, target.arn.as_str()),
+        TargetFault::NoDeadLetterQueue => match &target.dead_letter {
+            Some(arn) => no_queue(alloc, arn.as_str()),
             None => unreachable!(),
         },
         TargetFault::Sixth => Ok(Cause::LimitReached(Kind::Target)),
+    }
+}
+
+/// The refusal that the queue of this ARN does not exist.
+fn no_queue(alloc: Global, arn: &str) -> Result<Cause, NoMemory>
+    requires { (queue : List ℕ) × (arn.now ≡ queue_arn queue) }
+    ensures { IfOk result (λ cause. (queue : List ℕ) × (arn.now ≡ queue_arn queue) × (cause ≡ cause_is.NotFound kind_is.Queue queue)) }
+{
+    match queue_name_in(arn) {
+        Some(queue) => Ok(Cause::NotFound {
+            kind: Kind::Queue,
+            name: Text::from_str(alloc, queue)?,
+        }),
+        None => unreachable!(),
     }
 }
 

@@ -5,6 +5,7 @@ ghost use Rattle.rule_table.specs.RuleSet.{IsAllowed};
 ghost use Rattle.rule_table.specs.View.{control_of};
 ghost use Rattle.rule_table.specs.WellFormed.{IsWellFormed};
 ghost use Rattle.api_replies.specs.View.{reply_of};
+ghost use Rattle.router_core.specs.Admitted.{IsUnnamed};
 ghost use Rattle.router_core.specs.Batch as batch;
 ghost use Rattle.router_core.specs.Tables.{is_full};
 ghost use Rattle.router_core.specs.View.{batch_of};
@@ -31,6 +32,7 @@ pub(crate) fn configure(
     requires moment { IsMoment moment }
     requires later { tables.now.moment ≤ moment }
     requires form { IsAllowed (control_of control) tables.now.set → IsWellFormed (control_of control) }
+    requires unnamed { IsAllowed (control_of control) tables.now.set → IsUnnamed (control_of control) tables.now.duties }
     ensures answer { IfOk result (λ p. IsControlled tables.now moment (control_of control) (reply_of reply) (answer_of p)) }
     ensures ready { IfOk result (λ p. IfSome p.0 (λ r. IsReadyFor tables.now r)) }
 {
@@ -61,6 +63,7 @@ fn one_change(
     requires numbered { is_full tables.now ≡ false }
     requires allowed { IsAllowed (control_of control) tables.now.set }
     requires form { IsWellFormed (control_of control) }
+    requires unnamed { IsUnnamed (control_of control) tables.now.duties }
     requires part { IsPartOf tables.now.set (batch.control (control_of control)) part }
     ensures batch { IfOk result (λ r. batch_of r.batch ≡ record { moment = moment; entries = batch.control (control_of control) ∷ [] }) }
     ensures ready { IfOk result (λ r. IsReadyFor tables.now r) }

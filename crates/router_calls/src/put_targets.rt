@@ -126,7 +126,7 @@ fn split_one(
 ) -> Result<(), NoMemory>
     ensures { OnOk result (IsOneSplit set.now target.now all.old all.new) }
 {
-    match set.target_fault(all.have.as_slice(), target) {
+    match set.target_fault(alloc, all.have.as_slice(), target)? {
         None => {
             put_target(&mut all.have, target.copy(alloc)?)?;
             all.accepted.push(target.copy(alloc)?)?;

@@ -23,6 +23,18 @@ pub(crate) fn text_reply(alloc: Global, key: &str, value: Text) -> Result<Reply,
     })
 }
 
+/// A reply with one member, which is a number.
+pub(crate) fn number_reply(alloc: Global, key: &str, value: u64) -> Result<Reply, NoMemory>
+    ensures { IfOk result (λ r. reply_of r ≡ replies.served ((key.now, number (decimal value)) ∷ [])) }
+{
+    let mut members: Members = Vec::with_capacity(alloc, 1)?;
+    push_member(alloc, &mut members, key, number_json(alloc, value)?)?;
+    Ok(Reply {
+        status: 200,
+        body: Json::Obj(members),
+    })
+}
+
 /// The number as JSON.
 pub(crate) fn number_json(alloc: Global, value: u64) -> Result<Json, NoMemory>
     ensures { IfOk result (λ j. tree_of j ≡ number (decimal value)) }

@@ -16,7 +16,10 @@ ghost use Rattle.router_calls.specs.Steps.{IsAnsweredBy, IsSeenOn};
 use crate::create_event_bus::create_event_bus;
 use crate::create_queue::create_queue;
 use crate::delete_event_bus::delete_event_bus;
+use crate::delete_messages::delete_messages;
+use crate::delete_queue::delete_queue;
 use crate::delete_rule::delete_rule;
+use crate::duty_counts::duty_counts;
 use crate::peek_messages::peek_messages;
 use crate::put_events::put_events;
 use crate::put_permission::{put_policy, put_statement};
@@ -104,9 +107,14 @@ fn answer(
             put_events(alloc, tables, moment, entries, *size, seen)
         }
         Action::CreateQueue { name } => create_queue(alloc, tables, moment, name),
+        Action::DeleteQueue { name } => delete_queue(alloc, tables, moment, name),
         Action::PeekMessages { queue, limit } => {
             peek_messages(alloc, tables, queue.as_str(), *limit)
         }
+        Action::DeleteMessages { queue, through } => {
+            delete_messages(alloc, tables, moment, queue, *through)
+        }
+        Action::DutyCounts => duty_counts(alloc, tables),
         Action::TestEventPattern { .. } => test_event_pattern(alloc, &seen.result),
         Action::DeliverDue { .. } => unreachable!(),
         Action::DescribeEventBus { name } => {

@@ -1,4 +1,4 @@
-ghost use Rattle.std.specs.Prelude.{◌≡◌, ◌≤◌, ◌⊎◌, All, IfOk, length, false, true};
+ghost use Rattle.std.specs.Prelude.{◌≡◌, ◌≤◌, ◌⊎◌, All, IfOk, IfSome, length, false, true};
 ghost use Rattle.json_text.specs.Moment.{IsMoment};
 ghost use Rattle.json_text.specs.View.{tree_of};
 ghost use Rattle.json_text.specs.Compact.{IsValue};
@@ -9,11 +9,15 @@ ghost use Rattle.router_core.specs.Request.{AreEntriesOf, IsEntitled, IsEntryOf,
 ghost use Rattle.router_core.specs.View.{action_of, request_of};
 ghost use Rattle.router_core.specs.Tables.{is_full};
 ghost use Rattle.router_core.specs.Matching.{HasValue};
+ghost use Rattle.router_core.specs.Ready.{IsReadyFor};
 ghost use Rattle.router_core.specs.Steps.{IsErrandOf};
 ghost use Rattle.router_calls.specs.Bounds.{IsBounded, IsForBus};
 
+mod queues;
+
 use crate::decide;
 use crate::requests::read_tables;
+use crate::tests::queues::queue_action;
 use api_replies::Reply;
 use bus_policy::{Policy, is_statement_id};
 use delivery_duties::{Fate, Outcome};
@@ -23,8 +27,8 @@ use event_shape::{
 };
 use json_text::{Bytes, Json, Text, read, write};
 use pattern_read::PatternText;
-use router_core::{Action, Errand, Request, Tables, see_plain};
-use rule_table::Target;
+use router_core::{Action, Errand, Ready, Request, Tables, see_plain};
+use rule_table::{RetryPolicy, Target};
 use std::alloc::Global;
 use std::test::Fail;
 
@@ -43,6 +47,8 @@ enum Step {
     DeleteRule(&'static str, &'static str),
     /// A bus, a rule, a target's id and its queue.
     Put(&'static str, &'static str, &'static str, &'static str),
+    /// Of the rule `r` on the bus `default`: a target's id, its ARN, its retry policy and the ARN of its dead-letter queue.
+    Aim(&'static str, &'static str, Option<RetryPolicy>, Option<&'static str>),
     /// A bus, a rule and ids of targets.
     Remove(&'static str, &'static str, &'static [&'static str]),
     /// A StatementId for the account of the stranger, on the bus `default`.
@@ -57,6 +63,10 @@ enum Step {
     /// The same, of the stranger.
     Stranger(&'static [&'static str]),
     Peek(&'static str),
+    DeleteQueue(&'static str),
+    /// A queue and a number.
+    DeleteMessages(&'static str, u32),
+    Counts,
     /// A pattern, which is tested on an event with source `a`.
     Test(&'static str),
 }
@@ -330,6 +340,8 @@ fn targets(alloc: Global, id: &str, queue: &str) -> Result<Vec<Target>, Fail>
         id: Text::from_str(alloc, id)?,
         arn: queue_arn(alloc, queue)?,
         unbuilt: None,
+        retry: None,
+        dead_letter: None,
     })?;
     Ok(targets)
 }
@@ -488,7 +500,7 @@ fn bus_action(alloc: Global, step: Step) -> Result<Action, Fail>
             bus: bus_name(alloc, "default")?,
         }),
         Step::Policy(policy) => policy_action(alloc, policy),
-        _ => Err(Fail::from("another step")),
+        _ => queue_action(alloc, step),
     }
 }
 
@@ -590,15 +602,30 @@ fn owners(alloc: Global, step: Step) -> Result<Request, Fail>
 
 /// One turn: decides the request and applies its change. Returns the status and text of the reply.
 fn turn(alloc: Global, tables: &mut Tables, step: Step) -> Result<String, Fail> {
-    read_tables(tables);
     let request = request(alloc, step)?;
+    answered(alloc, tables, &request)
+}
+
+fn answered(alloc: Global, tables: &mut Tables, request: &Request) -> Result<String, Fail>
+    requires few { IsBounded (action_of request.now.action) }
+    requires one_turn { IsOneTurn (action_of request.now.action) }
+    requires entitled { IsEntitled (request_of request.now) }
+    requires reading { request.now.reading ≡ 1700000000 }
+{
+    read_tables(tables);
     let moment = request.reading.max(tables.moment());
-    let seen = see_plain(alloc, tables.set(), &request)?;
-    let (ready, reply) = decide(alloc, tables, &request, moment, seen)?;
+    let seen = see_plain(alloc, tables.set(), request)?;
+    let (ready, reply) = decide(alloc, tables, request, moment, seen)?;
+    applied(tables, ready);
+    reply_text(alloc, &reply)
+}
+
+fn applied(tables: &mut Tables, ready: Option<Ready>)
+    requires { IfSome ready (λ r. IsReadyFor tables.old r) }
+{
     if let Some(ready) = ready {
         tables.apply(ready);
     }
-    reply_text(alloc, &reply)
 }
 
 /// The status and text of the reply.

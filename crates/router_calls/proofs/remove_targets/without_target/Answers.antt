@@ -16,3 +16,8 @@ pub loop-target-preserved : goal.loop-target-preserved
 loop-target-preserved c =
     let same : bytes_eq c.in-Some.target.id c.args.id.now ≡ true = search rules in
     (tt, tt, c.loop-target.invariant.2 ∙ sym (without_drop c.args.id.now c.loop-target.yielded c.in-Some.target same))
+
+pub loop-target-preserved-else-ne : goal.loop-target-preserved-else-ne
+loop-target-preserved-else-ne c =
+    let same : bytes_eq c.in-Some.target.id c.args.id.now ≡ true = search rules in
+    (tt, tt, c.loop-target.invariant.2 ∙ sym (without_drop c.args.id.now c.loop-target.yielded c.in-Some.target same))

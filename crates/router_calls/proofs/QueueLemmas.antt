@@ -1,0 +1,47 @@
+-- Queues that are deleted, and messages that are deleted: `queue_deleted_so` (the answer to a DeleteQueue) and `queue_there` (a queue with a message to
+-- delete exists).
+use Rattle.std.proofs.Common.{◌≡◌, ◌⊎◌, ℕ, ◌<◌, inl, inr, Bool, true, false, List, [], ◌∷◌, length, Option, refl, subst, arith}
+use Rattle.std.specs.Prelude.{cond, Result, Ok, Err, IfOk}
+use Rattle.std.specs.Str.{bytes_eq}
+use Rattle.rule_table.specs.Control.{queue_deleted}
+use Rattle.rule_table.specs.RuleSet.{has_queue}
+use Rattle.delivery_duties.specs.declared.stored.StoredMessage.{StoredMessage}
+use Rattle.delivery_duties.specs.Queues as queues
+use Rattle.delivery_duties.specs.Queues.{Queue, messages_of, messages_through}
+use Rattle.delivery_duties.specs.Duties.{IsNamed}
+use Rattle.api_replies.specs.Reply.{Reply}
+use Rattle.api_replies.specs.declared.reply.Reply.{Reply as CodeReply}
+use Rattle.router_core.specs.Tables.{Tables}
+use Rattle.router_core.specs.declared.ready.Ready.{Ready}
+use Rattle.router_calls.specs.Answer.{IsControlled, IsQueueDeleted, empty_reply}
+use Rattle.router_calls.specs.Decided.{answer_of}
+
+-- the queue exists, and a pending duty or a message names it
+abbrev IsInUse : Tables → List ℕ → Type 0
+IsInUse t name = (has_queue name t.set ≡ true) × IsNamed name t.duties
+
+not_both : (b : Bool) (Named : Type 0) → ¬ ((b ≡ true) × Named) → (b ≡ false) ⊎ ¬ Named
+not_both true Named free = inr (λ named. free (refl, named))
+not_both false Named free = inl refl
+
+pub queue_deleted_so : {E : Type 0} (r : Result (Option Ready × CodeReply) E) (t : Tables) (moment : ℕ) (name given : List ℕ) (reply : Reply)
+    → given ≡ name → ¬ (IsInUse t name) → reply ≡ empty_reply → IfOk r (λ p. IsControlled t moment (queue_deleted given) reply (answer_of p))
+    → IfOk r (λ p. IsQueueDeleted t moment name (answer_of p))
+queue_deleted_so (Ok p) t moment name given reply same free is h =
+    let other = subst (λ (n : List ℕ). IsControlled t moment (queue_deleted n) reply (answer_of p)) same h in
+    inr (
+      not_both (has_queue name t.set) (IsNamed name t.duties) free,
+      subst (λ (x : Reply). IsControlled t moment (queue_deleted name) x (answer_of p)) is other,
+    )
+queue_deleted_so (Err e) t moment name given reply same free is h = tt
+
+there_step : (b : Bool) (through : ℕ) (xs ys : List StoredMessage) (rest : Bool) → (0 < length (messages_through through ys) → rest ≡ true)
+    → 0 < length (messages_through through (cond b xs ys)) → cond b true rest ≡ true
+there_step true through xs ys rest more some = refl
+there_step false through xs ys rest more some = more some
+
+pub queue_there : (queue : List ℕ) (through : ℕ) (all : List Queue) → 0 < length (messages_through through (messages_of queue all))
+    → queues.has_queue queue all ≡ true
+queue_there queue through [] some = absurd (omega (arith, some))
+queue_there queue through (m ∷ ms) some =
+    there_step (bytes_eq m.name queue) through m.messages (messages_of queue ms) (queues.has_queue queue ms) (queue_there queue through ms) some

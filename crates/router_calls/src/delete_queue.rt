@@ -1,0 +1,47 @@
+//! DeleteQueue.
+ghost use Rattle.std.specs.Prelude.{◌≡◌, ◌↔◌, ◌≤◌, true, IfOk, IfSome, IsTrue};
+ghost use Rattle.json_text.specs.Moment.{IsMoment};
+ghost use Rattle.event_shape.specs.Names.{IsQueueName};
+ghost use Rattle.rule_table.specs.RuleSet.{has_queue};
+ghost use Rattle.delivery_duties.specs.Duties.{IsNamed};
+ghost use Rattle.router_core.specs.Ready.{IsReadyFor};
+ghost use Rattle.router_calls.specs.Answer.{IsQueueDeleted};
+ghost use Rattle.router_calls.specs.Decided.{answer_of};
+
+use crate::configure::configure;
+use crate::reply::{empty_reply, refused};
+use json_text::{NoMemory, Text};
+use router_core::{Cause, Kind, Ready, Reply, Tables};
+use rule_table::Control;
+use std::alloc::Global;
+
+/// Deletes the queue. A queue that a target, a dead-letter setting, a pending delivery or a message names is in use.
+pub(crate) fn delete_queue(
+    alloc: Global,
+    tables: &Tables,
+    moment: u64,
+    name: &Text,
+) -> Result<(Option<Ready>, Reply), NoMemory>
+    requires moment { IsMoment moment }
+    requires later { tables.now.moment ≤ moment }
+    requires queue { IsQueueName name.now }
+    ensures answer { IfOk result (λ p. IsQueueDeleted tables.now moment name.now (answer_of p)) }
+    ensures ready { IfOk result (λ p. IfSome p.0 (λ r. IsReadyFor tables.now r)) }
+{
+    if is_named(tables, name.as_str()) {
+        let name = name.copy(alloc)?;
+        let kind = Kind::Queue;
+        return refused(alloc, &Cause::InUse { kind, name });
+    }
+    let control = Control::QueueDeleted {
+        name: name.copy(alloc)?,
+    };
+    configure(alloc, tables, moment, control, empty_reply(alloc))
+}
+
+/// Whether the queue exists, and a pending delivery or a message names it.
+fn is_named(tables: &Tables, queue: &str) -> bool
+    ensures { IsTrue result ↔ (has_queue queue.now tables.now.set ≡ true) × IsNamed queue.now tables.now.duties }
+{
+    tables.set().queue(queue) && tables.duties().names(queue)
+}
