@@ -1,5 +1,6 @@
 pub mod RefusalLemmas
 pub mod ValueLemmas
+pub mod CountLemmas
 pub mod IdLemmas
 pub mod OneLemmas
 pub mod PatternLemmas

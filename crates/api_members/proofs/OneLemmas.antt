@@ -1,9 +1,8 @@
 -- Sound members have no refusal, and members have at most one first refusal. Other files cite `sound_no_first` and `one_first`, and
--- `one_bus` and `one_count` (what is given is read in one way).
-use Rattle.std.proofs.Common.{◌≡◌, ℕ, ◌<◌, ◌^◌, ◌≤◌, inl, inr, ◌⊎◌, List, [], ◌∷◌, ◌++◌, Some, None, sym, ◌∙◌, arith}
+-- `one_bus` (what is given is read in one way).
+use Rattle.std.proofs.Common.{◌≡◌, ℕ, inl, inr, ◌⊎◌, List, [], ◌∷◌, ◌++◌, Some, None, sym, ◌∙◌}
 use Rattle.std.specs.Prelude.{Option}
-use Rattle.std.proofs.lemmas.Fmt.{decimal_injective}
-use Rattle.json_text.specs.Tree.{Tree, number, text, Members}
+use Rattle.json_text.specs.Tree.{Tree, text, Members}
 use Rattle.event_shape.proofs.CheckedOnce.{bus_once}
 use Rattle.api_replies.specs.declared.member.Member.{Member}
 use Rattle.api_replies.specs.declared.cause.Cause.{Cause}
@@ -18,7 +17,7 @@ use Rattle.api_members.proofs.PatternLemmas.{one_pattern_refusal}
 use Rattle.api_members.proofs.PolicyLemmas.{never_faulty, one_fault}
 use Rattle.api_members.specs.Why.{why_name}
 use Rattle.api_members.specs.Given.{given}
-use Rattle.api_members.specs.Value.{IsValid, IsCount, HasCount, HasBus, GivesOr}
+use Rattle.api_members.specs.Value.{IsValid, HasBus, GivesOr}
 use Rattle.api_members.specs.Refusal.{policy_cause, IsValueRefused, ValidOr, RefusedOr, IsSoundMember, IsMemberRefused, AreSound, IsFirstRefusal}
 
 valid_not_refused : (s : Syntax) (m : Member) (t : Tree) (c : Cause) → IsValid s t → IsValueRefused s m t c → ⊥
@@ -27,12 +26,12 @@ valid_not_refused syntax.RuleName m t c v r = r.0 v
 valid_not_refused syntax.BusName m t c v r = r.0 v
 valid_not_refused syntax.Bus m t c v r = r.0 v
 valid_not_refused syntax.AnyText m t c v r = r.0 v
-valid_not_refused syntax.QueueArn m t c v r = r.0 v
+valid_not_refused syntax.TargetArn m t c v r = r.0 v
 valid_not_refused syntax.Pattern m (text b) c v r = never_refused b v.0 r.0 r.1 v.1 r.2
 valid_not_refused syntax.Pattern m _ c v r = absurd v
 valid_not_refused syntax.Event m t c v r = r.0 v
 valid_not_refused syntax.State m t c v r = r.0 v
-valid_not_refused (syntax.Count most) m t c v r = r.0 v
+valid_not_refused (syntax.Count least most) m t c v r = r.0 v
 valid_not_refused syntax.Entries m t c v r = r.0 v
 valid_not_refused syntax.Targets m t c v r = r.0 v
 valid_not_refused syntax.Ids m t c v r = r.0 v
@@ -59,14 +58,14 @@ one_value_refusal syntax.RuleName m t c d p q = p.1 ∙ sym q.1
 one_value_refusal syntax.BusName m t c d p q = p.1 ∙ sym q.1
 one_value_refusal syntax.Bus m t c d p q = p.1 ∙ sym q.1
 one_value_refusal syntax.AnyText m t c d p q = p.1 ∙ sym q.1
-one_value_refusal syntax.QueueArn m t c d p q = p.1 ∙ sym q.1
+one_value_refusal syntax.TargetArn m t c d p q = p.1 ∙ sym q.1
 one_value_refusal syntax.Pattern m (text b) c d p q =
     let same = one_pattern_refusal b p.0 q.0 p.1 q.1 p.2 q.2 in
     p.3 ∙ (λ i. cause.NotAPattern (why_name (same.0 i)) (path_text (same.1 i))) ∙ sym q.3
 one_value_refusal syntax.Pattern m _ c d p q = p.1 ∙ sym q.1
 one_value_refusal syntax.Event m t c d p q = p.1 ∙ sym q.1
 one_value_refusal syntax.State m t c d p q = p.1 ∙ sym q.1
-one_value_refusal (syntax.Count most) m t c d p q = p.1 ∙ sym q.1
+one_value_refusal (syntax.Count least most) m t c d p q = p.1 ∙ sym q.1
 one_value_refusal syntax.Entries m t c d p q = p.1 ∙ sym q.1
 one_value_refusal syntax.Targets m t c d p q = p.1 ∙ sym q.1
 one_value_refusal syntax.Ids m t c d p q = p.1 ∙ sym q.1
@@ -139,18 +138,3 @@ one_bus_given (Some t) a b p q = bus_once t a b p q
 
 pub one_bus : (t : Option (List ℕ)) (default a b : List ℕ) → GivesOr (HasBus t) default a → GivesOr (HasBus t) default b → a ≡ b
 one_bus t default a b = one_or (HasBus t) default (one_bus_given t) a b
-
-one_count_in : (most : ℕ) (t : Tree) (a b : ℕ) → most ≤ 1000 → IsCount most t a → IsCount most t b → a ≡ b
-one_count_in most (number spelling) a b few p q =
-    let small : a < 2 ^ 64 = omega (arith, few, p.1) in
-    let little : b < 2 ^ 64 = omega (arith, few, q.1) in
-    decimal_injective a b small little (sym p.2 ∙ q.2)
-one_count_in most _ a b few p q = absurd p
-
-one_count_given : (most : ℕ) (v : Option Tree) (a b : ℕ) → most ≤ 1000 → HasCount most v a → HasCount most v b → a ≡ b
-one_count_given most None a b few p q = absurd p
-one_count_given most (Some t) a b few p q = one_count_in most t a b few p q
-
-pub one_count : (most : ℕ) (v : Option Tree) (default a b : ℕ) → most ≤ 1000 → GivesOr (HasCount most v) default a
-    → GivesOr (HasCount most v) default b → a ≡ b
-one_count most v default a b few = one_or (HasCount most v) default (λ x y. one_count_given most v x y few) a b

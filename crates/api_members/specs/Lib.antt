@@ -2,6 +2,7 @@ pub mod Why
 pub mod Fault
 pub mod Given
 pub mod JsonType
+pub mod Count
 pub mod Entry
 pub mod CheckedEntry
 pub mod Target

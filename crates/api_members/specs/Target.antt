@@ -1,10 +1,12 @@
--- The targets of a PutTargets: the JSON types of their members. Whether the values are valid is decided target by target.
-use Rattle.std.specs.Prelude.{Bool, ◌&&◌, codes}
+-- The targets of a PutTargets: the JSON types of their members, and what is read of two of them. Whether the values are valid is decided
+-- target by target.
+use Rattle.std.specs.Prelude.{ℕ, Bool, ◌&&◌, List, Option, Some, None, option_and_then, codes}
 use Rattle.json_text.specs.Tree.{Tree, Members}
 use Rattle.api_replies.specs.declared.member.Member.TheVariants.{Id, Arn, Input, InputPath, InputTransformer, RetryPolicy, DeadLetterConfig}
 use Rattle.api_members.specs.declared.json_type.JsonType.TheVariants as is
-use Rattle.api_members.specs.Given.{value_at, given, object_in}
+use Rattle.api_members.specs.Given.{value_at, given, text_given, object_in, members_in}
 use Rattle.api_members.specs.JsonType.{may_pass, must_pass, may_be, must_be}
+use Rattle.api_members.specs.Count.{count_of}
 
 -- InputTransformer {InputPathsMap?, InputTemplate}
 abbrev pub is_transformer : Tree → Bool
@@ -29,3 +31,20 @@ are_target_members ms = must_be is.Text (given Id ms) && must_be is.Text (given 
 -- an object with an Id and an Arn, whose members have their types
 abbrev pub is_target : Tree → Bool
 is_target tree = must_pass are_target_members (object_in tree)
+
+-- a number of a retry policy, whose type has this greatest value: `default` if it is absent, none if it is no whole number that fits
+abbrev pub number_or : ℕ → ℕ → Option Tree → Option ℕ
+number_or default greatest None = Some default
+number_or default greatest (Some tree) = count_of 0 greatest tree
+
+-- the number of retries that the policy allows
+abbrev pub attempts_given : Members → Option ℕ
+attempts_given policy = number_or 185 65535 (value_at (codes "MaximumRetryAttempts") policy)
+
+-- the age in seconds up to which the policy allows attempts
+abbrev pub age_given : Members → Option ℕ
+age_given policy = number_or 86400 4294967295 (value_at (codes "MaximumEventAgeInSeconds") policy)
+
+-- the ARN of the dead-letter queue, if the target's members give one
+abbrev pub dead_letter_given : Members → Option (List ℕ)
+dead_letter_given ms = option_and_then (λ config. text_given Arn (members_in config)) (given DeadLetterConfig ms)

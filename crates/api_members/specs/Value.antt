@@ -1,16 +1,18 @@
 -- Which values are valid for a member.
-use Rattle.std.specs.Prelude.{◌≡◌, ℕ, ◌≤◌, nat_le, ◌⊎◌, Bool, true, false, ◌&&◌, List, length, Option, Some, None, codes, decimal, IsTrue, All}
+use Rattle.std.specs.Prelude.{◌≡◌, ℕ, ◌≤◌, nat_le, ◌⊎◌, Bool, true, false, ◌&&◌, List, length, Option, Some, None, codes, IsSome, IsTrue, All}
 use Rattle.std.specs.List.{list_all}
-use Rattle.json_text.specs.Tree.{Tree, truth, number, text}
+use Rattle.json_text.specs.Tree.{Tree, truth, text}
 use Rattle.event_shape.specs.Names.{IsQueueName, IsShortName, IsBusName, IsQueueArn, IsBusGiven, is_account}
 use Rattle.bus_policy.specs.Text.{IsPolicyText}
 use Rattle.bus_policy.specs.StatementId.{IsStatementId}
 use Rattle.pattern_meaning.specs.Pattern.{Pattern}
 use Rattle.pattern_read.specs.Text.{IsPatternText}
+use Rattle.http_target.specs.Endpoint.{is_endpoint}
 use Rattle.api_members.specs.declared.asked.Syntax.{Syntax}
 use Rattle.api_members.specs.declared.asked.Syntax.TheVariants as syntax
 use Rattle.api_members.specs.Given.{list_in}
 use Rattle.api_members.specs.JsonType.{is_text, must_pass}
+use Rattle.api_members.specs.Count.{count_of}
 use Rattle.api_members.specs.Entry.{is_entry}
 use Rattle.api_members.specs.Target.{is_target}
 use Rattle.api_members.specs.Event.{GivesEvent}
@@ -32,18 +34,9 @@ IsPattern t = (p : Pattern) × IsPatternText t p
 abbrev pub IsState : List ℕ → Type 0
 IsState t = (t ≡ codes "ENABLED") ⊎ (t ≡ codes "DISABLED")
 
--- the spelling is that of this number, in decimal digits without a sign, a leading zero, a fraction or an exponent; from 1 to `most`
-abbrev pub IsSpelled : ℕ → List ℕ → ℕ → Type 0
-IsSpelled most spelling n = (1 ≤ n) × (n ≤ most) × (spelling ≡ decimal n)
-
--- the value is this number
-abbrev pub IsCount : ℕ → Tree → ℕ → Type 0
-IsCount most (number spelling) n = IsSpelled most spelling n
-IsCount most _ n = ⊥
-
--- the text is a queue's ARN
-abbrev pub GivesQueueArn : List ℕ → Type 0
-GivesQueueArn t = (queue : List ℕ) × IsQueueArn t queue
+-- the text is the ARN of a target: a queue's, or an endpoint
+abbrev pub IsTargetArn : List ℕ → Type 0
+IsTargetArn t = ((queue : List ℕ) × IsQueueArn t queue) ⊎ IsTrue (is_endpoint t)
 
 -- the text is some policy
 abbrev pub GivesPolicy : List ℕ → Type 0
@@ -66,11 +59,6 @@ is_truth _ = false
 abbrev pub GivesOr : {X : Type 0} → (X → Type 0) → X → X → Type 0
 GivesOr {X} Gives default x = Gives x ⊎ ((x ≡ default) × ((other : X) → ¬ Gives other))
 
--- the member gives this number
-abbrev pub HasCount : ℕ → Option Tree → ℕ → Type 0
-HasCount most None n = ⊥
-HasCount most (Some tree) n = IsCount most tree n
-
 -- the member gives this bus
 abbrev pub HasBus : Option (List ℕ) → List ℕ → Type 0
 HasBus None bus = ⊥
@@ -91,11 +79,11 @@ IsValid syntax.RuleName tree = IsTextThat IsShortName tree
 IsValid syntax.BusName tree = IsTextThat IsBusName tree
 IsValid syntax.Bus tree = IsTextThat GivesBus tree
 IsValid syntax.AnyText tree = IsTrue (is_text tree)
-IsValid syntax.QueueArn tree = IsTextThat GivesQueueArn tree
+IsValid syntax.TargetArn tree = IsTextThat IsTargetArn tree
 IsValid syntax.Pattern tree = IsTextThat IsPattern tree
 IsValid syntax.Event tree = IsTextThat GivesEvent tree
 IsValid syntax.State tree = IsTextThat IsState tree
-IsValid (syntax.Count most) tree = (n : ℕ) × IsCount most tree n
+IsValid (syntax.Count least most) tree = IsSome (count_of least most tree)
 IsValid syntax.Entries tree = IsTrue (is_list_of is_entry 10 tree)
 IsValid syntax.Targets tree = IsTrue (is_list_of is_target 100 tree)
 IsValid syntax.Ids tree = AreIds tree

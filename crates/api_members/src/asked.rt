@@ -14,16 +14,16 @@ pub enum Syntax {
     Bus,
     /// Any text.
     AnyText,
-    /// The ARN of a queue.
-    QueueArn,
+    /// The ARN of a queue, or an endpoint.
+    TargetArn,
     /// The text of an event pattern.
     Pattern,
     /// The text of an event.
     Event,
     /// `ENABLED` or `DISABLED`.
     State,
-    /// A whole number from 1 to the given one, both included.
-    Count(u32),
+    /// A whole number from `least` to `most`, both included.
+    Count { least: u64, most: u64 },
     /// 1 to 10 entries of a PutEvents.
     Entries,
     /// 1 to 100 targets of a PutTargets.

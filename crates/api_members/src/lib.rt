@@ -18,12 +18,13 @@ mod why;
 pub use asked::{Asked, Syntax};
 pub use check::check_members;
 pub use checked_entry::{CheckedEntry, check_entries, total_size};
-pub use count::count_given;
+pub use count::{count_given, count_or};
 pub use entry::{read_entries, read_text, read_texts};
 pub use event::read_event;
 pub use fault::CallFault;
 pub use laws::one_first_refusal;
 pub use members::{given, members_in, text_given, text_of, values_in};
+pub use target::{age_given, attempts_given, read_dead_letter};
 pub use value::bus_given;
 
 #[cfg(test)]

@@ -20,6 +20,7 @@ use event_shape::{
     DEFAULT_BUS, bus_of, is_account, is_bus_name, is_queue_name, is_rule_name, is_target_id,
     queue_of,
 };
+use http_target::is_endpoint;
 use json_text::{Json, NoMemory, Text};
 use std::alloc::Global;
 
@@ -88,22 +89,22 @@ fn bus_name(text: Option<&str>) -> &str
     }
 }
 
-/// Whether the value is the ARN of a queue.
-pub(crate) fn is_arn(value: &Json) -> bool
-    ensures { IsTrue result ↔ spec.IsTextThat spec.GivesQueueArn (tree_of value.now) }
+/// Whether the value is the ARN of a queue, or an endpoint.
+pub(crate) fn is_target_arn(alloc: Global, value: &Json) -> Result<bool, NoMemory>
+    ensures { IfOk result (λ b. IsTrue b ↔ spec.IsTextThat spec.IsTargetArn (tree_of value.now)) }
 {
     match value {
-        Json::Str(text) => gives_queue(text.as_str()),
-        Json::Null | Json::Truth(_) | Json::Num(_) | Json::List(_) | Json::Obj(_) => false,
+        Json::Str(text) => names_target(alloc, text.as_str()),
+        Json::Null | Json::Truth(_) | Json::Num(_) | Json::List(_) | Json::Obj(_) => Ok(false),
     }
 }
 
-fn gives_queue(text: &str) -> bool
-    ensures { IsTrue result ↔ spec.GivesQueueArn text.now }
+fn names_target(alloc: Global, text: &str) -> Result<bool, NoMemory>
+    ensures { IfOk result (λ b. IsTrue b ↔ spec.IsTargetArn text.now) }
 {
     match queue_of(text) {
-        Some(_) => true,
-        None => false,
+        Some(_) => Ok(true),
+        None => is_endpoint(alloc, text),
     }
 }
 
