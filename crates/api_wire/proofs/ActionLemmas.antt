@@ -1,5 +1,5 @@
 -- The members of an operation make at most one action: `one_action`.
-use Rattle.std.proofs.Common.{◌≡◌, ℕ, true, false, List, Option, None, sym, ap, ◌∙◌, subst, arith}
+use Rattle.std.proofs.Common.{◌≡◌, ℕ, true, false, List, Option, Some, None, refl, sym, ap, ◌∙◌, subst}
 use Rattle.std.specs.Prelude.{IsSome}
 use Rattle.std.proofs.lemmas.Bool.{false≢true}
 use Rattle.json_text.specs.Tree.{Tree, Members}
@@ -9,20 +9,21 @@ use Rattle.bus_policy.proofs.ReadLemmas.{one_policy}
 use Rattle.router_core.specs.Request.{Action, create_event_bus, delete_event_bus, describe_event_bus, list_event_buses, put_rule, delete_rule}
 use Rattle.router_core.specs.Request.{put_rule_state, describe_rule, list_rules, put_targets, remove_targets, list_targets_by_rule}
 use Rattle.router_core.specs.Request.{list_rule_names_by_target, put_policy, put_statement, remove_policy, remove_statement, put_events}
-use Rattle.router_core.specs.Request.{test_event_pattern, create_queue, peek_messages, deliver_due}
+use Rattle.router_core.specs.Request.{test_event_pattern, create_queue, delete_queue, peek_messages, delete_messages, deliver_due, duty_counts}
 use Rattle.api_replies.specs.declared.member.Member.{Member}
 use Rattle.api_replies.specs.declared.member.Member.TheVariants as member
 use Rattle.api_members.specs.Given.{given, text_given, text_of, values_in}
 use Rattle.api_members.specs.Entry.{texts_of, entries_of}
+use Rattle.api_members.specs.Count.{count_given}
 use Rattle.api_members.proofs.CheckedLemmas.{one_checking}
-use Rattle.api_members.proofs.OneLemmas.{one_bus, one_count}
+use Rattle.api_members.proofs.OneLemmas.{one_bus}
 use Rattle.api_members.proofs.TextLemmas.{one_event}
 use Rattle.api_wire.specs.declared.call.operation.Operation.{Operation}
 use Rattle.api_wire.specs.declared.call.operation.Operation.TheVariants.{CreateEventBus, DeleteEventBus, DescribeEventBus, ListEventBuses}
 use Rattle.api_wire.specs.declared.call.operation.Operation.TheVariants.{PutRule, DeleteRule, EnableRule, DisableRule, DescribeRule, ListRules}
 use Rattle.api_wire.specs.declared.call.operation.Operation.TheVariants.{PutTargets, RemoveTargets, ListTargetsByRule, ListRuleNamesByTarget}
 use Rattle.api_wire.specs.declared.call.operation.Operation.TheVariants.{PutPermission, RemovePermission, PutEvents, TestEventPattern}
-use Rattle.api_wire.specs.declared.call.operation.Operation.TheVariants.{CreateQueue, PeekMessages, DeliverDue}
+use Rattle.api_wire.specs.declared.call.operation.Operation.TheVariants.{CreateQueue, DeleteQueue, PeekMessages, DeleteMessages, DeliverDue, DutyCounts}
 use Rattle.api_wire.specs.Call.{NamesBusIn, NamesBus, account_in, IsStoredAs, targets_of, IsAction}
 
 -- the members of the operation make at most one action
@@ -190,19 +191,41 @@ one_create_queue caller ms reading (create_queue s) (create_queue t) p q = ap cr
 one_create_queue caller ms reading (create_queue s) _ p q = absurd q
 one_create_queue caller ms reading _ b p q = absurd p
 
+one_delete_queue : OneAction DeleteQueue
+one_delete_queue caller ms reading (delete_queue s) (delete_queue t) p q = ap delete_queue (p ∙ sym q)
+one_delete_queue caller ms reading (delete_queue s) _ p q = absurd q
+one_delete_queue caller ms reading _ b p q = absurd p
+
 one_peek_messages : OneAction PeekMessages
 one_peek_messages caller ms reading (peek_messages s n) (peek_messages t m) p q =
     let queue = p.0 ∙ sym q.0 in
-    let limit = one_count 1000 (given member.Limit ms) 10 n m (omega arith) p.1 q.1 in
+    let limit = p.1 ∙ sym q.1 in
     λ i. peek_messages (queue i) (limit i)
 one_peek_messages caller ms reading (peek_messages s n) _ p q = absurd q
 one_peek_messages caller ms reading _ b p q = absurd p
 
+one_some : (v : Option ℕ) (n m : ℕ) → v ≡ Some n → v ≡ Some m → n ≡ m
+one_some v n m p q =
+    let both : Some n ≡ Some m = sym p ∙ q in
+    cc
+
+one_delete_messages : OneAction DeleteMessages
+one_delete_messages caller ms reading (delete_messages s n) (delete_messages t m) p q =
+    let queue = p.0 ∙ sym q.0 in
+    let through = one_some (count_given 0 281474976710655 (given member.Through ms)) n m p.1 q.1 in
+    λ i. delete_messages (queue i) (through i)
+one_delete_messages caller ms reading (delete_messages s n) _ p q = absurd q
+one_delete_messages caller ms reading _ b p q = absurd p
+
 one_deliver_due : OneAction DeliverDue
-one_deliver_due caller ms reading (deliver_due n) (deliver_due m) p q =
-    ap deliver_due (one_count 1000 (given member.Budget ms) 100 n m (omega arith) p q)
+one_deliver_due caller ms reading (deliver_due n) (deliver_due m) p q = ap deliver_due (p ∙ sym q)
 one_deliver_due caller ms reading (deliver_due n) _ p q = absurd q
 one_deliver_due caller ms reading _ b p q = absurd p
+
+one_duty_counts : OneAction DutyCounts
+one_duty_counts caller ms reading duty_counts duty_counts p q = refl
+one_duty_counts caller ms reading duty_counts _ p q = absurd q
+one_duty_counts caller ms reading _ b p q = absurd p
 
 pub one_action : (operation : Operation) (caller : List ℕ) (ms : Members) (reading : ℕ) (a b : Action) → IsAction operation caller ms reading a
     → IsAction operation caller ms reading b → a ≡ b
@@ -225,5 +248,8 @@ one_action RemovePermission = one_remove_permission
 one_action PutEvents = one_put_events
 one_action TestEventPattern = one_test_event_pattern
 one_action CreateQueue = one_create_queue
+one_action DeleteQueue = one_delete_queue
 one_action PeekMessages = one_peek_messages
+one_action DeleteMessages = one_delete_messages
 one_action DeliverDue = one_deliver_due
+one_action DutyCounts = one_duty_counts

@@ -5,7 +5,7 @@ use Rattle.std.specs.Str.{bytes_eq}
 use Rattle.std.proofs.lemmas.Bool.Decides.{nat_tests}
 use Rattle.std.proofs.lemmas.List.{length-map}
 use Rattle.std.proofs.lemmas.List.Elements.{All-nil, All-cons, All-head, All-tail}
-use Rattle.json_text.specs.Tree.{Tree, number, text, Members}
+use Rattle.json_text.specs.Tree.{Tree, text, Members}
 use Rattle.json_text.specs.Compact.{IsValue, compact_text}
 use Rattle.json_text.proofs.ValueLemmas.{text_is_value}
 use Rattle.json_text.specs.Access.{text_in}
@@ -28,9 +28,11 @@ use Rattle.api_members.specs.JsonType.{must_pass}
 use Rattle.api_members.specs.Entry.{is_entry, texts_of, entry_with, entries_of}
 use Rattle.api_members.specs.CheckedEntry.{IsChecked, AreChecked}
 use Rattle.api_members.specs.Target.{is_target}
-use Rattle.api_members.specs.Value.{IsTextThat, GivesQueueArn, IsGrantee, are_few, is_list_of, IsCount, HasCount, HasBus, GivesOr, IsValid}
+use Rattle.api_members.specs.Count.{count_given}
+use Rattle.api_members.specs.Value.{IsTextThat, IsTargetArn, IsGrantee, are_few, is_list_of, HasBus, GivesOr, IsValid}
 use Rattle.api_members.specs.Refusal.{ValidOr, IsSoundMember}
 use Rattle.api_members.proofs.CheckedLemmas.{checked_len}
+use Rattle.api_members.proofs.CountLemmas.{within_limits}
 use Rattle.api_members.proofs.TextLemmas.{valid_text}
 use Rattle.api_wire.specs.Call.{NamesBusIn, account_in, IsStoredAs, target_with, targets_of}
 
@@ -57,9 +59,9 @@ bus_name m ms sound = valid_text IsBusName syntax.BusName (given m ms) (λ t is.
 pub queue_name : (m : Member) (ms : Members) → IsSoundMember (Required m syntax.QueueName) ms → IsQueueName (text_of m ms)
 queue_name m ms sound = valid_text IsQueueName syntax.QueueName (given m ms) (λ t is. is) sound
 
--- a required ARN of a queue
-pub queue_arn : (m : Member) (ms : Members) → IsSoundMember (Required m syntax.QueueArn) ms → GivesQueueArn (text_of m ms)
-queue_arn m ms sound = valid_text GivesQueueArn syntax.QueueArn (given m ms) (λ t is. is) sound
+-- a required ARN of a target
+pub target_arn : (m : Member) (ms : Members) → IsSoundMember (Required m syntax.TargetArn) ms → IsTargetArn (text_of m ms)
+target_arn m ms sound = valid_text IsTargetArn syntax.TargetArn (given m ms) (λ t is. is) sound
 
 -- a required StatementId
 pub statement_id : (m : Member) (ms : Members) → IsSoundMember (Required m syntax.StatementId) ms → IsStatementId (text_of m ms)
@@ -127,18 +129,16 @@ each_checked P reading caller (e ∷ entries) all event fault checked =
     one (Ok u) is = event u (subst IsBusName (sym is.3) (entry_bus e.bus is.0.bus is.1.bus))
     one (Err f) is = fault f
 
-count_in : (most : ℕ) (tree : Tree) (n : ℕ) → IsCount most tree n → (1 ≤ n) × (n ≤ most)
-count_in most (number spelling) n is = (is.0, is.1)
-count_in most _ n is = absurd is
+counted : (least most default n : ℕ) (v : Option ℕ) → ((m : ℕ) → v ≡ Some m → (least ≤ m) × (m ≤ most)) → least ≤ default → default ≤ most
+    → n ≡ unwrap_or v default → (least ≤ n) × (n ≤ most)
+counted least most default n None within some fits is = rw is (some, fits)
+counted least most default n (Some m) within some fits is = rw is (within m refl)
 
-count_given : (most : ℕ) (v : Option Tree) (n : ℕ) → HasCount most v n → (1 ≤ n) × (n ≤ most)
-count_given most None n is = absurd is
-count_given most (Some tree) n is = count_in most tree n is
-
-pub count_bounds : (most default : ℕ) (v : Option Tree) (n : ℕ) → 1 ≤ default → default ≤ most → GivesOr (HasCount most v) default n
-    → (1 ≤ n) × (n ≤ most)
-count_bounds most default v n some fits (inl is) = count_given most v n is
-count_bounds most default v n some fits (inr is) = (omega (arith, is.0), omega (arith, is.0))
+-- a number that is given is within its limits, and so is one that is not if the default is
+pub count_bounds : (least most default : ℕ) (v : Option Tree) (n : ℕ) → least ≤ default → default ≤ most
+    → n ≡ unwrap_or (count_given least most v) default → (least ≤ n) × (n ≤ most)
+count_bounds least most default v n some fits is =
+    counted least most default n (count_given least most v) (within_limits least most v) some fits is
 
 -- each of the values is a text
 texts_len : (values : List Tree) → All (IsTextThat IsShortName) values → length (texts_of values) ≡ length values

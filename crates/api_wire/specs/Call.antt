@@ -1,6 +1,6 @@
 -- Which request a message asks for, and its first refusal.
 use Rattle.std.specs.Prelude.{◌≡◌, ℕ, ◌-◌, ◌^◌, min, Bool, true, false, not, List, [], ◌∷◌, Option, Some, None, IsSome, is_some, if◌then◌else◌}
-use Rattle.std.specs.Prelude.{codes, map, IsTrue}
+use Rattle.std.specs.Prelude.{codes, map, unwrap_or, IsTrue}
 use Rattle.std.specs.Str.{bytes_eq}
 use Rattle.json_text.specs.Tree.{Tree, truth, object, Members, no_members}
 use Rattle.json_text.specs.Compact.{compact_text}
@@ -8,11 +8,12 @@ use Rattle.json_text.specs.Node.{Node, value_of}
 use Rattle.json_text.specs.Grammar.{IsText}
 use Rattle.event_shape.specs.Names.{default_bus, owner, is_account}
 use Rattle.bus_policy.specs.Text.{IsPolicyText}
+use Rattle.rule_table.specs.declared.control.RetryPolicy.{RetryPolicy}
 use Rattle.rule_table.specs.declared.control.Target.{Target}
 use Rattle.router_core.specs.Request.{Action, Request, create_event_bus, delete_event_bus, describe_event_bus, list_event_buses, put_rule, delete_rule}
 use Rattle.router_core.specs.Request.{put_rule_state, describe_rule, list_rules, put_targets, remove_targets, list_targets_by_rule}
 use Rattle.router_core.specs.Request.{list_rule_names_by_target, put_policy, put_statement, remove_policy, remove_statement, put_events}
-use Rattle.router_core.specs.Request.{test_event_pattern, create_queue, peek_messages, deliver_due}
+use Rattle.router_core.specs.Request.{test_event_pattern, create_queue, delete_queue, peek_messages, delete_messages, deliver_due, duty_counts}
 use Rattle.api_replies.specs.declared.member.Member.{Member}
 use Rattle.api_replies.specs.declared.member.Member.TheVariants as member
 use Rattle.api_replies.specs.declared.cause.Cause.{Cause}
@@ -24,17 +25,29 @@ use Rattle.api_members.specs.Given.{given, text_given, text_of, values_in, membe
 use Rattle.api_members.specs.Entry.{texts_of, entries_of}
 use Rattle.api_members.specs.CheckedEntry.{AreChecked, total_size}
 use Rattle.api_members.specs.Event.{IsEventGiven}
-use Rattle.api_members.specs.Value.{GivesOr, HasCount, HasBus}
+use Rattle.api_members.specs.Count.{count_given}
+use Rattle.api_members.specs.Target.{attempts_given, age_given, dead_letter_given}
+use Rattle.api_members.specs.Value.{GivesOr, HasBus}
 use Rattle.api_members.specs.Refusal.{AreSound, IsFirstRefusal}
 use Rattle.api_wire.specs.declared.call.operation.Operation.{Operation}
 use Rattle.api_wire.specs.declared.call.operation.Operation.TheVariants.{CreateEventBus, DeleteEventBus, DescribeEventBus, ListEventBuses}
 use Rattle.api_wire.specs.declared.call.operation.Operation.TheVariants.{PutRule, DeleteRule, EnableRule, DisableRule, DescribeRule, ListRules}
 use Rattle.api_wire.specs.declared.call.operation.Operation.TheVariants.{PutTargets, RemoveTargets, ListTargetsByRule, ListRuleNamesByTarget}
 use Rattle.api_wire.specs.declared.call.operation.Operation.TheVariants.{PutPermission, RemovePermission, PutEvents, TestEventPattern}
-use Rattle.api_wire.specs.declared.call.operation.Operation.TheVariants.{CreateQueue, PeekMessages, DeliverDue}
+use Rattle.api_wire.specs.declared.call.operation.Operation.TheVariants.{CreateQueue, DeleteQueue, PeekMessages, DeleteMessages, DeliverDue, DutyCounts}
 use Rattle.api_messages.specs.declared.message.Message.{Message}
 
--- the operation of an X-Amz-Target, which is compared exactly
+-- the operations that are this project's own; a name is compared exactly
+abbrev pub local_operation : List ℕ → Option Operation
+local_operation name =
+    if bytes_eq name (codes "RouterLocal.CreateQueue") then Some CreateQueue else (
+    if bytes_eq name (codes "RouterLocal.DeleteQueue") then Some DeleteQueue else (
+    if bytes_eq name (codes "RouterLocal.PeekMessages") then Some PeekMessages else (
+    if bytes_eq name (codes "RouterLocal.DeleteMessages") then Some DeleteMessages else (
+    if bytes_eq name (codes "RouterLocal.DeliverDue") then Some DeliverDue else (
+    if bytes_eq name (codes "RouterLocal.DutyCounts") then Some DutyCounts else None)))))
+
+-- the operation of an X-Amz-Target: one of the public API, or one of those
 abbrev pub named_operation : List ℕ → Option Operation
 named_operation name =
     if bytes_eq name (codes "AWSEvents.CreateEventBus") then Some CreateEventBus else (
@@ -54,10 +67,7 @@ named_operation name =
     if bytes_eq name (codes "AWSEvents.PutPermission") then Some PutPermission else (
     if bytes_eq name (codes "AWSEvents.RemovePermission") then Some RemovePermission else (
     if bytes_eq name (codes "AWSEvents.PutEvents") then Some PutEvents else (
-    if bytes_eq name (codes "AWSEvents.TestEventPattern") then Some TestEventPattern else (
-    if bytes_eq name (codes "RouterLocal.CreateQueue") then Some CreateQueue else (
-    if bytes_eq name (codes "RouterLocal.PeekMessages") then Some PeekMessages else (
-    if bytes_eq name (codes "RouterLocal.DeliverDue") then Some DeliverDue else None))))))))))))))))))))
+    if bytes_eq name (codes "AWSEvents.TestEventPattern") then Some TestEventPattern else local_operation name)))))))))))))))))
 
 -- the operation of a message; a message without the field has none
 abbrev pub operation_of : Option (List ℕ) → Option Operation
@@ -88,15 +98,18 @@ asked ListRules ms = Optional member.NamePrefix syntax.AnyText ∷ Optional memb
 asked PutTargets ms = Required member.Rule syntax.RuleName ∷ Optional member.EventBusName syntax.Bus ∷ Required member.Targets syntax.Targets ∷ []
 asked RemoveTargets ms = Required member.Rule syntax.RuleName ∷ Optional member.EventBusName syntax.Bus ∷ Required member.Ids syntax.Ids ∷ []
 asked ListTargetsByRule ms = Required member.Rule syntax.RuleName ∷ Optional member.EventBusName syntax.Bus ∷ []
-asked ListRuleNamesByTarget ms = Required member.TargetArn syntax.QueueArn ∷ Optional member.EventBusName syntax.Bus ∷ []
+asked ListRuleNamesByTarget ms = Required member.TargetArn syntax.TargetArn ∷ Optional member.EventBusName syntax.Bus ∷ []
 asked PutPermission ms = permission_asked (given member.Policy ms)
 asked RemovePermission ms = Optional member.EventBusName syntax.Bus ∷ Optional member.RemoveAllPermissions syntax.Truth
     ∷ Optional member.StatementId syntax.StatementId ∷ []
 asked PutEvents ms = Required member.Entries syntax.Entries ∷ []
 asked TestEventPattern ms = Required member.EventPattern syntax.Pattern ∷ Required member.Event syntax.Event ∷ []
 asked CreateQueue ms = Required member.QueueName syntax.QueueName ∷ []
-asked PeekMessages ms = Required member.QueueName syntax.QueueName ∷ Optional member.Limit (syntax.Count 1000) ∷ []
-asked DeliverDue ms = Optional member.Budget (syntax.Count 1000) ∷ []
+asked DeleteQueue ms = Required member.QueueName syntax.QueueName ∷ []
+asked PeekMessages ms = Required member.QueueName syntax.QueueName ∷ Optional member.Limit (syntax.Count 1 1000) ∷ []
+asked DeleteMessages ms = Required member.QueueName syntax.QueueName ∷ Required member.Through (syntax.Count 0 281474976710655) ∷ []
+asked DeliverDue ms = Optional member.Budget (syntax.Count 1 1000) ∷ []
+asked DutyCounts ms = []
 
 -- the bus whose name or ARN this member gives, or else `default`
 abbrev pub NamesBusIn : Member → Members → List ℕ → Type 0
@@ -130,11 +143,22 @@ first_given (m ∷ others) ms = if is_some (given m ms) then Some m else first_g
 
 -- the members of a target that are not supported yet
 abbrev pub unsupported : List Member
-unsupported = member.Input ∷ member.InputPath ∷ member.InputTransformer ∷ member.RetryPolicy ∷ member.DeadLetterConfig ∷ []
+unsupported = member.Input ∷ member.InputPath ∷ member.InputTransformer ∷ []
+
+-- the retry policy that is given; `{}` has both numbers too, since each has a default
+abbrev pub retry_given : Option Tree → Option RetryPolicy
+retry_given None = None
+retry_given (Some policy) = Some (record { attempts = attempts_given (members_in policy); age = age_given (members_in policy) })
 
 -- the target with these members
 abbrev pub target_with : Members → Target
-target_with ms = record { id = text_of member.Id ms; arn = text_of member.Arn ms; unbuilt = first_given unsupported ms }
+target_with ms = record {
+  id = text_of member.Id ms;
+  arn = text_of member.Arn ms;
+  unbuilt = first_given unsupported ms;
+  retry = retry_given (given member.RetryPolicy ms);
+  dead_letter = dead_letter_given ms;
+}
 
 -- the targets that these values are
 abbrev pub targets_of : List Tree → List Target
@@ -173,9 +197,13 @@ IsAction PutEvents caller ms reading (put_events entries size) =
 IsAction TestEventPattern caller ms reading (test_event_pattern pattern event) = (pattern ≡ text_of member.EventPattern ms)
     × IsEventGiven (text_of member.Event ms) event
 IsAction CreateQueue caller ms reading (create_queue name) = name ≡ text_of member.QueueName ms
+IsAction DeleteQueue caller ms reading (delete_queue name) = name ≡ text_of member.QueueName ms
 IsAction PeekMessages caller ms reading (peek_messages queue limit) = (queue ≡ text_of member.QueueName ms)
-    × GivesOr (HasCount 1000 (given member.Limit ms)) 10 limit
-IsAction DeliverDue caller ms reading (deliver_due budget) = GivesOr (HasCount 1000 (given member.Budget ms)) 100 budget
+    × (limit ≡ unwrap_or (count_given 1 1000 (given member.Limit ms)) 10)
+IsAction DeleteMessages caller ms reading (delete_messages queue through) = (queue ≡ text_of member.QueueName ms)
+    × (count_given 0 281474976710655 (given member.Through ms) ≡ Some through)
+IsAction DeliverDue caller ms reading (deliver_due budget) = budget ≡ unwrap_or (count_given 1 1000 (given member.Budget ms)) 100
+IsAction DutyCounts caller ms reading duty_counts = Unit {0}
 IsAction _ _ _ _ _ = ⊥
 
 -- the body is an object of at most 100 levels; an empty one counts as `{}`

@@ -13,10 +13,13 @@ mod body;
 mod create_event_bus;
 mod create_queue;
 mod delete_event_bus;
+mod delete_messages;
+mod delete_queue;
 mod delete_rule;
 mod deliver_due;
 mod describe_event_bus;
 mod describe_rule;
+mod duty_counts;
 mod list_event_buses;
 mod list_rule_names_by_target;
 mod list_rules;
@@ -39,10 +42,13 @@ use body::read_body;
 use create_event_bus::create_event_bus;
 use create_queue::create_queue;
 use delete_event_bus::delete_event_bus;
+use delete_messages::delete_messages;
+use delete_queue::delete_queue;
 use delete_rule::delete_rule;
 use deliver_due::deliver_due;
 use describe_event_bus::describe_event_bus;
 use describe_rule::describe_rule;
+use duty_counts::duty_counts;
 use event_shape::{OWNER, is_account};
 use json_text::{Json, NoMemory, Text};
 use list_event_buses::list_event_buses;
@@ -134,7 +140,10 @@ fn read_action(
         Operation::PutEvents => put_events(alloc, members, caller, reading),
         Operation::TestEventPattern => test_event_pattern(alloc, members),
         Operation::CreateQueue => create_queue(alloc, members),
+        Operation::DeleteQueue => delete_queue(alloc, members),
         Operation::PeekMessages => peek_messages(alloc, members),
+        Operation::DeleteMessages => delete_messages(alloc, members),
         Operation::DeliverDue => Ok(deliver_due(members)),
+        Operation::DutyCounts => Ok(duty_counts()),
     }
 }

@@ -1,9 +1,8 @@
+mod requests;
+
 use crate::{CallFault, Message, WireIn, read_call};
-use api_members::CheckedEntry;
-use event_shape::EntryFault;
-use json_text::{Json, Text};
-use router_core::{Action, Request};
-use rule_table::Target;
+use json_text::Text;
+use router_core::Request;
 use std::alloc::Global;
 use std::test::Fail;
 
@@ -85,7 +84,7 @@ const NAMES: [(&str, &str, &str); 23] = [
         r#"{"QueueName":"q""#,
         "The body is not a JSON object.",
     ),
-    ("RouterLocal.DeleteQueue", "[1]", "Unknown operation."),
+    ("RouterLocal.RenameQueue", "[1]", "Unknown operation."),
     (
         "routerlocal.createqueue",
         r#"{"QueueName":"q"}"#,
@@ -146,9 +145,97 @@ fn a_message_has_its_first_refusal(rt: HostRuntime) -> Result<(), Fail> {
     Ok(())
 }
 
+/// Calls that delete queues and messages, and DutyCounts, which has no members. Worked by hand.
+const DELETIONS: [(&str, &str, &str); 18] = [
+    ("RouterLocal.DeleteQueue", r#"{"QueueName":"q"}"#, ""),
+    (
+        "RouterLocal.DeleteQueue",
+        "",
+        "Member QueueName is required.",
+    ),
+    (
+        "RouterLocal.DeleteQueue",
+        r#"{"QueueName":"q.x"}"#,
+        "Member QueueName is not valid.",
+    ),
+    (
+        "RouterLocal.DeleteMessages",
+        r#"{"QueueName":"q","Through":0}"#,
+        "",
+    ),
+    (
+        "RouterLocal.DeleteMessages",
+        r#"{"QueueName":"q","Through":1}"#,
+        "",
+    ),
+    (
+        "RouterLocal.DeleteMessages",
+        r#"{"QueueName":"q","Through":281474976710655}"#,
+        "",
+    ),
+    (
+        "RouterLocal.DeleteMessages",
+        r#"{"QueueName":"q","Through":281474976710656}"#,
+        "Member Through is not valid.",
+    ),
+    (
+        "RouterLocal.DeleteMessages",
+        r#"{"QueueName":"q","Through":1.0}"#,
+        "Member Through is not valid.",
+    ),
+    (
+        "RouterLocal.DeleteMessages",
+        r#"{"QueueName":"q","Through":-0}"#,
+        "Member Through is not valid.",
+    ),
+    (
+        "RouterLocal.DeleteMessages",
+        r#"{"QueueName":"q","Through":"1"}"#,
+        "Member Through is not valid.",
+    ),
+    (
+        "RouterLocal.DeleteMessages",
+        r#"{"QueueName":"q"}"#,
+        "Member Through is required.",
+    ),
+    (
+        "RouterLocal.DeleteMessages",
+        r#"{"QueueName":"q","Through":null}"#,
+        "Member Through is required.",
+    ),
+    (
+        "RouterLocal.DeleteMessages",
+        r#"{"Through":-1}"#,
+        "Member QueueName is required.",
+    ),
+    (
+        "RouterLocal.DeleteMessages",
+        r#"{"QueueName":"q","Through":007}"#,
+        "The body is not a JSON object.",
+    ),
+    ("RouterLocal.DutyCounts", "", ""),
+    ("RouterLocal.DutyCounts", "{}", ""),
+    ("RouterLocal.DutyCounts", r#"{"QueueName":1}"#, ""),
+    (
+        "RouterLocal.DutyCounts",
+        "[]",
+        "The body is not a JSON object.",
+    ),
+];
+
+#[test]
+fn a_deletion_has_its_first_refusal(rt: HostRuntime) -> Result<(), Fail> {
+    for (operation, body, want) in DELETIONS {
+        let message = call(rt.alloc(), operation, body)?;
+        let text = refusal(rt.alloc(), read_call(rt.alloc(), &message, 0))?;
+        assert_eq!(rt; text.as_str(), want, "{operation} {body}");
+    }
+    Ok(())
+}
+
 /// A caller, an operation, a body, and the message of the refusal: the caller before the body, and the body before what the caller
 /// may call.
-const CALLERS: [(&str, &str, &str, &str); 11] = [
+const CALLERS: [(&str, &str, &str, &str); 12] = [
     ("1", "AWSEvents.ListRule", "[", "Unknown operation."),
     (
         "11112222333",
@@ -183,6 +270,12 @@ const CALLERS: [(&str, &str, &str, &str); 11] = [
     (
         "444455556666",
         "RouterLocal.DeliverDue",
+        "",
+        "Only the owner may call this.",
+    ),
+    (
+        "444455556666",
+        "RouterLocal.DutyCounts",
         "",
         "Only the owner may call this.",
     ),
@@ -286,7 +379,12 @@ const BUSES: [(&str, &str, &str); 20] = [
 ];
 
 /// Calls on targets and a RemovePermission. Worked by hand from the public API Reference.
-const REMOVALS: [(&str, &str, &str); 16] = [
+const REMOVALS: [(&str, &str, &str); 19] = [
+    (
+        "AWSEvents.PutTargets",
+        r#"{"Rule":"r","Targets":[{"Id":"1","Arn":"a","RetryPolicy":{"MaximumRetryAttempts":007}}]}"#,
+        "The body is not a JSON object.",
+    ),
     (
         "AWSEvents.RemoveTargets",
         r#"{"Rule":"r","Ids":["1","2"]}"#,
@@ -317,6 +415,16 @@ const REMOVALS: [(&str, &str, &str); 16] = [
         "AWSEvents.ListRuleNamesByTarget",
         r#"{"TargetArn":"arn:aws:sqs:us-east-1:111122223333:q"}"#,
         "",
+    ),
+    (
+        "AWSEvents.ListRuleNamesByTarget",
+        r#"{"TargetArn":"http://localhost:9000/a"}"#,
+        "",
+    ),
+    (
+        "AWSEvents.ListRuleNamesByTarget",
+        r#"{"TargetArn":"http://localhost/#","EventBusName":1}"#,
+        "Member TargetArn is not valid.",
     ),
     (
         "AWSEvents.ListRuleNamesByTarget",
@@ -636,280 +744,5 @@ fn entries_have_their_json_types(rt: HostRuntime) -> Result<(), Fail> {
         };
         assert_eq!(rt; text.as_str(), want, "{entries}");
     }
-    Ok(())
-}
-
-fn is_target(target: &Target, id: &str, arn: &str) -> bool {
-    target.id.as_str() == id && target.arn.as_str() == arn
-}
-
-/// Whether the action puts target 1 with the endpoint a and target 2 with b, in this order, to the rule r of the bus b.
-fn puts_two_targets(action: &Action) -> bool {
-    match action {
-        Action::PutTargets { bus, rule, targets } => match targets.as_slice() {
-            [first, second] => {
-                bus.as_str() == "b"
-                    && rule.as_str() == "r"
-                    && is_target(first, "1", "a")
-                    && is_target(second, "2", "b")
-            }
-            _ => false,
-        },
-        _ => false,
-    }
-}
-
-fn is_event(entry: &CheckedEntry, source: &str, detail_type: &str, bus: &str) -> bool {
-    match entry {
-        Ok(event) => {
-            event.source() == source && event.detail_type() == detail_type && event.bus() == bus
-        }
-        Err(_) => false,
-    }
-}
-
-fn has_fault(entry: &CheckedEntry, wanted: EntryFault) -> bool {
-    match entry {
-        Ok(_) => false,
-        Err(fault) => *fault == wanted,
-    }
-}
-
-/// Whether the action puts an event on the bus b and then an entry without a source, of 21 bytes together.
-fn puts_two_entries(action: &Action) -> bool {
-    match action {
-        Action::PutEvents { entries, size } => match entries.as_slice() {
-            [first, second] => {
-                *size == 21
-                    && is_event(first, "s", "t", "b")
-                    && has_fault(second, EntryFault::Source)
-            }
-            _ => false,
-        },
-        _ => false,
-    }
-}
-
-fn disables_a_rule(action: &Action) -> bool {
-    match action {
-        Action::PutRule {
-            bus,
-            name,
-            pattern: _,
-            enabled,
-        } => bus.as_str() == "default" && name.as_str() == "r" && !enabled,
-        _ => false,
-    }
-}
-
-fn peeks(action: &Action, wanted: u32) -> bool {
-    match action {
-        Action::PeekMessages { queue, limit } => queue.as_str() == "q" && *limit == wanted,
-        _ => false,
-    }
-}
-
-#[test]
-fn a_request_has_what_the_message_gives(rt: HostRuntime) -> Result<(), Fail> {
-    let body =
-        r#"{"Rule":"r","EventBusName":"b","Targets":[{"Id":"1","Arn":"a"},{"Arn":"b","Id":"2"}]}"#;
-    let put_targets = call(rt.alloc(), "AWSEvents.PutTargets", body)?;
-    let request = read_call(rt.alloc(), &put_targets, 7)?;
-    assert_eq!(rt; request.reading, 7);
-    assert!(rt; puts_two_targets(&request.action));
-    let body =
-        r#"{"Entries":[{"Source":"s","DetailType":"t","Detail":"{}","Time":1,"Resources":["r1"],"EventBusName":"b"},{"Detail":"x"}]}"#;
-    let put_events = call(rt.alloc(), "AWSEvents.PutEvents", body)?;
-    let request = read_call(rt.alloc(), &put_events, 0)?;
-    assert!(rt; puts_two_entries(&request.action));
-    let body = r#"{"Name":"r","EventPattern":"{\"source\":[\"a\"]}","State":"DISABLED"}"#;
-    let put_rule = call(rt.alloc(), "AWSEvents.PutRule", body)?;
-    let request = read_call(rt.alloc(), &put_rule, 0)?;
-    assert!(rt; disables_a_rule(&request.action));
-    let peek = call(
-        rt.alloc(),
-        "RouterLocal.PeekMessages",
-        r#"{"QueueName":"q"}"#,
-    )?;
-    let request = read_call(rt.alloc(), &peek, 0)?;
-    assert!(rt; peeks(&request.action, 10));
-    Ok(())
-}
-
-/// Whether the request is one of this caller, and puts one event of its account.
-fn publishes(request: &Request, caller: &str) -> bool {
-    match &request.action {
-        Action::PutEvents { entries, size: _ } => match entries.as_slice() {
-            [one] => request.caller.as_str() == caller && is_event_of(one, caller),
-            _ => false,
-        },
-        _ => false,
-    }
-}
-
-fn is_event_of(entry: &CheckedEntry, account: &str) -> bool {
-    match entry {
-        Ok(event) => match event.tree().member("account") {
-            Some(value) => is_text(value, account),
-            None => false,
-        },
-        Err(_) => false,
-    }
-}
-
-fn is_text(value: &Json, wanted: &str) -> bool {
-    match value.as_text() {
-        Some(text) => text == wanted,
-        None => false,
-    }
-}
-
-#[test]
-fn an_event_has_the_account_of_its_caller(rt: HostRuntime) -> Result<(), Fail> {
-    let body = r#"{"Entries":[{"Source":"s","DetailType":"t","Detail":"{}"}]}"#;
-    for caller in ["444455556666", "111122223333"] {
-        let message = call_by(rt.alloc(), caller, "AWSEvents.PutEvents", body)?;
-        let request = read_call(rt.alloc(), &message, 0)?;
-        assert!(rt; publishes(&request, caller), "{caller}");
-    }
-    let message = call(rt.alloc(), "AWSEvents.PutEvents", body)?;
-    let request = read_call(rt.alloc(), &message, 0)?;
-    assert!(rt; publishes(&request, "111122223333"), "no caller");
-    Ok(())
-}
-
-/// Whether the action puts this policy.
-fn puts_policy(action: &Action, wanted: &str) -> bool {
-    match action {
-        Action::PutPolicy { bus, policy } => bus.as_str() == "b" && policy.as_str() == wanted,
-        _ => false,
-    }
-}
-
-/// Whether the action adds a statement for this account; empty for everyone.
-fn puts_statement(action: &Action, wanted: &str) -> bool {
-    match action {
-        Action::PutStatement { bus, sid, account } => {
-            bus.as_str() == "default" && sid.as_str() == "a" && is_given(account, wanted)
-        }
-        _ => false,
-    }
-}
-
-/// Whether the text is given, or none if nothing is wanted.
-fn is_given(text: &Option<Text>, wanted: &str) -> bool {
-    match text {
-        Some(text) => text.as_str() == wanted,
-        None => wanted == "",
-    }
-}
-
-fn removes_statement(action: &Action, wanted: &str) -> bool {
-    match action {
-        Action::RemoveStatement { bus, sid } => {
-            bus.as_str() == "default" && is_given(sid, wanted)
-        }
-        _ => false,
-    }
-}
-
-fn removes_policy(action: &Action) -> bool {
-    match action {
-        Action::RemovePolicy { bus } => bus.as_str() == "default",
-        _ => false,
-    }
-}
-
-#[test]
-fn a_permission_has_what_the_message_gives(rt: HostRuntime) -> Result<(), Fail> {
-    let body =
-        r#"{"EventBusName":"b","Policy":"{\"Id\":1, \"Statement\":[],\"Version\":\"2008-10-17\"}"}"#;
-    let policy = call(rt.alloc(), "AWSEvents.PutPermission", body)?;
-    let request = read_call(rt.alloc(), &policy, 0)?;
-    let wanted = r#"{"Version":"2008-10-17","Statement":[]}"#;
-    assert!(rt; puts_policy(&request.action, wanted));
-    let body = r#"{"StatementId":"a","Action":"events:PutEvents","Principal":"444455556666"}"#;
-    let account = call(rt.alloc(), "AWSEvents.PutPermission", body)?;
-    let request = read_call(rt.alloc(), &account, 0)?;
-    assert!(rt; puts_statement(&request.action, "444455556666"));
-    let body = r#"{"StatementId":"a","Action":"events:PutEvents","Principal":"*"}"#;
-    let everyone = call(rt.alloc(), "AWSEvents.PutPermission", body)?;
-    let request = read_call(rt.alloc(), &everyone, 0)?;
-    assert!(rt; puts_statement(&request.action, ""));
-    Ok(())
-}
-
-#[test]
-fn a_removal_has_what_the_message_gives(rt: HostRuntime) -> Result<(), Fail> {
-    let statement = call(
-        rt.alloc(),
-        "AWSEvents.RemovePermission",
-        r#"{"StatementId":"a","RemoveAllPermissions":false}"#,
-    )?;
-    let request = read_call(rt.alloc(), &statement, 0)?;
-    assert!(rt; removes_statement(&request.action, "a"));
-    let none = call(rt.alloc(), "AWSEvents.RemovePermission", "")?;
-    let request = read_call(rt.alloc(), &none, 0)?;
-    assert!(rt; removes_statement(&request.action, ""));
-    let all = call(
-        rt.alloc(),
-        "AWSEvents.RemovePermission",
-        r#"{"StatementId":"a","RemoveAllPermissions":true}"#,
-    )?;
-    let request = read_call(rt.alloc(), &all, 0)?;
-    assert!(rt; removes_policy(&request.action));
-    Ok(())
-}
-
-/// Whether the action removes the targets 1 and 2, in this order, from the rule r of the bus b.
-fn removes_two_targets(action: &Action) -> bool {
-    match action {
-        Action::RemoveTargets { bus, rule, ids } => match ids.as_slice() {
-            [first, second] => {
-                bus.as_str() == "b"
-                    && rule.as_str() == "r"
-                    && first.as_str() == "1"
-                    && second.as_str() == "2"
-            }
-            _ => false,
-        },
-        _ => false,
-    }
-}
-
-fn sets_state(action: &Action, wanted: bool) -> bool {
-    match action {
-        Action::PutRuleState { bus, name, enabled } => {
-            bus.as_str() == "default" && name.as_str() == "r" && *enabled == wanted
-        }
-        _ => false,
-    }
-}
-
-fn lists_rules(action: &Action, wanted: &str) -> bool {
-    match action {
-        Action::ListRules { bus, prefix } => bus.as_str() == "default" && is_given(prefix, wanted),
-        _ => false,
-    }
-}
-
-#[test]
-fn a_call_on_a_rule_has_what_the_message_gives(rt: HostRuntime) -> Result<(), Fail> {
-    let remove = call(
-        rt.alloc(),
-        "AWSEvents.RemoveTargets",
-        r#"{"Rule":"r","EventBusName":"b","Ids":["1","2"]}"#,
-    )?;
-    let request = read_call(rt.alloc(), &remove, 0)?;
-    assert!(rt; removes_two_targets(&request.action));
-    let enable = call(rt.alloc(), "AWSEvents.EnableRule", r#"{"Name":"r"}"#)?;
-    let request = read_call(rt.alloc(), &enable, 0)?;
-    assert!(rt; sets_state(&request.action, true));
-    let disable = call(rt.alloc(), "AWSEvents.DisableRule", r#"{"Name":"r"}"#)?;
-    let request = read_call(rt.alloc(), &disable, 0)?;
-    assert!(rt; sets_state(&request.action, false));
-    let list = call(rt.alloc(), "AWSEvents.ListRules", r#"{"NamePrefix":"or"}"#)?;
-    let request = read_call(rt.alloc(), &list, 0)?;
-    assert!(rt; lists_rules(&request.action, "or"));
     Ok(())
 }

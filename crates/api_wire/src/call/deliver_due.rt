@@ -6,7 +6,7 @@ ghost use Rattle.router_core.specs.View.{action_of};
 ghost use Rattle.api_wire.specs.Call.{IsAction};
 ghost use Rattle.api_wire.specs.declared.call.operation.Operation.TheVariants.{DeliverDue};
 
-use api_members::count_given;
+use api_members::count_or;
 use api_replies::Member;
 use json_text::{Json, Text};
 use router_core::Action;
@@ -21,6 +21,6 @@ pub(super) fn deliver_due(members: &[(Text, Json)]) -> Action
     ensures { (caller : List ℕ) (reading : ℕ) → IsAction DeliverDue caller (members_of (pairs_of members.now)) reading (action_of result) }
 {
     Action::DeliverDue {
-        budget: count_given(members, Member::Budget, BUDGET, DEFAULT_BUDGET),
+        budget: count_or(members, Member::Budget, BUDGET, DEFAULT_BUDGET),
     }
 }

@@ -5,7 +5,7 @@ ghost use Rattle.json_text.specs.Tree.{members_of};
 ghost use Rattle.json_text.specs.View.{tree_of, pairs_of};
 ghost use Rattle.event_shape.specs.Names.{owner};
 ghost use Rattle.api_members.specs.Refusal.{AreSound, FirstFault};
-ghost use Rattle.api_wire.specs.Call.{asked, permission_asked, named_operation, operation_of, MayCall};
+ghost use Rattle.api_wire.specs.Call.{asked, permission_asked, local_operation, named_operation, operation_of, MayCall};
 
 use api_members::{Asked, CallFault, Syntax, check_members, given};
 use api_replies::Member;
@@ -35,8 +35,11 @@ pub enum Operation {
     PutEvents,
     TestEventPattern,
     CreateQueue,
+    DeleteQueue,
     PeekMessages,
+    DeleteMessages,
     DeliverDue,
+    DutyCounts,
 }
 
 impl Operation {
@@ -83,9 +86,21 @@ fn named_operation(name: &str) -> Option<Operation>
         "AWSEvents.RemovePermission" => Some(Operation::RemovePermission),
         "AWSEvents.PutEvents" => Some(Operation::PutEvents),
         "AWSEvents.TestEventPattern" => Some(Operation::TestEventPattern),
+        _ => local_operation(name),
+    }
+}
+
+/// The operations that are this project's own.
+fn local_operation(name: &str) -> Option<Operation>
+    ensures { result ≡ local_operation name.now }
+{
+    match name {
         "RouterLocal.CreateQueue" => Some(Operation::CreateQueue),
+        "RouterLocal.DeleteQueue" => Some(Operation::DeleteQueue),
         "RouterLocal.PeekMessages" => Some(Operation::PeekMessages),
+        "RouterLocal.DeleteMessages" => Some(Operation::DeleteMessages),
         "RouterLocal.DeliverDue" => Some(Operation::DeliverDue),
+        "RouterLocal.DutyCounts" => Some(Operation::DutyCounts),
         _ => None,
     }
 }
@@ -100,6 +115,23 @@ const RULE_NAME: Asked = Asked::Required(Member::Name, Syntax::RuleName);
 const RULE: Asked = Asked::Required(Member::Rule, Syntax::RuleName);
 
 const PREFIX: Asked = Asked::Optional(Member::NamePrefix, Syntax::AnyText);
+
+const QUEUE: Asked = Asked::Required(Member::QueueName, Syntax::QueueName);
+
+/// How many messages are shown, or attempts made.
+const UP_TO_1000: Syntax = Syntax::Count {
+    least: 1,
+    most: 1_000,
+};
+
+/// The greatest number that a message can have.
+pub(super) const LAST_NUMBER: u64 = 281_474_976_710_655;
+
+/// The number of a message, or 0, which none has.
+const NUMBER: Syntax = Syntax::Count {
+    least: 0,
+    most: LAST_NUMBER,
+};
 
 /// Checks the members against what the operation asks of them, and returns the first refusal.
 pub(super) fn check_asked(
@@ -137,7 +169,7 @@ pub(super) fn check_asked(
         }
         Operation::ListTargetsByRule => check_members(alloc, &[RULE, BUS], members),
         Operation::ListRuleNamesByTarget => {
-            let arn = Asked::Required(Member::TargetArn, Syntax::QueueArn);
+            let arn = Asked::Required(Member::TargetArn, Syntax::TargetArn);
             check_members(alloc, &[arn, BUS], members)
         }
         Operation::PutPermission => check_permission(alloc, members),
@@ -151,19 +183,20 @@ pub(super) fn check_asked(
             let event = Asked::Required(Member::Event, Syntax::Event);
             check_members(alloc, &[pattern, event], members)
         }
-        Operation::CreateQueue => {
-            let name = Asked::Required(Member::QueueName, Syntax::QueueName);
-            check_members(alloc, &[name], members)
-        }
+        Operation::CreateQueue | Operation::DeleteQueue => check_members(alloc, &[QUEUE], members),
         Operation::PeekMessages => {
-            let name = Asked::Required(Member::QueueName, Syntax::QueueName);
-            let limit = Asked::Optional(Member::Limit, Syntax::Count(1_000));
-            check_members(alloc, &[name, limit], members)
+            let limit = Asked::Optional(Member::Limit, UP_TO_1000);
+            check_members(alloc, &[QUEUE, limit], members)
+        }
+        Operation::DeleteMessages => {
+            let through = Asked::Required(Member::Through, NUMBER);
+            check_members(alloc, &[QUEUE, through], members)
         }
         Operation::DeliverDue => {
-            let budget = Asked::Optional(Member::Budget, Syntax::Count(1_000));
+            let budget = Asked::Optional(Member::Budget, UP_TO_1000);
             check_members(alloc, &[budget], members)
         }
+        Operation::DutyCounts => Ok(()),
     }
 }
 

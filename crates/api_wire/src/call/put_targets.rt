@@ -1,16 +1,19 @@
 //! PutTargets.
 ghost use Rattle.std.specs.Prelude.{◌≡◌, ℕ, List, IfOk};
+ghost use Rattle.std.specs.Option.{option_map, option_copied};
 ghost use Rattle.json_text.specs.Tree.{members_of};
-ghost use Rattle.json_text.specs.View.{trees_of, pairs_of};
+ghost use Rattle.json_text.specs.View.{tree_of, trees_of, pairs_of};
 ghost use Rattle.router_core.specs.View.{action_of};
-ghost use Rattle.api_wire.specs.Call.{IsAction, target_with, targets_of, first_given, unsupported};
+ghost use Rattle.api_wire.specs.Call.{IsAction, retry_given, target_with, targets_of, first_given, unsupported};
 ghost use Rattle.api_wire.specs.declared.call.operation.Operation.TheVariants.{PutTargets};
 
-use api_members::{bus_given, given, members_in, text_of, values_in};
+use api_members::{
+    age_given, attempts_given, bus_given, given, members_in, read_dead_letter, text_of, values_in,
+};
 use api_replies::Member;
 use json_text::{Json, NoMemory, Text};
 use router_core::Action;
-use rule_table::Target;
+use rule_table::{RetryPolicy, Target};
 use std::alloc::Global;
 
 pub(super) fn put_targets(alloc: Global, members: &[(Text, Json)]) -> Result<Action, NoMemory>
@@ -38,11 +41,27 @@ fn read_target(alloc: Global, members: &[(Text, Json)]) -> Result<Target, NoMemo
 {
     let id = Text::from_str(alloc, text_of(members, Member::Id))?;
     let arn = Text::from_str(alloc, text_of(members, Member::Arn))?;
+    let dead_letter = read_dead_letter(alloc, members)?;
     Ok(Target {
         id,
         arn,
         unbuilt: first_unsupported(members),
+        retry: read_retry(given(members, Member::RetryPolicy)),
+        dead_letter,
     })
+}
+
+/// The retry policy that is given, with its default for each number that is absent.
+fn read_retry(policy: Option<&Json>) -> Option<RetryPolicy>
+    ensures { result ≡ retry_given (option_map tree_of (option_copied policy.entry)) }
+{
+    match policy {
+        Some(policy) => Some(RetryPolicy {
+            attempts: attempts_given(members_in(policy)),
+            age: age_given(members_in(policy)),
+        }),
+        None => None,
+    }
 }
 
 /// The first member of a target that is not supported yet.
@@ -55,10 +74,6 @@ fn first_unsupported(members: &[(Text, Json)]) -> Option<Member>
         Some(Member::InputPath)
     } else if given(members, Member::InputTransformer).is_some() {
         Some(Member::InputTransformer)
-    } else if given(members, Member::RetryPolicy).is_some() {
-        Some(Member::RetryPolicy)
-    } else if given(members, Member::DeadLetterConfig).is_some() {
-        Some(Member::DeadLetterConfig)
     } else {
         None
     }

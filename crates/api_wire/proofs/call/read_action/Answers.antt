@@ -1,3 +1,5 @@
+use Rattle.json_text.specs.Tree.{members_of}
+use Rattle.json_text.specs.View.{pairs_of}
 use Rattle.api_wire.proofs.call.read_action.Goals as goal
 
 pub returns-in-CreateEventBus : goal.returns-in-CreateEventBus
@@ -54,8 +56,17 @@ returns-in-TestEventPattern c = rw c.in-TestEventPattern.is (c.test_event_patter
 pub returns-in-CreateQueue : goal.returns-in-CreateQueue
 returns-in-CreateQueue c = rw c.in-CreateQueue.is (c.create_queue.ensures c.args.caller.now c.args.reading)
 
+pub returns-in-DeleteQueue : goal.returns-in-DeleteQueue
+returns-in-DeleteQueue c = rw c.in-DeleteQueue.is (c.delete_queue.ensures c.args.caller.now c.args.reading)
+
 pub returns-in-PeekMessages : goal.returns-in-PeekMessages
 returns-in-PeekMessages c = rw c.in-PeekMessages.is (c.peek_messages.ensures c.args.caller.now c.args.reading)
 
+pub returns-in-DeleteMessages : goal.returns-in-DeleteMessages
+returns-in-DeleteMessages c = rw c.in-DeleteMessages.is (c.delete_messages.ensures c.args.caller.now c.args.reading)
+
 pub returns-in-DeliverDue : goal.returns-in-DeliverDue
 returns-in-DeliverDue c = rw c.in-DeliverDue.is (c.deliver_due.ensures c.args.caller.now c.args.reading)
+
+pub returns-in-DutyCounts : goal.returns-in-DutyCounts
+returns-in-DutyCounts c = rw c.in-DutyCounts.is (c.duty_counts.ensures c.args.caller.now (members_of (pairs_of c.args.members.now)) c.args.reading)
