@@ -16,11 +16,13 @@ pub enum HostFault {
     NoMemory,
 }
 
-/// What opens disks, doors and links, and takes them back. What it opened and took back is not specified yet.
+/// What opens disks, doors and links, and takes them back. It shows the links that it gave and took back. Which disks and doors it gave and took back
+/// is not specified yet.
 pub trait Host {
+    ghost use Rattle.std.specs.Prelude.{List, [], ◌∷◌, ◌++◌, MatchResult};
     ghost use Rattle.router_disk.specs.Faults.{CountsFaults};
     ghost use Rattle.bus_host.specs.HostFault.{host_outcome};
-    ghost use Rattle.bus_host.specs.Host.{SameFaults};
+    ghost use Rattle.bus_host.specs.Host.{SameFaults, SameLinks};
 
     type Disk: Disk;
 
@@ -36,6 +38,12 @@ pub trait Host {
 
     /// The number of calls of `link` that have failed.
     ghost link_faults: { Self → ℕ };
+
+    /// The links given so far, in order, as they were given.
+    ghost links_given: { Self → List Self.Link };
+
+    /// The links taken back so far, in order, as they were then.
+    ghost links_back: { Self → List Self.Link };
 
     /// The count of faults of `disk`. It stays at the last `u64`.
     fn disk_faults(&self) -> u64
@@ -53,29 +61,39 @@ pub trait Host {
     fn disk(&mut self, path: &str) -> Result<Self::Disk, HostFault>
         ensures count { CountsFaults (disk_faults self.old) (disk_faults self.new) (host_outcome result) }
         ensures door { door_faults self.new ≡ door_faults self.old }
-        ensures link { link_faults self.new ≡ link_faults self.old };
+        ensures link { link_faults self.new ≡ link_faults self.old }
+        ensures links { SameLinks links_given links_back self.old self.new };
 
     /// A door at `port` of this machine.
     fn door(&mut self, port: u16) -> Result<Self::Door, HostFault>
         ensures count { CountsFaults (door_faults self.old) (door_faults self.new) (host_outcome result) }
         ensures disk { disk_faults self.new ≡ disk_faults self.old }
-        ensures link { link_faults self.new ≡ link_faults self.old };
+        ensures link { link_faults self.new ≡ link_faults self.old }
+        ensures links { SameLinks links_given links_back self.old self.new };
 
     /// A link to other machines.
     fn link(&mut self) -> Result<Self::Link, HostFault>
         ensures count { CountsFaults (link_faults self.old) (link_faults self.new) (host_outcome result) }
         ensures disk { disk_faults self.new ≡ disk_faults self.old }
-        ensures door { door_faults self.new ≡ door_faults self.old };
+        ensures door { door_faults self.new ≡ door_faults self.old }
+        ensures given { MatchResult result
+            (λ link. links_given self.new ≡ links_given self.old ++ link ∷ [])
+            (λ _. links_given self.new ≡ links_given self.old) }
+        ensures back { links_back self.new ≡ links_back self.old };
 
     /// Takes a disk back.
     fn back_disk(&mut self, disk: Self::Disk)
-        ensures { SameFaults disk_faults door_faults link_faults self.old self.new };
+        ensures faults { SameFaults disk_faults door_faults link_faults self.old self.new }
+        ensures links { SameLinks links_given links_back self.old self.new };
 
     /// Takes a door back.
     fn back_door(&mut self, door: Self::Door)
-        ensures { SameFaults disk_faults door_faults link_faults self.old self.new };
+        ensures faults { SameFaults disk_faults door_faults link_faults self.old self.new }
+        ensures links { SameLinks links_given links_back self.old self.new };
 
     /// Takes a link back.
     fn back_link(&mut self, link: Self::Link)
-        ensures { SameFaults disk_faults door_faults link_faults self.old self.new };
+        ensures faults { SameFaults disk_faults door_faults link_faults self.old self.new }
+        ensures given { links_given self.new ≡ links_given self.old }
+        ensures back { links_back self.new ≡ links_back self.old ++ link ∷ [] };
 }

@@ -1,4 +1,4 @@
-//! The host as traits: doors, disks, links and a gate; a host that opens nothing; a link and a door over TCP.
+//! The host as traits: doors, disks, links and a gate; a host that opens nothing; a host, a link and a door over TCP.
 #![tactic(auto)]
 
 mod closing;
@@ -14,6 +14,7 @@ mod mark;
 mod mem_door;
 mod no_host;
 mod tcp_door;
+mod tcp_host;
 mod tcp_sink;
 mod tcp_source;
 
@@ -25,6 +26,7 @@ pub use http_link::HttpLink;
 pub use mem_door::{MemDoor, Plan};
 pub use no_host::{NoDisk, NoDoor, NoHost, NoLink};
 pub use tcp_door::TcpDoor;
+pub use tcp_host::TcpHost;
 pub use tcp_sink::TcpSink;
 pub use tcp_source::TcpSource;
 

@@ -1,9 +1,10 @@
 // A host whose every call fails, with a disk, a door and a link whose calls fail.
-ghost use Rattle.std.specs.Prelude.{◌≡◌, ◌≤◌, Err};
+ghost use Rattle.std.specs.Prelude.{◌≡◌, ◌≤◌, [], ◌∷◌, ◌++◌, map, Err};
 ghost use Rattle.router_disk.specs.Faults.{CountsFaults, Rose};
 ghost use Rattle.bus_host.specs.HostFault.{host_outcome};
 
 use crate::{Door, Host, HostFault, Knock};
+use http_server::Log;
 use router_disk::{Disk, Failed, Link, LinkFault, MemSink, MemSource};
 
 /// A disk whose every call fails.
@@ -25,11 +26,12 @@ pub struct NoLink {
 }
 
 /// A host that opens nothing: each call that can fail fails.
-#[derive(Debug, Default, Drop)]
+#[derive(Drop)]
 pub struct NoHost {
     disk_faults: u64,
     door_faults: u64,
     link_faults: u64,
+    links_back: Log<NoLink, ()>,
 }
 
 impl NoHost {
@@ -38,11 +40,13 @@ impl NoHost {
         ensures disk { ⟦<NoHost as Host>⟧.disk_faults result ≡ 0 }
         ensures door { ⟦<NoHost as Host>⟧.door_faults result ≡ 0 }
         ensures link { ⟦<NoHost as Host>⟧.link_faults result ≡ 0 }
+        ensures links_back { ⟦<NoHost as Host>⟧.links_back result ≡ [] }
     {
         NoHost {
             disk_faults: 0,
             door_faults: 0,
             link_faults: 0,
+            links_back: Log::new(),
         }
     }
 }
@@ -152,6 +156,9 @@ impl Door for NoDoor {
 }
 
 impl Host for NoHost {
+    ghost use Rattle.std.specs.Prelude.{map, MatchResult};
+    ghost use Rattle.bus_host.specs.Host.{SameLinks};
+
     type Disk = NoDisk;
 
     type Door = NoDoor;
@@ -163,6 +170,10 @@ impl Host for NoHost {
     ghost door_faults = { λ h. h.door_faults };
 
     ghost link_faults = { λ h. h.link_faults };
+
+    ghost links_given = { λ h. [] };
+
+    ghost links_back = { λ h. map (λ pair. pair.0) h.links_back.items };
 
     fn disk_faults(&self) -> u64 {
         self.disk_faults
@@ -180,6 +191,7 @@ impl Host for NoHost {
         ensures count { CountsFaults self.old.disk_faults self.new.disk_faults (host_outcome result) }
         ensures door { self.new.door_faults ≡ self.old.door_faults }
         ensures link { self.new.link_faults ≡ self.old.link_faults }
+        ensures links { self.new.links_back ≡ self.old.links_back }
         ensures fails { result ≡ Err HostFault.Failed }
     {
         raise(&mut self.disk_faults);
@@ -190,6 +202,7 @@ impl Host for NoHost {
         ensures count { CountsFaults self.old.door_faults self.new.door_faults (host_outcome result) }
         ensures disk { self.new.disk_faults ≡ self.old.disk_faults }
         ensures link { self.new.link_faults ≡ self.old.link_faults }
+        ensures links { self.new.links_back ≡ self.old.links_back }
         ensures fails { result ≡ Err HostFault.Failed }
     {
         raise(&mut self.door_faults);
@@ -200,6 +213,7 @@ impl Host for NoHost {
         ensures count { CountsFaults self.old.link_faults self.new.link_faults (host_outcome result) }
         ensures disk { self.new.disk_faults ≡ self.old.disk_faults }
         ensures door { self.new.door_faults ≡ self.old.door_faults }
+        ensures links { self.new.links_back ≡ self.old.links_back }
         ensures fails { result ≡ Err HostFault.Failed }
     {
         raise(&mut self.link_faults);
@@ -210,7 +224,9 @@ impl Host for NoHost {
 
     fn back_door(&mut self, _door: NoDoor) {}
 
-    fn back_link(&mut self, _link: NoLink) {}
+    fn back_link(&mut self, link: NoLink) {
+        self.links_back = self.links_back.and(&link, &());
+    }
 }
 
 // Counts a fault.

@@ -1,7 +1,7 @@
 mod mem_door;
 mod tcp_door;
 
-use crate::{Door, Host, HostFault, HttpLink, Knock, NoDisk, NoDoor, NoHost, NoLink};
+use crate::{Door, Host, HostFault, HttpLink, Knock, NoDisk, NoDoor, NoHost, NoLink, TcpHost};
 use router_disk::{Disk, Failed, Link, LinkFault};
 use std::io::{Read, Write};
 use std::net::{Ipv4Addr, SocketAddr, TcpListener};
@@ -15,6 +15,25 @@ fn each_call_of_no_host_fails_and_is_counted_apart(rt: HostRuntime) {
     assert!(rt; matches!(host.disk("journal"), Err(HostFault::Failed)));
     assert!(rt; matches!(host.door(8080), Err(HostFault::Failed)));
     assert_eq!(rt; host.disk_faults(), 2, "disk");
+    assert_eq!(rt; host.door_faults(), 1, "door");
+    assert_eq!(rt; host.link_faults(), 0, "link");
+}
+
+#[test]
+fn a_host_over_tcp_gives_links_alone(rt: HostRuntime) {
+    let mut host = TcpHost::new(rt.alloc(), rt);
+    let Ok(mut link) = host.link() else {
+        panic!(rt; "no link");
+    };
+    assert_eq!(rt;
+        link.send("https://localhost/", "{}"),
+        Err(LinkFault::Failed),
+        "no endpoint"
+    );
+    host.back_link(link);
+    assert!(rt; matches!(host.disk("journal"), Err(HostFault::Failed)));
+    assert!(rt; matches!(host.door(8080), Err(HostFault::Failed)));
+    assert_eq!(rt; host.disk_faults(), 1, "disk");
     assert_eq!(rt; host.door_faults(), 1, "door");
     assert_eq!(rt; host.link_faults(), 0, "link");
 }
