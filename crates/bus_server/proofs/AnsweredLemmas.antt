@@ -11,7 +11,7 @@ use Rattle.router_core.specs.Batch.{Batch}
 use Rattle.router_core.specs.Request.{Action, Request, create_event_bus, delete_event_bus, describe_event_bus, list_event_buses, put_rule, delete_rule}
 use Rattle.router_core.specs.Request.{put_rule_state, describe_rule, list_rules, put_targets, remove_targets, list_targets_by_rule}
 use Rattle.router_core.specs.Request.{list_rule_names_by_target, put_policy, put_statement, remove_policy, remove_statement, put_events}
-use Rattle.router_core.specs.Request.{test_event_pattern, create_queue, peek_messages, deliver_due}
+use Rattle.router_core.specs.Request.{test_event_pattern, create_queue, delete_queue, peek_messages, delete_messages, duty_counts, deliver_due}
 use Rattle.router_core.specs.Matching.{HasValue, IsSeen}
 use Rattle.router_core.specs.Ready.{IsReadyFor}
 use Rattle.router_core.specs.declared.seen.Seen.{Seen}
@@ -52,7 +52,10 @@ has_value (remove_statement bus sid) is = tt
 has_value (put_events entries size) is = tt
 has_value (test_event_pattern pattern event) is = is.1
 has_value (create_queue name) is = tt
+has_value (delete_queue name) is = tt
 has_value (peek_messages queue limit) is = tt
+has_value (delete_messages queue through) is = tt
+has_value duty_counts is = tt
 has_value (deliver_due budget) is = tt
 
 -- the latest rule set

@@ -13,7 +13,7 @@ use Rattle.router_core.specs.Request.{IsEntitled, IsOneTurn}
 use Rattle.router_core.specs.Request.{Action, create_event_bus, delete_event_bus, describe_event_bus, list_event_buses, put_rule, delete_rule}
 use Rattle.router_core.specs.Request.{put_rule_state, describe_rule, list_rules, put_targets, remove_targets, list_targets_by_rule}
 use Rattle.router_core.specs.Request.{list_rule_names_by_target, put_policy, put_statement, remove_policy, remove_statement, put_events}
-use Rattle.router_core.specs.Request.{test_event_pattern, create_queue, peek_messages, deliver_due}
+use Rattle.router_core.specs.Request.{test_event_pattern, create_queue, delete_queue, peek_messages, delete_messages, duty_counts, deliver_due}
 use Rattle.router_core.specs.declared.request.Request.{Request as CodeRequest}
 use Rattle.router_core.specs.View.{action_of, request_of}
 use Rattle.router_calls.specs.Bounds.{IsForBus, IsStatementIdIfGiven, IsBounded}
@@ -25,17 +25,18 @@ use Rattle.api_members.specs.declared.asked.Syntax.TheVariants as syntax
 use Rattle.api_members.specs.Given.{given, text_given, text_of, values_in}
 use Rattle.api_members.specs.Entry.{texts_of, entries_of}
 use Rattle.api_members.specs.CheckedEntry.{AreChecked}
-use Rattle.api_members.specs.Value.{IsPattern, GivesQueueArn}
+use Rattle.api_members.specs.Value.{IsPattern, IsTargetArn}
 use Rattle.api_members.specs.Refusal.{IsSoundMember, AreSound}
+use Rattle.api_members.proofs.CountLemmas.{within_limits}
 use Rattle.api_members.proofs.TextLemmas.{pattern_text, event_is_value}
 use Rattle.api_wire.specs.declared.call.operation.Operation.{Operation}
 use Rattle.api_wire.specs.declared.call.operation.Operation.TheVariants.{CreateEventBus, DeleteEventBus, DescribeEventBus, ListEventBuses}
 use Rattle.api_wire.specs.declared.call.operation.Operation.TheVariants.{PutRule, DeleteRule, EnableRule, DisableRule, DescribeRule, ListRules}
 use Rattle.api_wire.specs.declared.call.operation.Operation.TheVariants.{PutTargets, RemoveTargets, ListTargetsByRule, ListRuleNamesByTarget}
 use Rattle.api_wire.specs.declared.call.operation.Operation.TheVariants.{PutPermission, RemovePermission, PutEvents, TestEventPattern}
-use Rattle.api_wire.specs.declared.call.operation.Operation.TheVariants.{CreateQueue, PeekMessages, DeliverDue}
+use Rattle.api_wire.specs.declared.call.operation.Operation.TheVariants.{CreateQueue, DeleteQueue, PeekMessages, DeleteMessages, DeliverDue, DutyCounts}
 use Rattle.api_wire.specs.Call.{asked, permission_asked, NamesBus, IsAction, IsAsked, caller_of}
-use Rattle.api_wire.proofs.BoundLemmas.{bus_named, short_name, bus_name, queue_name, queue_arn, statement_id, given_statement_id}
+use Rattle.api_wire.proofs.BoundLemmas.{bus_named, short_name, bus_name, queue_name, target_arn, statement_id, given_statement_id}
 use Rattle.api_wire.proofs.BoundLemmas.{target_bounds, entry_bounds, each_checked, count_bounds, id_bounds, id_names, policy_bounds, grantee_bounds}
 use Rattle.bus_server.specs.Answered.{IsAskable}
 
@@ -99,7 +100,7 @@ action_bounded RemoveTargets caller ms reading (remove_targets bus rule ids) sou
     (rule_named member.Rule ms bus rule sound.0 is.0 is.1, removed_ids ms ids sound.1.1.0 is.2)
 action_bounded ListTargetsByRule caller ms reading (list_targets_by_rule bus rule) sound is = rule_named member.Rule ms bus rule sound.0 is.0 is.1
 action_bounded ListRuleNamesByTarget caller ms reading (list_rule_names_by_target arn bus) sound is =
-    (event_bus ms bus is.1, subst GivesQueueArn (sym is.0) (queue_arn member.TargetArn ms sound.0))
+    (event_bus ms bus is.1, subst IsTargetArn (sym is.0) (target_arn member.TargetArn ms sound.0))
 action_bounded PutPermission caller ms reading (put_policy bus policy) sound is =
     (event_bus ms bus is.1, policy_bounds (text_of member.Policy ms) policy is.2)
 action_bounded PutPermission caller ms reading (put_statement bus sid account) sound is =
@@ -112,10 +113,15 @@ action_bounded TestEventPattern caller ms reading (test_event_pattern pattern ev
     (subst IsPattern (sym is.0) (pattern_text member.EventPattern ms sound.0), event_is_value (text_of member.Event ms) event is.1)
 action_bounded CreateQueue caller ms reading (create_queue name) sound is = rw is (queue_name member.QueueName ms sound.0)
 action_bounded PeekMessages caller ms reading (peek_messages queue limit) sound is =
-    let counted = count_bounds 1000 10 (given member.Limit ms) limit (omega arith) (omega arith) is.1 in
+    let counted = count_bounds 1 1000 10 (given member.Limit ms) limit (omega arith) (omega arith) is.1 in
     (subst IsQueueName (sym is.0) (queue_name member.QueueName ms sound.0), counted.0, counted.1)
 action_bounded DeliverDue caller ms reading (deliver_due budget) sound is =
-    count_bounds 1000 100 (given member.Budget ms) budget (omega arith) (omega arith) is
+    count_bounds 1 1000 100 (given member.Budget ms) budget (omega arith) (omega arith) is
+action_bounded DeleteQueue caller ms reading (delete_queue name) sound is = rw is (queue_name member.QueueName ms sound.0)
+action_bounded DeleteMessages caller ms reading (delete_messages queue through) sound is =
+    let within = (within_limits 0 281474976710655 (given member.Through ms) through is.1).1 in
+    (subst IsQueueName (sym is.0) (queue_name member.QueueName ms sound.0), omega (arith, within))
+action_bounded DutyCounts caller ms reading duty_counts sound is = tt
 action_bounded _ caller ms reading _ sound is = absurd is
 
 asked_bounded : (m : Message) (reading : ℕ) (r : CodeRequest) → IsAsked m reading (request_of r) → IsBounded (action_of r.action)

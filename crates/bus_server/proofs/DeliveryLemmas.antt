@@ -19,15 +19,17 @@ use Rattle.courier_run.specs.Turn.{End, at_budget, unclaimed, unsent, unrecorded
 use Rattle.bus_server.specs.declared.book.Seat.{Seat}
 use Rattle.bus_server.specs.declared.history.Turn.{Turn as CodeTurn}
 use Rattle.bus_server.specs.History.{Ask, asked, claims, records, puts_back, Turn, State, OpenClaim, open_claim, closed_claims, after_turn, after_ask}
-use Rattle.bus_server.specs.History.{state_after, placed, begun}
+use Rattle.bus_server.specs.History.{state_after, placed, begun, IsLegal}
 use Rattle.bus_server.specs.declared.book.Book.{Book}
 use Rattle.bus_server.specs.Book.{BookState, book_of, state_of, IsBook, HasGrown, recorded_in, turn_of}
 use Rattle.bus_server.specs.Delivery.{claim_of, claim_in, attempt_in, step_for, step_of, steps_in, IsOpen, IsIdle, IsFullAt, Delivers}
 use Rattle.bus_server.specs.Turns.{IsAdded, IsClaimedBy, IsRecordedBy}
 use Rattle.bus_server.proofs.PendingLemmas.{AreNumbered, marked_row_there}
-use Rattle.bus_server.proofs.HistoryLemmas.{placed_append, state_append}
+use Rattle.bus_server.proofs.HistoryLemmas.{placed_append, legal_back}
+use Rattle.bus_server.proofs.PlacedLemmas.{state_added}
 use Rattle.bus_server.proofs.BookLemmas.{steady_book, state_more}
 use Rattle.bus_server.proofs.RecordLemmas.{claim_there}
+use Rattle.bus_server.proofs.TurnSentLemmas.{turn_sent}
 
 -- the steps of added turns
 pub steps_added : (old new : BookState) (added : List Turn) → new.opened ≡ old.opened → new.turns ≡ old.turns ++ added
@@ -92,36 +94,44 @@ put_back_step seat old new c opened o a =
 -- a turn's steps are those of the turns that it added
 pub delivers : {budget : ℕ} {ahead ahead_new : Option (ℕ → ℕ)} {answered answered_new : Option (List Exchange)} {faults faults_new : ℕ}
     {result : Result Turned TurnFault}
-    (old new : BookState) (more : List CodeTurn) → new.opened ≡ old.opened → new.turns ≡ old.turns ++ map turn_of more
+    (old new : BookState) (more : List CodeTurn) → old.opened ≡ begun first_tables → IsBook new → new.opened ≡ old.opened
+    → new.turns ≡ old.turns ++ map turn_of more
     → IsTurn budget (outside (steps_in old) ahead answered faults) (outside (steps_in new) ahead_new answered_new faults_new)
     (IsIdle (state_of new)) ⊥ (IsFullAt (state_of new)) result
-    → Delivers budget old new ahead ahead_new result
-delivers {budget} {ahead} {ahead_new} {answered} {answered_new} {faults} {faults_new} {result} old new more opened turns t = record {
-  added = map turn_of more;
-  turns = turns;
-  readings = t.readings;
-  gives = t.gives;
-  delivered = record {
-    attempts = t.attempts;
-    last = t.last;
-    steps = append_cancel_left (steps_in old) _ _ (sym (steps_added old new (map turn_of more) opened turns) ∙ t.steps);
-    moments = t.moments;
-    within = t.within;
-    counts = t.counts;
-    reason = t.reason;
-  };
-}
+    → Delivers budget old new ahead ahead_new answered answered_new faults faults_new result
+delivers {budget} {ahead} {ahead_new} {answered} {answered_new} {faults} {faults_new} {result} old new more first book opened turns t =
+    let added : List Turn = map turn_of more in
+    let steps : map step_of (placed (state_of old) added) ≡ steps_of t.attempts ++ last_steps t.last =
+    append_cancel_left (steps_in old) _ _ (sym (steps_added old new added opened turns) ∙ t.steps) in
+    let legal : IsLegal (state_of old) added = legal_back old.opened old.turns added
+    (subst (IsLegal old.opened) turns (subst (λ (s : State). IsLegal s new.turns) opened book.legal)) in
+    record {
+      added = added;
+      turns = turns;
+      readings = t.readings;
+      gives = t.gives;
+      delivered = record {
+        attempts = t.attempts;
+        last = t.last;
+        steps = steps;
+        moments = t.moments;
+        within = t.within;
+        counts = t.counts;
+        reason = t.reason;
+      };
+      sent = turn_sent (state_of old) (state_of new) added (steady_book old first) legal (state_added old new added opened turns) t steps;
+    }
 
 -- the same of the code's books; `new` is what the borrowed book ended as
 pub delivered : {budget : ℕ} {ahead ahead_new : Option (ℕ → ℕ)} {answered answered_new : Option (List Exchange)} {faults faults_new : ℕ}
     {result : Result Turned TurnFault}
-    (old now new : Book) → new ≡ now → HasGrown old now
+    (old now new : Book) → new ≡ now → IsBook (book_of now) → HasGrown old now
     → IsTurn budget (outside (steps_in (book_of old)) ahead answered faults) (outside (steps_in (book_of now)) ahead_new answered_new faults_new)
     (IsIdle (state_of (book_of now))) ⊥ (IsFullAt (state_of (book_of now))) result
-    → Delivers budget (book_of old) (book_of new) ahead ahead_new result
-delivered {budget} {ahead} {ahead_new} {answered} {answered_new} {faults} {faults_new} {result} old now new e (more, is) t =
-    subst (λ (b : Book). Delivers budget (book_of old) (book_of b) ahead ahead_new result) (sym e)
-    (delivers (book_of old) (book_of now) more refl (ap (map turn_of) is ∙ map-append turn_of (recorded_in old.history) more) t)
+    → Delivers budget (book_of old) (book_of new) ahead ahead_new answered answered_new faults faults_new result
+delivered {budget} {ahead} {ahead_new} {answered} {answered_new} {faults} {faults_new} {result} old now new e book (more, is) t =
+    subst (λ (b : Book). Delivers budget (book_of old) (book_of b) ahead ahead_new answered answered_new faults faults_new result) (sym e)
+    (delivers (book_of old) (book_of now) more refl book refl (ap (map turn_of) is ∙ map-append turn_of (recorded_in old.history) more) t)
 
 abbrev NoneOpen : State → Type 0
 NoneOpen s = s.open_claims ≡ []
@@ -242,19 +252,18 @@ all_closed s turns (a ∷ attempts) last none e =
     ap (λ (now : State). now.open_claims) pair.state ∙ all_closed pair.next pair.left attempts last pair.none pair.steps
 
 -- each claim ends
-closed : {budget : ℕ} {old new : BookState} {ahead ahead_new : Option (ℕ → ℕ)} {result : Result Turned TurnFault} → new.opened ≡ old.opened
-    → Delivers budget old new ahead ahead_new result → NoneOpen (state_of old) → NoneOpen (state_of new)
-closed {budget} {old} {new} {ahead} {ahead_new} {result} opened d none =
-    ap (λ (ts : List Turn). (state_after ts new.opened).open_claims) d.turns
-    ∙ ap (λ (s : State). (state_after (old.turns ++ d.added) s).open_claims) opened
-    ∙ ap (λ (s : State). s.open_claims) (state_append old.opened old.turns d.added)
-    ∙ all_closed (state_of old) d.added d.delivered.attempts d.delivered.last none d.delivered.steps
+closed : (old new : BookState) (added : List Turn) (attempts : List Attempt) (last : End) → new.opened ≡ old.opened → new.turns ≡ old.turns ++ added
+    → map step_of (placed (state_of old) added) ≡ steps_of attempts ++ last_steps last → NoneOpen (state_of old) → NoneOpen (state_of new)
+closed old new added attempts last opened turns steps none =
+    ap (λ (s : State). s.open_claims) (state_added old new added opened turns) ∙ all_closed (state_of old) added attempts last none steps
 
 -- the same of the code's books
 pub closes : {budget : ℕ} {ahead ahead_new : Option (ℕ → ℕ)} {answered answered_new : Option (List Exchange)} {faults faults_new : ℕ}
     {result : Result Turned TurnFault}
-    (old now new : Book) → new ≡ now → HasGrown old now
+    (old now new : Book) → new ≡ now → IsBook (book_of now) → HasGrown old now
     → IsTurn budget (outside (steps_in (book_of old)) ahead answered faults) (outside (steps_in (book_of now)) ahead_new answered_new faults_new)
     (IsIdle (state_of (book_of now))) ⊥ (IsFullAt (state_of (book_of now))) result
     → (state_of (book_of old)).open_claims ≡ [] → (state_of (book_of new)).open_claims ≡ []
-closes old now new e grown t none = closed refl (delivered old now new e grown t) none
+closes old now new e book grown t none =
+    let d = delivered old now new e book grown t in
+    closed (book_of old) (book_of new) d.added d.delivered.attempts d.delivered.last refl d.turns d.delivered.steps none

@@ -31,11 +31,13 @@ use Rattle.bus_server.specs.Book.{BookState, state_of, IsBook}
 use Rattle.bus_server.specs.Exchange.{Exchange, IsExchange, refused, answered, unrendered, delivered, out_of_memory, unposted, posted, sent_text}
 use Rattle.bus_server.specs.Exchanges.{after_placed}
 use Rattle.bus_server.specs.Answered.{IsAnswered, IsUnrendered, turn_text}
-use Rattle.bus_server.specs.Responses.{text_or, IsFaultText, IsUndelivered, DeliveredOf}
+use Rattle.bus_server.specs.Sent.{AreSent}
+use Rattle.bus_server.specs.Responses.{text_or, IsFaultText, AnswersDelivery}
 use Rattle.bus_server.specs.World.{World, world}
 use Rattle.bus_server.specs.Running.{AreMade, ExchangeOf}
 use Rattle.bus_server.proofs.PlacedLemmas.{IsByLatest, one_made, state_added, after_of_placed, sublist_skip}
 use Rattle.bus_server.proofs.ReadingLemmas.{delivered_read, delivered_latest}
+use Rattle.bus_server.proofs.SentLemmas.{asked_unsent, delivered_attempts}
 use Rattle.bus_server.proofs.HistoryLemmas.{legal_back}
 
 -- a reply to a POST is written whole
@@ -50,38 +52,42 @@ sent_whole : (m : Message) (reply : Reply) (close : Bool) (written written_new :
 sent_whole m reply close written written_new result post writes =
     subst (WritesAll written written_new result) (sent_posted m.method reply close post) writes
 
+-- the link sent nothing
+abbrev IsUnsent : World → World → Type 0
+IsUnsent old new = AreSent old.answered new.answered old.link_faults new.link_faults []
+
 -- an exchange without a turn
 abbrev unturned : Message → ℕ → Reply → Exchange
 unturned m reading reply = record { message = m; reading = reading; steps = []; turns = []; looks = []; reply = reply }
 
 nothing_made : (m : Message) (reading : ℕ) (reply : Reply) (old new : World) → IsExchange (unturned m reading reply) → new.book ≡ old.book
-    → Gives old.ahead new.ahead (reading ∷ []) → AreMade old new (unturned m reading reply ∷ [])
-nothing_made m reading reply old new is same gave =
+    → Gives old.ahead new.ahead (reading ∷ []) → IsUnsent old new → AreMade old new (unturned m reading reply ∷ [])
+nothing_made m reading reply old new is same gave unsent =
     one_made old new (unturned m reading reply) [] is (ap (λ (b : BookState). b.opened) same)
     (ap (λ (b : BookState). b.turns) same ∙ sym (append-nil old.book.turns)) refl (All-nil (λ (look : State). look ≡ state_of old.book)) gave tt
-    (All-nil IsByLatest)
+    (All-nil IsByLatest) unsent
 
 -- the method is not POST
 pub other_exchange : (m : Message) (close : Bool) (old new : World) (result : Result (Unit {0}) Failed) (reading : ℕ)
-    → is_post m.method ≡ false → new.book ≡ old.book → Gives old.ahead new.ahead (reading ∷ [])
+    → is_post m.method ≡ false → new.book ≡ old.book → Gives old.ahead new.ahead (reading ∷ []) → IsUnsent old new
     → WritesAll old.written new.written result (sent_text m.method not_post close) → ExchangeOf m close old new result
-other_exchange m close old new result reading unserved same gave writes = record {
+other_exchange m close old new result reading unserved same gave unsent writes = record {
   exchanged = unturned m reading not_post;
   message_is = refl;
   made = nothing_made m reading not_post old new
-      (unposted unserved (record { no_steps = refl; no_turns = refl; no_looks = refl; replies = refl })) same gave;
+      (unposted unserved (record { no_steps = refl; no_turns = refl; no_looks = refl; replies = refl })) same gave unsent;
   writes = writes;
 }
 
 -- out of memory, and nothing changed
 pub refused_exchange : (m : Message) (close : Bool) (old new : World) (result : Result (Unit {0}) Failed) (reading : ℕ)
-    → is_post m.method ≡ true → new.book ≡ old.book → Gives old.ahead new.ahead (reading ∷ [])
+    → is_post m.method ≡ true → new.book ≡ old.book → Gives old.ahead new.ahead (reading ∷ []) → IsUnsent old new
     → WritesAll old.written new.written result (reply_text no_memory close) → ExchangeOf m close old new result
-refused_exchange m close old new result reading post same gave writes = record {
+refused_exchange m close old new result reading post same gave unsent writes = record {
   exchanged = unturned m reading no_memory;
   message_is = refl;
   made = nothing_made m reading no_memory old new
-      (posted post (out_of_memory (record { no_steps = refl; no_turns = refl; no_looks = refl; replies = refl }))) same gave;
+      (posted post (out_of_memory (record { no_steps = refl; no_turns = refl; no_looks = refl; replies = refl }))) same gave unsent;
   writes = sent_whole m no_memory close old.written new.written result post writes;
 }
 
@@ -94,13 +100,15 @@ with_turn m reading seat old new r close reply is replied =
 turn_made : (m : Message) (reading : ℕ) (seat : Seat) (old new : World) (r : Request) (close : Bool) (reply : TurnReply)
     (is : IsAnswered seat old.book new.book r close reply) (replied : Reply)
     → IsExchange (with_turn m reading seat old.book new.book r close reply is replied) → new.book.opened ≡ old.book.opened
-    → r.reading ≡ moment_of reading → Gives old.ahead new.ahead (reading ∷ [])
+    → r.reading ≡ moment_of reading → Gives old.ahead new.ahead (reading ∷ []) → IsUnsent old new
     → AreMade old new (with_turn m reading seat old.book new.book r close reply is replied ∷ [])
-turn_made m reading seat old new r close reply is replied exchange opened read gave =
+turn_made m reading seat old new r close reply is replied exchange opened read gave unsent =
     let e = with_turn m reading seat old.book new.book r close reply is replied in
     one_made old new e (is.turn ∷ []) exchange opened is.turns refl (All-nil _) gave
     (subst (λ (ask : Ask). IsSublist (readings_at ask ++ []) (moment_of reading ∷ [])) (sym is.from.made_for) (inl (read, tt)))
     (All-cons IsByLatest (record { before = state_of old.book; turn = is.turn }) [] is.latest (All-nil IsByLatest))
+    (subst (AreSent old.answered new.answered old.link_faults new.link_faults)
+    (sym (asked_unsent (record { before = state_of old.book; turn = is.turn }) r is.from.made_for)) unsent)
 
 -- one turn
 pub answered_exchange : (m : Message) (close : Bool) (old new : World) (result : Result (Unit {0}) Failed) (reading : ℕ)
@@ -108,9 +116,9 @@ pub answered_exchange : (m : Message) (close : Bool) (old new : World) (result :
     → is_post m.method ≡ true → new.book.opened ≡ old.book.opened → IsAsked m (moment_of reading) r
     → IsAnswered seat old.book new.book r close reply
     → IfOk bytes (λ b. b ≡ turn_text reply close) → OnErr bytes (IsUnrendered reply)
-    → Gives old.ahead new.ahead (reading ∷ []) → WritesAll old.written new.written result (text_or bytes close)
+    → Gives old.ahead new.ahead (reading ∷ []) → IsUnsent old new → WritesAll old.written new.written result (text_or bytes close)
     → ExchangeOf m close old new result
-answered_exchange m close old new result reading seat r reply (Ok bytes) post opened is_asked is ok err gave writes = record {
+answered_exchange m close old new result reading seat r reply (Ok bytes) post opened is_asked is ok err gave unsent writes = record {
   exchanged = with_turn m reading seat old.book new.book r close reply is is.replied;
   message_is = refl;
   made = turn_made m reading seat old new r close reply is is.replied
@@ -121,11 +129,11 @@ answered_exchange m close old new result reading seat r reply (Ok bytes) post op
         no_looks = refl;
         ask = is.from.made_for;
         answer = is.answer;
-      }))) opened is_asked.read_at gave;
+      }))) opened is_asked.read_at gave unsent;
   writes = sent_whole m is.replied close old.written new.written result post
       (subst (WritesAll old.written new.written result) (ok ∙ is.text) writes);
 }
-answered_exchange m close old new result reading seat r reply (Err none) post opened is_asked is ok err gave writes = record {
+answered_exchange m close old new result reading seat r reply (Err none) post opened is_asked is ok err gave unsent writes = record {
   exchanged = with_turn m reading seat old.book new.book r close reply is no_memory;
   message_is = refl;
   made = turn_made m reading seat old new r close reply is no_memory
@@ -136,7 +144,7 @@ answered_exchange m close old new result reading seat r reply (Err none) post op
         no_looks = refl;
         ask = is.from.made_for;
         answer = is.answer;
-      }) (is.unwritten err) refl)) opened is_asked.read_at gave;
+      }) (is.unwritten err) refl)) opened is_asked.read_at gave unsent;
   writes = sent_whole m no_memory close old.written new.written result post writes;
 }
 
@@ -144,25 +152,24 @@ answered_exchange m close old new result reading seat r reply (Err none) post op
 pub fault_exchange : (m : Message) (close : Bool) (old new : World) (result : Result (Unit {0}) Failed) (reading : ℕ)
     (fault : CallFault) (bytes : Result (List ℕ) NoMemory)
     → is_post m.method ≡ true → new.book ≡ old.book → IsFault m fault → IfOk bytes (λ b. IsFaultText fault close b)
-    → Gives old.ahead new.ahead (reading ∷ []) → WritesAll old.written new.written result (text_or bytes close)
+    → Gives old.ahead new.ahead (reading ∷ []) → IsUnsent old new → WritesAll old.written new.written result (text_or bytes close)
     → ExchangeOf m close old new result
-fault_exchange m close old new result reading fault (Err none) post same is ok gave writes =
-    refused_exchange m close old new result reading post same gave writes
-fault_exchange m close old new result reading (faults.Refused c) (Ok bytes) post same is ok gave writes = record {
+fault_exchange m close old new result reading fault (Err none) post same is ok gave unsent writes =
+    refused_exchange m close old new result reading post same gave unsent writes
+fault_exchange m close old new result reading (faults.Refused c) (Ok bytes) post same is ok gave unsent writes = record {
   exchanged = unturned m reading (refusal_of c);
   message_is = refl;
   made = nothing_made m reading (refusal_of c) old new
-      (posted post (refused c is (record { no_steps = refl; no_turns = refl; no_looks = refl; replies = refl }))) same gave;
+      (posted post (refused c is (record { no_steps = refl; no_turns = refl; no_looks = refl; replies = refl }))) same gave unsent;
   writes = sent_whole m (refusal_of c) close old.written new.written result post (subst (WritesAll old.written new.written result) ok writes);
 }
-fault_exchange m close old new result reading faults.NoMemory (Ok bytes) post same is ok gave writes = absurd ok
+fault_exchange m close old new result reading faults.NoMemory (Ok bytes) post same is ok gave unsent writes = absurd ok
 
 -- the steps of a DeliverDue
 pub delivery_exchange : (m : Message) (close : Bool) (old new : World) (ahead_mid : Option (ℕ → ℕ)) (result : Result (Unit {0}) Failed) (reading : ℕ)
     (r : Request) (budget : ℕ) → is_post m.method ≡ true → new.book.opened ≡ old.book.opened → IsBook new.book → IsAsked m (moment_of reading) r
     → r.action ≡ deliver_due budget → Gives old.ahead ahead_mid (reading ∷ [])
-    → DeliveredOf budget close (world old.book old.left old.written ahead_mid) new result
-    ⊎ IsUndelivered close (world old.book old.left old.written ahead_mid) new result
+    → AnswersDelivery budget close (world old.book old.left old.written ahead_mid old.answered old.link_faults) new result
     → ExchangeOf m close old new result
 delivery_exchange m close old new ahead_mid result reading r budget post opened book is_asked due gave (inl d) =
     let s = state_of old.book in
@@ -193,11 +200,13 @@ delivery_exchange m close old new ahead_mid result reading r budget post opened 
           (Gives-append gave d.steps.gives)
           (sublist_skip (asked_readings d.steps.added) (map moment_of d.steps.readings) (moment_of reading)
           (delivered_read budget s (state_of new.book) d.steps.added d.steps.readings d.made d.steps.delivered))
-          (delivered_latest budget s (state_of new.book) d.steps.added d.steps.readings d.made legal d.steps.delivered);
+          (delivered_latest budget s (state_of new.book) d.steps.added d.steps.readings d.made legal d.steps.delivered)
+          (subst (AreSent old.answered new.answered old.link_faults new.link_faults)
+          (sym (delivered_attempts turns d.steps.delivered.attempts d.steps.delivered.last d.steps.delivered.steps)) d.steps.sent);
       writes = sent_whole m d.reply close old.written new.written result post d.writes;
     }
 delivery_exchange m close old new ahead_mid result reading r budget post opened book is_asked due gave (inr u) =
-    refused_exchange m close old new result reading post u.book (Gives-append gave u.readings) u.writes
+    refused_exchange m close old new result reading post u.book (Gives-append gave u.readings) u.unsent u.writes
 
 claims_written : (b : Option Batch) (s : State) → (after_written b s).open_claims ≡ s.open_claims
 claims_written None s = refl

@@ -2,7 +2,7 @@
 use Rattle.std.proofs.Common.{◌≡◌, ℕ, ◌+◌, Bool, max, true, false, cond, eqb, ltb, List, [], ◌∷◌, map, Option, Some, None, refl, sym, ap, ◌∙◌, subst}
 use Rattle.std.specs.Option.{option_map}
 use Rattle.rule_table.specs.Control.{Control, bus_created, bus_deleted, rule_put, rule_deleted, state_put, targets_put, targets_removed, policy_put}
-use Rattle.rule_table.specs.Control.{queue_created}
+use Rattle.rule_table.specs.Control.{queue_created, queue_deleted}
 use Rattle.key_tree.specs.Entries.{value_at, placed, without}
 use Rattle.delivery_duties.specs.declared.duty.DutyRow.{DutyRow}
 use Rattle.delivery_duties.specs.declared.duty.NewDuty.{NewDuty}
@@ -14,7 +14,7 @@ use Rattle.delivery_duties.specs.declared.verdict.Verdict.TheVariants.{Deliver, 
 use Rattle.delivery_duties.specs.Retry.{Attempt, begun, retried, too_long, verdict_of, dead_letter_queue}
 use Rattle.delivery_duties.specs.Duties.{Duties, pending_row, replaced, failed, has_dead_letter_queue, added_one, added, marked_row, settled_by, settled_row}
 use Rattle.delivery_duties.specs.Duties.{settled, attempt_of}
-use Rattle.router_core.specs.Batch.{Batch, Entry, control, accepted, attempt}
+use Rattle.router_core.specs.Batch.{Batch, Entry, control, accepted, attempt, messages_deleted}
 use Rattle.router_core.specs.Tables.{Tables, first_tables, duties_after, after_entry, after_entries, after_batch, tables_after}
 use Rattle.bus_server.specs.History.{Ask, asked, claims, records, puts_back, Turn, State, after_written, after_turn, state_after}
 use Rattle.bus_server.specs.History.{IsTurnFor, IsLegal, batches_of, with_written, begun as state_begun}
@@ -134,12 +134,14 @@ control_freed (targets_put bus rule targets) d = refl
 control_freed (targets_removed bus rule ids) d = refl
 control_freed (policy_put bus policy) d = refl
 control_freed (queue_created name) d = refl
+control_freed (queue_deleted name) d = refl
 
 entry_freed : (moment : ℕ) (e : Entry) (t : Tables) → without_claims (after_entry moment e t) ≡ after_entry moment e (without_claims t)
 entry_freed moment (control c) t = ap (λ d. record (after_entry moment (control c) t) { duties = d }) (control_freed c t.duties)
 entry_freed moment (accepted e) t = ap (λ d. record (after_entry moment (accepted e) t) { duties = d }) (added_freed e.duties moment t.duties)
 entry_freed moment (attempt duty outcome) t =
     ap (λ d. record (after_entry moment (attempt duty outcome) t) { duties = d }) (settled_freed duty moment outcome t.duties)
+entry_freed moment (messages_deleted queue through) t = refl
 
 entries_freed : (moment : ℕ) (es : List Entry) (t : Tables) → without_claims (after_entries moment es t) ≡ after_entries moment es (without_claims t)
 entries_freed moment [] t = refl

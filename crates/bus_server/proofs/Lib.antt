@@ -18,6 +18,8 @@ pub mod RecordLemmas
 pub mod RunLemmas
 pub mod RunningLemmas
 pub mod SeatedLemmas
+pub mod SentLemmas
 pub mod ServedLemmas
 pub mod SteadyLemmas
+pub mod TurnSentLemmas
 pub mod WordLemmas

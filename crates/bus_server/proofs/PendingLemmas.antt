@@ -5,7 +5,7 @@ use Rattle.std.proofs.Common.{◌≡◌, ◌≢◌, ℕ, ◌+◌, ◌<◌, ◌�
 use Rattle.std.proofs.Common.{arith}
 use Rattle.std.proofs.lemmas.Bool.{eq-eqb, eqb-true, le-ltb}
 use Rattle.rule_table.specs.Control.{Control, bus_created, bus_deleted, rule_put, rule_deleted, state_put, targets_put, targets_removed, policy_put}
-use Rattle.rule_table.specs.Control.{queue_created}
+use Rattle.rule_table.specs.Control.{queue_created, queue_deleted}
 use Rattle.key_tree.specs.Entries.{value_at, placed, without, AllKeys, AreSorted}
 use Rattle.key_tree.proofs.EntryLemmas.{AllKeys-weaker, AllKeys-placed, AllKeys-without, others, placed_lower, sorted_placed, sorted_without}
 use Rattle.key_tree.proofs.EntryLemmas.{value_at-placed, value_at-without_same, without_none}
@@ -18,7 +18,7 @@ use Rattle.delivery_duties.specs.Retry.{Attempt, begun, too_long, verdict_of, de
 use Rattle.delivery_duties.specs.Duties.{Duties, IsOrdered, pending_row, replaced, failed, has_dead_letter_queue, added_one, added, marked_row, claimed}
 use Rattle.delivery_duties.specs.Duties.{unclaimed, settled_by, settled_row, attempt_of}
 use Rattle.delivery_duties.proofs.ClaimLemmas.{put_back}
-use Rattle.router_core.specs.Batch.{Entry, control, accepted, attempt}
+use Rattle.router_core.specs.Batch.{Entry, control, accepted, attempt, messages_deleted}
 use Rattle.router_core.specs.Tables.{Tables, duties_after, after_entry, after_entries}
 
 -- each row is under its own number
@@ -186,11 +186,13 @@ control_numbered (targets_put bus rule targets) d h = h
 control_numbered (targets_removed bus rule ids) d h = h
 control_numbered (policy_put bus policy) d h = h
 control_numbered (queue_created name) d h = h
+control_numbered (queue_deleted name) d h = h
 
 entry_numbered : (moment : ℕ) (e : Entry) (t : Tables) → AreNumbered t.duties → AreNumbered (after_entry moment e t).duties
 entry_numbered moment (control c) t h = control_numbered c t.duties h
 entry_numbered moment (accepted e) t h = added_numbered e.duties moment t.duties h
 entry_numbered moment (attempt duty outcome) t h = settled_there (pending_row duty t.duties) duty moment outcome t.duties refl h
+entry_numbered moment (messages_deleted queue through) t h = h
 
 pub entries_numbered : (moment : ℕ) (es : List Entry) (t : Tables) → AreNumbered t.duties → AreNumbered (after_entries moment es t).duties
 entries_numbered moment [] t h = h

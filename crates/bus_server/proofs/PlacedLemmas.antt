@@ -10,12 +10,15 @@ use Rattle.router_disk.proofs.ClockLemmas.{Gives-none, Gives-append}
 use Rattle.courier_run.specs.Claim.{moment_of}
 use Rattle.bus_server.specs.History.{State, Turn, Placed, placed, after_turn, state_after, readings_at, asked_readings, IsLatest}
 use Rattle.bus_server.specs.Sublist.{IsSublist}
+use Rattle.bus_server.specs.Sent.{AreSent}
+use Rattle.bus_server.specs.Delivery.{attempts_of}
 use Rattle.bus_server.specs.Book.{BookState, state_of}
 use Rattle.bus_server.specs.Exchange.{Exchange, IsExchange}
 use Rattle.bus_server.specs.Exchanges.{turns_of, readings_of, after_placed, LookAfterTurns, AreAdded}
 use Rattle.bus_server.specs.World.{World}
 use Rattle.bus_server.specs.Running.{AreMade}
 use Rattle.bus_server.proofs.HistoryLemmas.{state_append, placed_append}
+use Rattle.bus_server.proofs.SentLemmas.{sent_none, sent_append, attempts_append}
 
 -- the turn goes by the latest configuration version
 abbrev pub IsByLatest : Placed → Type 0
@@ -102,6 +105,9 @@ made_append old mid new es e first last = record {
   asked_at = subst (λ (g : List ℕ). IsSublist (asked_readings (first.exchanges.added ++ last.exchanges.added)) (map moment_of g))
       (sym (readings_append es e))
       (readings_more first.exchanges.added last.exchanges.added (readings_of es) (readings_of (e ∷ [])) first.asked_at last.asked_at);
+  sent = subst (AreSent old.answered new.answered old.link_faults new.link_faults)
+      (sym (ap attempts_of (turns_append es e) ∙ attempts_append (turns_of es) (turns_of (e ∷ []))))
+      (sent_append (attempts_of (turns_of es)) (attempts_of (turns_of (e ∷ []))) first.sent last.sent);
 }
 
 -- no exchange yet
@@ -118,14 +124,16 @@ none_made old = record {
   };
   readings = Gives-none old.ahead;
   asked_at = tt;
+  sent = sent_none old.answered old.link_faults;
 }
 
 -- one exchange
 pub one_made : (old new : World) (e : Exchange) (added : List Turn) → IsExchange e → new.book.opened ≡ old.book.opened
     → new.book.turns ≡ old.book.turns ++ added → e.turns ≡ placed (state_of old.book) added
     → All (λ look. look ≡ after_placed e.turns (state_of old.book)) e.looks → Gives old.ahead new.ahead (e.reading ∷ e.steps)
-    → IsSublist (asked_readings added) (map moment_of (e.reading ∷ e.steps)) → All IsByLatest e.turns → AreMade old new (e ∷ [])
-one_made old new e added is opened turns own looks readings asked_at latest = record {
+    → IsSublist (asked_readings added) (map moment_of (e.reading ∷ e.steps)) → All IsByLatest e.turns
+    → AreSent old.answered new.answered old.link_faults new.link_faults (attempts_of e.turns) → AreMade old new (e ∷ [])
+one_made old new e added is opened turns own looks readings asked_at latest sent = record {
   exchanges = record {
     each = All-cons IsExchange e [] is (All-nil IsExchange);
     opened = opened;
@@ -137,4 +145,5 @@ one_made old new e added is opened turns own looks readings asked_at latest = re
   };
   readings = subst (λ (g : List ℕ). Gives old.ahead new.ahead g) (sym (append-nil (e.reading ∷ e.steps))) readings;
   asked_at = subst (λ (g : List ℕ). IsSublist (asked_readings added) (map moment_of g)) (sym (append-nil (e.reading ∷ e.steps))) asked_at;
+  sent = subst (λ (ps : List Placed). AreSent old.answered new.answered old.link_faults new.link_faults (attempts_of ps)) (sym (append-nil e.turns)) sent;
 }

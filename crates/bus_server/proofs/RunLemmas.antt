@@ -1,8 +1,10 @@
--- The run of a program. Other files cite `runs_once` and `unbegun` (its session), `end_faults` and `unbegun_faults` (its faults).
-use Rattle.std.proofs.Common.{◌≡◌, ◌≢◌, ℕ, inl, inr, List, [], Option, Some, None, refl, sym, ap, ◌∙◌, subst}
+-- The run of a program. Other files cite `runs_once`, `run_linked`, `run_still`, `run_clocked` and `unlinked` (its session), and `end_faults` and
+-- `no_door_fault` (its faults).
+use Rattle.std.proofs.Common.{◌≡◌, ◌≢◌, ℕ, ◌⊎◌, inl, inr, List, [], ◌∷◌, ◌++◌, Option, Some, None, refl, sym, ap, ◌∙◌, subst}
 use Rattle.std.specs.Io.KnownBytes.{Keeps}
 use Rattle.router_disk.specs.Clock.{repeating}
 use Rattle.router_disk.specs.Faults.{Rose}
+use Rattle.router_disk.specs.Link.{Exchange}
 use Rattle.router_disk.proofs.ClockLemmas.{Gives-none}
 use Rattle.bus_server.specs.declared.session.SessionEnd.{SessionEnd}
 use Rattle.bus_server.specs.declared.session.SessionEnd.TheVariants as ends
@@ -13,7 +15,7 @@ use Rattle.bus_server.specs.History.{begun}
 use Rattle.bus_server.specs.Book.{BookState, state_of, IsBook}
 use Rattle.bus_server.specs.World.{World, world}
 use Rattle.bus_server.specs.Session.{IsSession}
-use Rattle.bus_server.specs.Run.{status_of, first_book, RunsOnce, IsRun, FaultsMatch}
+use Rattle.bus_server.specs.Run.{status_of, first_book, RunsOnce, RunsBy, Around, around, IsUnbegun, IsRun, FaultsMatch}
 use Rattle.bus_server.proofs.FoldLemmas.{folds_book}
 
 -- a session over the first book
@@ -35,24 +37,67 @@ keeps_same : (known : Option (List ℕ)) → Keeps known known
 keeps_same None = tt
 keeps_same (Some xs) = refl
 
--- out of memory before the session
-pub unbegun : (now : Option ℕ) (left written : Option (List ℕ)) (ahead : Option (ℕ → ℕ)) → IsRun now left left written written ahead ahead statuses.NoMemory
-unbegun None left written ahead = inr (refl, (keeps_same left, keeps_same written, Gives-none ahead))
-unbegun (Some moment) left written ahead = inr (refl, (keeps_same left, keeps_same written, Gives-none ahead))
+-- the host gave no link, or out of memory
+pub unlinked : {L : Type 0} (answered : L → Option (List Exchange)) (faults : L → ℕ) (now : Option ℕ) (left written : Option (List ℕ))
+    (ahead : Option (ℕ → ℕ)) (given given_new back back_new : List L) (status : Status) → (status ≡ statuses.NoMemory) ⊎ (status ≡ statuses.DoorFault)
+    → given_new ≡ given → back_new ≡ back → IsRun answered faults now (around left written ahead given back) (around left written ahead given_new back_new) status
+unlinked answered faults now left written ahead given given_new back back_new status is same_given same_back =
+    let old = around left written ahead given back in
+    let new = around left written ahead given_new back_new in
+    let none : IsUnbegun old new = record {
+      unread = keeps_same left;
+      unwritten = keeps_same written;
+      unclocked = Gives-none ahead;
+      none_given = same_given;
+      none_back = same_back;
+    } in
+    inr (is, none)
+
+-- a link was given, had a session, and was taken back
+pub run_linked : {L : Type 0} (answered : L → Option (List Exchange)) (faults : L → ℕ) (now : Option ℕ)
+    (left left_new written written_new : Option (List ℕ)) (ahead ahead_new : Option (ℕ → ℕ)) (given middle given_new back between back_new : List L)
+    (lent returned : L) (status : Status) → middle ≡ given ++ lent ∷ [] → given_new ≡ middle → between ≡ back → back_new ≡ between ++ returned ∷ []
+    → ((book : BookState) × RunsBy now (world first_book left written ahead (answered lent) (faults lent))
+    (world book left_new written_new ahead_new (answered returned) (faults returned)) status)
+    → IsRun answered faults now (around left written ahead given back) (around left_new written_new ahead_new given_new back_new) status
+run_linked answered faults now left left_new written written_new ahead ahead_new given middle given_new back between back_new lent returned status
+    gave kept same took (book, runs) = inl (record {
+      lent = lent;
+      returned = returned;
+      given = kept ∙ gave;
+      back = took ∙ ap (λ (xs : List _). xs ++ returned ∷ []) same;
+      book = book;
+      runs = runs;
+    })
 
 -- a session by a clock whose every reading is the given one; the program's own clock is not read
-pub run_still : (now : Option ℕ) (moment : ℕ) (left left_new written written_new : Option (List ℕ)) (still later ahead : Option (ℕ → ℕ)) (after : BookState)
-    (status : Status) → now ≡ Some moment → still ≡ Some (repeating moment [])
-    → RunsOnce (world first_book left written still) (world after left_new written_new later) status
-    → IsRun now left left_new written written_new ahead ahead status
-run_still now moment left left_new written written_new still later ahead after status is always runs =
-    subst (λ (n : Option ℕ). IsRun n left left_new written written_new ahead ahead status) (sym is)
-    (inl (
-      after,
+pub run_still : (now : Option ℕ) (moment : ℕ) (left left_new written written_new : Option (List ℕ)) (still later ahead : Option (ℕ → ℕ))
+    (answered answered_new : Option (List Exchange)) (faults faults_new : ℕ) (after : BookState) (status : Status)
+    → now ≡ Some moment → still ≡ Some (repeating moment [])
+    → RunsOnce (world first_book left written still answered faults) (world after left_new written_new later answered_new faults_new) status
+    → RunsBy now (world first_book left written ahead answered faults) (world after left_new written_new ahead answered_new faults_new) status
+run_still now moment left left_new written written_new still later ahead answered answered_new faults faults_new after status is always runs =
+    let ended = world after left_new written_new later answered_new faults_new in
+    subst (λ (n : Option ℕ). RunsBy n (world first_book left written ahead answered faults)
+    (world after left_new written_new ahead answered_new faults_new) status) (sym is) (
       later,
-      subst (λ (a : Option (ℕ → ℕ)). RunsOnce (world first_book left written a) (world after left_new written_new later) status) always runs,
+      subst (λ (a : Option (ℕ → ℕ)). RunsOnce (world first_book left written a answered faults) ended status) always runs,
       Gives-none ahead,
-    ))
+    )
+
+-- a session by the program's own clock
+pub run_clocked : (now : Option ℕ) (old new : World) (status : Status) → now ≡ None → RunsOnce old new status → RunsBy now old new status
+run_clocked now old new status is runs = subst (λ (n : Option ℕ). RunsBy n old new status) (sym is) runs
+
+-- a session ends with no such status
+pub no_door_fault : (end : SessionEnd) (status : Status) → status ≡ status_of end → status ≢ statuses.DoorFault
+no_door_fault ends.Closed status is e = cc
+no_door_fault ends.Cut status is e = cc
+no_door_fault ends.Refused status is e = cc
+no_door_fault ends.Long status is e = cc
+no_door_fault ends.ReadFault status is e = cc
+no_door_fault ends.WriteFault status is e = cc
+no_door_fault ends.NoMemory status is e = cc
 
 -- a status without a fault
 faultless : (status : Status) (reads reads_new writes writes_new : ℕ) → status ≢ statuses.ReadFault → status ≢ statuses.WriteFault
@@ -91,7 +136,3 @@ end_faults ends.WriteFault status reads reads_new writes writes_new is read unre
   write_fault = λ _. write refl;
   output_faultless = λ other. absurd (other is);
 }
-
--- a session that did not begin has no fault
-pub unbegun_faults : (reads writes : ℕ) → FaultsMatch statuses.NoMemory reads reads writes writes
-unbegun_faults reads writes = faultless statuses.NoMemory reads reads writes writes (λ e. cc) (λ e. cc) refl refl

@@ -80,14 +80,19 @@ running_at_start old rest none = record {
 
 -- the input and the output play no part in what was made
 made_at : (old now : World) (left written : Option (List ℕ)) (es : List Exchange) → AreMade old now es
-    → AreMade old (world now.book left written now.ahead) es
-made_at old now left written es made = record { exchanges = made.exchanges; readings = made.readings; asked_at = made.asked_at }
+    → AreMade old (world now.book left written now.ahead now.answered now.link_faults) es
+made_at old now left written es made = record {
+  exchanges = made.exchanges;
+  readings = made.readings;
+  asked_at = made.asked_at;
+  sent = made.sent;
+}
 
 -- one message more, and its exchange
 pub served_next : (old now new : World) (rest rest_new : List ℕ) (served : ℕ) (m : Message) (close : Bool) (result : Result (Unit {0}) Failed)
     → IsRunning old now rest served
     → ((taken : List ℕ) × Consumes now.left new.left taken × HoldsMessage (rest ++ taken) m rest_new × (length rest_new < piece_size))
-    → ExchangeOf m close (world now.book new.left now.written now.ahead) new result
+    → ExchangeOf m close (world now.book new.left now.written now.ahead now.answered now.link_faults) new result
     → close ≡ (m.close || (served + 1 == request_limit))
     → IsServed m old new rest_new served result
 served_next old now new rest rest_new served m close result run (more, takes, holds, few) x is =
@@ -107,7 +112,8 @@ served_next old now new rest rest_new served m close result run (more, takes, ho
           (ap (λ (n : Message). messages_of es ++ n ∷ []) (sym x.message_is) ∙ sym (map-append (λ (d : Exchange). d.message) es (e ∷ [])))
           (stream_append (run.taken ++ more) (rest ++ more) rest_new (messages_of es) m (stream_more run.taken more rest (messages_of es) run.stream) holds);
       few = few;
-      made = made_append old (world now.book new.left now.written now.ahead) new es e (made_at old now new.left now.written es run.made) x.made;
+      made = made_append old (world now.book new.left now.written now.ahead now.answered now.link_faults) new es e
+          (made_at old now new.left now.written es run.made) x.made;
       written_are = subst (λ (c : Bool). WritesAfter (texts_of es) (exchange_text e c) old.written new.written result) (sym closing)
           (writes_after old.written now.written new.written (texts_of es) (exchange_text e close) result run.written_are x.writes);
     }
@@ -145,6 +151,7 @@ long_end m old now rest served s last = record {
   exchanges = s.made.exchanges;
   readings = s.made.readings;
   asked_at = s.made.asked_at;
+  sent = s.made.sent;
   written_are = subst (Appends old.written now.written)
       (texts_whole s.before s.last ∙ sym (append-nil (texts_of (s.before ++ s.last ∷ [])))) s.written_are;
   ends = (served_count s.before s.last served s.count ∙ last, open_before s.before s.last _ s.open_yet refl, s.few, refl);
@@ -161,6 +168,7 @@ closed_end m old now rest served s below closes_it = record {
   exchanges = s.made.exchanges;
   readings = s.made.readings;
   asked_at = s.made.asked_at;
+  sent = s.made.sent;
   written_are = subst (Appends old.written now.written)
       (texts_whole s.before s.last ∙ sym (append-nil (texts_of (s.before ++ s.last ∷ [])))) s.written_are;
   ends = (
@@ -181,6 +189,7 @@ write_end m old now rest served e s below = record {
   exchanges = s.made.exchanges;
   readings = s.made.readings;
   asked_at = s.made.asked_at;
+  sent = s.made.sent;
   written_are = (s.before, s.last, refl, s.written_are);
   ends = inl (
     subst (λ n. n ≤ request_limit) (sym (served_count s.before s.last served s.count)) below,
@@ -229,7 +238,7 @@ pub lack_end : (old now : World) (left_new written_new : Option (List ℕ)) (res
     → IsRunning old now rest served
     → ((taken : List ℕ) × Consumes now.left left_new taken × LackOf (rest ++ taken) left_new lack)
     → IsFinish lack now.written written_new end → served < request_limit
-    → IsSession old (world now.book left_new written_new now.ahead) end
+    → IsSession old (world now.book left_new written_new now.ahead now.answered now.link_faults) end
 lack_end old now left_new written_new rest served lack end run (more, takes, lacking) finish below =
     elim finish [
       | inl done ↦ subst (IsSession old new) (sym done.0)
@@ -242,7 +251,7 @@ lack_end old now left_new written_new rest served lack end run (more, takes, lac
     ]
   where
     new : World
-    new = world now.book left_new written_new now.ahead
+    new = world now.book left_new written_new now.ahead now.answered now.link_faults
 
     course : Course
     course = record { exchanges = run.exchanged; rest = rest ++ more; closing = closing_of lack }
@@ -264,6 +273,7 @@ lack_end old now left_new written_new rest served lack end run (more, takes, lac
       exchanges = run.made.exchanges;
       readings = run.made.readings;
       asked_at = run.made.asked_at;
+      sent = run.made.sent;
       written_are = is_written;
       ends = is_end;
     }

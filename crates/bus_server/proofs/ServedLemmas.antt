@@ -13,12 +13,14 @@ use Rattle.router_core.specs.Batch as batch
 use Rattle.router_core.specs.Request.{Action, Request, create_event_bus, delete_event_bus, describe_event_bus, list_event_buses, put_rule, delete_rule}
 use Rattle.router_core.specs.Request.{put_rule_state, describe_rule, list_rules, put_targets, remove_targets, list_targets_by_rule}
 use Rattle.router_core.specs.Request.{list_rule_names_by_target, put_policy, put_statement, remove_policy, remove_statement, put_events}
-use Rattle.router_core.specs.Request.{test_event_pattern, create_queue, peek_messages, deliver_due}
+use Rattle.router_core.specs.Request.{test_event_pattern, create_queue, delete_queue, peek_messages, delete_messages, duty_counts, deliver_due}
 use Rattle.router_core.specs.Tables.{Tables, is_full, moment_at}
 use Rattle.router_calls.specs.Accepted.{Given, events_in}
-use Rattle.router_calls.specs.Answer.{Answer, IsAnswer, IsAnswerAt, IsControlled, IsTargetsPut, IsPublished, IsTested, IsRuleDeleted}
+use Rattle.delivery_duties.specs.declared.stored.StoredMessage.{StoredMessage}
+use Rattle.delivery_duties.specs.Queues.{messages_of, messages_through}
+use Rattle.router_calls.specs.Answer.{Answer, IsAnswer, IsAnswerAt, IsControlled, IsTargetsPut, IsPublished, IsTested, IsRuleDeleted, IsQueueDeleted}
 use Rattle.router_calls.specs.Answer.{AreTargetsRemoved, IsOnBus, IsGranted, IsRevoked, IsStatementRemovedFrom}
-use Rattle.router_calls.specs.Answer.{writes, targets_answer, removals_answer, events_answer}
+use Rattle.router_calls.specs.Answer.{writes, targets_answer, removals_answer, events_answer, deletion_answer}
 use Rattle.router_core.specs.Verdict.{IsPolicyOf}
 use Rattle.std.specs.Prelude.{if◌then◌else◌, Option, Some, None}
 
@@ -124,6 +126,15 @@ revoked_served : (t : Tables) (moment : ℕ) (bus : List ℕ) (sid : Option (Lis
 revoked_served t moment bus None b a is = so_served a _ is (inr (inl refl))
 revoked_served t moment bus (Some sid) b a (policy, of, is) = removal_served t moment bus sid policy a is
 
+queue_deleted_served : (t : Tables) (moment : ℕ) (name : List ℕ) (a : Answer) → IsQueueDeleted t moment name a → IsServed a
+queue_deleted_served t moment name a (inl (there, named, e)) = so_served a _ e (inr (inl refl))
+queue_deleted_served t moment name a (inr (free, is)) = controlled_served t moment _ _ a (inl refl) is
+
+deletion_served : (t : Tables) (moment : ℕ) (queue : List ℕ) (through : ℕ) (messages : List StoredMessage)
+    → IsServed (deletion_answer t moment queue through messages)
+deletion_served t moment queue through [] = inl refl
+deletion_served t moment queue through (m ∷ ms) = writes_served t moment _ _ (inl refl)
+
 served_at : (t : Tables) (set : RuleSet) (caller : List ℕ) (moment : ℕ) (action : Action) (a : Answer) → IsAnswerAt t set caller moment action a → IsServed a
 served_at t set caller moment (create_event_bus name) a is = controlled_served t moment _ _ a (inl refl) is
 served_at t set caller moment (delete_event_bus name) a is = controlled_served t moment _ _ a (inl refl) is
@@ -153,6 +164,11 @@ served_at t set caller moment (test_event_pattern pattern event) a is = tested_s
 served_at t set caller moment (create_queue name) a is = controlled_served t moment _ _ a (inl refl) is
 served_at t set caller moment (peek_messages queue limit) a is =
     so_served a _ is (one_reply_of (has_queue queue t.set) _ _ (inl refl) (inr (inl refl)))
+served_at t set caller moment (delete_queue name) a is = queue_deleted_served t moment name a is
+served_at t set caller moment (delete_messages queue through) a is =
+    so_served a _ is (one_answer_of (has_queue queue t.set) _ _
+    (deletion_served t moment queue through (messages_through through (messages_of queue t.duties.queues))) (inr (inl refl)))
+served_at t set caller moment duty_counts a is = so_served a _ is (inl refl)
 served_at t set caller moment (deliver_due budget) a is = absurd is
 
 pub answer_served : (t : Tables) (r : Request) (k : ℕ) (set : RuleSet) (a : Answer) → IsAnswer t r k set a → IsServedStatus a.reply.status

@@ -4,9 +4,9 @@ use Rattle.std.proofs.Common.{length-append}
 use Rattle.std.proofs.Math.Nat.{le-max_left}
 use Rattle.std.specs.Prelude.{not, ◌==◌}
 use Rattle.rule_table.specs.Control.{Control, bus_created, bus_deleted, rule_put, rule_deleted, state_put, targets_put, targets_removed, policy_put}
-use Rattle.rule_table.specs.Control.{queue_created}
+use Rattle.rule_table.specs.Control.{queue_created, queue_deleted}
 use Rattle.rule_table.specs.RuleSet.{RuleSet, first_set, applied, applied_all}
-use Rattle.router_core.specs.Batch.{Batch, Entry, control, accepted, attempt}
+use Rattle.router_core.specs.Batch.{Batch, Entry, control, accepted, attempt, messages_deleted}
 use Rattle.router_core.specs.Tables.{Tables, first_tables, after_entry, after_entries}
 use Rattle.bus_server.specs.History.{Ask, asked, claims, records, puts_back, Turn, State, OpenClaim, closed_claims, open_claim, controls_in}
 use Rattle.bus_server.specs.History.{after_written, after_ask, after_turn, state_after, begun}
@@ -61,6 +61,7 @@ applied_count (targets_put bus rule targets) set = refl
 applied_count (targets_removed bus rule ids) set = refl
 applied_count (policy_put bus policy) set = refl
 applied_count (queue_created name) set = refl
+applied_count (queue_deleted name) set = refl
 
 counted : (cs : List Control) (set : RuleSet) → (applied_all cs set).count ≡ set.count + length cs
 counted [] set = omega arith
@@ -71,6 +72,7 @@ set_after moment [] t = refl
 set_after moment (control c ∷ es) t = set_after moment es (after_entry moment (control c) t)
 set_after moment (accepted e ∷ es) t = set_after moment es (after_entry moment (accepted e) t)
 set_after moment (attempt duty outcome ∷ es) t = set_after moment es (after_entry moment (attempt duty outcome) t)
+set_after moment (messages_deleted queue through ∷ es) t = set_after moment es (after_entry moment (messages_deleted queue through) t)
 
 steady_written : (b : Option Batch) (s : State) → IsSteady s → IsSteady (after_written b s)
 steady_written None s h = h

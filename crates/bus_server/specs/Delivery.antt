@@ -5,18 +5,20 @@ use Rattle.delivery_duties.specs.declared.duty.DutyRow.{DutyRow}
 use Rattle.delivery_duties.specs.declared.outcome.Outcome.{Outcome}
 use Rattle.delivery_duties.specs.Duties.{NoneDue, pending_row}
 use Rattle.router_disk.specs.Clock.{Gives}
+use Rattle.router_disk.specs.Link.{Exchange}
 use Rattle.router_core.specs.Tables.{is_full, moment_at}
 use Rattle.router_core.specs.Steps.{fate_after}
 use Rattle.courier_run.specs.declared.turned.Turned.{Turned}
 use Rattle.courier_run.specs.declared.fault.TurnFault.{TurnFault}
 use Rattle.courier_run.specs.Claim.{Claim, moment_of}
-use Rattle.courier_run.specs.Steps.{Attempt, Step, claims, records, puts_back, other, steps_of}
+use Rattle.courier_run.specs.Steps.{Attempt, Step, claims, records, puts_back, other, steps_of, attempts_in}
 use Rattle.courier_run.specs.Turn.{End, last_steps, last_moments, HasReason, reported}
 use Rattle.courier_run.specs.Turned.{turned_of}
 use Rattle.bus_server.specs.declared.held.Held.{Held}
 use Rattle.bus_server.specs.History as history
 use Rattle.bus_server.specs.History.{State, Turn, Ask, OpenClaim, open_claim, Placed, placed}
 use Rattle.bus_server.specs.Book.{BookState, state_of}
+use Rattle.bus_server.specs.Sent.{AreSent}
 
 -- the claim of the duty of this row, made at this reading, in a turn with this moment
 abbrev pub claim_of : ℕ → ℕ → DutyRow → Claim
@@ -53,6 +55,10 @@ step_for s (history.puts_back duty) = unwrap_or (option_map puts_back (claim_in 
 -- what a turn did, as the courier sees it
 abbrev pub step_of : Placed → Step
 step_of p = step_for p.before p.turn.ask
+
+-- the attempts that turns recorded, in order
+abbrev pub attempts_of : List Placed → List Attempt
+attempts_of turns = attempts_in (map step_of turns)
 
 -- what the turns of the book did, as the courier sees them
 abbrev pub steps_in : BookState → List Step
@@ -101,10 +107,12 @@ pub record IsDelivered (budget : ℕ) (turns : List Placed) (readings : List ℕ
   pub counts : reported result ≡ turned_of attempts
   pub reason : HasReason (IsIdle look) ⊥ (IsFullAt look) (length attempts ≡ budget) result last
 
--- the turns of one DeliverDue were added to the book
-pub record Delivers (budget : ℕ) (old new : BookState) (ahead ahead_new : Option (ℕ → ℕ)) (result : Result Turned TurnFault) : Type 0 where
+-- the turns of one DeliverDue were added to the book, and the link did what their attempts did
+pub record Delivers (budget : ℕ) (old new : BookState) (ahead ahead_new : Option (ℕ → ℕ)) (answered answered_new : Option (List Exchange))
+    (faults faults_new : ℕ) (result : Result Turned TurnFault) : Type 0 where
   pub added : List Turn
   pub turns : new.turns ≡ old.turns ++ added
   pub readings : List ℕ
   pub gives : Gives ahead ahead_new readings
   pub delivered : IsDelivered budget (placed (state_of old) added) readings (state_of new) result
+  pub sent : AreSent answered answered_new faults faults_new delivered.attempts

@@ -11,7 +11,7 @@ use Rattle.delivery_duties.specs.Duties.{IsNext, pending_row}
 use Rattle.router_core.specs.Request.{Request}
 use Rattle.api_replies.specs.Reply.{Reply}
 use Rattle.courier_run.specs.Claim.{IsSuccess}
-use Rattle.router_core.specs.Batch.{Entry, control, accepted, attempt, Batch}
+use Rattle.router_core.specs.Batch.{Entry, control, accepted, attempt, messages_deleted, Batch}
 use Rattle.router_core.specs.Tables.{Tables, after_batch, is_full, moment_at}
 use Rattle.router_core.specs.Steps.{record_of, claiming, putting_back}
 use Rattle.router_calls.specs.Answer.{IsAnswer}
@@ -118,6 +118,7 @@ controls_in [] = []
 controls_in (control c ∷ es) = c ∷ controls_in es
 controls_in (accepted e ∷ es) = controls_in es
 controls_in (attempt duty outcome ∷ es) = controls_in es
+controls_in (messages_deleted queue through ∷ es) = controls_in es
 
 -- the state after what a turn wrote
 abbrev pub after_written : Option Batch → State → State

@@ -4,6 +4,7 @@ pub mod Folds
 pub mod Firsts
 pub mod Book
 pub mod Answered
+pub mod Sent
 pub mod Delivery
 pub mod Turns
 pub mod Exchange

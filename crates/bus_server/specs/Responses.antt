@@ -1,5 +1,5 @@
 -- What is written for one message.
-use Rattle.std.specs.Prelude.{◌≡◌, ℕ, Bool, List, [], Result, Ok, Err}
+use Rattle.std.specs.Prelude.{◌≡◌, ◌⊎◌, ℕ, Bool, List, [], Result, Ok, Err}
 use Rattle.json_text.specs.declared.base.NoMemory.{NoMemory}
 use Rattle.router_disk.specs.Clock.{Gives}
 use Rattle.router_disk.specs.Sink.{WritesAll}
@@ -10,6 +10,7 @@ use Rattle.api_members.specs.declared.fault.CallFault.{CallFault}
 use Rattle.api_members.specs.declared.fault.CallFault.TheVariants as faults
 use Rattle.courier_run.specs.declared.turned.Turned.{Turned}
 use Rattle.courier_run.specs.declared.fault.TurnFault.{TurnFault}
+use Rattle.bus_server.specs.Sent.{AreSent}
 use Rattle.bus_server.specs.Delivery.{Delivers}
 use Rattle.bus_server.specs.Exchange.{IsDeliveryReply}
 use Rattle.bus_server.specs.World.{World}
@@ -28,12 +29,17 @@ IsFaultText faults.NoMemory close bytes = ⊥
 pub record IsUndelivered (close : Bool) (old new : World) (result : Result (Unit {0}) Failed) : Type 0 where
   pub book : new.book ≡ old.book
   pub readings : Gives old.ahead new.ahead []
+  pub unsent : AreSent old.answered new.answered old.link_faults new.link_faults []
   pub writes : WritesAll old.written new.written result (reply_text no_memory close)
 
 -- the steps of a DeliverDue, at most `budget`, and its reply
 pub record DeliveredOf (budget : ℕ) (close : Bool) (old new : World) (result : Result (Unit {0}) Failed) : Type 0 where
   pub made : Result Turned TurnFault
-  pub steps : Delivers budget old.book new.book old.ahead new.ahead made
+  pub steps : Delivers budget old.book new.book old.ahead new.ahead old.answered new.answered old.link_faults new.link_faults made
   pub reply : Reply
   pub replies : IsDeliveryReply made reply
   pub writes : WritesAll old.written new.written result (reply_text reply close)
+
+-- the answer to a DeliverDue: its steps and its reply, or out of memory before the first step
+abbrev pub AnswersDelivery : ℕ → Bool → World → World → Result (Unit {0}) Failed → Type 0
+AnswersDelivery budget close old new result = DeliveredOf budget close old new result ⊎ IsUndelivered close old new result

@@ -3,6 +3,7 @@ use Rattle.std.specs.Prelude.{◌≡◌, ◌≢◌, ℕ, ◌⊎◌, List, [], �
 use Rattle.std.specs.Io.KnownBytes.{Keeps}
 use Rattle.router_disk.specs.Clock.{repeating, Gives}
 use Rattle.router_disk.specs.Faults.{CountsFaults, Rose}
+use Rattle.router_disk.specs.Link.{Exchange}
 use Rattle.router_disk.specs.Sink.{WritesAll}
 use Rattle.router_disk.specs.declared.fault.Failed.{Failed}
 use Rattle.router_core.specs.Tables.{first_tables, tables_after}
@@ -33,6 +34,7 @@ fault_line statuses.Usage = codes "ebusd: bad arguments" ++ 10 ∷ []
 fault_line statuses.ReadFault = codes "ebusd: input failed" ++ 10 ∷ []
 fault_line statuses.WriteFault = codes "ebusd: output failed" ++ 10 ∷ []
 fault_line statuses.NoMemory = codes "ebusd: out of memory" ++ 10 ∷ []
+fault_line statuses.DoorFault = codes "ebusd: door failed" ++ 10 ∷ []
 fault_line statuses.Cut = codes "ebusd: input ended inside a message" ++ 10 ∷ []
 fault_line statuses.Long = codes "ebusd: request limit reached" ++ 10 ∷ []
 fault_line statuses.Refused = codes "ebusd: message refused" ++ 10 ∷ []
@@ -44,6 +46,7 @@ code_of statuses.Usage = 2
 code_of statuses.ReadFault = 3
 code_of statuses.WriteFault = 4
 code_of statuses.NoMemory = 7
+code_of statuses.DoorFault = 8
 code_of statuses.Cut = 9
 code_of statuses.Long = 10
 code_of statuses.Refused = 11
@@ -76,18 +79,52 @@ pub record RunsOnce (old new : World) (status : Status) : Type 0 where
   pub none_open : (state_of new.book).open_claims ≡ []
   pub tables : without_claims new.book.tables ≡ tables_after (batches_of new.book.turns) first_tables
 
--- nothing was read and nothing written, and the clock was not read
-abbrev pub IsUnbegun : Option (List ℕ) → Option (List ℕ) → Option (List ℕ) → Option (List ℕ) → Option (ℕ → ℕ) → Option (ℕ → ℕ) → Type 0
-IsUnbegun left left_new written written_new ahead ahead_new = Keeps left left_new × Keeps written written_new × Gives ahead ahead_new []
+-- what is known around a run: the bytes that are left to read, and the bytes that were written, each if they are known; the readings of the clock to
+-- come, if they are; and the links that the host gave, and those that it took back
+pub record Around (L : Type 0) : Type 0 where
+  pub left : Option (List ℕ)
+  pub written : Option (List ℕ)
+  pub ahead : Option (ℕ → ℕ)
+  pub given : List L
+  pub back : List L
 
--- the run of a program: one session, with the readings of the clock, or with every reading the given one while the clock is not read; or out of
--- memory before it
-abbrev pub IsRun : Option ℕ → Option (List ℕ) → Option (List ℕ) → Option (List ℕ) → Option (List ℕ) → Option (ℕ → ℕ) → Option (ℕ → ℕ) → Status → Type 0
-IsRun None left left_new written written_new ahead ahead_new status =
-    ((book : BookState) × RunsOnce (world first_book left written ahead) (world book left_new written_new ahead_new) status)
-    ⊎ ((status ≡ statuses.NoMemory) × IsUnbegun left left_new written written_new ahead ahead_new)
-IsRun (Some moment) left left_new written written_new ahead ahead_new status =
-    ((book : BookState) × (later : Option (ℕ → ℕ))
-    × RunsOnce (world first_book left written (Some (repeating moment []))) (world book left_new written_new later) status
-    × Gives ahead ahead_new [])
-    ⊎ ((status ≡ statuses.NoMemory) × IsUnbegun left left_new written written_new ahead ahead_new)
+abbrev pub around : {L : Type 0} → Option (List ℕ) → Option (List ℕ) → Option (ℕ → ℕ) → List L → List L → Around L
+around left written ahead given back = record { left = left; written = written; ahead = ahead; given = given; back = back }
+
+-- nothing was read and nothing written, the clock was not read, and no link was given or taken back
+pub record IsUnbegun {L : Type 0} (old new : Around L) : Type 0 where
+  pub unread : Keeps old.left new.left
+  pub unwritten : Keeps old.written new.written
+  pub unclocked : Gives old.ahead new.ahead []
+  pub none_given : new.given ≡ old.given
+  pub none_back : new.back ≡ old.back
+
+-- the session of a run: by the clock, or with every reading the given moment while the clock is not read
+abbrev pub RunsBy : Option ℕ → World → World → Status → Type 0
+RunsBy None old new status = RunsOnce old new status
+RunsBy (Some moment) old new status = (later : Option (ℕ → ℕ))
+    × RunsOnce (record old { ahead = Some (repeating moment []) }) (record new { ahead = later }) status × Gives old.ahead new.ahead []
+
+-- The host gave a link, one session had it, and the host took it back. `answered` and `faults` are what a link shows.
+pub record RunsLinked {L : Type 0} (answered : L → Option (List Exchange)) (faults : L → ℕ) (now : Option ℕ) (old new : Around L) (status : Status)
+    : Type 0 where
+  -- the link as it was given, and as it was taken back
+  pub lent : L
+  pub returned : L
+  pub given : new.given ≡ old.given ++ lent ∷ []
+  pub back : new.back ≡ old.back ++ returned ∷ []
+  pub book : BookState
+  pub runs : RunsBy now (world first_book old.left old.written old.ahead (answered lent) (faults lent))
+      (world book new.left new.written new.ahead (answered returned) (faults returned)) status
+
+-- the run of a program: one session over a link of the host; or out of memory, or no link, before it
+abbrev pub IsRun : {L : Type 0} → (answered : L → Option (List Exchange)) (faults : L → ℕ) → Option ℕ → Around L → Around L → Status → Type 0
+IsRun answered faults now old new status =
+    RunsLinked answered faults now old new status ⊎ (((status ≡ statuses.NoMemory) ⊎ (status ≡ statuses.DoorFault)) × IsUnbegun old new)
+
+-- The status and the counts of faults of the host: a link failed only with `DoorFault`; a count is unchanged otherwise.
+pub record HostMatches {H : Type 0} (disk door link : H → ℕ) (status : Status) (old new : H) : Type 0 where
+  pub same_disk : disk new ≡ disk old
+  pub same_door : door new ≡ door old
+  pub door_fault : status ≡ statuses.DoorFault → Rose (link old) (link new)
+  pub link_faultless : status ≢ statuses.DoorFault → link new ≡ link old

@@ -9,16 +9,19 @@ use Rattle.api_messages.specs.Messages.{IsStream}
 use Rattle.courier_run.specs.Claim.{moment_of}
 use Rattle.bus_server.specs.History.{asked_readings}
 use Rattle.bus_server.specs.Sublist.{IsSublist}
+use Rattle.bus_server.specs.Sent.{AreSent}
+use Rattle.bus_server.specs.Delivery.{attempts_of}
 use Rattle.bus_server.specs.Exchange.{Exchange, exchange_text}
-use Rattle.bus_server.specs.Exchanges.{readings_of, messages_of, AreAdded}
+use Rattle.bus_server.specs.Exchanges.{turns_of, readings_of, messages_of, AreAdded}
 use Rattle.bus_server.specs.Session.{texts_of, NoneCloses, piece_size}
 use Rattle.bus_server.specs.World.{World}
 
--- the exchanges were made: their turns, and their readings
+-- the exchanges were made: their turns, their readings and their sends
 pub record AreMade (old now : World) (es : List Exchange) : Type 0 where
   pub exchanges : AreAdded old.book now.book es
   pub readings : Gives old.ahead now.ahead (readings_of es)
   pub asked_at : IsSublist (asked_readings exchanges.added) (map moment_of (readings_of es))
+  pub sent : AreSent old.answered now.answered old.link_faults now.link_faults (attempts_of (turns_of es))
 
 -- the exchanges so far: `served` requests, none of which asked to close
 pub record IsRunning (old now : World) (rest : List ℕ) (served : ℕ) : Type 0 where

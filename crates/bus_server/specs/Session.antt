@@ -14,8 +14,10 @@ use Rattle.bus_server.specs.declared.session.SessionEnd.TheVariants.{Closed, Cut
 use Rattle.courier_run.specs.Claim.{moment_of}
 use Rattle.bus_server.specs.History.{asked_readings}
 use Rattle.bus_server.specs.Sublist.{IsSublist}
+use Rattle.bus_server.specs.Sent.{AreSent}
+use Rattle.bus_server.specs.Delivery.{attempts_of}
 use Rattle.bus_server.specs.Exchange.{Exchange, exchange_text}
-use Rattle.bus_server.specs.Exchanges.{readings_of, messages_of, AreAdded}
+use Rattle.bus_server.specs.Exchanges.{turns_of, readings_of, messages_of, AreAdded}
 use Rattle.bus_server.specs.World.{World}
 
 -- the number of requests that one session serves (this project's own limit)
@@ -139,6 +141,8 @@ pub record IsSession (old new : World) (end : SessionEnd) : Type 0 where
   -- the clock gave these readings only; the readings of the turns are some of them, in order, each as a moment
   pub readings : Gives old.ahead new.ahead (readings_of course.exchanges)
   pub asked_at : IsSublist (asked_readings exchanges.added) (map moment_of (readings_of course.exchanges))
+  -- the link answered what the recorded attempts record, in their order, and nothing else
+  pub sent : AreSent old.answered new.answered old.link_faults new.link_faults (attempts_of (turns_of course.exchanges))
   -- the replies are written, and nothing else
   pub written_are : IsWritten end course old.written new.written
   pub ends : EndsWith end course (IsAtEnd new.left)

@@ -68,7 +68,8 @@ pub(crate) fn deliver<L: Link, C: Clock>(
 ) -> Result<Turned, TurnFault>
     requires { IsBook (book_of book.old) }
     ensures book { IsBook (book_of book.new) }
-    ensures delivers { Delivers budget (book_of book.old) (book_of book.new) (C.ahead clock.old) (C.ahead clock.new) result }
+    ensures delivers { Delivers budget (book_of book.old) (book_of book.new) (C.ahead clock.old) (C.ahead clock.new)
+        (L.answered link.old) (L.answered link.new) (L.faults link.old) (L.faults link.new) result }
     ensures no_disk { (turned : Counted) → ¬ (result ≡ Err (TurnFault.DiskFault turned)) }
     ensures closed { (state_of (book_of book.old)).open_claims ≡ [] → (state_of (book_of book.new)).open_claims ≡ [] }
 {

@@ -1,5 +1,5 @@
 //! One message and its reply.
-ghost use Rattle.std.specs.Prelude.{◌≡◌, ◌⊎◌, ℕ, List, [], Option, IfOk, MatchOption};
+ghost use Rattle.std.specs.Prelude.{◌≡◌, ℕ, List, [], Option, IfOk, MatchOption};
 ghost use Rattle.api_replies.specs.Reply as replies;
 ghost use Rattle.router_core.specs.Request.{deliver_due, IsOneTurn};
 ghost use Rattle.router_core.specs.View.{action_of};
@@ -8,7 +8,7 @@ ghost use Rattle.router_disk.specs.Sink.{WritesAll};
 ghost use Rattle.api_replies.specs.Written.{reply_text};
 ghost use Rattle.bus_server.specs.Book.{book_of, state_of, IsBook};
 ghost use Rattle.bus_server.specs.Exchange.{IsDeliveryReply};
-ghost use Rattle.bus_server.specs.Responses.{text_or, IsFaultText, IsUndelivered, DeliveredOf};
+ghost use Rattle.bus_server.specs.Responses.{text_or, IsFaultText, AnswersDelivery};
 ghost use Rattle.bus_server.specs.Running.{ExchangeOf};
 ghost use Rattle.courier_run.specs.declared.turned.Turned.{Turned as Counted};
 ghost use Rattle.bus_server.specs.World.{world};
@@ -43,8 +43,8 @@ pub(crate) fn answer_message<K: Sink, L: Link, C: Clock>(
     ensures book { IsBook (book_of book.new) }
     ensures closed { (state_of (book_of book.old)).open_claims ≡ [] → (state_of (book_of book.new)).open_claims ≡ [] }
     ensures exchange { (left : Option (List ℕ)) → ExchangeOf message.now close
-        (world (book_of book.old) left (K.written output.old) (C.ahead clock.old))
-        (world (book_of book.new) left (K.written output.new) (C.ahead clock.new)) result }
+        (world (book_of book.old) left (K.written output.old) (C.ahead clock.old) (L.answered link.old) (L.faults link.old))
+        (world (book_of book.new) left (K.written output.new) (C.ahead clock.new) (L.answered link.new) (L.faults link.new)) result }
     ensures count { CountsFaults (K.faults output.old) (K.faults output.new) result }
 {
     let reading = clock.now();
@@ -93,7 +93,10 @@ fn delivery_budget(action: &Action) -> Option<u32>
         | Action::PutEvents { .. }
         | Action::TestEventPattern { .. }
         | Action::CreateQueue { .. }
-        | Action::PeekMessages { .. } => None,
+        | Action::DeleteQueue { .. }
+        | Action::PeekMessages { .. }
+        | Action::DeleteMessages { .. }
+        | Action::DutyCounts => None,
     }
 }
 
@@ -143,11 +146,9 @@ fn answer_delivery<K: Sink, L: Link, C: Clock>(
     requires { IsBook (book_of book.old) }
     ensures book { IsBook (book_of book.new) }
     ensures closed { (state_of (book_of book.old)).open_claims ≡ [] → (state_of (book_of book.new)).open_claims ≡ [] }
-    ensures delivered { (left : Option (List ℕ)) →
-        DeliveredOf budget close (world (book_of book.old) left (K.written output.old) (C.ahead clock.old))
-        (world (book_of book.new) left (K.written output.new) (C.ahead clock.new)) result
-        ⊎ IsUndelivered close (world (book_of book.old) left (K.written output.old) (C.ahead clock.old))
-        (world (book_of book.new) left (K.written output.new) (C.ahead clock.new)) result }
+    ensures delivered { (left : Option (List ℕ)) → AnswersDelivery budget close
+        (world (book_of book.old) left (K.written output.old) (C.ahead clock.old) (L.answered link.old) (L.faults link.old))
+        (world (book_of book.new) left (K.written output.new) (C.ahead clock.new) (L.answered link.new) (L.faults link.new)) result }
     ensures count { CountsFaults (K.faults output.old) (K.faults output.new) result }
 {
     match delivery_room(alloc, close) {

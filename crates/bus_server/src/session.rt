@@ -53,8 +53,8 @@ pub fn run_session<S: Source, K: Sink, L: Link, C: Clock>(
     ensures book { IsBook (book_of book.new) }
     ensures closed { (state_of (book_of book.old)).open_claims ≡ [] → (state_of (book_of book.new)).open_claims ≡ [] }
     ensures session { IsSession
-        (world (book_of book.old) (S.left input.old) (K.written output.old) (C.ahead clock.old))
-        (world (book_of book.new) (S.left input.new) (K.written output.new) (C.ahead clock.new)) result }
+        (world (book_of book.old) (S.left input.old) (K.written output.old) (C.ahead clock.old) (L.answered link.old) (L.faults link.old))
+        (world (book_of book.new) (S.left input.new) (K.written output.new) (C.ahead clock.new) (L.answered link.new) (L.faults link.new)) result }
     ensures read_fault { result ≡ SessionEnd.ReadFault → Rose (S.faults input.old) (S.faults input.new) }
     ensures input_faultless { result ≢ SessionEnd.ReadFault → S.faults input.new ≡ S.faults input.old }
     ensures write_fault { result ≡ SessionEnd.WriteFault → Rose (K.faults output.old) (K.faults output.new) }

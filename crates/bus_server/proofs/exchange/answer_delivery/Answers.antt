@@ -1,12 +1,14 @@
 use Rattle.std.proofs.Common.{inl, inr, refl, subst}
 use Rattle.router_disk.proofs.ClockLemmas.{Gives-none}
 use Rattle.router_disk.specs.Sink.{WritesAll}
+use Rattle.bus_server.proofs.SentLemmas.{sent_none}
 use Rattle.bus_server.proofs.exchange.answer_delivery.Goals as goal
 
 pub returns-in-Err-clause-delivered : goal.returns-in-Err-clause-delivered
 returns-in-Err-clause-delivered g c = λ left. inr (record {
   book = refl;
   readings = Gives-none _;
+  unsent = sent_none _ _;
   writes = subst (WritesAll _ _ c.write_all.result) c.no_memory_reply.ensures c.write_all.ensures.bytes;
 })
 

@@ -9,6 +9,7 @@ use Rattle.courier_run.specs.Claim.{moment_of}
 use Rattle.bus_server.specs.Book.{BookState, state_of}
 use Rattle.bus_server.specs.Exchange.{sent_text}
 use Rattle.bus_server.proofs.ExchangeLemmas.{other_exchange, refused_exchange, answered_exchange, fault_exchange, delivery_exchange, answered_closes}
+use Rattle.bus_server.proofs.SentLemmas.{sent_none}
 use Rattle.bus_server.proofs.exchange.answer_message.Goals as goal
 
 pub returns-in-Some-clause-exchange : goal.returns-in-Some-clause-exchange
@@ -24,14 +25,14 @@ returns-in-Head-clause-exchange g c = λ left.
     let text : c.not_post_head.result.now ≡ sent_text c.args.message.now.method not_post c.args.close =
     c.not_post_head.ensures ∙ ap (λ (m : Method). sent_text m not_post c.args.close) (sym c.in-Head.is) in
     other_exchange c.args.message.now c.args.close _ _ c.write_all.result c.now-reading.result
-    (ap is_post c.in-Head.is) refl c.now-reading.ensures (subst (WritesAll _ _ c.write_all.result) text c.write_all.ensures.bytes)
+    (ap is_post c.in-Head.is) refl c.now-reading.ensures (sent_none _ _) (subst (WritesAll _ _ c.write_all.result) text c.write_all.ensures.bytes)
 
 pub returns-in-Other-clause-exchange : goal.returns-in-Other-clause-exchange
 returns-in-Other-clause-exchange g c = λ left.
     let text : c.not_post_reply.result.now ≡ sent_text c.args.message.now.method not_post c.args.close =
     c.not_post_reply.ensures ∙ ap (λ (m : Method). sent_text m not_post c.args.close) (sym c.in-Other.is) in
     other_exchange c.args.message.now c.args.close _ _ c.write_all-in-Other.result c.now-reading.result
-    (ap is_post c.in-Other.is) refl c.now-reading.ensures (subst (WritesAll _ _ c.write_all-in-Other.result) text c.write_all-in-Other.ensures.bytes)
+    (ap is_post c.in-Other.is) refl c.now-reading.ensures (sent_none _ _) (subst (WritesAll _ _ c.write_all-in-Other.result) text c.write_all-in-Other.ensures.bytes)
 
 pub returns-in-Ok-turn-clause-exchange : goal.returns-in-Ok-turn-clause-exchange
 returns-in-Ok-turn-clause-exchange g c = λ left.
@@ -39,7 +40,7 @@ returns-in-Ok-turn-clause-exchange g c = λ left.
     subst (λ (m : ℕ). IsAsked c.args.message.now m (request_of c.in-Ok.request)) c.min.ensures c.in-Ok.ensures.asked in
     answered_exchange c.args.message.now c.args.close _ _ c.respond.result c.now-reading.result c.args.seat (request_of c.in-Ok.request)
     c.in-Ok-turn.reply c.turn_bytes.result (ap is_post c.in-Post.is) refl asked
-    c.in-Ok-turn.ensures.answered c.turn_bytes.ensures.ok c.turn_bytes.ensures.err c.now-reading.ensures c.respond.ensures.writes
+    c.in-Ok-turn.ensures.answered c.turn_bytes.ensures.ok c.turn_bytes.ensures.err c.now-reading.ensures (sent_none _ _) c.respond.ensures.writes
 
 pub returns-in-Ok-turn-clause-closed : goal.returns-in-Ok-turn-clause-closed
 returns-in-Ok-turn-clause-closed g c =
@@ -48,7 +49,7 @@ returns-in-Ok-turn-clause-closed g c =
 pub returns-in-Err-turn-clause-exchange : goal.returns-in-Err-turn-clause-exchange
 returns-in-Err-turn-clause-exchange g c = λ left.
     refused_exchange c.args.message.now c.args.close _ _ c.respond-in-Err-turn.result
-    c.now-reading.result (ap is_post c.in-Post.is) c.in-Err-turn.ensures.unchanged c.now-reading.ensures c.respond-in-Err-turn.ensures.writes
+    c.now-reading.result (ap is_post c.in-Post.is) c.in-Err-turn.ensures.unchanged c.now-reading.ensures (sent_none _ _) c.respond-in-Err-turn.ensures.writes
 
 pub returns-in-Err-turn-clause-closed : goal.returns-in-Err-turn-clause-closed
 returns-in-Err-turn-clause-closed g c = λ none. ap (λ (b : BookState). (state_of b).open_claims) c.in-Err-turn.ensures.unchanged ∙ none
@@ -56,4 +57,4 @@ returns-in-Err-turn-clause-closed g c = λ none. ap (λ (b : BookState). (state_
 pub returns-in-Err-clause-exchange : goal.returns-in-Err-clause-exchange
 returns-in-Err-clause-exchange g c = λ left.
     fault_exchange c.args.message.now c.args.close _ _ c.respond-in-Err.result c.now-reading.result c.in-Err.fault c.fault_bytes.result
-    (ap is_post c.in-Post.is) refl c.in-Err.ensures.refused c.fault_bytes.ensures c.now-reading.ensures c.respond-in-Err.ensures.writes
+    (ap is_post c.in-Post.is) refl c.in-Err.ensures.refused c.fault_bytes.ensures c.now-reading.ensures (sent_none _ _) c.respond-in-Err.ensures.writes

@@ -8,8 +8,10 @@ use Rattle.bus_server.proofs.session.run_session.Given as goal
 abbrev pub invariant-loop-message : goal.invariant-loop-message
 invariant-loop-message g l = record {
   running : IsRunning
-      (world (book_of l.initial.book) (g.S.Source.left l.initial.input) (g.K.Sink.written l.initial.output) (g.C.Clock.ahead l.initial.clock))
-      (world (book_of l.book) (g.S.Source.left l.input) (g.K.Sink.written l.output) (g.C.Clock.ahead l.clock))
+      (world (book_of l.initial.book) (g.S.Source.left l.initial.input) (g.K.Sink.written l.initial.output) (g.C.Clock.ahead l.initial.clock)
+      (g.L.Link.answered l.initial.link) (g.L.Link.faults l.initial.link))
+      (world (book_of l.book) (g.S.Source.left l.input) (g.K.Sink.written l.output) (g.C.Clock.ahead l.clock) (g.L.Link.answered l.link)
+      (g.L.Link.faults l.link))
       l.wire.rest l.served;
   book : IsBook (book_of l.book);
   closed : (state_of (book_of l.initial.book)).open_claims ≡ [] → (state_of (book_of l.book)).open_claims ≡ [];
