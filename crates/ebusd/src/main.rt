@@ -1,7 +1,7 @@
 //! The program `ebusd`: an event router over standard input and output.
 #![tactic(auto)]
 
-use bus_host::NoHost;
+use bus_host::TcpHost;
 use bus_server::run;
 use router_disk::{ReaderSource, SystemClock, WriterSink};
 use std::process::ExitCode;
@@ -12,7 +12,7 @@ fn main(rt: HostRuntime) -> io::Result<ExitCode> {
     let mut input = ReaderSource::new(rt.stdin());
     let mut output = WriterSink::new(rt.stdout());
     let mut faults = WriterSink::new(rt.stderr());
-    let mut host = NoHost::new();
+    let mut host = TcpHost::new(rt.alloc(), rt);
     let mut clock = SystemClock::new(rt);
     let status = run(
         &rt,
