@@ -9,6 +9,10 @@ pub(crate) const PUT_RULE: &str =
 pub(crate) const PUT_TARGETS: &str =
     "POST / HTTP/1.1\r\nHost: 127.0.0.1\r\nX-Amz-Target: AWSEvents.PutTargets\r\nContent-Length: 80\r\n\r\n{\"Rule\":\"r\",\"Targets\":[{\"Id\":\"t\",\"Arn\":\"arn:aws:sqs:us-east-1:111122223333:q\"}]}";
 
+/// A target that is an endpoint, in place of the queue.
+pub(crate) const PUT_ENDPOINT: &str =
+    "POST / HTTP/1.1\r\nHost: 127.0.0.1\r\nX-Amz-Target: AWSEvents.PutTargets\r\nContent-Length: 72\r\n\r\n{\"Rule\":\"r\",\"Targets\":[{\"Id\":\"t\",\"Arn\":\"http://localhost:8080/orders\"}]}";
+
 pub(crate) const PUT_EVENTS: &str =
     "POST / HTTP/1.1\r\nHost: 127.0.0.1\r\nX-Amz-Target: AWSEvents.PutEvents\r\nContent-Length: 88\r\n\r\n{\"Entries\":[{\"Source\":\"shop.orders\",\"DetailType\":\"Order\",\"Detail\":\"{\\\"total\\\":12.50}\"}]}";
 
@@ -39,6 +43,14 @@ pub(crate) const PEEK_MESSAGES_REPLY: &str =
 /// The reply to `DELIVER_DUE` if the event is too old.
 pub(crate) const DROPPED_REPLY: &str =
     "HTTP/1.1 200 OK\r\nContent-Type: application/x-amz-json-1.1\r\nContent-Length: 57\r\n\r\n{\"Attempts\":1,\"Delivered\":0,\"DeadLettered\":0,\"Dropped\":1}";
+
+/// The reply to `DELIVER_DUE` if the endpoint gives no answer.
+pub(crate) const PENDING_REPLY: &str =
+    "HTTP/1.1 200 OK\r\nContent-Type: application/x-amz-json-1.1\r\nContent-Length: 57\r\n\r\n{\"Attempts\":1,\"Delivered\":0,\"DeadLettered\":0,\"Dropped\":0}";
+
+/// The text of the event.
+pub(crate) const EVENT: &str =
+    "{\"version\":\"0\",\"id\":\"00000000-0000-8000-8000-000000000001\",\"detail-type\":\"Order\",\"source\":\"shop.orders\",\"account\":\"111122223333\",\"time\":\"2023-11-14T22:13:20Z\",\"region\":\"us-east-1\",\"resources\":[],\"detail\":{\"total\":12.50}}";
 
 /// The reply to `PEEK_MESSAGES` if the queue is empty.
 pub(crate) const NO_MESSAGES_REPLY: &str =

@@ -1,7 +1,11 @@
-//! Tests of whole sessions over streams and a clock in memory.
+//! Tests of whole sessions and of the program over streams, a clock and a host in memory.
 #![tactic(auto)]
 
 #[cfg(test)]
 mod first_run;
+#[cfg(test)]
+mod mem_host;
+#[cfg(test)]
+mod program;
 #[cfg(test)]
 mod tests;

@@ -10,10 +10,10 @@ use std::alloc::{AllocError, Global};
 use std::test::Fail;
 
 /// The reading of the first run's clock, in seconds: 2023-11-14T22:13:20Z.
-const NOW: u64 = 1_700_000_000;
+pub(crate) const NOW: u64 = 1_700_000_000;
 
 /// The texts, one after the other.
-fn joined(alloc: Global, texts: &[&str]) -> Result<Vec<u8>, AllocError> {
+pub(crate) fn joined(alloc: Global, texts: &[&str]) -> Result<Vec<u8>, AllocError> {
     let mut bytes = Vec::new(alloc);
     for text in texts {
         bytes.extend_from_slice(text.as_bytes())?;
@@ -22,7 +22,7 @@ fn joined(alloc: Global, texts: &[&str]) -> Result<Vec<u8>, AllocError> {
 }
 
 /// The messages of the first run.
-fn messages(alloc: Global) -> Result<Vec<u8>, AllocError> {
+pub(crate) fn messages(alloc: Global) -> Result<Vec<u8>, AllocError> {
     joined(
         alloc,
         &[
@@ -37,7 +37,7 @@ fn messages(alloc: Global) -> Result<Vec<u8>, AllocError> {
 }
 
 /// The replies of the first run.
-fn replies(alloc: Global) -> Result<Vec<u8>, AllocError> {
+pub(crate) fn replies(alloc: Global) -> Result<Vec<u8>, AllocError> {
     joined(
         alloc,
         &[
