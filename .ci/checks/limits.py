@@ -1,8 +1,8 @@
 #!/usr/bin/env python3
 """Runs bin/ebusd at its limits, with inputs too large to be stored, and compares each reply with what is written here.
 
-A text that is one byte too long for its target is dropped, and one at the limit is delivered whole; a session serves
-1,048,576 requests and no more; if the system gives no memory the status is 7. A run that fails has a line. The last
+A text that is one byte too long for its target is dropped, or becomes an empty dead letter, and one at the limit is delivered
+whole; a session serves 1,048,576 requests and no more; if the system gives no memory the status is 7. A run that fails has a line. The last
 line is `N passed, M failed`.
 """
 import json
@@ -59,22 +59,26 @@ def run(pieces, command=EBUSD, memory=None):
     return output, faults, ran.wait()
 
 
-def text_of_length(wanted):
-    """The requests that publish an event whose text has this number of bytes, their replies, and that text."""
-    kind = "k"
+def event_of_length(wanted):
+    """The source and the detail type of an event whose text has this number of bytes, and that text."""
     letters = wanted - len(ENVELOPE % ("k", ""))
-    kind += "k" * (letters % 6)
-    count = letters // 6
-    source = "\\u0001" * count
-    text = ENVELOPE % (kind, source)
-    assert len(text) == wanted and count + len(kind) + 2 <= 262_144
-    entries = '{"Entries":[{"Source":"%s","DetailType":"%s","Detail":"{}"}]}' % (source, kind)
+    kind = "k" + "k" * (letters % 6)
+    source = "\x01" * (letters // 6)
+    text = ENVELOPE % (kind, "\\u0001" * len(source))
+    assert len(text) == wanted and len(source) + len(kind) + 2 <= 262_144
+    return source, kind, text
+
+
+def text_of_length(wanted, target='{"Id":"t","Arn":"%s"}' % QUEUE):
+    """The requests that publish an event whose text has this number of bytes, their replies, and that text."""
+    source, kind, text = event_of_length(wanted)
+    entries = '{"Entries":[{"Source":%s,"DetailType":"%s","Detail":"{}"}]}' % (json.dumps(source), kind)
     assert len(entries) <= 1_048_576
     pattern = json.dumps(json.dumps({"detail-type": [kind]}, separators=(",", ":")))
     asked = [
         message("RouterLocal.CreateQueue", '{"QueueName":"q"}'),
         message("AWSEvents.PutRule", '{"Name":"r","EventPattern":%s}' % pattern),
-        message("AWSEvents.PutTargets", '{"Rule":"r","Targets":[{"Id":"t","Arn":"%s"}]}' % QUEUE),
+        message("AWSEvents.PutTargets", '{"Rule":"r","Targets":[%s]}' % target),
         message("AWSEvents.PutEvents", entries),
         message("RouterLocal.DeliverDue", "{}"),
         message("RouterLocal.PeekMessages", '{"QueueName":"q"}'),
@@ -105,6 +109,21 @@ def a_text_past_the_limit_is_dropped_at_its_making():
         reply("200 OK", '{"Messages":[]}'),
     ]
     return run(asked), (b"".join(replies), b"", 0)
+
+
+def a_text_past_the_limit_is_an_empty_dead_letter():
+    target = '{"Id":"t","Arn":"http://127.0.0.1:1/","DeadLetterConfig":{"Arn":"%s"}}' % QUEUE
+    asked, replies, _text = text_of_length(TEXT_LIMIT + 1, target)
+    attributes = (
+        '{"RULE_ARN":"arn:aws:events:us-east-1:111122223333:rule/r","TARGET_ARN":"http://127.0.0.1:1/","ERROR_CODE":"TEXT_TOO_LONG",'
+        '"ERROR_MESSAGE":"The text is over 1048576 bytes.","EXHAUSTED_RETRY_CONDITION":"","RETRY_ATTEMPTS":"0"}'
+    )
+    replies += [
+        reply("200 OK", '{"Attempts":0,"Delivered":0,"DeadLettered":0,"Dropped":0}'),
+        reply("200 OK", '{"Messages":[{"Number":1,"Body":"{}","Attributes":%s}]}' % attributes),
+        reply("200 OK", '{"Created":1,"Pending":0,"Delivered":0,"DeadLettered":1,"Dropped":0}'),
+    ]
+    return run([*asked, message("RouterLocal.DutyCounts", "{}")]), (b"".join(replies), b"", 0)
 
 
 def a_session_ends_after_its_last_request():
@@ -148,6 +167,7 @@ def main():
     for case in (
         a_text_at_the_limit_is_delivered,
         a_text_past_the_limit_is_dropped_at_its_making,
+        a_text_past_the_limit_is_an_empty_dead_letter,
         a_session_ends_after_its_last_request,
         out_of_memory_the_status_is_7,
     ):

@@ -6,7 +6,8 @@ that a fixed seed shuffles; then each fault of a member, a pattern and a policy 
 requests (`mixed_requests.py`) are all actions that the program serves, accepted and refused, by the owner and by others, and messages
 that it does not serve. The model (`router.py`) knows only the requests. It is checked by rows worked by hand (`rows.py`) first.
 Required are the status and the body of each reply, no reply more or less, nothing on standard error, and the exit status 0. A
-503 is never right here: memory is available. Each refusal of REFUSALS has to come in some run.
+503 is never right here: memory is available. Each refusal of REFUSALS has to come in some run. Nobody listens at the endpoints, so
+each attempt to one has no answer, and as all readings of a run are one no retry is ever due.
 
 To add an action, add it to CALLS of `router.py`, to ACTIONS and BAD_VALUES of `mixed_requests.py`, and its refusals to REFUSALS.
 
@@ -21,8 +22,9 @@ import threading
 import time
 
 import rows
-from mixed_requests import ACTIONS, a_request, conditions, in_order_of_names, most_bytes, one_by_one, request_of, to_the_limits
-from router import A_CALL, CALLS, UNSUPPORTED, Router
+from mixed_requests import ACTIONS, a_request, all_that_is_due, conditions, faults_of_targets, in_order_of_names, most_bytes
+from mixed_requests import one_by_one, request_of, to_the_limits, uses_of_queues
+from router import A_CALL, CALLS, PEEKED_MOST, TARGET_MEMBERS, Router
 
 PROGRAM = "crates/ebusd/out/ebusd"
 EBUSD = "bin/ebusd"
@@ -42,6 +44,7 @@ POLICY_FAULTS = """TooLong NotJson TooDeep KeyTwice NotObject BadVersion BadSid 
     BadCondition UnknownMember""".split()
 NO_BUS = "Event bus {} does not exist."
 NO_RULE = "Rule {} does not exist."
+NO_QUEUE = "Queue {} does not exist."
 REFUSALS = {
     "AWSEvents.CreateEventBus": ["Event bus {} already exists.", "Event bus limit 100 reached."],
     "AWSEvents.DeleteEventBus": ["The default bus stays.", NO_BUS, "Event bus {} is in use."],
@@ -52,9 +55,8 @@ REFUSALS = {
     "AWSEvents.DisableRule": [NO_BUS, NO_RULE],
     "AWSEvents.DescribeRule": [NO_BUS, NO_RULE],
     "AWSEvents.ListRules": [NO_BUS],
-    "AWSEvents.PutTargets": [NO_BUS, NO_RULE, "A target's Id is not valid.", "A target's Arn is not valid."]
-    + ["Queue {} does not exist.", "Target limit 5 reached."]
-    + [f"Member {it} is not valid." for it in UNSUPPORTED],
+    "AWSEvents.PutTargets": [NO_BUS, NO_RULE, NO_QUEUE, "A dead-letter queue does not exist.", "Target limit 5 reached."]
+    + [f"A target's {it} is not valid." for it in TARGET_MEMBERS],
     "AWSEvents.RemoveTargets": [NO_BUS, NO_RULE, "Target {} does not exist."],
     "AWSEvents.ListTargetsByRule": [NO_BUS, NO_RULE],
     "AWSEvents.ListRuleNamesByTarget": [NO_BUS],
@@ -65,7 +67,10 @@ REFUSALS = {
     + ["Detail is malformed.", "Not authorized for the source.", "The entry's bus does not exist."]
     + ["Denied by statement {}.", "No statement allows it.", "The request is over 262144 bytes."],
     "RouterLocal.CreateQueue": ["Queue {} already exists.", "Queue limit 1000 reached."],
-    "RouterLocal.PeekMessages": ["Queue {} does not exist."],
+    "RouterLocal.DeleteQueue": [NO_QUEUE]
+    + [f"{it} uses the queue." for it in ("a target", "a target's dead letters", "a delivery", "a delivery's dead letters", "a message")],
+    "RouterLocal.PeekMessages": [NO_QUEUE],
+    "RouterLocal.DeleteMessages": [NO_QUEUE],
 }
 
 
@@ -95,20 +100,19 @@ def requests_of(router, chance):
     for action in ("RouterLocal.CreateQueue", "AWSEvents.CreateEventBus", "AWSEvents.PutRule", "AWSEvents.PutTargets"):
         for _ in range(8):
             make, _ = ACTIONS[action]
-            yield request_of(action, make(router, chance), chance, 6_000)
+            yield request_of(action, make(router, chance), chance, 30_000)
     lengths = [*LENGTHS, *LONG_LENGTHS]
     chance.shuffle(lengths)
     for length in lengths:
         yield a_request(router, chance, length)
     for over in (0, 1):
         yield request_of("AWSEvents.PutEvents", most_bytes(over), chance, 300_000)
-    for make in (one_by_one, conditions, in_order_of_names, to_the_limits):
+    for make in (one_by_one, conditions, faults_of_targets, uses_of_queues, in_order_of_names, to_the_limits, all_that_is_due):
         yield from make(router, chance)
-    while router.owed:
-        yield request_of("RouterLocal.DeliverDue", {}, chance, 20)
     yield request_of("RouterLocal.DeliverDue", {"Budget": A_CALL}, chance, 20)
+    yield request_of("RouterLocal.DutyCounts", {}, chance, 20)
     for name in router.queues:
-        yield request_of("RouterLocal.PeekMessages", {"QueueName": name}, chance, 150)
+        yield request_of("RouterLocal.PeekMessages", {"QueueName": name, "Limit": PEEKED_MOST}, chance, 150)
 
 
 def exchanges_of(reading, causes):

@@ -4,10 +4,11 @@ is answered is the matter of the model, `router.py`, alone.
 """
 import re
 
+from endpoint_texts import ENDPOINTS, NO_ENDPOINTS
 from pattern_texts import a_pattern_text, an_event, no_event, spell
 from patterns import Number, spelled
 from policy_texts import BAD_MEMBERS, a_policy_text
-from router import CALLS, ENTRIES_SIZE, EVENTS_ARN, NO_OBJECT, OWNER, PEEKED_MOST, QUEUE_ARN, Spelled
+from router import CALLS, ENTRIES_SIZE, EVENTS_ARN, LAST_NUMBER, NO_OBJECT, OWNER, PEEKED_MOST, QUEUE_ARN, Spelled
 
 BUS_ARN = EVENTS_ARN + "event-bus/"
 BUSES = ["default", "orders", "shop.bus", "b-1", "b_2", "B" * 256, "aws", "0", "-", "zz"]  # that a run makes before it fills all
@@ -101,6 +102,24 @@ def create_queue(router, chance):
     return {"QueueName": name}
 
 
+def any_queue(router, chance):
+    return chance.choice([some_queue(router, chance), *router.queues, "none"])
+
+
+def delete_queue(router, chance):
+    return {"QueueName": any_queue(router, chance)}
+
+
+def delete_messages(router, chance):
+    name = some_queue(router, chance) if chance.random() < 0.8 else any_queue(router, chance)
+    last = router.queues[name].count if name in router.queues else 0
+    return {"QueueName": name, "Through": chance.choice([0, 1, last // 2, last // 2, last, LAST_NUMBER])}
+
+
+def duty_counts(_router, chance):
+    return chance.choice([{}, {}, {"Budget": 0}, {"QueueName": None}])
+
+
 def create_event_bus(_router, chance):
     return {"Name": chance.choice(BUSES)}
 
@@ -165,31 +184,40 @@ def list_rules(router, chance):
     return {**a_prefix(chance, ["rule.1"]), **named(chance, bus)}
 
 
-FAULTY = {
-    "Input": "{}",
-    "InputPath": "$.detail",
-    "InputTransformer": {"InputTemplate": "1", "InputPathsMap": {"a": "$.a"}},
-    "RetryPolicy": {},
-    "DeadLetterConfig": {"Arn": None},
+BAD_ARNS = ["q", QUEUE_ARN, QUEUE_ARN + "a.b", "arn:aws:sqs:eu-west-1:111122223333:q", *NO_ENDPOINTS]
+BAD_RETRIES = [186, 65_536, -1, 2**64, Number("-0"), Number("5.0"), Number("1e1")]
+BAD_AGES = [0, 59, 86_401, 65_596, 2**32 + 60, 2**64 + 60, Number("60.0"), Number("6e1"), -60]
+# Each fault of a target's members, by the member.
+TARGET_FAULTS = {
+    "Id": ["", "a b", "t" * 65, "t/1"],
+    "Arn": [*BAD_ARNS, QUEUE_ARN + "none"],
+    "Input": ["{}"],
+    "InputPath": ["$.detail"],
+    "InputTransformer": [{"InputTemplate": "1", "InputPathsMap": {"a": "$.a"}}],
+    "RetryPolicy": [{"MaximumRetryAttempts": it} for it in BAD_RETRIES] + [{"MaximumEventAgeInSeconds": it} for it in BAD_AGES],
+    "DeadLetterConfig": [{"Arn": it} for it in [*BAD_ARNS, *ENDPOINTS[:3], QUEUE_ARN + "none"]],
 }
-BAD_ARNS = ["", "q", QUEUE_ARN, QUEUE_ARN + "a.b", "http://127.0.0.1/q"]
+
+
+def a_retry_policy(chance):
+    numbers = {"MaximumRetryAttempts": chance.choice([0] * 6 + [1, 185, None]), "MaximumEventAgeInSeconds": chance.choice([60, 61, 86_400, None])}
+    return chance.choice([{}, {"Pad": 1}, dict(chance.sample(list(numbers.items()), 1)), *[numbers] * 7])
 
 
 def a_target(router, chance):
     """A target, with no fault or some."""
-    target = {"Id": f"t{chance.randint(1, 7)}", "Arn": QUEUE_ARN + some_queue(router, chance)}
+    is_endpoint = chance.random() < 0.25
+    target = {"Id": f"t{chance.randint(1, 7)}", "Arn": chance.choice(ENDPOINTS) if is_endpoint else QUEUE_ARN + some_queue(router, chance)}
+    if chance.random() < (0.9 if is_endpoint else 0.3):
+        target["RetryPolicy"] = chance.choice([a_retry_policy(chance)] * 9 + [None])
+    if chance.random() < (0.8 if is_endpoint else 0.3):
+        target["DeadLetterConfig"] = chance.choice([{"Arn": QUEUE_ARN + some_queue(router, chance)}] * 8 + [{}, {"Arn": None}, None])
     for _ in range(chance.choice([0, 0, 0, 0, 0, 0, 0, 0, 1, 2])):
-        fault = chance.choice(
-            [
-                {"Id": chance.choice(["", "a b", "t" * 65, "t/1"])},
-                {"Arn": chance.choice(BAD_ARNS)},
-                {"Arn": QUEUE_ARN + "none"},
-                {chance.choice(list(FAULTY)): None},
-                dict([chance.choice(list(FAULTY.items()))]),
-            ]
-        )
-        target.update(fault)
-    return target
+        member = chance.choice(list(TARGET_FAULTS))
+        target[member] = chance.choice(TARGET_FAULTS[member])
+        if member not in ("Id", "Arn") and chance.random() < 0.3:
+            target[member] = None
+    return dict(chance.sample(list(target.items()), len(target))) if chance.random() < 0.3 else target
 
 
 def put_targets(router, chance):
@@ -213,7 +241,8 @@ def list_targets_by_rule(router, chance):
 
 
 def list_rule_names_by_target(router, chance):
-    return {"TargetArn": QUEUE_ARN + some_queue(router, chance), **named(chance, some_bus(router, chance))}
+    arn = chance.choice([QUEUE_ARN + some_queue(router, chance), chance.choice(ENDPOINTS)])
+    return {"TargetArn": arn, **named(chance, some_bus(router, chance))}
 
 
 def a_sid(router, chance, bus, missing):
@@ -261,7 +290,7 @@ def deliver_due(_router, chance):
 
 def peek_messages(router, chance):
     most = chance.choices([None, 1, 3, 100, PEEKED_MOST], [50, 20, 20, 9, 1])[0]
-    name = chance.choice([some_queue(router, chance), *router.queues, "none"])
+    name = some_queue(router, chance) if chance.random() < 0.6 else any_queue(router, chance)
     return {"QueueName": name} if most is None else {"QueueName": name, "Limit": most}
 
 
@@ -346,7 +375,7 @@ BAD_TARGETS += [[A_TARGET, {**A_TARGET, key: it}] for key in ("Id", "Arn") for i
 BAD_TARGETS += [[{**A_TARGET, "Id": "", key: it}] for key in ("Input", "InputPath") for it in (1, {}, ["$"])]
 BAD_TARGETS += [[{**A_TARGET, "InputTransformer": it}] for it in ("", [], {}, {"InputTemplate": None}, {"InputTemplate": 1})]
 BAD_TARGETS += [[{**A_TARGET, "InputTransformer": {"InputTemplate": "", "InputPathsMap": it}}] for it in ("", [], {"a": 1}, {"a": "", "b": None})]
-BAD_TARGETS += [[{**A_TARGET, "RetryPolicy": it}] for it in (1, [], {"MaximumRetryAttempts": "1"}, {"MaximumEventAgeInSeconds": []})]
+BAD_TARGETS += [[{**A_TARGET, "RetryPolicy": it}] for it in (1, [], "", {"MaximumRetryAttempts": "1"}, {"MaximumEventAgeInSeconds": []})]
 BAD_TARGETS += [[{**A_TARGET, "DeadLetterConfig": it}] for it in ("", [], {"Arn": 1}, {"Arn": {}})]
 BAD_IDS = [[], ["t"] * 101, {}, "t", [1], [None], ["t", "a b"], [""], ["t" * 65], [["t"]]]
 AN_ENTRY = {"Source": "a", "DetailType": "b", "Detail": "{}"}
@@ -383,10 +412,11 @@ BAD_VALUES = {
     "Entries": BAD_ENTRIES,
     "Limit": BAD_COUNTS,
     "Budget": BAD_COUNTS,
+    "Through": [-1, LAST_NUMBER + 1, 2**64, Number("-0"), Number("1.0"), Number("1e1"), "1", True, [1], {}],
 }
 IGNORED = [{"NextToken": "x"}, {"Force": True}, {"Limit": 1}, {"Limit": "x", "Force": [], "NextToken": None}]
 IGNORED += [{"Description": "x", "RoleArn": 1}, {"Tags": [{}]}]
-UNKNOWN = ["RouterLocal.DeleteQueue", "AWSEvents.putEvents", "PutEvents", "", "RouterLocal.DescribeRule"]
+UNKNOWN = ["RouterLocal.EmptyQueue", "AWSEvents.DutyCounts", "AWSEvents.putEvents", "PutEvents", "", "RouterLocal.DescribeRule"]
 UNKNOWN += ["AWSEvents.CreateArchive", "AWSEvents.CreateQueue", None]
 
 
@@ -395,7 +425,7 @@ def spoil_members(action, members, chance):
     asked = [name for name, _, _ in CALLS[action][1]]
     if action == "AWSEvents.PutPermission":
         asked.append("Policy")
-    for _ in range(chance.choice([1, 1, 2])):
+    for _ in range(chance.choice([1, 1, 2]) if asked else 0):
         member = chance.choice(asked)
         kind = chance.random()
         if kind < 0.25:
@@ -443,8 +473,11 @@ ACTIONS = {
     "AWSEvents.TestEventPattern": (test_event_pattern, 20),
     "AWSEvents.PutEvents": (put_events, 45),
     "RouterLocal.CreateQueue": (create_queue, 4),
-    "RouterLocal.PeekMessages": (peek_messages, 3),
+    "RouterLocal.DeleteQueue": (delete_queue, 2),
+    "RouterLocal.PeekMessages": (peek_messages, 4),
+    "RouterLocal.DeleteMessages": (delete_messages, 3),
     "RouterLocal.DeliverDue": (deliver_due, 9),
+    "RouterLocal.DutyCounts": (duty_counts, 1),
 }
 NAMES, WEIGHTS = list(ACTIONS), [weight for _, weight in ACTIONS.values()]
 
@@ -530,10 +563,71 @@ def conditions(router, chance):
                     yield request_of("AWSEvents.PutEvents", {"Entries": entries}, chance, 2_000, chance.choice(STRANGERS))
 
 
+def all_that_is_due(router, chance):
+    while router.is_due:
+        yield request_of("RouterLocal.DeliverDue", {}, chance, 20)
+
+
+def faults_of_targets(router, chance):
+    """Each fault of a target's member alone, then each endpoint: as it is put, listed and looked up."""
+    bus, queue = {"EventBusName": "targets"}, QUEUE_ARN + "targets"
+    yield request_of("RouterLocal.CreateQueue", {"QueueName": "targets"}, chance, 100)
+    yield request_of("AWSEvents.CreateEventBus", {"Name": "targets"}, chance, 100)
+    rules = [f"rule.{it}" for it in range(0, len(ENDPOINTS), 5)]
+    for rule in rules:
+        yield request_of("AWSEvents.PutRule", {"Name": rule, "EventPattern": '{"source":["a"]}', **bus}, chance, 1_000)
+    for member, values in TARGET_FAULTS.items():
+        targets = [{"Id": f"t{at}", "Arn": queue, member: it} for at, it in enumerate(values)]
+        yield request_of("AWSEvents.PutTargets", {"Rule": "rule.0", "Targets": targets, **bus}, chance, 20_000)
+    for at, arn in enumerate(ENDPOINTS):
+        target = {"Id": f"t{at}", "Arn": arn, "RetryPolicy": a_retry_policy(chance), "DeadLetterConfig": {"Arn": queue}}
+        yield request_of("AWSEvents.PutTargets", {"Rule": f"rule.{at // 5 * 5}", "Targets": [target], **bus}, chance, 5_000)
+    for rule in rules:
+        yield request_of("AWSEvents.ListTargetsByRule", {"Rule": rule, **bus}, chance, 1_000)
+    for arn in ENDPOINTS:
+        yield request_of("AWSEvents.ListRuleNamesByTarget", {"TargetArn": arn, **bus}, chance, 5_000)
+    yield request_of("AWSEvents.PutEvents", {"Entries": [{**AN_ENTRY, **bus}]}, chance, 1_000)
+    yield from all_that_is_due(router, chance)
+    yield request_of("RouterLocal.PeekMessages", {"QueueName": "targets", "Limit": 100}, chance, 1_000)
+
+
+def uses_of_queues(router, chance):
+    """A queue of its own and one for dead letters, which cannot be deleted while a target, a delivery or a message uses them."""
+    bus, both = {"EventBusName": "uses"}, ["own", "dead"]
+
+    def made(action, members):
+        return request_of(action, members, chance, 1_000)
+
+    def deleted():
+        yield from (made("RouterLocal.DeleteQueue", {"QueueName": it}) for it in both)
+        yield made("RouterLocal.DutyCounts", {})
+
+    own = {"Id": "t1", "Arn": QUEUE_ARN + "own"}
+    lost = {"Id": "t2", "Arn": ENDPOINTS[0], "RetryPolicy": {"MaximumRetryAttempts": 0}, "DeadLetterConfig": {"Arn": QUEUE_ARN + "dead"}}
+    yield made("AWSEvents.CreateEventBus", {"Name": "uses"})
+    yield made("AWSEvents.PutRule", {"Name": "r", "EventPattern": '{"source":["a"]}', **bus})
+    for _ in range(2):
+        yield from all_that_is_due(router, chance)
+        for name in both:
+            yield made("RouterLocal.CreateQueue", {"QueueName": name})
+        yield made("AWSEvents.PutTargets", {"Rule": "r", "Targets": [own, lost], **bus})
+        yield from deleted()
+        yield made("AWSEvents.PutEvents", {"Entries": [{**AN_ENTRY, **bus}] * 3})
+        yield made("AWSEvents.RemoveTargets", {"Rule": "r", "Ids": ["t1", "t2"], **bus})
+        yield from deleted()
+        yield from all_that_is_due(router, chance)
+        yield from deleted()
+        for through in (0, 2, 2, LAST_NUMBER):
+            for name in both:
+                yield made("RouterLocal.DeleteMessages", {"QueueName": name, "Through": through})
+                yield made("RouterLocal.PeekMessages", {"QueueName": name})
+        yield from deleted()
+        yield from deleted()
+
+
 def in_order_of_names(router, chance):
     """Deliveries of one event, one after the other: by rule, then by target, whatever the order in which they were put."""
-    while router.owed:
-        yield request_of("RouterLocal.DeliverDue", {}, chance, 20)
+    yield from all_that_is_due(router, chance)
     queues = ["first", "second", "third"]
     for name in queues:
         yield request_of("RouterLocal.CreateQueue", {"QueueName": name}, chance, 100)

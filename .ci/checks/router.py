@@ -1,30 +1,31 @@
 """The router by its rules: the reply to each request, from the requests before it.
 
 A request is an action, its caller's header field and the value of its body. `Router.answer` finds the first refusal in the order
-of the rules, or makes the change. Patterns and policies have models of their own, `patterns.py` and `policies.py`. Each refusal
-is counted in `causes`, so that a run can show which ones it had.
+of the rules, or makes the change. Patterns, policies and deliveries have models of their own, `patterns.py`, `policies.py` and
+`deliveries.py`. Each refusal is counted in `causes`, so that a run can show which ones it had.
 
 To add an action: a method of Router, and its line in CALLS with the members that it reads, in their order.
 """
 import datetime
 import json
-import queue
 import re
 
 import policies
+from deliveries import AGE, LONGEST_TEXT, QUEUE_ARN, RETRIES, Deliveries, Delivery, Queue, Target, queue_name
+from endpoint_texts import ENDPOINTS
 from patterns import Fault, Number, holds, read_json, read_pattern, spelled
 
 OWNER = "111122223333"
 EVENTS_ARN = f"arn:aws:events:us-east-1:{OWNER}:"
-QUEUE_ARN = f"arn:aws:sqs:us-east-1:{OWNER}:"
 BUSES_LIMIT, RULES_LIMIT, TARGETS_LIMIT, QUEUES_LIMIT = 100, 300, 5, 1_000
-A_CALL = 100  # deliveries of one DeliverDue, if it has no Budget
+A_CALL = 100  # attempts of one DeliverDue, if it has no Budget
+A_CALL_MOST = 1_000
 PEEKED = 10  # messages that one PeekMessages shows, if it has no Limit
 PEEKED_MOST = 1_000
+LAST_NUMBER = 2**48 - 1
 MOMENT_LIMIT = 250_000_000_000
 ENTRIES_SIZE = 262_144
 EVENT_MEMBERS = ["id", "account", "source", "time", "region", "resources", "detail-type"]
-UNSUPPORTED = ["Input", "InputPath", "InputTransformer", "RetryPolicy", "DeadLetterConfig"]  # of a target
 NO_OBJECT = object()  # the value of a body that is no JSON object
 
 VALIDATION = "ValidationException"
@@ -54,8 +55,8 @@ class Refusal(Exception):
         self.kind, self.message, self.cause = kind, message.format(*names), cause or message
 
 
-def missing(kind, name):
-    return Refusal(NOT_FOUND, kind + " {} does not exist.", name)
+def missing(kind, name, cause=None):
+    return Refusal(NOT_FOUND, kind + " {} does not exist.", name, cause=cause)
 
 
 class NotValid(Exception):
@@ -115,10 +116,13 @@ def one_of(*values):
     return read
 
 
-def a_count(value):
-    spelling = value.spelling if isinstance(value, Number) else str(value)
-    need(is_number(value) and re.fullmatch("[1-9][0-9]{0,3}", spelling) and int(spelling) <= 1_000)
-    return int(spelling)
+def a_count(least, most):
+    def read(value):
+        spelling = value.spelling if isinstance(value, Number) else str(value)
+        need(is_number(value) and re.fullmatch("0|[1-9][0-9]{0,18}", spelling) and least <= int(spelling) <= most)
+        return int(spelling)
+
+    return read
 
 
 def without_null(value):
@@ -151,6 +155,56 @@ def a_target(value):
     if "DeadLetterConfig" in target:
         need_texts(without_null(target["DeadLetterConfig"]), "Arn")
     return target
+
+
+def a_target_arn(value):
+    """The ARN of a queue, or the URL of an endpoint."""
+    need(isinstance(value, str) and (re.fullmatch(QUEUE_ARN + QUEUE, value) or value in ENDPOINTS))
+    return value
+
+
+def a_retry(value):
+    """The two numbers of a target's RetryPolicy, or None without one."""
+    if value is None:
+        return None
+    attempts, age = (value.get(it) for it in ("MaximumRetryAttempts", "MaximumEventAgeInSeconds"))
+    return (
+        RETRIES if attempts is None else a_count(0, RETRIES)(attempts),
+        AGE if age is None else a_count(60, AGE)(age),
+    )
+
+
+def a_dead_letter(value):
+    """The ARN of a target's DeadLetterConfig, or None without one."""
+    arn = (value or {}).get("Arn")
+    return None if arn is None else a_text(QUEUE_ARN + QUEUE)(arn)
+
+
+def not_supported(value):
+    need(value is None)
+
+
+TARGET_MEMBERS = {
+    "Id": a_name,
+    "Arn": a_target_arn,
+    "Input": not_supported,
+    "InputPath": not_supported,
+    "InputTransformer": not_supported,
+    "RetryPolicy": a_retry,
+    "DeadLetterConfig": a_dead_letter,
+}
+
+
+def target_of(given):
+    """The target of these members. Raises the first fault of one of them."""
+    found = []
+    for member, read in TARGET_MEMBERS.items():
+        try:
+            found.append(read(given.get(member)))
+        except NotValid:
+            raise Refusal(VALIDATION, f"Member {member} is not valid.", cause=f"A target's {member} is not valid.") from None
+    name, arn, _, _, _, retry, dead_letter = found
+    return Target(name, arn, retry, dead_letter)
 
 
 def some_ids(value):
@@ -202,7 +256,7 @@ class Rule:
         self.name, self.bus = name, bus
         self.text = self.pattern = None
         self.is_enabled = True
-        self.targets = {}  # the names of its targets' queues by their ids
+        self.targets = {}
 
     @property
     def arn(self):
@@ -214,20 +268,18 @@ class Rule:
         return {"Name": self.name, "Arn": self.arn, "EventPattern": self.text, "State": state, "EventBusName": self.bus.name}
 
 
-class Queue:
-    def __init__(self):
-        self.oldest = []  # the texts of its oldest messages
+def no_answer(_endpoint, _text):
+    """The link if nobody listens."""
+    return None
 
 
 class Router:
-    def __init__(self, reading):
+    def __init__(self, reading, link=no_answer):
         self.reading = reading
         self.caller = OWNER  # of the request that is being answered
         self.buses = {"default": Bus("default")}
-        self.queues = {}
+        self.deliveries = Deliveries(link)
         self.events = 0
-        self.due = queue.SimpleQueue()  # of each delivery its queue and text, oldest first
-        self.owed = 0
         self.causes = set()  # the action and the cause of each refusal so far
 
     # -- One request
@@ -271,6 +323,20 @@ class Router:
         if name not in rules:
             raise missing("Rule", name)
         return rules[name]
+
+    @property
+    def queues(self):
+        return self.deliveries.queues
+
+    def queue(self, name):
+        if name not in self.queues:
+            raise missing("Queue", name)
+        return self.queues[name]
+
+    @property
+    def is_due(self):
+        """Whether a delivery is due."""
+        return self.deliveries.is_due(self.reading)
 
     # -- Buses
 
@@ -344,18 +410,14 @@ class Router:
         return {"FailedEntryCount": len(failed), "FailedEntries": failed}
 
     def put_target(self, rule, target):
-        for member, expression in (("Id", NAME), ("Arn", QUEUE_ARN + QUEUE)):
-            if not re.fullmatch(expression, target[member]):
-                raise Refusal(VALIDATION, f"Member {member} is not valid.", cause=f"A target's {member} is not valid.")
-        for member in UNSUPPORTED:
-            if member in target:
-                raise Refusal(VALIDATION, f"Member {member} is not valid.")
-        name = target["Arn"].removeprefix(QUEUE_ARN)
-        if name not in self.queues:
-            raise missing("Queue", name)
-        if target["Id"] not in rule.targets and len(rule.targets) >= TARGETS_LIMIT:
+        made = target_of(target)
+        for arn, cause in ((made.arn, None), (made.dead_letter, "A dead-letter queue does not exist.")):
+            name = queue_name(arn)
+            if name is not None and name not in self.queues:
+                raise missing("Queue", name, cause)
+        if made.name not in rule.targets and len(rule.targets) >= TARGETS_LIMIT:
             raise Refusal(LIMIT, "Target limit 5 reached.")
-        rule.targets[target["Id"]] = name
+        rule.targets[made.name] = made
 
     def remove_targets(self, given):
         rule = self.rule(given["EventBusName"], given["Rule"])
@@ -368,11 +430,11 @@ class Router:
 
     def list_targets_by_rule(self, given):
         targets = self.rule(given["EventBusName"], given["Rule"]).targets
-        return {"Targets": [{"Id": name, "Arn": QUEUE_ARN + queue_name} for name, queue_name in sorted(targets.items())]}
+        return {"Targets": [it.shown() for it in in_order(targets)]}
 
     def list_rule_names_by_target(self, given):
         rules = in_order(self.bus(given["EventBusName"]).rules)
-        return {"RuleNames": [it.name for it in rules if given["TargetArn"].removeprefix(QUEUE_ARN) in it.targets.values()]}
+        return {"RuleNames": [rule.name for rule in rules if any(it.arn == given["TargetArn"] for it in rule.targets.values())]}
 
     # -- Permissions
 
@@ -460,12 +522,12 @@ class Router:
             "resources": entry.get("Resources", []),
         }
         text = f'{compact(made)[:-1]},"detail":{detail}}}'
+        is_too_long = len(text.encode()) > LONGEST_TEXT
         made["detail"] = detail.tree
         for rule in in_order(bus.rules):
             if rule.is_enabled and rule.targets and holds(rule.pattern, made):
-                for _, name in sorted(rule.targets.items()):
-                    self.due.put((self.queues[name], text))
-                    self.owed += 1
+                for target in in_order(rule.targets):
+                    self.deliveries.add(Delivery(rule.arn, target, text, self.reading), is_too_long)
         return made["id"]
 
     # -- Queues
@@ -479,20 +541,40 @@ class Router:
         self.queues[name] = Queue()
         return {"QueueArn": QUEUE_ARN + name}
 
-    def deliver_due(self, given):
-        count = min(given["Budget"] or A_CALL, self.owed)
-        for _ in range(count):
-            target, text = self.due.get()
-            if len(target.oldest) < PEEKED_MOST:
-                target.oldest.append(text)
-        self.owed -= count
-        return {"Attempts": count, "Delivered": count, "DeadLettered": 0, "Dropped": 0}
+    def delete_queue(self, given):
+        name, arn = given["QueueName"], QUEUE_ARN + given["QueueName"]
+        messages = self.queue(name).messages
+        targets = [target for bus in self.buses.values() for rule in bus.rules.values() for target in rule.targets.values()]
+        delivered = [it.target for it in self.deliveries.pending.values()]
+        for user, is_user in (
+            ("a target", any(it.arn == arn for it in targets)),
+            ("a target's dead letters", any(it.dead_letter == arn for it in targets)),
+            ("a delivery", any(it.arn == arn for it in delivered)),
+            ("a delivery's dead letters", any(it.dead_letter == arn for it in delivered)),
+            ("a message", messages),
+        ):
+            if is_user:
+                raise Refusal(VALIDATION, "Queue {} is in use.", name, cause=f"{user} uses the queue.")
+        del self.queues[name]
+        return {}
 
     def peek_messages(self, given):
-        if given["QueueName"] not in self.queues:
-            raise missing("Queue", given["QueueName"])
-        messages = enumerate(self.queues[given["QueueName"]].oldest[: given["Limit"] or PEEKED], 1)
-        return {"Messages": [{"Number": number, "Body": text, "Attributes": {}} for number, text in messages]}
+        return {"Messages": self.queue(given["QueueName"]).messages[: given["Limit"] or PEEKED]}
+
+    def delete_messages(self, given):
+        return {"Deleted": self.queue(given["QueueName"]).delete_through(given["Through"])}
+
+    # -- Deliveries
+
+    def deliver_due(self, given):
+        fates = []
+        while len(fates) < (given["Budget"] or A_CALL) and self.is_due:
+            fates.append(self.deliveries.step(self.reading))
+        return {"Attempts": len(fates), **{it: fates.count(it) for it in self.deliveries.ended}}
+
+    def duty_counts(self, _given):
+        it = self.deliveries
+        return {"Created": it.created, "Pending": len(it.pending), **it.ended}
 
 
 def in_order(rows, prefix=None):
@@ -576,7 +658,7 @@ CALLS = {
     "AWSEvents.PutTargets": (Router.put_targets, [("Rule", True, a_name), ON_BUS, ("Targets", True, some_targets)]),
     "AWSEvents.RemoveTargets": (Router.remove_targets, [("Rule", True, a_name), ON_BUS, ("Ids", True, some_ids)]),
     "AWSEvents.ListTargetsByRule": (Router.list_targets_by_rule, [("Rule", True, a_name), ON_BUS]),
-    "AWSEvents.ListRuleNamesByTarget": (Router.list_rule_names_by_target, [("TargetArn", True, a_text(QUEUE_ARN + QUEUE)), ON_BUS]),
+    "AWSEvents.ListRuleNamesByTarget": (Router.list_rule_names_by_target, [("TargetArn", True, a_target_arn), ON_BUS]),
     "AWSEvents.PutPermission": (
         Router.put_permission,
         [
@@ -594,8 +676,14 @@ CALLS = {
     "AWSEvents.TestEventPattern": (Router.test_event_pattern, [("EventPattern", True, a_pattern), ("Event", True, an_event)]),
     "AWSEvents.PutEvents": (Router.put_events, [("Entries", True, some_entries)]),
     "RouterLocal.CreateQueue": (Router.create_queue, [("QueueName", True, a_queue_name)]),
-    "RouterLocal.PeekMessages": (Router.peek_messages, [("QueueName", True, a_queue_name), ("Limit", False, a_count)]),
-    "RouterLocal.DeliverDue": (Router.deliver_due, [("Budget", False, a_count)]),
+    "RouterLocal.DeleteQueue": (Router.delete_queue, [("QueueName", True, a_queue_name)]),
+    "RouterLocal.PeekMessages": (Router.peek_messages, [("QueueName", True, a_queue_name), ("Limit", False, a_count(1, PEEKED_MOST))]),
+    "RouterLocal.DeleteMessages": (
+        Router.delete_messages,
+        [("QueueName", True, a_queue_name), ("Through", True, a_count(0, LAST_NUMBER))],
+    ),
+    "RouterLocal.DeliverDue": (Router.deliver_due, [("Budget", False, a_count(1, A_CALL_MOST))]),
+    "RouterLocal.DutyCounts": (Router.duty_counts, []),
 }
 BY_POLICY = [ON_BUS, ("Policy", True, a_text()), ("Condition", False, nothing)]  # of a PutPermission with a Policy
 

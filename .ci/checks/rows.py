@@ -2,8 +2,10 @@
 
 In a row `E:` at the start of a text, or after a quotation mark, is the prefix of an ARN of events, and `Q:` that of a queue's.
 """
+import json
+
 from patterns import Fault, read_json
-from router import EVENTS_ARN, NO_OBJECT, QUEUE_ARN, Router
+from router import CALLS, EVENTS_ARN, NO_OBJECT, QUEUE_ARN, Router
 
 A, B = "444455556666", "777788889999"
 EVENT = '{"Entries":[{"Source":"%s","DetailType":"Order","Detail":"{}"}]}'
@@ -105,6 +107,57 @@ A_BUS = [
     ("PutPermission", None, '{"Policy":"{\\"Statement\\":[]}","EventBusName":"no"}', refused("ResourceNotFoundException", "Event bus no does not exist.")),
 ]
 
+COUNTS = '{"Attempts":%d,"Delivered":%d,"DeadLettered":%d,"Dropped":%d}'
+IN_USE = refused("ValidationException", "Queue q is in use.")
+A_QUEUE = [
+    ("CreateQueue", None, '{"QueueName":"q"}', '{"QueueArn":"Q:q"}'),
+    ("PutRule", None, '{"Name":"r","EventPattern":"{\\"source\\":[\\"a\\"]}"}', '{"RuleArn":"E:rule/r"}'),
+    ("PutTargets", None, '{"Rule":"r","Targets":[{"Id":"t","Arn":"Q:q"}]}', NO_FAILURE),
+    ("PutEvents", None, EVENT % "a", ACCEPTED % 1),
+    ("DeliverDue", None, "{}", COUNTS % (1, 1, 0, 0)),
+    ("DeleteQueue", None, '{"QueueName":"q"}', IN_USE),
+    ("DeleteMessages", None, '{"QueueName":"q","Through":1}', '{"Deleted":1}'),
+    ("DeleteMessages", None, '{"QueueName":"q","Through":1}', '{"Deleted":0}'),
+    ("PutEvents", None, EVENT % "a", ACCEPTED % 2),
+    ("RemoveTargets", None, '{"Rule":"r","Ids":["t"]}', NO_FAILURE),
+    ("DeleteQueue", None, '{"QueueName":"q"}', IN_USE),
+    ("DutyCounts", None, "{}", '{"Created":2,"Pending":1,"Delivered":1,"DeadLettered":0,"Dropped":0}'),
+    ("DeliverDue", None, "{}", COUNTS % (1, 1, 0, 0)),
+    ("DeleteQueue", None, '{"QueueName":"q"}', IN_USE),
+    ("DeleteMessages", None, '{"QueueName":"q","Through":1}', '{"Deleted":0}'),
+    ("DeleteMessages", None, '{"QueueName":"q","Through":2}', '{"Deleted":1}'),
+    ("DeleteQueue", None, '{"QueueName":"q"}', "{}"),
+    ("DeleteQueue", None, '{"QueueName":"q"}', refused("ResourceNotFoundException", "Queue q does not exist.")),
+    ("DutyCounts", None, "{}", '{"Created":2,"Pending":0,"Delivered":2,"DeadLettered":0,"Dropped":0}'),
+]
+
+# Deliveries to an endpoint, accepted at 1000: the retry policy; the answers, the last one for ever (None is no answer); the
+# readings of the DeliverDues, or ALL for each at which something is due; those at which there was an attempt; and the error
+# code, the condition and the retries of the dead letter, or no code if it was delivered.
+ALL = None
+BY_RETRIES, BY_AGE = "MaximumRetryAttempts", "MaximumEventAgeInSeconds"
+DELIVERIES = [
+    ({BY_RETRIES: 0}, [503], ALL, [1000], ("STATUS_503", BY_RETRIES, "0")),
+    ({}, [404], ALL, [1000], ("STATUS_404", "", "0")),
+    ({}, [408], ALL, [1000], ("STATUS_408", "", "0")),
+    ({}, [425], ALL, [1000], ("STATUS_425", "", "0")),
+    ({}, [301], ALL, [1000], ("STATUS_301", "", "0")),
+    ({}, [103], ALL, [1000], ("STATUS_103", "", "0")),
+    ({}, [600], ALL, [1000], ("STATUS_600", "", "0")),
+    ({BY_RETRIES: 0}, [299], ALL, [1000], None),
+    ({}, [429, 200], ALL, [1000, 1001], None),
+    ({}, [None, 200], ALL, [1000, 1001], None),
+    ({}, [409, 404], ALL, [1000, 1001], ("STATUS_404", "", "1")),
+    ({BY_RETRIES: 1}, [None], ALL, [1000, 1001], ("NO_ANSWER", BY_RETRIES, "1")),
+    ({BY_RETRIES: 2}, [503], ALL, [1000, 1001, 1003], ("STATUS_503", BY_RETRIES, "2")),
+    ({BY_AGE: 60}, [503], ALL, [1000, 1001, 1003, 1007, 1015, 1031], ("STATUS_503", BY_AGE, "5")),
+    ({BY_AGE: 60}, [503], [1060], [1060], ("STATUS_503", BY_AGE, "0")),
+    ({BY_AGE: 60}, [503], [1061], [], ("NO_ATTEMPT", BY_AGE, "0")),
+    ({BY_AGE: 60}, [503, 200], [1000, 1061], [1000], ("STATUS_503", BY_AGE, "0")),
+    # Ten delays of 1 to 512 seconds, then 142 of 600.
+    ({}, [599], ALL, [1000 + 2**it - 1 for it in range(11)] + [2023 + 600 * it for it in range(1, 143)], ("STATUS_599", BY_AGE, "152")),
+]
+
 # Texts that are no policies, each with the first reason and its place. `@` is the rest of a statement without a Sid.
 POLICY_FAULTS = [
     ("", "NotJson at 0"),
@@ -138,14 +191,72 @@ def value_of(body):
     return value if isinstance(value, dict) else NO_OBJECT
 
 
+def ask(router, action, body, caller=None):
+    full = next(it for it in CALLS if it.endswith("." + action))
+    return router.answer("POST", full, caller, value_of(with_arns(body)))[1]
+
+
+def router_with(link, target):
+    """A router at 1000 with a queue `d` and a rule whose target has these members."""
+    router = Router(1000, link)
+    ask(router, "CreateQueue", '{"QueueName":"d"}')
+    ask(router, "PutRule", '{"Name":"r","EventPattern":"{\\"source\\":[\\"a\\"]}"}')
+    members = {"Id": "t", "Arn": "http://127.0.0.1:1/", "DeadLetterConfig": {"Arn": QUEUE_ARN + "d"}, **target}
+    reply = ask(router, "PutTargets", json.dumps({"Rule": "r", "Targets": [members]}))
+    assert reply == NO_FAILURE, reply
+    return router
+
+
+def check_delivery(policy, answers, readings, wanted_attempts, wanted_letter):
+    left, attempts = list(answers), []
+
+    def link(_endpoint, _text):
+        attempts.append(router.reading)
+        return left.pop(0) if len(left) > 1 else left[0]
+
+    router = router_with(link, {"RetryPolicy": policy})
+    ask(router, "PutEvents", EVENT % "a")
+    while readings is ALL and router.deliveries.order:
+        router.reading = router.deliveries.order[0][0]
+        ask(router, "DeliverDue", '{"Budget":1}')
+    for router.reading in readings or []:
+        ask(router, "DeliverDue", "{}")
+    messages = json.loads(ask(router, "PeekMessages", '{"QueueName":"d"}'))["Messages"]
+    letter = [tuple(it["Attributes"][key] for key in ("ERROR_CODE", "EXHAUSTED_RETRY_CONDITION", "RETRY_ATTEMPTS")) for it in messages]
+    assert attempts == wanted_attempts, f"the model attempts {policy} {answers} at {attempts}"
+    assert letter == [wanted_letter] * (wanted_letter is not None), f"the model's dead letters of {policy} {answers} are {letter}"
+
+
+def check_order():
+    """A retry that is due at 1001 comes after a delivery of 1000, and before one of 1001."""
+    sent = []
+    router = router_with(lambda _, text: sent.append(json.loads(text)["detail-type"]) or (503 if len(sent) == 1 else 200), {})
+    for router.reading, kind in ((1000, "a"), (1000, "b"), (1001, "c")):
+        ask(router, "PutEvents", '{"Entries":[{"Source":"a","DetailType":"%s","Detail":"{}"}]}' % kind)
+        if kind == "a":
+            ask(router, "DeliverDue", "{}")
+    ask(router, "DeliverDue", "{}")
+    assert sent == ["a", "b", "a", "c"], f"the model sends in the order {sent}"
+
+
+def check_long_text():
+    router = router_with(None, {})
+    ask(router, "PutEvents", json.dumps({"Entries": [{"Source": "a", "DetailType": "\x01" * 200_000, "Detail": "{}"}]}))
+    letter = json.loads(ask(router, "PeekMessages", '{"QueueName":"d"}'))["Messages"][0]
+    assert letter["Body"] == "{}" and list(letter["Attributes"].values())[2:] == ["TEXT_TOO_LONG", "The text is over 1048576 bytes.", "", "0"]
+
+
 def check():
     """Makes each row with the model. Raises an AssertionError at the first other reply."""
-    for rows in (A_POLICY, A_FULL_RULE, A_BUS):
+    for rows in (A_POLICY, A_FULL_RULE, A_BUS, A_QUEUE):
         router = Router(1_700_000_000)
         for action, caller, body, wanted in rows:
-            service = "RouterLocal." if action == "CreateQueue" else "AWSEvents."
-            _, reply = router.answer("POST", service + action, caller, value_of(with_arns(body)))
+            reply = ask(router, action, body, caller)
             assert reply == with_arns(wanted), f"the model answers {action} {body} with {reply}"
+    for row in DELIVERIES:
+        check_delivery(*row)
+    check_order()
+    check_long_text()
     for text, wanted in POLICY_FAULTS:
         _, reply = Router(0).answer("POST", "AWSEvents.PutPermission", None, {"Policy": text.replace("@", A_REST), "EventBusName": "no"})
         kind = "PolicyLengthExceededException" if "TooLong" in wanted else "ValidationException"
