@@ -1,4 +1,5 @@
-/* Counts the memory that a program asks of the C library: bench/control.py builds it and loads it before the program.
+/* Counts the memory that a program asks of the C library: bench/control.py and bench/deliveries.py build it and load it before
+ * the program.
  *
  * The file that ALLOCATIONS names, of three 64-bit numbers, gets the number of allocations, the bytes of all of them, and the
  * bytes that are allocated now. It may be read while the program runs.
