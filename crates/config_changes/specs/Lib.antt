@@ -1,0 +1,5 @@
+pub mod Retry
+pub mod TargetForm
+pub mod Control
+pub mod View
+pub mod WellFormed

@@ -1,0 +1,36 @@
+-- What a target has to be whatever the rule set is, and its first member that is otherwise. The syntax and the numbers are the public API
+-- Reference's; which URLs are endpoints is this project's own rule.
+use Rattle.std.specs.Prelude.{◌≡◌, ◌⊎◌, ℕ, true, false, List, Option, Some, None}
+use Rattle.event_shape.specs.Names.{IsShortName, IsQueueArn}
+use Rattle.http_target.specs.Endpoint.{is_endpoint}
+use Rattle.api_replies.specs.declared.member.Member.{Member}
+use Rattle.api_replies.specs.declared.member.Member.TheVariants as member
+use Rattle.config_changes.specs.declared.control.Target.{Target}
+use Rattle.config_changes.specs.Retry.{is_retry_valid}
+
+-- the ARN of a queue, which may be missing, or the URL of an HTTP endpoint
+abbrev pub IsTargetArn : List ℕ → Type 0
+IsTargetArn arn = ((queue : List ℕ) × IsQueueArn arn queue) ⊎ (is_endpoint arn ≡ true)
+
+-- there is no dead-letter queue, or its ARN is that of a queue, which may be missing
+abbrev pub IsDeadLetterArn : Option (List ℕ) → Type 0
+IsDeadLetterArn None = Unit {0}
+IsDeadLetterArn (Some arn) = (queue : List ℕ) × IsQueueArn arn queue
+
+-- a target whose members are within their syntax and their limits, and which has none that is not supported yet
+pub record IsWellFormedTarget (target : Target) : Type 0 where
+  pub id : IsShortName target.id
+  pub arn : IsTargetArn target.arn
+  pub supported : target.unbuilt ≡ None
+  pub retry : is_retry_valid target.retry ≡ true
+  pub dead_letter : IsDeadLetterArn target.dead_letter
+
+-- the first member that is otherwise
+pub data HasMemberFault (target : Target) : Member → Type 0 where
+  bad_id : ¬ IsShortName target.id → HasMemberFault target member.Id
+  bad_arn : IsShortName target.id → ¬ IsTargetArn target.arn → HasMemberFault target member.Arn
+  unsupported : (first : Member) → IsShortName target.id → IsTargetArn target.arn → target.unbuilt ≡ Some first → HasMemberFault target first
+  bad_retry : IsShortName target.id → IsTargetArn target.arn → target.unbuilt ≡ None → is_retry_valid target.retry ≡ false
+      → HasMemberFault target member.RetryPolicy
+  bad_dead_letter : IsShortName target.id → IsTargetArn target.arn → target.unbuilt ≡ None → is_retry_valid target.retry ≡ true
+      → ¬ IsDeadLetterArn target.dead_letter → HasMemberFault target member.DeadLetterConfig
