@@ -2,12 +2,12 @@
 use Rattle.std.specs.Prelude.{◌≡◌, ℕ, ◌≤◌, nat_le, ◌⊎◌, Bool, true, false, ◌&&◌, List, length, Option, Some, None, codes, IsSome, IsTrue, All}
 use Rattle.std.specs.List.{list_all}
 use Rattle.json_text.specs.Tree.{Tree, truth, text}
-use Rattle.event_shape.specs.Names.{IsQueueName, IsShortName, IsBusName, IsQueueArn, IsBusGiven, is_account}
+use Rattle.event_shape.specs.Names.{IsQueueName, IsShortName, IsBusName, IsBusGiven, is_account}
 use Rattle.bus_policy.specs.Text.{IsPolicyText}
 use Rattle.bus_policy.specs.StatementId.{IsStatementId}
 use Rattle.pattern_meaning.specs.Pattern.{Pattern}
 use Rattle.pattern_read.specs.Text.{IsPatternText}
-use Rattle.http_target.specs.Endpoint.{is_endpoint}
+use Rattle.config_changes.specs.TargetForm.{IsTargetArn}
 use Rattle.api_members.specs.declared.asked.Syntax.{Syntax}
 use Rattle.api_members.specs.declared.asked.Syntax.TheVariants as syntax
 use Rattle.api_members.specs.Given.{list_in}
@@ -33,10 +33,6 @@ IsPattern t = (p : Pattern) × IsPatternText t p
 -- the text is a rule's state
 abbrev pub IsState : List ℕ → Type 0
 IsState t = (t ≡ codes "ENABLED") ⊎ (t ≡ codes "DISABLED")
-
--- the text is the ARN of a target: a queue's, or an endpoint
-abbrev pub IsTargetArn : List ℕ → Type 0
-IsTargetArn t = ((queue : List ℕ) × IsQueueArn t queue) ⊎ IsTrue (is_endpoint t)
 
 -- the text is some policy
 abbrev pub GivesPolicy : List ℕ → Type 0

@@ -6,6 +6,7 @@ ghost use Rattle.json_text.specs.Tree.{members_of};
 ghost use Rattle.json_text.specs.View.{tree_of, trees_of, pairs_of};
 ghost use Rattle.event_shape.specs.Names.{IsBusName, IsQueueName, IsShortName, default_bus};
 ghost use Rattle.bus_policy.specs.StatementId.{IsStatementId};
+ghost use Rattle.config_changes.specs.TargetForm.{IsTargetArn};
 ghost use Rattle.api_members.specs.Given.{text_given};
 ghost use Rattle.api_members.specs.Entry.{is_entry};
 ghost use Rattle.api_members.specs.Target.{is_target};
@@ -18,9 +19,7 @@ use api_replies::Member;
 use bus_policy::is_statement_id;
 use event_shape::{
     DEFAULT_BUS, bus_of, is_account, is_bus_name, is_queue_name, is_rule_name, is_target_id,
-    queue_of,
 };
-use http_target::is_endpoint;
 use json_text::{Json, NoMemory, Text};
 use std::alloc::Global;
 
@@ -91,20 +90,11 @@ fn bus_name(text: Option<&str>) -> &str
 
 /// Whether the value is the ARN of a queue, or an endpoint.
 pub(crate) fn is_target_arn(alloc: Global, value: &Json) -> Result<bool, NoMemory>
-    ensures { IfOk result (λ b. IsTrue b ↔ spec.IsTextThat spec.IsTargetArn (tree_of value.now)) }
+    ensures { IfOk result (λ b. IsTrue b ↔ spec.IsTextThat IsTargetArn (tree_of value.now)) }
 {
     match value {
-        Json::Str(text) => names_target(alloc, text.as_str()),
+        Json::Str(text) => config_changes::is_target_arn(alloc, text.as_str()),
         Json::Null | Json::Truth(_) | Json::Num(_) | Json::List(_) | Json::Obj(_) => Ok(false),
-    }
-}
-
-fn names_target(alloc: Global, text: &str) -> Result<bool, NoMemory>
-    ensures { IfOk result (λ b. IsTrue b ↔ spec.IsTargetArn text.now) }
-{
-    match queue_of(text) {
-        Some(_) => Ok(true),
-        None => is_endpoint(alloc, text),
     }
 }
 

@@ -6,8 +6,8 @@ use Rattle.std.specs.Str.{bytes_eq}
 use Rattle.json_text.specs.Tree.{Tree, number, text, list, object, items_of, members_of}
 use Rattle.event_shape.specs.Names.{bus_arn}
 use Rattle.name_rows.specs.Rows.{named}
-use Rattle.rule_table.specs.declared.control.Target.{Target}
-use Rattle.rule_table.specs.declared.control.RetryPolicy.{RetryPolicy}
+use Rattle.config_changes.specs.declared.control.Target.{Target}
+use Rattle.config_changes.specs.declared.control.RetryPolicy.{RetryPolicy}
 use Rattle.rule_table.specs.RuleSet.{Rule, Bus, RuleSet}
 use Rattle.api_replies.specs.declared.kind.Kind.TheVariants as kind
 use Rattle.api_replies.specs.declared.cause.Cause.TheVariants as cause

@@ -11,8 +11,9 @@ ghost use Rattle.config_views.specs.Views as spec;
 
 use crate::parts::{listing, no_bus, no_rule};
 use api_replies::Reply;
+use config_changes::RetryPolicy;
 use json_text::{Items, Json, Members, NoMemory, Text, push_member, push_text};
-use rule_table::{Bus, RetryPolicy, Rule, RuleSet, RuleTarget};
+use rule_table::{Bus, Rule, RuleSet, RuleTarget};
 use std::alloc::Global;
 
 /// The reply to a ListTargetsByRule: each target's id, its ARN, its retry policy if one was given, and its dead-letter queue if it has one.

@@ -3,9 +3,10 @@ use crate::{
     list_targets_by_rule,
 };
 use api_replies::Reply;
+use config_changes::{Control, RetryPolicy, Target};
 use event_shape::queue_arn;
 use json_text::{Bytes, Text, write};
-use rule_table::{Control, RetryPolicy, RuleSet, Target};
+use rule_table::RuleSet;
 use std::alloc::Global;
 use std::test::Fail;
 

@@ -6,17 +6,18 @@ use Rattle.std.specs.Str.{bytes_eq}
 use Rattle.event_shape.specs.Names.{default_bus}
 use Rattle.name_rows.specs.Rows.{named, without}
 use Rattle.name_rows.proofs.RowLemmas.{by_test}
-use Rattle.rule_table.specs.declared.control.Target.{Target}
-use Rattle.rule_table.specs.declared.control.ControlFault.{ControlFault}
-use Rattle.rule_table.specs.Control.{Control, bus_created, bus_deleted, rule_put, rule_deleted, state_put, targets_put, targets_removed, policy_put}
-use Rattle.rule_table.specs.Control.{queue_created, queue_deleted}
+use Rattle.config_changes.specs.declared.control.Target.{Target}
+use Rattle.config_changes.specs.declared.control.ControlFault.{ControlFault}
+use Rattle.config_changes.specs.Control.{Control, bus_created, bus_deleted, rule_put, rule_deleted, state_put, targets_put, targets_removed, policy_put}
+use Rattle.config_changes.specs.Control.{queue_created, queue_deleted}
 use Rattle.rule_table.specs.RuleSet.{Rule, RuleSet, put_target, rules_of, rule_at, has_bus, has_queue, is_queue_used, AreGoodTargets, AreRemovable}
 use Rattle.rule_table.specs.RuleSet.{ForRule, IsAllowed}
 use Rattle.rule_table.specs.Refusal.{HasFaultyTarget, IsTooLong, IsRefused, HasNoRule, no_such_bus, no_such_rule, no_pattern, rule_without_bus, rule_limit}
 use Rattle.rule_table.specs.Refusal.{no_rule_to_put_to, faulty_targets, queue_exists, queue_limit, bus_exists, bus_limit, default_stays, no_bus_to_delete}
 use Rattle.rule_table.specs.Refusal.{bus_in_use, no_rule_to_delete, rule_has_targets, no_rule_to_remove_from, faulty_ids}
 use Rattle.rule_table.specs.Refusal.{no_policy, policy_without_bus, policy_too_long, no_queue_to_delete, queue_in_use}
-use Rattle.rule_table.proofs.RefusalLemmas.{by_option, target_decided}
+use Rattle.config_changes.proofs.MemberLemmas.{by_option}
+use Rattle.rule_table.proofs.RefusalLemmas.{target_decided}
 
 abbrev IsUnrefused : Control → RuleSet → Type 0
 IsUnrefused control set = (fault : ControlFault) → ¬ IsRefused control set fault

@@ -10,14 +10,14 @@ use Rattle.pattern_read.specs.Text.{IsPatternText}
 use Rattle.api_replies.specs.declared.kind.Kind.TheVariants as kind
 use Rattle.api_replies.specs.declared.member.Member.TheVariants as member
 use Rattle.name_rows.specs.Rows.{AreSorted, named, placed, replacing}
-use Rattle.rule_table.specs.Control.{rule_put}
+use Rattle.config_changes.specs.Control.{rule_put}
 use Rattle.rule_table.specs.RuleSet.{Rule, Bus, RuleSet, changed, new_rule, keeping_targets, with_rule_changed, rules_in, rule_at, has_bus}
 use Rattle.rule_table.specs.RuleSet.{IsNoneOrStored, ForRule, IsAllowed, HasItsArn, IsSound}
 use Rattle.event_shape.specs.Names.{rule_arn}
 use Rattle.rule_table.specs.Refusal.{IsRuleRefused, rule_limit, HasNoRule, no_such_rule, IsTooLong, IsPolicyRefused, no_policy}
 use Rattle.rule_table.specs.Room.{HasRoom}
-use Rattle.rule_table.specs.declared.control.ControlFault.{ControlFault}
-use Rattle.rule_table.specs.declared.control.ControlFault.TheVariants.{ResourceNotFound, LimitExceeded, Validation, NoMemory}
+use Rattle.config_changes.specs.declared.control.ControlFault.{ControlFault}
+use Rattle.config_changes.specs.declared.control.ControlFault.TheVariants.{ResourceNotFound, LimitExceeded, Validation, NoMemory}
 use Rattle.rule_table.proofs.RowLemmas.{changed_placed, named_name, All_named}
 use Rattle.rule_table.proofs.RefusalLemmas.{none_of}
 

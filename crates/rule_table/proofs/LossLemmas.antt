@@ -6,15 +6,16 @@ use Rattle.std.proofs.lemmas.Bool.{false≢true}
 use Rattle.std.proofs.lemmas.List.Elements.{Contains-append_right}
 use Rattle.name_rows.specs.Rows.{AreSorted, named, replacing, without}
 use Rattle.name_rows.proofs.RowLemmas.{by_test}
-use Rattle.rule_table.specs.declared.control.Target.{Target}
-use Rattle.rule_table.specs.Control.{Control, bus_created, bus_deleted, rule_put, rule_deleted, state_put, targets_put, targets_removed, policy_put}
-use Rattle.rule_table.specs.Control.{queue_created, queue_deleted}
+use Rattle.config_changes.specs.declared.control.Target.{Target}
+use Rattle.config_changes.specs.Control.{Control, bus_created, bus_deleted, rule_put, rule_deleted, state_put, targets_put, targets_removed, policy_put}
+use Rattle.config_changes.specs.Control.{queue_created, queue_deleted}
 use Rattle.rule_table.specs.RuleSet.{Rule, Bus, RuleSet, changed, with_rule_changed, applied, new_rule, keeping_targets, put_bus, without_bus, put_rule, without_rule}
 use Rattle.rule_table.specs.RuleSet.{put_target, put_targets, without_targets, rules_in, rules_of, rule_at, targets_in}
 use Rattle.rule_table.specs.RuleSet.{has_bus, has_queue, is_queue_used, ForRule, IsAllowed, IsSound}
 use Rattle.rule_table.specs.Altered.{has_rule, has_target_of_rule}
 use Rattle.rule_table.proofs.RowLemmas.{All_named, bytes_same, bytes_differ, named_without, named_put, named_put_same, after_changed, joined_placed}
-use Rattle.rule_table.proofs.RefusalLemmas.{none_of, by_option}
+use Rattle.rule_table.proofs.RefusalLemmas.{none_of}
+use Rattle.config_changes.proofs.MemberLemmas.{by_option}
 use Rattle.rule_table.proofs.SortedLemmas.{named_placed}
 
 -- by whether two names are the same

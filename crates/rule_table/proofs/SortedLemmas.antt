@@ -18,9 +18,9 @@ use Rattle.rule_table.specs.RuleSet.{Rule, Bus, RuleSet, changed, new_rule, keep
 use Rattle.rule_table.specs.RuleSet.{put_targets, without_targets, with_rule_changed, rules_in, rules_of, rule_at, applied}
 use Rattle.rule_table.specs.RuleSet.{is_dead_letter_of, is_used_by_target, is_used_by_rule, is_used_by_bus, has_queue, IsQueueThere, IsArnThere, IsDeadLetterThere, IsSoundTarget}
 use Rattle.rule_table.specs.RuleSet.{AreGoodTargets, IsNoneOrStored, ForRule, IsAllowed, HasSoundTargets, HasItsArn, IsSound}
-use Rattle.rule_table.specs.Control.{Control, bus_created, bus_deleted, rule_put, rule_deleted, state_put, targets_put, targets_removed, policy_put}
-use Rattle.rule_table.specs.Control.{queue_created, queue_deleted}
-use Rattle.rule_table.specs.declared.control.Target.{Target}
+use Rattle.config_changes.specs.Control.{Control, bus_created, bus_deleted, rule_put, rule_deleted, state_put, targets_put, targets_removed, policy_put}
+use Rattle.config_changes.specs.Control.{queue_created, queue_deleted}
+use Rattle.config_changes.specs.declared.control.Target.{Target}
 use Rattle.rule_table.proofs.RowLemmas.{changed_none, named_same, named_other, named_name, All_named, bytes_same, bytes_differ, named_without, after_changed, All_without, length_without}
 use Rattle.rule_table.proofs.RefusalLemmas.{good_few, good_there}
 

@@ -8,11 +8,12 @@ use Rattle.std.proofs.lemmas.Bool.{false≢true}
 use Rattle.std.proofs.lemmas.Bool.Decides.{leb_tells}
 use Rattle.std.proofs.lemmas.List.Elements.{All-head, All-tail, All-cons, All-nil}
 use Rattle.name_rows.specs.Rows.{placed, replacing, without}
-use Rattle.rule_table.specs.declared.control.Target.{Target}
-use Rattle.rule_table.specs.declared.control.RetryPolicy.{RetryPolicy}
-use Rattle.rule_table.specs.TargetForm.{are_attempts_valid, is_age_valid, is_retry_valid}
+use Rattle.config_changes.specs.declared.control.Target.{Target}
+use Rattle.config_changes.specs.declared.control.RetryPolicy.{RetryPolicy}
+use Rattle.config_changes.specs.Retry.{are_attempts_valid, is_age_valid, is_retry_valid}
 use Rattle.rule_table.specs.RuleSet.{Rule, put_target, is_used_by_target}
-use Rattle.rule_table.specs.Target.{StoredTarget, attempts_of, age_of, stored_of, target_of, IsStoredOf}
+use Rattle.rule_table.specs.Target.{StoredTarget, stored_of, target_of, IsStoredOf}
+use Rattle.config_changes.specs.Retry.{attempts_of, age_of}
 use Rattle.rule_table.proofs.RowLemmas.{map_placed, map_without, length_names}
 
 abbrev pub row_id : StoredTarget → List ℕ

@@ -1,8 +1,8 @@
 -- What a change may alter: the bus that it names, what matching reads of a rule set, and the rules and targets that are there.
 use Rattle.std.specs.Prelude.{ℕ, Bool, List, Option, Some, None, map, is_some}
 use Rattle.name_rows.specs.Rows.{named}
-use Rattle.rule_table.specs.Control.{Control, bus_created, bus_deleted, rule_put, rule_deleted, state_put, targets_put, targets_removed, policy_put}
-use Rattle.rule_table.specs.Control.{queue_created, queue_deleted}
+use Rattle.config_changes.specs.Control.{Control, bus_created, bus_deleted, rule_put, rule_deleted, state_put, targets_put, targets_removed, policy_put}
+use Rattle.config_changes.specs.Control.{queue_created, queue_deleted}
 use Rattle.rule_table.specs.RuleSet.{Rule, RuleSet, rule_at, targets_in}
 
 -- the bus that the change names, if any

@@ -1,9 +1,6 @@
-pub mod TargetForm
-pub mod Control
 pub mod RuleSet
 pub mod Target
 pub mod Refusal
-pub mod View
 pub mod Altered
 pub mod Room
 pub mod WellFormed

@@ -7,14 +7,14 @@ use Rattle.pattern_read.specs.Text.{IsPatternText}
 use Rattle.api_replies.specs.declared.kind.Kind.TheVariants as kind
 use Rattle.api_replies.specs.declared.member.Member.{Member}
 use Rattle.api_replies.specs.declared.member.Member.TheVariants as member
-use Rattle.rule_table.specs.declared.control.Target.{Target}
-use Rattle.rule_table.specs.declared.control.TargetFault.{TargetFault}
-use Rattle.rule_table.specs.declared.control.TargetFault.TheVariants as target_fault
-use Rattle.rule_table.specs.declared.control.ControlFault.{ControlFault}
-use Rattle.rule_table.specs.declared.control.ControlFault.TheVariants.{ResourceNotFound, AlreadyExists, LimitExceeded, Validation, InUse, HasTargets, DefaultBus, PolicyTooLong}
-use Rattle.rule_table.specs.Control.{Control, bus_created, bus_deleted, rule_put, rule_deleted, state_put, targets_put, targets_removed, policy_put}
-use Rattle.rule_table.specs.Control.{queue_created, queue_deleted}
-use Rattle.rule_table.specs.TargetForm.{IsWellFormedTarget, HasMemberFault}
+use Rattle.config_changes.specs.declared.control.Target.{Target}
+use Rattle.config_changes.specs.declared.control.TargetFault.{TargetFault}
+use Rattle.config_changes.specs.declared.control.TargetFault.TheVariants as target_fault
+use Rattle.config_changes.specs.declared.control.ControlFault.{ControlFault}
+use Rattle.config_changes.specs.declared.control.ControlFault.TheVariants.{ResourceNotFound, AlreadyExists, LimitExceeded, Validation, InUse, HasTargets, DefaultBus, PolicyTooLong}
+use Rattle.config_changes.specs.Control.{Control, bus_created, bus_deleted, rule_put, rule_deleted, state_put, targets_put, targets_removed, policy_put}
+use Rattle.config_changes.specs.Control.{queue_created, queue_deleted}
+use Rattle.config_changes.specs.TargetForm.{IsWellFormedTarget, HasMemberFault}
 use Rattle.rule_table.specs.RuleSet.{Rule, RuleSet, put_target, has_bus, has_queue, is_queue_used, rule_at, rules_of, IsArnThere, IsDeadLetterThere}
 use Rattle.rule_table.specs.RuleSet.{AreRemovable, IsNoneOrStored}
 

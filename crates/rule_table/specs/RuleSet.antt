@@ -12,10 +12,10 @@ use Rattle.pattern_read.specs.Text.{IsPatternText}
 use Rattle.json_text.specs.Tree.{Tree}
 use Rattle.json_text.specs.Compact.{compact_text}
 use Rattle.bus_policy.specs.Text.{IsPolicyText}
-use Rattle.rule_table.specs.declared.control.Target.{Target}
-use Rattle.rule_table.specs.TargetForm.{is_retry_valid}
-use Rattle.rule_table.specs.Control.{Control, bus_created, bus_deleted, rule_put, rule_deleted, state_put, targets_put, targets_removed, policy_put}
-use Rattle.rule_table.specs.Control.{queue_created, queue_deleted}
+use Rattle.config_changes.specs.declared.control.Target.{Target}
+use Rattle.config_changes.specs.Retry.{is_retry_valid}
+use Rattle.config_changes.specs.Control.{Control, bus_created, bus_deleted, rule_put, rule_deleted, state_put, targets_put, targets_removed, policy_put}
+use Rattle.config_changes.specs.Control.{queue_created, queue_deleted}
 
 -- a rule: its ARN, its name, its pattern's text, whether it is enabled, and its targets in the byte order of their ids
 pub record Rule : Type 0 where

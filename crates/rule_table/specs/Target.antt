@@ -1,24 +1,15 @@
 -- What a rule stores of its targets, and what matching and delivery need of them: a row for each target.
-use Rattle.std.specs.Prelude.{◌≡◌, ℕ, Bool, if◌then◌else◌, List, [], map, Option, Some, None, is_some, unwrap_or}
+use Rattle.std.specs.Prelude.{◌≡◌, Bool, if◌then◌else◌, List, [], map, Option, Some, None, is_some}
 use Rattle.shared_text.specs.declared.row.TargetRow.{TargetRow}
-use Rattle.rule_table.specs.declared.control.Target.{Target}
-use Rattle.rule_table.specs.declared.control.RetryPolicy.{RetryPolicy}
+use Rattle.config_changes.specs.declared.control.Target.{Target}
+use Rattle.config_changes.specs.declared.control.RetryPolicy.{RetryPolicy}
+use Rattle.config_changes.specs.Retry.{attempts_of, age_of}
 use Rattle.rule_table.specs.RuleSet.{Rule}
 
 -- a target as a rule stores it: its row, and whether it was put with a retry policy
 pub record StoredTarget : Type 0 where
   pub row : TargetRow
   pub has_retry_policy : Bool
-
--- the maximum number of retry attempts, by default 185
-abbrev pub attempts_of : Option RetryPolicy → ℕ
-attempts_of None = 185
-attempts_of (Some policy) = unwrap_or policy.attempts 185
-
--- the maximum age of an event, by default 86,400 seconds
-abbrev pub age_of : Option RetryPolicy → ℕ
-age_of None = 86400
-age_of (Some policy) = unwrap_or policy.age 86400
 
 -- what matching and delivery need of a target of the rule
 abbrev pub row_of : Rule → Target → TargetRow

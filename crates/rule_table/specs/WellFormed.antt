@@ -1,30 +1,17 @@
 -- What a change has to be whatever the rule set is: the syntax of its names, its pattern, its policy and its targets. The syntax and the
 -- numbers are the public API Reference's.
-use Rattle.std.specs.Prelude.{◌≤◌, ℕ, List, length, All}
-use Rattle.event_shape.specs.Names.{IsBusName, IsShortName, IsQueueName}
+use Rattle.std.specs.Prelude.{ℕ, List}
+use Rattle.event_shape.specs.Names.{IsBusName, IsQueueName}
 use Rattle.pattern_meaning.specs.Pattern.{Pattern}
 use Rattle.pattern_read.specs.Text.{IsPatternText}
-use Rattle.rule_table.specs.declared.control.Target.{Target}
-use Rattle.rule_table.specs.TargetForm.{IsWellFormedTarget}
-use Rattle.rule_table.specs.Control.{Control, bus_created, bus_deleted, rule_put, rule_deleted, state_put, targets_put, targets_removed, policy_put}
-use Rattle.rule_table.specs.Control.{queue_created, queue_deleted}
+use Rattle.config_changes.specs.WellFormed.{NamesRule, AreWellFormedTargets, AreWellFormedIds}
+use Rattle.config_changes.specs.Control.{Control, bus_created, bus_deleted, rule_put, rule_deleted, state_put, targets_put, targets_removed, policy_put}
+use Rattle.config_changes.specs.Control.{queue_created, queue_deleted}
 use Rattle.rule_table.specs.RuleSet.{IsNoneOrStored}
-
--- the names of a bus and of a rule
-abbrev pub NamesRule : List ℕ → List ℕ → Type 0
-NamesRule bus name = IsBusName bus × IsShortName name
 
 -- a pattern's text
 abbrev pub IsSomePattern : List ℕ → Type 0
 IsSomePattern text = (p : Pattern) × IsPatternText text p
-
--- from 1 to 100 targets
-abbrev pub AreWellFormedTargets : List Target → Type 0
-AreWellFormedTargets targets = (1 ≤ length targets) × (length targets ≤ 100) × All IsWellFormedTarget targets
-
--- from 1 to 100 ids of targets
-abbrev pub AreWellFormedIds : List (List ℕ) → Type 0
-AreWellFormedIds ids = (1 ≤ length ids) × (length ids ≤ 100) × All IsShortName ids
 
 -- the change is well formed
 abbrev pub IsWellFormed : Control → Type 0

@@ -1,13 +1,13 @@
 //! Laws of targets and changes: there is one reason to refuse, or none; and what a change leaves as it was.
 ghost use Rattle.std.specs.Prelude.{◌≡◌, ◌⊎◌, ℕ, true, false, List, [], Option, Some, Contains};
 ghost use Rattle.name_rows.specs.Rows.{named};
-ghost use Rattle.rule_table.specs.Control.{Control, bus_deleted, rule_deleted, targets_put, targets_removed, policy_put, queue_created, queue_deleted};
+ghost use Rattle.config_changes.specs.Control.{Control, bus_deleted, rule_deleted, targets_put, targets_removed, policy_put, queue_created, queue_deleted};
 ghost use Rattle.rule_table.specs.RuleSet.{RuleSet, rules_of, has_bus, has_queue, is_queue_used, applied, IsGoodTarget, IsAllowed, IsSound};
 ghost use Rattle.rule_table.specs.Refusal.{HasTargetFault, IsRefused};
 ghost use Rattle.rule_table.specs.Altered.{changed_bus, matching_of, has_rule, has_target_of_rule};
-ghost use Rattle.rule_table.specs.declared.control.Target.{Target};
-ghost use Rattle.rule_table.specs.declared.control.TargetFault.{TargetFault};
-ghost use Rattle.rule_table.specs.declared.control.ControlFault.{ControlFault};
+ghost use Rattle.config_changes.specs.declared.control.Target.{Target};
+ghost use Rattle.config_changes.specs.declared.control.TargetFault.{TargetFault};
+ghost use Rattle.config_changes.specs.declared.control.ControlFault.{ControlFault};
 
 /// A target that is put to a rule is accepted or has exactly one fault.
 pub fn one_target_fault()

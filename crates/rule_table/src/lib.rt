@@ -2,22 +2,17 @@
 #![tactic(auto)]
 
 mod bus;
-mod control;
 mod laws;
 mod policy;
 mod rule;
 mod rule_set;
 mod rule_target;
-mod target_form;
-#[cfg(test)]
-mod target_tests;
 mod targets;
 #[cfg(test)]
 mod tests;
 mod well_formed;
 
 pub use bus::Bus;
-pub use control::{Control, ControlFault, RetryPolicy, Target, TargetFault};
 pub use laws::{
     a_change_without_a_refusal_is_allowed, matching_stays, one_refusal_of_a_change,
     one_target_fault, only_its_call_removes, other_buses_stay,

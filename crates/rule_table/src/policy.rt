@@ -5,9 +5,9 @@ ghost use Rattle.bus_policy.specs.Text.{IsPolicyText};
 ghost use Rattle.rule_table.specs.RuleSet.{IsStoredPolicy, IsNoneOrStored};
 ghost use Rattle.rule_table.specs.Refusal.{IsTooLong};
 
-use crate::control::ControlFault;
 use api_replies::Member;
 use bus_policy::{Policy, PolicyFault};
+use config_changes::ControlFault;
 use json_text::{NoMemory, Text};
 use std::alloc::Global;
 use std::marker::Model;

@@ -5,9 +5,9 @@ ghost use Rattle.pattern_read.specs.Text.{IsPatternText};
 ghost use Rattle.rule_table.specs.RuleSet.{new_rule, is_used_by_rule};
 ghost use Rattle.rule_table.specs.Target.{stored_of, target_of, IsStoredOf};
 
-use crate::control::Target;
 use crate::rule_target::RuleTarget;
 use crate::targets::{any_uses, pointers};
+use config_changes::Target;
 use event_shape::rule_arn;
 use json_text::{NoMemory, Text};
 use name_rows::Row;

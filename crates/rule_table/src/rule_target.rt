@@ -2,11 +2,9 @@
 ghost use Rattle.std.specs.Prelude.{◌≡◌, IfOk};
 ghost use Rattle.std.specs.Option.{option_map};
 ghost use Rattle.rule_table.specs.RuleSet.{Rule, is_used_by_target};
-ghost use Rattle.rule_table.specs.Target as spec;
 ghost use Rattle.rule_table.specs.Target.{stored_of, retry_of, target_of};
 
-use crate::control::{RetryPolicy, Target, copy_optional};
-use crate::target_form::{GREATEST_AGE, MOST_ATTEMPTS};
+use config_changes::{RetryPolicy, Target, age_of, attempts_of, copy_optional};
 use event_shape::is_queue_arn;
 use json_text::{NoMemory, Text};
 use name_rows::Row;
@@ -145,25 +143,5 @@ impl RuleTarget {
             Some(arn) => is_queue_arn(arn, queue),
             None => false,
         }
-    }
-}
-
-/// The maximum number of retry attempts.
-fn attempts_of(retry: &Option<RetryPolicy>) -> u16
-    ensures { result ≡ spec.attempts_of retry.now }
-{
-    match retry {
-        Some(policy) => policy.attempts.unwrap_or(MOST_ATTEMPTS),
-        None => MOST_ATTEMPTS,
-    }
-}
-
-/// The maximum age of an event, in seconds.
-fn age_of(retry: &Option<RetryPolicy>) -> u32
-    ensures { result ≡ spec.age_of retry.now }
-{
-    match retry {
-        Some(policy) => policy.age.unwrap_or(GREATEST_AGE),
-        None => GREATEST_AGE,
     }
 }

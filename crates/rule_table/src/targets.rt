@@ -6,9 +6,9 @@ ghost use Rattle.name_rows.specs.Rows.{AreSorted, placed, replacing};
 ghost use Rattle.rule_table.specs.RuleSet as spec;
 ghost use Rattle.rule_table.specs.Target.{target_of, IsStoredOf};
 
-use crate::control::Target;
 use crate::rule::Rule;
 use crate::rule_target::RuleTarget;
+use config_changes::Target;
 use json_text::{NoMemory, Text};
 use name_rows::{Place, Row};
 use std::alloc::Global;

@@ -1,4 +1,7 @@
-use crate::{Control, ControlFault, Rule, RuleSet, Target, is_well_formed};
+mod targets;
+
+use crate::{Rule, RuleSet, is_well_formed};
+use config_changes::{Control, ControlFault, Target};
 use event_shape::{queue_arn, queue_of};
 use json_text::{NoMemory, Text};
 use pattern_meaning::Pattern;

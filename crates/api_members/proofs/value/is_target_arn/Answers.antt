@@ -4,4 +4,4 @@ use Rattle.json_text.proofs.ViewLemmas.{tree_of_text}
 use Rattle.api_members.proofs.value.is_target_arn.Goals as goal
 
 pub returns-in-Str : goal.returns-in-Str
-returns-in-Str c = rw (ap tree_of c.in-Str.is ∙ tree_of_text c.in-Str.text, ← c.as_str.ensures) c.names_target.ensures
+returns-in-Str c = rw (ap tree_of c.in-Str.is ∙ tree_of_text c.in-Str.text, ← c.as_str.ensures) c.is_target_arn.ensures

@@ -1,6 +1,6 @@
 use Rattle.std.proofs.Common.{subst}
 use Rattle.std.specs.Prelude.{◌↔◌, IfOk, IsTrue}
-use Rattle.rule_table.specs.WellFormed.{NamesRule, AreWellFormedTargets}
+use Rattle.config_changes.specs.WellFormed.{NamesRule, AreWellFormedTargets}
 use Rattle.rule_table.proofs.well_formed.is_well_formed.Goals as goal
 
 pub returns-in-TargetsPut : goal.returns-in-TargetsPut

@@ -5,7 +5,7 @@ use Rattle.name_rows.proofs.RowLemmas.{All_placed}
 use Rattle.rule_table.specs.RuleSet.{put_target, put_targets, IsGoodTarget, AreGoodTargets}
 use Rattle.rule_table.specs.Refusal.{HasTargetFault, HasFaultyTarget}
 use Rattle.rule_table.specs.Target.{target_of, IsStoredOf}
-use Rattle.rule_table.specs.declared.control.Target.{Target}
+use Rattle.config_changes.specs.declared.control.Target.{Target}
 use Rattle.rule_table.proofs.RefusalLemmas.{when_none}
 use Rattle.rule_table.proofs.TargetLemmas.{row_id, rows_made, is_stored, target_put}
 use Rattle.rule_table.proofs.rule_set.RuleSet.after_put.Goals as goal

@@ -1,5 +1,5 @@
 use Rattle.std.proofs.Common.{◌≡◌, IfOk, subst}
-use Rattle.rule_table.specs.Control.{targets_removed}
+use Rattle.config_changes.specs.Control.{targets_removed}
 use Rattle.rule_table.specs.RuleSet.{applied, IsAllowed}
 use Rattle.rule_table.proofs.rule_set.RuleSet.apply.Goals as goal
 

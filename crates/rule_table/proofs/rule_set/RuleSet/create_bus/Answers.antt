@@ -1,6 +1,6 @@
 use Rattle.std.proofs.Common.{◌≡◌, ◌<◌, ◌≤◌, ◌+◌, ℕ, List, [], length, true, false, None, rules, inr, refl, sym, subst}
 use Rattle.name_rows.specs.Rows.{placed, replacing}
-use Rattle.rule_table.specs.Control.{bus_created}
+use Rattle.config_changes.specs.Control.{bus_created}
 use Rattle.rule_table.specs.RuleSet.{Rule, RuleSet, has_bus, IsSound}
 use Rattle.rule_table.specs.Refusal.{bus_exists, bus_limit}
 use Rattle.rule_table.proofs.SortedLemmas.{sound_applied}

@@ -1,5 +1,5 @@
 use Rattle.std.proofs.Common.{◌≡◌, ◌<◌, ◌≤◌, ◌+◌, length, true, false, rules, inr, refl, sym, subst}
-use Rattle.rule_table.specs.Control.{queue_created}
+use Rattle.config_changes.specs.Control.{queue_created}
 use Rattle.rule_table.specs.RuleSet.{RuleSet, has_queue, put_queue, IsSound}
 use Rattle.rule_table.specs.Refusal.{queue_exists, queue_limit}
 use Rattle.rule_table.proofs.SortedLemmas.{sound_applied}

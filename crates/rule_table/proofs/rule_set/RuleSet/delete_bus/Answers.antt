@@ -2,7 +2,7 @@ use Rattle.std.proofs.Common.{◌≡◌, [], true, false, inr, refl, ap, sym, �
 use Rattle.std.proofs.lemmas.Bool.{false≢true}
 use Rattle.std.specs.Str.{bytes_eq}
 use Rattle.event_shape.specs.Names.{default_bus}
-use Rattle.rule_table.specs.Control.{bus_deleted}
+use Rattle.config_changes.specs.Control.{bus_deleted}
 use Rattle.rule_table.specs.RuleSet.{has_bus, rules_in, rules_of}
 use Rattle.rule_table.specs.Refusal.{default_stays, no_bus_to_delete, bus_in_use}
 use Rattle.rule_table.proofs.SortedLemmas.{sound_applied}

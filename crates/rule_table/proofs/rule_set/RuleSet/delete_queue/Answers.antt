@@ -1,5 +1,5 @@
 use Rattle.std.proofs.Common.{◌≡◌, true, false, inr, sym, subst}
-use Rattle.rule_table.specs.Control.{queue_deleted}
+use Rattle.config_changes.specs.Control.{queue_deleted}
 use Rattle.rule_table.specs.RuleSet.{has_queue, is_queue_used}
 use Rattle.rule_table.specs.Refusal.{no_queue_to_delete, queue_in_use}
 use Rattle.rule_table.proofs.SortedLemmas.{sound_applied}

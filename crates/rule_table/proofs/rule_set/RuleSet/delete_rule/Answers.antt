@@ -2,7 +2,7 @@ use Rattle.std.proofs.Common.{◌≡◌, ◌+◌, [], length, map, false, None, 
 use Rattle.std.proofs.lemmas.Bool.{false≢true, eq-eqb, eqb-true}
 use Rattle.std.proofs.lemmas.List.{nil_from_length}
 use Rattle.name_rows.specs.Rows.{named}
-use Rattle.rule_table.specs.Control.{rule_deleted}
+use Rattle.config_changes.specs.Control.{rule_deleted}
 use Rattle.rule_table.specs.RuleSet.{Rule, Bus, has_bus, without_rule, IsSound}
 use Rattle.rule_table.specs.Target.{stored_of, target_of}
 use Rattle.rule_table.specs.Refusal.{no_such_bus, no_rule_to_delete, rule_has_targets}

@@ -1,6 +1,6 @@
 use Rattle.std.proofs.Common.{refl, sym, subst}
 use Rattle.std.proofs.lemmas.Bool.{false≢true}
-use Rattle.rule_table.specs.TargetForm.{IsWellFormedTarget}
+use Rattle.config_changes.specs.TargetForm.{IsWellFormedTarget}
 use Rattle.rule_table.specs.RuleSet.{IsArnThere, IsDeadLetterThere, IsSoundTarget}
 use Rattle.rule_table.specs.Refusal.{IsQueueMissing, bad_member, no_queue, no_dead_letter_queue}
 use Rattle.rule_table.proofs.RefusalLemmas.{queue_found, dead_letter_found}

@@ -1,7 +1,7 @@
 use Rattle.std.proofs.Common.{◌≡◌, ◌+◌, false, inl, inr, refl, sym, ap, ◌∙◌, subst}
 use Rattle.std.proofs.lemmas.Bool.{false≢true}
 use Rattle.std.proofs.lemmas.Result.{err_from_is_err_and}
-use Rattle.rule_table.specs.Control.{policy_put}
+use Rattle.config_changes.specs.Control.{policy_put}
 use Rattle.rule_table.specs.RuleSet.{Bus, has_bus, IsSound}
 use Rattle.rule_table.specs.Refusal.{IsTooLong, policy_without_bus}
 use Rattle.rule_table.proofs.SortedLemmas.{sound_applied}

@@ -1,5 +1,5 @@
 use Rattle.std.proofs.Common.{◌≡◌, ◌+◌, ℕ, List, false, inr, refl, ap, sym, ◌∙◌, subst}
-use Rattle.rule_table.specs.Control.{rule_put}
+use Rattle.config_changes.specs.Control.{rule_put}
 use Rattle.rule_table.specs.RuleSet.{Rule, Bus, has_bus, new_rule, put_rule, IsSound}
 use Rattle.rule_table.specs.Refusal.{no_pattern, rule_without_bus}
 use Rattle.rule_table.proofs.SortedLemmas.{sound_applied}

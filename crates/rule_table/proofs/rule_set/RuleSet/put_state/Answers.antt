@@ -1,6 +1,6 @@
 use Rattle.std.proofs.Common.{◌≡◌, ◌+◌, false, None, inr, refl, ap, sym, ◌∙◌, subst}
 use Rattle.name_rows.specs.Rows.{named}
-use Rattle.rule_table.specs.Control.{state_put}
+use Rattle.config_changes.specs.Control.{state_put}
 use Rattle.rule_table.specs.RuleSet.{Rule, has_bus, IsSound}
 use Rattle.rule_table.specs.Refusal.{no_such_bus}
 use Rattle.rule_table.proofs.SortedLemmas.{sound_applied}

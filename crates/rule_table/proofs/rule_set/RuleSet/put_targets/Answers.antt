@@ -1,6 +1,6 @@
 use Rattle.std.proofs.Common.{◌≡◌, ◌+◌, ◌≤◌, length, refl, false, None, Some, inr, ap, sym, ◌∙◌, subst}
 use Rattle.name_rows.specs.Rows.{named}
-use Rattle.rule_table.specs.Control.{targets_put}
+use Rattle.config_changes.specs.Control.{targets_put}
 use Rattle.rule_table.specs.RuleSet.{Rule, has_bus, put_targets, AreGoodTargets, IsSound}
 use Rattle.rule_table.specs.Refusal.{no_such_bus, no_rule_to_put_to, faulty_targets}
 use Rattle.rule_table.proofs.SortedLemmas.{sound_applied}

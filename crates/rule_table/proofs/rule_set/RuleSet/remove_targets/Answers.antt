@@ -1,6 +1,6 @@
 use Rattle.std.proofs.Common.{◌≡◌, ◌+◌, ◌≤◌, length, false, None, inr, refl, ap, sym, ◌∙◌, subst}
 use Rattle.name_rows.specs.Rows.{named}
-use Rattle.rule_table.specs.Control.{targets_removed}
+use Rattle.config_changes.specs.Control.{targets_removed}
 use Rattle.rule_table.specs.RuleSet.{Rule, has_bus, without_targets, AreRemovable, IsSound}
 use Rattle.rule_table.specs.Refusal.{no_such_bus, no_rule_to_remove_from, faulty_ids}
 use Rattle.rule_table.proofs.SortedLemmas.{sound_applied}

@@ -1,6 +1,6 @@
 use Rattle.std.proofs.Common.{◌<◌, ◌≤◌, length, map, refl, subst, ◌∙◌, ap}
 use Rattle.name_rows.specs.Rows.{placed, replacing}
-use Rattle.rule_table.specs.TargetForm.{IsWellFormedTarget}
+use Rattle.config_changes.specs.TargetForm.{IsWellFormedTarget}
 use Rattle.rule_table.specs.RuleSet.{put_target, IsSoundTarget}
 use Rattle.rule_table.specs.Refusal.{sixth}
 use Rattle.rule_table.proofs.RowLemmas.{length_names}

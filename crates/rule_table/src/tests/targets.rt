@@ -1,6 +1,7 @@
-use crate::tests::{R_ARN, Step, after, plain_target, text, with_queue, with_rule};
-use crate::{Control, RetryPolicy, RuleSet, RuleTarget, Target, TargetFault, put_target};
+use super::{R_ARN, Step, after, plain_target, text, with_queue, with_rule};
+use crate::{RuleSet, RuleTarget, put_target};
 use api_replies::Member;
+use config_changes::{Control, RetryPolicy, Target, TargetFault};
 use json_text::{NoMemory, Text};
 use shared_text::SharedRow;
 use std::alloc::Global;
@@ -16,7 +17,7 @@ const URL: &str = "http://localhost:8080/";
 const FAR: &str = "http://example.com/";
 
 /// The number of the targets there, a target's id, ARN and unsupported member, and its fault. Worked by hand.
-const TARGETS: [(usize, &str, &str, Option<Member>, Option<TargetFault>); 10] = [
+const TARGETS: [(usize, &str, &str, Option<Member>, Option<TargetFault>); 8] = [
     (4, "t", Q, None, None),
     (4, "t", URL, None, None),
     (5, "t", Q, None, Some(TargetFault::Sixth)),
@@ -29,20 +30,6 @@ const TARGETS: [(usize, &str, &str, Option<Member>, Option<TargetFault>); 10] = 
         NONE,
         Some(Member::Input),
         Some(TargetFault::Member(Member::Input)),
-    ),
-    (
-        0,
-        "t",
-        URL,
-        Some(Member::InputPath),
-        Some(TargetFault::Member(Member::InputPath)),
-    ),
-    (
-        0,
-        "t",
-        FAR,
-        Some(Member::InputPath),
-        Some(TargetFault::Member(Member::Arn)),
     ),
     (5, "a b", FAR, None, Some(TargetFault::Member(Member::Id))),
 ];
@@ -104,19 +91,6 @@ fn a_target_has_its_first_fault(rt: HostRuntime) -> Result<(), Fail> {
     Ok(())
 }
 
-/// The numbers of a retry policy, and whether they are within their limits.
-const POLICIES: [(Option<u16>, Option<u32>, bool); 9] = [
-    (Some(0), Some(60), true),
-    (Some(185), Some(86_400), true),
-    (Some(186), Some(60), false),
-    (Some(65_535), Some(60), false),
-    (Some(0), Some(59), false),
-    (Some(0), Some(0), false),
-    (Some(0), Some(86_401), false),
-    (None, Some(60), false),
-    (Some(0), None, false),
-];
-
 /// A target of the queue `q` with this retry policy and this dead-letter queue.
 fn retried(
     alloc: Global,
@@ -134,32 +108,6 @@ fn retried(
         retry: Some(retry),
         dead_letter,
     })
-}
-
-/// The index of the first retry policy that is accepted or refused otherwise than in its row.
-fn limited_otherwise(alloc: Global, set: &RuleSet) -> Result<Option<usize>, Fail> {
-    for (place, (attempts, age, is_valid)) in POLICIES.iter().enumerate() {
-        let retry = RetryPolicy {
-            attempts: *attempts,
-            age: *age,
-        };
-        let fault = if *is_valid {
-            None
-        } else {
-            Some(TargetFault::Member(Member::RetryPolicy))
-        };
-        if !is_fault(alloc, set, 0, &retried(alloc, retry, None)?, fault)? {
-            return Ok(Some(place));
-        }
-    }
-    Ok(None)
-}
-
-#[test]
-fn a_retry_policy_has_its_limits(rt: HostRuntime) -> Result<(), Fail> {
-    let set = with_queue(rt.alloc(), "q")?;
-    assert_eq!(rt; limited_otherwise(rt.alloc(), &set)?, None);
-    Ok(())
 }
 
 /// The number of the targets there, the age of a retry policy, the ARN of a dead-letter queue, and the target's fault.
