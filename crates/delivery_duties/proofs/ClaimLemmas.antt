@@ -1,20 +1,11 @@
 -- A claim that is put back changes nothing: `put_back`.
-use Rattle.std.proofs.Common.{◌≡◌, ◌≢◌, ℕ, ◌<◌, true, false, cond, eqb, ltb, List, [], ◌∷◌, Some, None, refl, sym, ap, ◌∙◌, subst, arith}
-use Rattle.std.proofs.lemmas.Bool.{eq-eqb, ne_eqb, eqb-true, le-ltb}
+use Rattle.std.proofs.Common.{◌≡◌, ◌≢◌, ℕ, ◌<◌, true, false, cond, eqb, List, [], ◌∷◌, Some, None, refl, sym, ap, ◌∙◌, subst, arith}
+use Rattle.std.proofs.lemmas.Bool.{eqb-true, le-ltb}
 use Rattle.key_tree.specs.Entries.{value_at, placed, without, AllKeys, AreSorted}
 use Rattle.key_tree.proofs.EntryLemmas.{AllKeys-weaker, others, placed_lower, value_at-without_same, without_none}
 use Rattle.delivery_duties.specs.declared.duty.DutyRow.{DutyRow}
 use Rattle.delivery_duties.specs.Duties.{Duties, IsFree, IsOrdered, claimed, unclaimed, marked_row}
-use Rattle.delivery_duties.proofs.EntryLemmas.{key_has, larger, placed_here}
-
--- an entry that was placed is removed again
-without_placed : {V : Type 0} (new : ℕ × V) (es : List (ℕ × V)) → AllKeys (λ k. k ≢ new.0) es → without new.0 (placed new es) ≡ es
-without_placed new [] a = rw (eq-eqb new.0 new.0 refl) refl
-without_placed new (e ∷ es) a =
-    elim (ltb new.0 e.0) as (λ b. without new.0 (cond b (new ∷ e ∷ es) (e ∷ placed new es)) ≡ e ∷ es) [
-      | true ↦ rw (eq-eqb new.0 new.0 refl) (without_none new.0 (e ∷ es) a)
-      | false ↦ rw (ne_eqb e.0 new.0 a.0) (ap (λ rest. e ∷ rest) (without_placed new es a.1))
-    ]
+use Rattle.delivery_duties.proofs.EntryLemmas.{key_has, larger, placed_here, without_placed}
 
 -- an entry that was removed is placed again
 placed_back : {V : Type 0} (key : ℕ) (v : V) (es : List (ℕ × V)) → AreSorted es → value_at key es ≡ Some v → placed (key, v) (without key es) ≡ es

@@ -1,5 +1,6 @@
 mod RetryLemmas
 mod EntryLemmas
+mod RowsLemmas
 mod OrderLemmas
 mod FromLemmas
 mod MessageLemmas

@@ -1,15 +1,14 @@
--- The order of due duties: what its first entry says (`earliest`, `none_free`), and that each step keeps it (`line_inserted`,
--- `line_claimed`, `line_taken`). Answers cite `line_after_insert`, `line_after_claim`, `line_taken`, `number_free`, `free_row`, `due_decides`, `first_due`.
-use Rattle.std.proofs.Common.{◌≡◌, ◌≢◌, ℕ, ◌^◌, ◌<◌, ◌≤◌, ◌⊎◌, inl, inr, true, false, List, [], ◌∷◌, Some, None, refl, sym, ap, ◌∙◌, subst, arith}
-use Rattle.std.proofs.lemmas.Bool.{cases_lt, leb-true, le-leb}
-use Rattle.std.proofs.Math.Dec.{leb}
-use Rattle.std.specs.Bool.{IsTrue}
-use Rattle.std.specs.Prelude.{◌↔◌}
+-- The pending rows in two lists: what the first entry of the line says (`earliest`, `none_free`), what is known of a row (`waiting_at`, `free_at`,
+-- `out_at`), and that each step keeps the lists as they have to be (`inserted`, `claimed_from`, `taken`).
+use Rattle.std.proofs.Common.{◌≡◌, ℕ, ◌+◌, ◌^◌, ◌<◌, ◌≤◌, ◌⊎◌, inl, inr, true, false, List, [], ◌∷◌, Option, Some, None, MatchOption, IfSome, refl, sym, ap, ◌∙◌, subst, arith}
+use Rattle.std.proofs.lemmas.Bool.{cases_lt}
 use Rattle.key_tree.specs.Entries.{placed, value_at, without, AreSorted}
 use Rattle.key_tree.proofs.EntryLemmas.{others, sorted_placed, sorted_without, value_at-without_same}
 use Rattle.delivery_duties.specs.declared.duty.DutyRow.{DutyRow}
-use Rattle.delivery_duties.specs.Order.{due_key, IsLine, IsEarliest, NoneFree}
-use Rattle.delivery_duties.proofs.EntryLemmas.{found_here, placed_here, placed_kept, by_placed, by_removed, removed_kept, least_key}
+use Rattle.delivery_duties.specs.Duties.{replaced}
+use Rattle.delivery_duties.specs.Order.{by_number, due_key, AllEntries, AreInReach, ClaimsIn, IsEarliest, IsFreeAt, IsHeld, IsOutIn, IsSchedule, IsWaiting, NoneFree, NoneFreeIn}
+use Rattle.delivery_duties.proofs.EntryLemmas.{found_here, least_key}
+use Rattle.delivery_duties.proofs.RowsLemmas.{all_placed, all_without, entry_has, rows_named, kept_line, kept_out, found_in, out_none, line_more, line_less, out_more, out_less, apart_more, apart_less, apart_out, apart_taken}
 
 no_later : (a b c d : ℕ) → due_key a b ≤ due_key c d → b < 2 ^ 64 → d < 2 ^ 64 → (a < c) ⊎ ((a ≡ c) × (b ≤ d))
 no_later a b c d h p q =
@@ -22,166 +21,295 @@ same_number a b c d e p q =
       | inr (same, l) ↦ omega (arith, e, same)
     ]
 
-pub earliest : {rows : List (ℕ × DutyRow)} {line : List (ℕ × ℕ)} (key n : ℕ) (rest : List (ℕ × ℕ)) → IsLine rows line → AreSorted line
-    → line ≡ (key, n) ∷ rest → IsEarliest rows n
-earliest {rows} {line} key n rest h s e =
-    let found : value_at key line ≡ Some n = subst (λ l. value_at key l ≡ Some n) (sym e) (found_here key n rest) in
-    let here = h.listed key n found in
-    let row : DutyRow = here.0 in
-    let sorted : AreSorted ((key, n) ∷ rest) = subst (AreSorted {V = ℕ}) e s in
-    record {
-      row = row;
-      there = here.1;
-      free = here.2;
-      first = λ m other there free.
-          let known = h.named m other there in
-          let mine = h.named n row here.1 in
-          let other_in : value_at (due_key other.due other.number) ((key, n) ∷ rest) ≡ Some m =
-          subst (λ l. value_at (due_key other.due other.number) l ≡ Some m) e (h.waits m other there free) in
-          let least : key ≤ due_key other.due other.number = least_key key n rest (due_key other.due other.number) m sorted other_in in
-          no_later row.due row.number other.due other.number (subst (λ k. k ≤ due_key other.due other.number) (sym here.3) least)
-          (subst (λ k. k < 2 ^ 64) (sym mine.0) mine.1) (subst (λ k. k < 2 ^ 64) (sym known.0) known.1);
-    }
+-- a row of the line
+pub waiting_at : {line out : List (ℕ × DutyRow)} (key : ℕ) (row : DutyRow) → IsSchedule line out → value_at key line ≡ Some row → IsWaiting key row
+waiting_at {line} key row h e = entry_has IsWaiting key row line h.waiting e
 
-pub none_free : {rows : List (ℕ × DutyRow)} {line : List (ℕ × ℕ)} → IsLine rows line → line ≡ [] → NoneFree rows
-none_free {rows} {line} h e = λ n row there.
-    (elim row.claimed as (λ b. row.claimed ≡ b → row.claimed ≡ true) [
-      | true ↦ λ is. is
-      | false ↦ λ is.
-          let some : value_at (due_key row.due row.number) [] ≡ Some n =
-          subst (λ l. value_at (due_key row.due row.number) l ≡ Some n) e (h.waits n row there is) in
-          absurd (cc)
-    ]) refl
+pub held_at : {line out : List (ℕ × DutyRow)} (key : ℕ) (row : DutyRow) → IsSchedule line out → value_at key out ≡ Some row → IsHeld key row
+held_at {line} {out} key row h e = entry_has IsHeld key row out h.held e
+
+-- an unclaimed row is in the line
+pub free_at : {line out : List (ℕ × DutyRow)} (n : ℕ) (row : DutyRow) → IsSchedule line out → value_at n (by_number line out) ≡ Some row
+    → row.claimed ≡ false → value_at (due_key row.due n) line ≡ Some row
+free_at {line} {out} n row h e free =
+    elim (found_in n row line out h.line_sorted h.apart e) [
+      | inl (key, l) ↦
+          let w = waiting_at key row h l in
+          let named : row.number ≡ n = rows_named n row line out h.held h.apart e in
+          subst (λ k. value_at k line ≡ Some row) (w.key_is ∙ ap (due_key row.due) named) l
+      | inr o ↦ let held = held_at n row h o in let claimed : row.claimed ≡ true = held.claimed in absurd (cc)
+    ]
+
+-- a claimed row is out
+pub out_at : {line out : List (ℕ × DutyRow)} (n : ℕ) (row : DutyRow) → IsSchedule line out → value_at n (by_number line out) ≡ Some row
+    → row.claimed ≡ true → value_at n out ≡ Some row
+out_at {line} {out} n row h e claimed =
+    elim (found_in n row line out h.line_sorted h.apart e) [
+      | inl (key, l) ↦ let w = waiting_at key row h l in let free : row.claimed ≡ false = w.free in absurd (cc)
+      | inr o ↦ o
+    ]
+
+pub earliest : {line out : List (ℕ × DutyRow)} (key : ℕ) (row : DutyRow) (rest : List (ℕ × DutyRow)) → IsSchedule line out
+    → line ≡ (key, row) ∷ rest → (e : IsEarliest (by_number line out) row.number) × (e.row.due ≡ row.due)
+earliest {line} {out} key row rest h e =
+    let found : value_at key line ≡ Some row = subst (λ l. value_at key l ≡ Some row) (sym e) (found_here key row rest) in
+    let w = waiting_at key row h found in
+    let sorted : AreSorted ((key, row) ∷ rest) = subst (AreSorted {V = DutyRow}) e h.line_sorted in
+    let first : IsEarliest (by_number line out) row.number = record {
+      row = row;
+      there = kept_line key row line out h.apart found;
+      free = w.free;
+      first = λ m other there free.
+          let named : other.number ≡ m = rows_named m other line out h.held h.apart there in
+          let other_key : ℕ = due_key other.due m in
+          let in_line = free_at m other h there free in
+          let there_too : value_at other_key ((key, row) ∷ rest) ≡ Some other = subst (λ l. value_at other_key l ≡ Some other) e in_line in
+          let o = waiting_at other_key other h in_line in
+          let least : key ≤ other_key = least_key key row rest other_key other sorted there_too in
+          no_later row.due row.number other.due other.number (omega (arith, least, w.key_is, o.key_is))
+          (omega (arith, w.number_fits)) (omega (arith, o.number_fits));
+    } in
+    (first, refl)
+
+pub none_free : {line out : List (ℕ × DutyRow)} → IsSchedule line out → line ≡ [] → NoneFree (by_number line out)
+none_free {line} {out} h e = λ n row there.
+    elim (found_in n row line out h.line_sorted h.apart there) [
+      | inl (key, l) ↦ let some : value_at key [] ≡ Some row = subst (λ es. value_at key es ≡ Some row) e l in absurd (cc)
+      | inr o ↦ let held = held_at n row h o in held.claimed
+    ]
 
 -- the new key is not in the line
-no_entry : {rows : List (ℕ × DutyRow)} {line : List (ℕ × ℕ)} (due number : ℕ) → IsLine rows line → number < 2 ^ 64 → value_at number rows ≡ None
+no_entry : {line out : List (ℕ × DutyRow)} (due number : ℕ) → IsSchedule line out → number + 1 < 2 ^ 64 → value_at number (by_number line out) ≡ None
     → value_at (due_key due number) line ≡ None
-no_entry {rows} {line} due number h fits none =
+no_entry {line} {out} due number h fits none =
     (elim (value_at (due_key due number) line) as (λ o. value_at (due_key due number) line ≡ o → value_at (due_key due number) line ≡ None) [
       | None ↦ λ is. is
-      | Some n ↦ λ is.
-          let l = h.listed (due_key due number) n is in
-          let r : DutyRow = l.0 in
-          let known = h.named n r l.1 in
-          let fits_too : r.number < 2 ^ 64 = subst (λ k. k < 2 ^ 64) (sym known.0) known.1 in
-          let same : r.number ≡ number = same_number r.due r.number due number l.3 fits_too fits in
-          let there : value_at number rows ≡ Some r = subst (λ k. value_at k rows ≡ Some r) (sym known.0 ∙ same) l.1 in
+      | Some r ↦ λ is.
+          let w = waiting_at (due_key due number) r h is in
+          let same : r.number ≡ number = same_number r.due r.number due number (sym w.key_is) (omega (arith, w.number_fits)) (omega (arith, fits)) in
+          let kept = kept_line (due_key due number) r line out h.apart is in
+          let there : value_at number (by_number line out) ≡ Some r = subst (λ k. value_at k (by_number line out) ≡ Some r) same kept in
           absurd (cc)
     ]) refl
 
-pub line_inserted : {rows : List (ℕ × DutyRow)} {line : List (ℕ × ℕ)} (row : DutyRow) → IsLine rows line → row.claimed ≡ false → row.number < 2 ^ 64
-    → value_at row.number rows ≡ None → IsLine (placed (row.number, row) rows) (placed (due_key row.due row.number, row.number) line)
-line_inserted {rows} {line} row h free fits none =
+pub inserted : {line out : List (ℕ × DutyRow)} (row : DutyRow) → IsSchedule line out → row.claimed ≡ false → row.due < 2 ^ 64 → row.number + 1 < 2 ^ 64
+    → value_at row.number (by_number line out) ≡ None
+    → IsSchedule (placed (due_key row.due row.number, row) line) out
+    × (by_number (placed (due_key row.due row.number, row) line) out ≡ placed (row.number, row) (by_number line out))
+inserted {line} {out} row h free due fits none =
     let key : ℕ = due_key row.due row.number in
-    let new : List (ℕ × DutyRow) = placed (row.number, row) rows in
-    let none_too : value_at key line ≡ None = no_entry row.due row.number h fits none in
-    record {
-      sorted = sorted_placed (row.number, row) rows h.sorted (others row.number rows none);
-      named = λ n r e. by_placed row.number n row r rows none e
-          (λ is same. (sym (ap (λ (o : DutyRow). o.number) same) ∙ is, subst (λ k. k < 2 ^ 64) is fits))
-          (λ ne there. h.named n r there);
-      waits = λ n r e unclaimed. by_placed row.number n row r rows none e
-          (λ is same. subst (λ (o : DutyRow). value_at (due_key o.due o.number) (placed (key, row.number) line) ≡ Some n) same
-          (placed_here key row.number line none_too ∙ ap (λ k. Some k) is))
-          (λ ne there. placed_kept key (due_key r.due r.number) row.number n line none_too (h.waits n r there unclaimed));
-      listed = λ k n e. by_placed key k row.number n line none_too e
-          (λ is same. (row, subst (λ m. value_at m new ≡ Some row) same (placed_here row.number row rows none), free, is))
-          (λ ne there. let l = h.listed k n there in (l.0, placed_kept row.number n row l.0 rows none l.1, l.2, l.3));
-    }
+    let waits : IsWaiting key row = record { key_is = refl; free = free; due_fits = due; number_fits = fits } in (
+      record {
+        line_sorted = sorted_placed (key, row) line h.line_sorted (others key line (no_entry row.due row.number h fits none));
+        out_sorted = h.out_sorted;
+        waiting = all_placed IsWaiting (key, row) line waits h.waiting;
+        held = h.held;
+        apart = apart_more (key, row) line out h.apart none;
+      },
+      line_more (key, row) line out h.apart none,
+    )
 
-pub line_claimed : {rows : List (ℕ × DutyRow)} {line : List (ℕ × ℕ)} (n : ℕ) (row : DutyRow) → IsLine rows line → value_at n rows ≡ Some row
-    → row.claimed ≡ false → IsLine (placed (n, record row { claimed = true }) (without n rows)) (without (due_key row.due row.number) line)
-line_claimed {rows} {line} n row h there free =
-    let key : ℕ = due_key row.due row.number in
+-- a row of the line is claimed
+pub claimed_from : {line out : List (ℕ × DutyRow)} (key : ℕ) (row : DutyRow) → IsSchedule line out → value_at key line ≡ Some row
+    → IsSchedule (without key line) (placed (row.number, record row { claimed = true }) out) × (value_at row.number out ≡ None)
+    × (by_number (without key line) (placed (row.number, record row { claimed = true }) out) ≡ replaced (record row { claimed = true }) (by_number line out))
+claimed_from {line} {out} key row h e =
     let now : DutyRow = record row { claimed = true } in
-    let left : List (ℕ × DutyRow) = without n rows in
-    let none : value_at n left ≡ None = value_at-without_same n rows in
-    let mine = h.named n row there in
-    record {
-      sorted = sorted_placed (n, now) left (sorted_without n rows h.sorted) (others n left none);
-      named = λ m r e. by_placed n m now r left none e
-          (λ is same. (sym (ap (λ (o : DutyRow). o.number) same) ∙ mine.0 ∙ is, subst (λ k. k < 2 ^ 64) is mine.1))
-          (λ ne kept. h.named m r (by_removed n m r rows kept).1);
-      waits = λ m r e unclaimed. by_placed n m now r left none e
-          (λ is same. let claimed : true ≡ r.claimed = ap (λ (o : DutyRow). o.claimed) same in absurd (cc))
-          (λ ne kept.
-          let entry : value_at (due_key r.due r.number) line ≡ Some m = h.waits m r (by_removed n m r rows kept).1 unclaimed in
-          let apart : key ≢ due_key r.due r.number = λ same.
-          let entry_too : value_at (due_key r.due r.number) line ≡ Some n = subst (λ k. value_at k line ≡ Some n) same (h.waits n row there free) in
-          ne (cc) in
-          removed_kept key (due_key r.due r.number) m line apart entry);
-      listed = λ k m e.
-          let kept = by_removed key k m line e in
-          let l = h.listed k m kept.1 in
-          let apart : n ≢ m = λ same.
-          let there_too : value_at m rows ≡ Some row = subst (λ j. value_at j rows ≡ Some row) same there in
-          let rows_same : row ≡ l.0 = cc in
-          kept.0 (ap (λ (o : DutyRow). due_key o.due o.number) rows_same ∙ l.3) in
-          (l.0, placed_kept n m now l.0 left none (removed_kept n m l.0 rows apart l.1), l.2, l.3);
-    }
+    let w = waiting_at key row h e in
+    let less = line_less key row line out h.line_sorted h.out_sorted h.apart e in
+    let apart = apart_less key row line out h.line_sorted h.out_sorted h.apart e in
+    let none : value_at row.number (by_number (without key line) out) ≡ None =
+    ap (value_at row.number) less ∙ value_at-without_same row.number (by_number line out) in
+    let none_out : value_at row.number out ≡ None = out_none row.number (without key line) out apart none in
+    let holds : IsHeld row.number now = record { key_is = refl; claimed = refl; number_fits = w.number_fits } in (
+      record {
+        line_sorted = sorted_without key line h.line_sorted;
+        out_sorted = sorted_placed (row.number, now) out h.out_sorted (others row.number out none_out);
+        waiting = all_without IsWaiting key line h.waiting;
+        held = all_placed IsHeld (row.number, now) out holds h.held;
+        apart = apart_out row.number now (without key line) out apart none;
+      },
+      none_out,
+      out_more row.number now (without key line) out apart none ∙ ap (placed (row.number, now)) less,
+    )
 
-pub line_taken : {rows : List (ℕ × DutyRow)} {line : List (ℕ × ℕ)} (n : ℕ) (row : DutyRow) → IsLine rows line → value_at n rows ≡ Some row
-    → row.claimed ≡ true → IsLine (without n rows) line
-line_taken {rows} {line} n row h there claimed = record {
-  sorted = sorted_without n rows h.sorted;
-  named = λ m r e. h.named m r (by_removed n m r rows e).1;
-  waits = λ m r e unclaimed. h.waits m r (by_removed n m r rows e).1 unclaimed;
-  listed = λ k m e.
-      let l = h.listed k m e in
-      let apart : n ≢ m = λ same.
-      let there_too : value_at m rows ≡ Some row = subst (λ j. value_at j rows ≡ Some row) same there in
-      let rows_same : row ≡ l.0 = cc in
-      let unclaimed : row.claimed ≡ false = ap (λ (o : DutyRow). o.claimed) rows_same ∙ l.2 in
-      absurd (cc) in
-      (l.0, removed_kept n m l.0 rows apart l.1, l.2, l.3);
-}
-
--- the same in the terms of the calls
-pub line_after_insert : {rows new : List (ℕ × DutyRow)} {line after : List (ℕ × ℕ)} (node row : DutyRow) (key entry place : ℕ) → IsLine rows line
-    → row ≡ record node { claimed = false } → node.number < 2 ^ 64 → value_at node.number rows ≡ None → key ≡ node.number
-    → entry ≡ due_key node.due node.number → place ≡ node.number → new ≡ placed (key, row) rows → after ≡ placed (entry, place) line → IsLine new after
-line_after_insert {rows} {new} {line} {after} node row key entry place h is fits none keys entries places e f =
-    let made : DutyRow = record node { claimed = false } in
-    let rows_are : new ≡ placed (node.number, made) rows = cc in
-    let line_is : after ≡ placed (due_key node.due node.number, node.number) line = cc in
-    subst (λ rs. IsLine rs after) (sym rows_are)
-    (subst (IsLine (placed (node.number, made) rows)) (sym line_is) (line_inserted made h refl fits none))
-
-pub line_after_claim : {rows left new : List (ℕ × DutyRow)} {line after : List (ℕ × ℕ)} (n : ℕ) (node row : DutyRow) (key entry : ℕ) → IsLine rows line
-    → value_at n rows ≡ Some node → node.claimed ≡ false → row ≡ record node { claimed = true } → key ≡ node.number
-    → entry ≡ due_key node.due node.number → left ≡ without n rows → new ≡ placed (key, row) left → after ≡ without entry line → IsLine new after
-line_after_claim {rows} {left} {new} {line} {after} n node row key entry h there free is keys entries lefts e f =
-    let named : node.number ≡ n = (h.named n node there).0 in
-    let now : DutyRow = record node { claimed = true } in
-    let key_is : key ≡ n = keys ∙ named in
-    let rows_are : new ≡ placed (n, now) (without n rows) = cc in
-    let line_is : after ≡ without (due_key node.due node.number) line = cc in
-    subst (λ rs. IsLine rs after) (sym rows_are)
-    (subst (IsLine (placed (n, now) (without n rows))) (sym line_is) (line_claimed n node h there free))
-
--- the number of a row that was removed is free
-pub number_free : {rows left : List (ℕ × DutyRow)} {line : List (ℕ × ℕ)} (n key : ℕ) (node : DutyRow) → IsLine rows line → value_at n rows ≡ Some node
-    → key ≡ node.number → left ≡ without n rows → value_at key left ≡ None
-number_free {rows} {left} n key node h there keys lefts =
-    let same : key ≡ n = keys ∙ (h.named n node there).0 in
-    subst (λ rs. value_at key rs ≡ None) (sym lefts) (subst (λ k. value_at k (without n rows) ≡ None) (sym same) (value_at-without_same n rows))
-
--- of two rows of a number, one is as free as the other
-pub free_row : (rows : List (ℕ × DutyRow)) (n : ℕ) (row node : DutyRow) → value_at n rows ≡ Some row → value_at n rows ≡ Some node
-    → row.claimed ≡ false → node.claimed ≡ false
-free_row rows n row node e f free = let same : row ≡ node = cc in sym (ap (λ (o : DutyRow). o.claimed) same) ∙ free
-
--- a test of the due moment
-pub due_decides : (rows : List (ℕ × DutyRow)) (n moment : ℕ) (row now : DutyRow) → value_at n rows ≡ Some row → now ≡ row
-    → IsTrue (leb now.due moment) ↔ ((x : DutyRow) × (value_at n rows ≡ Some x) × (x.due ≤ moment))
-due_decides rows n moment row now there is = (
-  λ test. (row, there, subst (λ (o : DutyRow). o.due ≤ moment) is (leb-true now.due moment test)),
-  λ (x, there_too, due). let same : x ≡ now = cc in le-leb now.due moment (subst (λ (o : DutyRow). o.due ≤ moment) same due),
+pub taken : {line out : List (ℕ × DutyRow)} (n : ℕ) (row : DutyRow) → IsSchedule line out → value_at n out ≡ Some row
+    → IsSchedule line (without n out) × (by_number line (without n out) ≡ without n (by_number line out))
+taken {line} {out} n row h e = (
+  record {
+    line_sorted = h.line_sorted;
+    out_sorted = sorted_without n out h.out_sorted;
+    waiting = h.waiting;
+    held = all_without IsHeld n out h.held;
+    apart = apart_taken n row line out h.out_sorted h.apart e;
+  },
+  out_less n row line out h.out_sorted h.apart e,
 )
 
-pub first_due : (rows : List (ℕ × DutyRow)) (n moment : ℕ) (e : IsEarliest rows n) → (x : DutyRow) × (value_at n rows ≡ Some x) × (x.due ≤ moment)
-    → e.row.due ≤ moment
-first_due rows n moment e (x, there, due) =
-    let here = e.there in
-    let same : x ≡ e.row = cc in
-    subst (λ (o : DutyRow). o.due ≤ moment) same due
+-- the same in the terms of the calls
+pub inserted_as : {line out new all : List (ℕ × DutyRow)} (node row : DutyRow) (due number key : ℕ) → IsSchedule line out → by_number line out ≡ all
+    → row ≡ record node { claimed = false } → due ≡ node.due → due < 2 ^ 64 → number ≡ node.number → node.number + 1 < 2 ^ 64
+    → value_at node.number all ≡ None → key ≡ due_key due number → new ≡ placed (key, row) line
+    → IsSchedule new out × (by_number new out ≡ placed (node.number, record node { claimed = false }) all)
+inserted_as {line} {out} {new} {all} node row due number key h is rows dues fits numbers small none keys e =
+    let made : DutyRow = record node { claimed = false } in
+    let line_is : new ≡ placed (due_key node.due node.number, made) line = cc in
+    let none_too : value_at node.number (by_number line out) ≡ None = subst (λ rs. value_at node.number rs ≡ None) (sym is) none in
+    let done = inserted made h refl (subst (λ d. d < 2 ^ 64) dues fits) small none_too in (
+      subst (λ l. IsSchedule l out) (sym line_is) done.0,
+      ap (λ l. by_number l out) line_is ∙ done.1 ∙ ap (placed (node.number, made)) is,
+    )
+
+pub not_there : {line out all : List (ℕ × DutyRow)} (node : DutyRow) (due number key : ℕ) → IsSchedule line out → by_number line out ≡ all
+    → number ≡ node.number → node.number + 1 < 2 ^ 64 → value_at node.number all ≡ None → key ≡ due_key due number → value_at key line ≡ None
+not_there {line} {out} {all} node due number key h is numbers small none keys =
+    let none_too : value_at node.number (by_number line out) ≡ None = subst (λ rs. value_at node.number rs ≡ None) (sym is) none in
+    let key_is : key ≡ due_key due node.number = cc in
+    subst (λ k. value_at k line ≡ None) (sym key_is) (no_entry due node.number h small none_too)
+
+-- the entry of an unclaimed row
+pub free_found : {line out all : List (ℕ × DutyRow)} (due number key : ℕ) → IsSchedule line out → by_number line out ≡ all → IsFreeAt due number all
+    → key ≡ due_key due number → (row : DutyRow) × (value_at key line ≡ Some row) × (row.number ≡ number) × (value_at number all ≡ Some row)
+    × (row.claimed ≡ false)
+free_found {line} {out} {all} due number key h is (row, there, free, due_is) keys =
+    let there_too : value_at number (by_number line out) ≡ Some row = subst (λ rs. value_at number rs ≡ Some row) (sym is) there in
+    let key_is : due_key row.due number ≡ key = ap (λ d. due_key d number) due_is ∙ sym keys in (
+      row,
+      subst (λ k. value_at k line ≡ Some row) key_is (free_at number row h there_too free),
+      rows_named number row line out h.held h.apart there_too,
+      there,
+      free,
+    )
+
+pub claimed_as : {line out left new all : List (ℕ × DutyRow)} (node now : DutyRow) (due number key held : ℕ) → IsSchedule line out → by_number line out ≡ all
+    → IsFreeAt due number all → key ≡ due_key due number → value_at key line ≡ Some node → now ≡ record node { claimed = true } → held ≡ number
+    → left ≡ without key line → new ≡ placed (held, now) out → IsSchedule left new × ClaimsIn number all (by_number left new)
+claimed_as {line} {out} {left} {new} {all} node now due number key held h is free keys found nows helds lefts news =
+    let (row, there, named, in_all, _) = free_found due number key h is free keys in
+    let same : row ≡ node = cc in
+    let made : DutyRow = record row { claimed = true } in
+    let out_is : new ≡ placed (row.number, made) out = cc in
+    let done = claimed_from key row h there in (
+      subst (λ l. IsSchedule l new) (sym lefts) (subst (IsSchedule (without key line)) (sym out_is) done.0),
+      (
+        row,
+        in_all,
+        ap (λ l. by_number l new) lefts ∙ ap (by_number (without key line)) out_is ∙ done.2 ∙ ap (replaced made) is,
+      ),
+    )
+
+pub out_free : {line out all : List (ℕ × DutyRow)} (due number key held : ℕ) → IsSchedule line out → by_number line out ≡ all
+    → IsFreeAt due number all → key ≡ due_key due number → held ≡ number → value_at held out ≡ None
+out_free {line} {out} {all} due number key held h is free keys helds =
+    let (row, there, named, in_all, _) = free_found due number key h is free keys in
+    subst (λ k. value_at k out ≡ None) (named ∙ sym helds) (claimed_from key row h there).1
+
+-- the entry of a claimed row
+pub out_found : {line out all : List (ℕ × DutyRow)} (number held : ℕ) → IsSchedule line out → by_number line out ≡ all → IsOutIn number all
+    → held ≡ number → (row : DutyRow) × (value_at held out ≡ Some row) × (value_at number all ≡ Some row) × IsHeld number row
+out_found {line} {out} {all} number held h is (row, there, claimed) helds =
+    let there_too : value_at number (by_number line out) ≡ Some row = subst (λ rs. value_at number rs ≡ Some row) (sym is) there in
+    let found = out_at number row h there_too claimed in
+    (row, subst (λ k. value_at k out ≡ Some row) (sym helds) found, there, held_at number row h found)
+
+pub taken_as : {line out left all : List (ℕ × DutyRow)} (number held : ℕ) → IsSchedule line out → by_number line out ≡ all → IsOutIn number all
+    → held ≡ number → left ≡ without held out → IsSchedule line left × (by_number line left ≡ without number all)
+taken_as {line} {out} {left} {all} number held h is o helds lefts =
+    let (row, there, _, _) = out_found number held h is o helds in
+    let done = taken held row h there in (
+      subst (IsSchedule line) (sym lefts) done.0,
+      ap (by_number line) lefts ∙ done.1 ∙ ap (λ k. without k (by_number line out)) helds ∙ ap (without number) is,
+    )
+
+-- what is known of the row that is taken
+pub out_is : {line out all : List (ℕ × DutyRow)} (node : DutyRow) (number held : ℕ) → IsSchedule line out → by_number line out ≡ all → IsOutIn number all
+    → held ≡ number → value_at held out ≡ Some node
+    → (value_at number all ≡ Some node) × (node.claimed ≡ true) × (node.number ≡ number) × (node.number + 1 < 2 ^ 64)
+out_is {line} {out} {all} node number held h is o helds e =
+    let (row, there, in_all, holds) = out_found number held h is o helds in
+    let same : row ≡ node = cc in
+    subst (λ (x : DutyRow). (value_at number all ≡ Some x) × (x.claimed ≡ true) × (x.number ≡ number) × (x.number + 1 < 2 ^ 64)) same
+    (in_all, holds.claimed, sym holds.key_is, holds.number_fits)
+
+pub is_free_at : {line out all : List (ℕ × DutyRow)} (key : ℕ) (row : DutyRow) (due number : ℕ) → IsSchedule line out → by_number line out ≡ all
+    → value_at key line ≡ Some row → row.number ≡ number → due ≡ row.due → IsFreeAt due number all
+is_free_at {line} {out} {all} key row due number h is there named dues =
+    let w = waiting_at key row h there in
+    let kept = kept_line key row line out h.apart there in
+    let in_all : value_at number (by_number line out) ≡ Some row = subst (λ n. value_at n (by_number line out) ≡ Some row) named kept in
+    (row, subst (λ rs. value_at number rs ≡ Some row) is in_all, w.free, sym dues)
+
+pub none_free_in : {line out all : List (ℕ × DutyRow)} (number : ℕ) → IsSchedule line out → by_number line out ≡ all
+    → ((key : ℕ) (row : DutyRow) → value_at key line ≡ Some row → row.number ≡ number → ⊥) → NoneFreeIn number all
+none_free_in {line} {out} {all} number h is never = λ row there free.
+    let there_too : value_at number (by_number line out) ≡ Some row = subst (λ rs. value_at number rs ≡ Some row) (sym is) there in
+    never (due_key row.due number) row (free_at number row h there_too free) (rows_named number row line out h.held h.apart there_too)
+
+all_weaker : (P Q : ℕ → DutyRow → Type 0) → ((key : ℕ) (row : DutyRow) → P key row → Q key row) → (es : List (ℕ × DutyRow)) → AllEntries P es → AllEntries Q es
+all_weaker P Q f [] a = tt
+all_weaker P Q f (x ∷ es) a = (f x.0 x.1 a.0, all_weaker P Q f es a.1)
+
+pub line_in_reach : {line out : List (ℕ × DutyRow)} → IsSchedule line out → AreInReach line
+line_in_reach {line} h = (
+  h.line_sorted,
+  all_weaker IsWaiting (λ key row. key + 1 < 2 ^ 128) (λ key row w. omega (arith, w.key_is, w.due_fits, w.number_fits)) line h.waiting,
+)
+
+pub out_in_reach : {line out : List (ℕ × DutyRow)} → IsSchedule line out → AreInReach out
+out_in_reach {line} {out} h = (
+  h.out_sorted,
+  all_weaker IsHeld (λ key row. key + 1 < 2 ^ 128) (λ key row w. omega (arith, w.key_is, w.number_fits)) out h.held,
+)
+
+pub out_row : {line out all : List (ℕ × DutyRow)} (row now : DutyRow) (number held : ℕ) → IsSchedule line out → by_number line out ≡ all → held ≡ number
+    → value_at held out ≡ Some row → now ≡ row → value_at number all ≡ Some now
+out_row {line} {out} {all} row now number held h is helds there same =
+    let kept : value_at held all ≡ Some row = subst (λ rs. value_at held rs ≡ Some row) is (kept_out held row line out h.apart there) in
+    subst (λ (o : DutyRow). value_at number all ≡ Some o) (sym same) (subst (λ n. value_at n all ≡ Some row) helds kept)
+
+pub named_in : {line out all : List (ℕ × DutyRow)} (row : DutyRow) (number : ℕ) → IsSchedule line out → by_number line out ≡ all
+    → value_at number all ≡ Some row → row.number ≡ number
+named_in {line} {out} {all} row number h is there =
+    rows_named number row line out h.held h.apart (subst (λ rs. value_at number rs ≡ Some row) (sym is) there)
+
+-- a row that is neither out nor unclaimed is none
+pub nowhere : {line out all : List (ℕ × DutyRow)} (number held : ℕ) → IsSchedule line out → by_number line out ≡ all → held ≡ number
+    → value_at held out ≡ None → NoneFreeIn number all → value_at number all ≡ None
+nowhere {line} {out} {all} number held h is helds none never =
+    (elim (value_at number all) as (λ o. value_at number all ≡ o → value_at number all ≡ None) [
+      | None ↦ λ e. e
+      | Some row ↦ λ e.
+          let there : value_at number (by_number line out) ≡ Some row = subst (λ rs. value_at number rs ≡ Some row) (sym is) e in
+          (elim row.claimed as (λ b. row.claimed ≡ b → value_at number all ≡ None) [
+            | true ↦ λ claimed.
+                let there_too : value_at held out ≡ Some row = subst (λ k. value_at k out ≡ Some row) (sym helds) (out_at number row h there claimed) in
+                absurd (cc)
+            | false ↦ λ free. absurd (never row e free)
+          ]) refl
+    ]) refl
+
+pub got_free : {line out all : List (ℕ × DutyRow)} {X : Type 0} (now : X → DutyRow) (o : Option X) (number held : ℕ) → IsSchedule line out
+    → by_number line out ≡ all → held ≡ number → value_at held out ≡ None
+    → MatchOption o (NoneFreeIn number all) (λ x. (value_at number all ≡ Some (now x)) × ((now x).claimed ≡ false))
+    → MatchOption o (value_at number all ≡ None) (λ x. value_at number all ≡ Some (now x)) × IfSome o (λ x. (now x).number ≡ number)
+got_free now None number held h is helds none m = (nowhere number held h is helds none m, tt)
+got_free now (Some x) number held h is helds none m = (m.0, named_in (now x) number h is m.0)
+
+-- what is true of some row
+abbrev pub HasRow : (DutyRow → Type 0) → List (ℕ × DutyRow) → Type 0
+HasRow P rows = (key : ℕ) × (row : DutyRow) × (value_at key rows ≡ Some row) × P row
+
+pub in_line_for : {line out all : List (ℕ × DutyRow)} (P : DutyRow → Type 0) → IsSchedule line out → by_number line out ≡ all → HasRow P line → HasRow P all
+in_line_for {line} {out} P h is (key, row, there, p) =
+    (row.number, row, subst (λ rs. value_at row.number rs ≡ Some row) is (kept_line key row line out h.apart there), p)
+
+pub in_out_for : {line out all : List (ℕ × DutyRow)} (P : DutyRow → Type 0) → IsSchedule line out → by_number line out ≡ all → HasRow P out → HasRow P all
+in_out_for {line} {out} P h is (key, row, there, p) = (key, row, subst (λ rs. value_at key rs ≡ Some row) is (kept_out key row line out h.apart there), p)
+
+pub either_for : {line out all : List (ℕ × DutyRow)} (P : DutyRow → Type 0) → IsSchedule line out → by_number line out ≡ all → HasRow P all
+    → HasRow P line ⊎ HasRow P out
+either_for {line} {out} P h is (n, row, there, p) =
+    elim (found_in n row line out h.line_sorted h.apart (subst (λ rs. value_at n rs ≡ Some row) (sym is) there)) [
+      | inl (key, l) ↦ inl (key, row, l, p)
+      | inr o ↦ inr (n, row, o, p)
+    ]

@@ -144,7 +144,7 @@ impl Duties {
         Some(Claim { number })
     }
 
-    /// Claims the duty of this number. Takes no memory, and logarithmic time.
+    /// Claims the duty of this number. Takes no memory. Visits the unclaimed duties that come before it.
     pub fn claim_at(&mut self, number: u64) -> Claim
         requires { spec.IsFree number self.old }
         ensures number { result.number ≡ number }
@@ -226,7 +226,8 @@ impl Duties {
         }
     }
 
-    /// The pending duty of this number; none if no pending duty has it. Takes logarithmic time.
+    /// The pending duty of this number; none if no pending duty has it. Takes logarithmic time if the duty is claimed; otherwise visits
+    /// the unclaimed duties that come before it.
     pub fn pending(&self, number: u64) -> Option<&DutyRow>
         ensures found { MatchOption result
             (spec.pending_row number self.now ≡ None)

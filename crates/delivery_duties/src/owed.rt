@@ -1,5 +1,5 @@
-//! Duties as they are stored: each with the memory for its message and for its place in the order.
-ghost use Rattle.std.specs.Prelude.{◌≡◌, ◌+◌, ◌^◌, ◌<◌, [], ◌∷◌, true, false, IfOk};
+//! Duties as they are stored: each with the memory for its message.
+ghost use Rattle.std.specs.Prelude.{◌≡◌, ◌+◌, ◌^◌, ◌<◌, [], ◌∷◌, true, IfOk};
 ghost use Rattle.delivery_duties.specs.Retry.{begun, retried};
 ghost use Rattle.delivery_duties.specs.Duties.{dead_letter_of};
 ghost use Rattle.delivery_duties.specs.declared.duty.DutyRow.{DutyRow};
@@ -9,32 +9,27 @@ use crate::failure::Failure;
 use crate::outcome::Outcome;
 use crate::stored::{DeadLetter, StoredMessage};
 use json_text::NoMemory;
-use key_tree::Node;
 use shared_text::SharedRow;
 use std::alloc::Global;
 use std::collections::LinkedList;
 use std::marker::Model;
 
-/// A duty with memory that is allocated with it, so that no step of a duty allocates: its message, and a node of the order in which
-/// duties are due. The node is here while the duty is claimed.
+/// A duty with the memory for its message, which is allocated with it, so that no step of a duty allocates.
 #[derive(Drop)]
 pub(crate) struct Owed {
     row: DutyRow,
     letter: LinkedList<StoredMessage>,
-    place: Option<Node<u64>>,
 }
 
 impl Model for Owed {
     ghost use Rattle.std.specs.Prelude.{◌≡◌, [], ◌∷◌, None};
     ghost use Rattle.delivery_duties.specs.declared.duty.DutyRow.{DutyRow};
-    ghost use Rattle.delivery_duties.specs.Order.{idle_node};
 
     ghost Value = { DutyRow };
 
     ghost view = { λ o. o.row };
 
-    ghost invariant = { λ o. (o.letter ≡ record { number = 0; body = o.row.duty.text; dead = None } ∷ [])
-        × (o.place ≡ idle_node o.row o.row.claimed) };
+    ghost invariant = { λ o. o.letter ≡ record { number = 0; body = o.row.duty.text; dead = None } ∷ [] };
 }
 
 impl Owed {
@@ -48,7 +43,6 @@ impl Owed {
             body: duty.text.share()?,
             dead: None,
         })?;
-        let place = Node::new(alloc, 0)?;
         Ok(Owed {
             row: DutyRow {
                 number: 0,
@@ -60,7 +54,6 @@ impl Owed {
                 claimed: true,
             },
             letter,
-            place: Some(place),
         })
     }
 
@@ -87,10 +80,6 @@ impl Owed {
         requires { self.old.claimed ≡ true }
         ensures { self.new ≡ record (begun number moment self.old.duty) { claimed = true } }
     {
-        match &mut self.place {
-            Some(place) => *place.value_mut() = number,
-            None => unreachable!(),
-        }
         self.row.number = number;
         self.row.accepted = moment;
         self.row.due = moment;
@@ -108,38 +97,18 @@ impl Owed {
         self.row.last = Some(outcome);
     }
 
-    /// Releases the claim. Returns the node for the order, whose value is the number.
-    pub(crate) fn free(&mut self) -> Node<u64>
-        requires { self.old.claimed ≡ true }
-        ensures node { result ≡ self.old.number }
-        ensures freed { self.new ≡ record self.old { claimed = false } }
+    /// Claims the duty, or releases the claim.
+    pub(crate) fn mark(&mut self, claimed: bool)
+        ensures { self.new ≡ record self.old { claimed = claimed } }
     {
-        self.row.claimed = false;
-        match self.place.take() {
-            Some(place) => place,
-            None => unreachable!(),
-        }
-    }
-
-    /// Claims the duty. The node comes from the order.
-    pub(crate) fn claim(&mut self, place: Node<u64>)
-        requires { place ≡ self.old.number }
-        ensures { self.new ≡ record self.old { claimed = true } }
-    {
-        self.row.claimed = true;
-        self.place = Some(place);
+        self.row.claimed = claimed;
     }
 
     /// The duty's message, not yet numbered.
     pub(crate) fn into_letter(self, failure: Option<Failure>) -> LinkedList<StoredMessage>
         ensures { result ≡ record { number = 0; body = self.duty.text; dead = dead_letter_of self.duty.target failure } ∷ [] }
     {
-        let Owed {
-            row,
-            mut letter,
-            place,
-        } = self;
-        drop(place);
+        let Owed { row, mut letter } = self;
         let DutyRow { duty, .. } = row;
         let NewDuty { target, .. } = duty;
         match letter.front_mut() {

@@ -1,9 +1,9 @@
-//! Pending duties by number, and the order in which the unclaimed ones are due.
-ghost use Rattle.std.specs.Prelude.{◌≡◌, ◌<◌, ◌≤◌, ◌^◌, ◌↔◌, ℕ, true, false, [], None, Some, IfSome, IfNone, IsTrue, MatchOption, List};
+//! Pending duties: the unclaimed ones in the order in which they are due, and the claimed ones by number.
+ghost use Rattle.std.specs.Prelude.{◌≡◌, ◌+◌, ◌<◌, ◌^◌, ◌↔◌, ℕ, true, false, [], None, Some, IfSome, IfNone, IsTrue, MatchOption};
 ghost use Rattle.delivery_duties.specs.declared.duty.DutyRow.{DutyRow};
-ghost use Rattle.key_tree.specs.Entries.{placed, value_at, without, AreSorted};
+ghost use Rattle.key_tree.specs.Entries.{placed, value_at, without};
 ghost use Rattle.delivery_duties.specs.Order as spec;
-ghost use Rattle.delivery_duties.specs.Duties.{replaced, IsForQueue};
+ghost use Rattle.delivery_duties.specs.Duties.{IsForQueue};
 
 use crate::duty::DutyRow;
 use crate::owed::Owed;
@@ -11,24 +11,23 @@ use event_shape::is_queue_arn;
 use key_tree::{KeyTree, Node};
 use std::marker::Model;
 
-/// The pending duties by number, and the numbers of the unclaimed ones by due moment and number. No call allocates, and each takes
-/// logarithmic time.
+/// The pending duties: the unclaimed ones by due moment and number, and the claimed ones by number. No call allocates.
 #[derive(Drop)]
 pub(crate) struct Schedule {
-    rows: KeyTree<Owed>,
-    line: KeyTree<u64>,
+    line: KeyTree<Owed>,
+    out: KeyTree<Owed>,
 }
 
 impl Model for Schedule {
     ghost use Rattle.std.specs.Prelude.{ℕ, List};
     ghost use Rattle.delivery_duties.specs.declared.duty.DutyRow.{DutyRow};
-    ghost use Rattle.delivery_duties.specs.Order.{IsLine};
+    ghost use Rattle.delivery_duties.specs.Order.{by_number, IsSchedule};
 
     ghost Value = { List (ℕ × DutyRow) };
 
-    ghost view = { λ s. s.rows };
+    ghost view = { λ s. by_number s.line s.out };
 
-    ghost invariant = { λ s. IsLine s.rows s.line };
+    ghost invariant = { λ s. IsSchedule s.line s.out };
 }
 
 impl Schedule {
@@ -36,33 +35,59 @@ impl Schedule {
         ensures { result ≡ [] }
     {
         Schedule {
-            rows: KeyTree::new(),
             line: KeyTree::new(),
+            out: KeyTree::new(),
         }
     }
 
-    /// The duty of this number.
+    /// The duty of this number. If it is not claimed, visits the unclaimed duties that come before it.
     pub(crate) fn get(&self, number: u64) -> Option<&DutyRow>
         ensures found { MatchOption result (value_at number self.now ≡ None) (λ row. value_at number self.now ≡ Some row.now) }
         ensures named { IfSome result (λ row. row.now.number ≡ number) }
     {
-        match self.rows.get(u128::from(number)) {
+        match self.out.get(u128::from(number)) {
             Some(owed) => Some(owed.row()),
-            None => None,
+            None => self.get_free(number),
         }
+    }
+
+    /// The unclaimed duty of this number.
+    fn get_free(&self, number: u64) -> Option<&DutyRow>
+        ensures { MatchOption result
+            (spec.NoneFreeIn number self.now)
+            (λ row. (value_at number self.now ≡ Some row.now) × (row.now.claimed ≡ false)) }
+    {
+        let due = self.due_of(number)?;
+        match self.line.get(due_key(due, number)) {
+            Some(owed) => Some(owed.row()),
+            None => unreachable!(),
+        }
+    }
+
+    /// When the unclaimed duty of this number is due. Visits the unclaimed duties that come before it.
+    fn due_of(&self, number: u64) -> Option<u64>
+        ensures { MatchOption result (spec.NoneFreeIn number self.now) (λ due. spec.IsFreeAt due number self.now) }
+    {
+        let mut from = 0;
+        while let Some((key, owed)) = self.line.first_from(from) {
+            if owed.number() == number {
+                return Some(owed.due());
+            }
+            from = key + 1;
+        }
+        None
     }
 
     /// Adds a claimed duty, and releases the claim.
     pub(crate) fn insert(&mut self, mut node: Node<Owed>)
         requires new_number { value_at node.number self.old ≡ None }
-        requires claimed { node.claimed ≡ true }
+        requires small { node.number + 1 < 2 ^ 64 }
         ensures { self.new ≡ placed (node.number, record node { claimed = false }) self.old }
     {
         let number = node.value().number();
         let due = node.value().due();
-        let place = node.value_mut().free();
-        self.line.insert(due_key(due, number), place);
-        self.rows.insert(u128::from(number), node);
+        node.value_mut().mark(false);
+        self.line.insert(due_key(due, number), node);
     }
 
     /// Claims the duty that is due first, if it is due at the moment. Returns its number.
@@ -70,31 +95,23 @@ impl Schedule {
         ensures some { IfSome result (λ number. spec.IsFirst self.old moment number × spec.ClaimsIn number self.old self.new) }
         ensures none { IfNone result (spec.NoneFirst self.old moment × (self.new ≡ self.old)) }
     {
-        let number = self.first_number()?;
-        if !self.is_due(number, moment) {
+        let (due, number) = self.first()?;
+        if moment < due {
             return None;
         }
-        self.claim(number);
+        self.claim_due(due, number);
         Some(number)
     }
 
-    /// The number of the unclaimed duty that is due first.
-    fn first_number(&self) -> Option<u64>
-        ensures { MatchOption result (spec.NoneFree self.now) (λ number. spec.IsEarliest self.now number) }
+    /// The due moment and the number of the unclaimed duty that is due first.
+    fn first(&self) -> Option<(u64, u64)>
+        ensures { MatchOption result
+            (spec.NoneFree self.now)
+            (λ found. (e : spec.IsEarliest self.now found.1) × (e.row.due ≡ found.0)) }
     {
         match self.line.first() {
-            Some((_, number)) => Some(*number),
+            Some((_, owed)) => Some((owed.due(), owed.number())),
             None => None,
-        }
-    }
-
-    /// Whether the duty of this number is pending and due at the moment.
-    fn is_due(&self, number: u64, moment: u64) -> bool
-        ensures { IsTrue result ↔ ((row : DutyRow) × (value_at number self.now ≡ Some row) × (row.due ≤ moment)) }
-    {
-        match self.rows.get(u128::from(number)) {
-            Some(owed) => owed.row().due <= moment,
-            None => false,
         }
     }
 
@@ -103,14 +120,21 @@ impl Schedule {
         requires { spec.IsFreeIn number self.old }
         ensures { spec.ClaimsIn number self.old self.new }
     {
-        match self.rows.remove(u128::from(number)) {
+        match self.due_of(number) {
+            Some(due) => self.claim_due(due, number),
+            None => unreachable!(),
+        }
+    }
+
+    /// Claims the duty of this due moment and number.
+    fn claim_due(&mut self, due: u64, number: u64)
+        requires { spec.IsFreeAt due number self.old }
+        ensures { spec.ClaimsIn number self.old self.new }
+    {
+        match self.line.remove(due_key(due, number)) {
             Some(mut node) => {
-                let due = node.value().due();
-                match self.line.remove(due_key(due, number)) {
-                    Some(place) => node.value_mut().claim(place),
-                    None => unreachable!(),
-                }
-                self.rows.insert(u128::from(number), node);
+                node.value_mut().mark(true);
+                self.out.insert(u128::from(number), node);
             }
             None => unreachable!(),
         }
@@ -122,9 +146,10 @@ impl Schedule {
         ensures row { value_at number self.old ≡ Some result }
         ensures claimed { result.claimed ≡ true }
         ensures named { result.number ≡ number }
+        ensures small { result.number + 1 < 2 ^ 64 }
         ensures left { self.new ≡ without number self.old }
     {
-        match self.rows.remove(u128::from(number)) {
+        match self.out.remove(u128::from(number)) {
             Some(node) => node,
             None => unreachable!(),
         }
@@ -134,14 +159,7 @@ impl Schedule {
     pub(crate) fn names(&self, queue: &str) -> bool
         ensures { IsTrue result ↔ ((n : ℕ) × (row : DutyRow) × (value_at n self.now ≡ Some row) × IsForQueue queue.now row) }
     {
-        let mut from = 0;
-        while let Some((key, owed)) = self.rows.first_from(from) {
-            if is_for_queue(owed.row(), queue) {
-                return true;
-            }
-            from = key + 1;
-        }
-        false
+        is_any_for_queue(&self.line, queue) || is_any_for_queue(&self.out, queue)
     }
 }
 
@@ -150,6 +168,21 @@ fn due_key(due: u64, number: u64) -> u128
     ensures { result ≡ spec.due_key due number }
 {
     u128::from(due) * (1 << 64) + u128::from(number)
+}
+
+/// Whether one of the duties is for this queue, or its dead letter would be.
+fn is_any_for_queue(rows: &KeyTree<Owed>, queue: &str) -> bool
+    requires { spec.AreInReach rows.now }
+    ensures { IsTrue result ↔ ((key : ℕ) × (row : DutyRow) × (value_at key rows.now ≡ Some row) × IsForQueue queue.now row) }
+{
+    let mut from = 0;
+    while let Some((key, owed)) = rows.first_from(from) {
+        if is_for_queue(owed.row(), queue) {
+            return true;
+        }
+        from = key + 1;
+    }
+    false
 }
 
 /// Whether the duty is for this queue, or its dead letter would be.

@@ -1,8 +1,7 @@
-use Rattle.std.proofs.Common.{refl}
-use Rattle.delivery_duties.proofs.OrderLemmas.{first_due}
+use Rattle.std.proofs.Common.{◌≤◌, sym, subst}
 use Rattle.delivery_duties.proofs.schedule.Schedule.claim_first.Goals as goal
 
 pub returns-clause-some : goal.returns-clause-some
 returns-clause-some c =
-    let earliest = c.in_ok-number.ensures in
-    ((earliest, first_due c.args.self.now c.in_ok-number.number c.args.moment earliest (c.if-not-is_due.ensures.0 refl)), c.claim.ensures)
+    let (first, due) = c.in_ok-due.ensures in
+    ((first, subst (λ d. d ≤ c.args.moment) (sym due) c.if-moment-due.false), c.claim_due.ensures)

@@ -1,36 +1,25 @@
-use Rattle.std.proofs.Common.{◌≡◌, Some, refl, sym, subst, arith}
-use Rattle.key_tree.specs.Entries.{value_at}
+use Rattle.std.proofs.Common.{refl, inl, inr}
 use Rattle.delivery_duties.specs.Duties.{IsForQueue}
-use Rattle.delivery_duties.proofs.FromLemmas.{from_some, from_none, from_shorter, none_up_to}
+use Rattle.delivery_duties.proofs.OrderLemmas.{either_for, in_line_for, in_out_for, line_in_reach, out_in_reach}
 use Rattle.delivery_duties.proofs.schedule.Schedule.names.Goals as goal
 
-pub returns-then-is_for_queue : goal.returns-then-is_for_queue
-returns-then-is_for_queue c =
-    let first = from_some c.loop-key.from c.in-Some.key c.in-Some.owed.now c.in-Some.ensures.0 c.self.inside.rows c.self.invariant.sorted c.in-Some.ensures.1 in
-    let there : value_at c.in-Some.key c.args.self.now ≡ Some c.in-Some.owed.now =
-    subst (λ rs. value_at c.in-Some.key rs ≡ Some c.in-Some.owed.now) c.self.view_is first.there in
-    (λ _. (c.in-Some.key, c.in-Some.owed.now, there, subst (IsForQueue c.args.queue.now) c.row.ensures (c.if-is_for_queue.ensures.0 refl)), λ _. refl)
+pub is_any_for_queue-requires : goal.is_any_for_queue-requires
+is_any_for_queue-requires c = line_in_reach c.self.invariant
 
-pub overflow_add-from : goal.overflow_add-from
-overflow_add-from c =
-    let first = from_some c.loop-key.from c.in-Some.key c.in-Some.owed.now c.in-Some.ensures.0 c.self.inside.rows c.self.invariant.sorted c.in-Some.ensures.1 in
-    let small = (c.self.invariant.named c.in-Some.key c.in-Some.owed.now first.there).1 in
-    omega (arith, small)
+pub is_any_for_queue-requires-else-is_any_for_queue : goal.is_any_for_queue-requires-else-is_any_for_queue
+is_any_for_queue-requires-else-is_any_for_queue c = out_in_reach c.self.invariant
 
-pub loop-key-smaller : goal.loop-key-smaller
-loop-key-smaller c =
-    from_shorter c.loop-key.from c.in-Some.key c.in-Some.owed.now c.in-Some.ensures.0 c.self.inside.rows c.self.invariant.sorted c.in-Some.ensures.1
+pub returns-then-is_any_for_queue : goal.returns-then-is_any_for_queue
+returns-then-is_any_for_queue c = (
+  λ _. in_line_for (IsForQueue c.args.queue.now) c.self.invariant c.self.view_is (c.if-is_any_for_queue.ensures.0 refl),
+  λ _. c.if-is_any_for_queue.true,
+)
 
-pub loop-key-preserved : goal.loop-key-preserved
-loop-key-preserved c =
-    let first = from_some c.loop-key.from c.in-Some.key c.in-Some.owed.now c.in-Some.ensures.0 c.self.inside.rows c.self.invariant.sorted c.in-Some.ensures.1 in
-    none_up_to (IsForQueue c.args.queue.now) first c.loop-key.invariant
-    (λ f. let test = c.if-is_for_queue.ensures.1 (subst (IsForQueue c.args.queue.now) (sym c.row.ensures) f) in absurd (cc))
-
-pub returns : goal.returns
-returns c = (
-  λ t. absurd (cc),
-  λ (n, row, there, f).
-      let there_too = subst (λ rs. value_at n rs ≡ Some row) (sym c.self.view_is) there in
-      absurd (c.loop-key.invariant n row (from_none c.loop-key.from n row c.self.inside.rows c.in_default.ensures there_too) there_too f),
+pub returns-else-is_any_for_queue : goal.returns-else-is_any_for_queue
+returns-else-is_any_for_queue c = (
+  λ t. in_out_for (IsForQueue c.args.queue.now) c.self.invariant c.self.view_is (c.is_any_for_queue-else-is_any_for_queue.ensures.0 t),
+  λ found. elim (either_for (IsForQueue c.args.queue.now) c.self.invariant c.self.view_is found) [
+    | inl l ↦ let test = c.if-is_any_for_queue.ensures.1 l in absurd (cc)
+    | inr o ↦ c.is_any_for_queue-else-is_any_for_queue.ensures.1 o
+  ],
 )

@@ -2,11 +2,11 @@ use Rattle.std.proofs.Common.{◌≡◌, ℕ, ◌<◌, Some, length}
 use Rattle.key_tree.specs.Entries.{value_at, from_key}
 use Rattle.delivery_duties.specs.declared.duty.DutyRow.{DutyRow}
 use Rattle.delivery_duties.specs.Duties.{IsForQueue}
-use Rattle.delivery_duties.proofs.schedule.Schedule.names.Given as goal
+use Rattle.delivery_duties.proofs.schedule.is_any_for_queue.Given as goal
 
 -- no duty before the place is for the queue
 abbrev pub invariant-loop-key : goal.invariant-loop-key
-invariant-loop-key l = (n : ℕ) (row : DutyRow) → n < l.from → value_at n l.self-inside.rows ≡ Some row → IsForQueue l.queue row → ⊥
+invariant-loop-key l = (n : ℕ) (row : DutyRow) → n < l.from → value_at n l.rows ≡ Some row → IsForQueue l.queue row → ⊥
 
 abbrev pub decreases-loop-key : goal.decreases-loop-key
-decreases-loop-key l = length (from_key l.from l.self-inside.rows)
+decreases-loop-key l = length (from_key l.from l.rows)
