@@ -3,3 +3,4 @@ mod BatchLemmas
 mod ClaimLemmas
 pub mod MatchingLemmas
 pub mod CrossingLemmas
+pub mod MovingLemmas

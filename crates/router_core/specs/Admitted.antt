@@ -4,7 +4,7 @@ use Rattle.std.specs.Prelude.{◌≡◌, ◌<◌, ◌≤◌, ◌+◌, ◌^◌, �
 use Rattle.json_text.specs.Moment.{IsMoment}
 use Rattle.event_shape.specs.Names.{IsBusName, IsQueueArn}
 use Rattle.event_shape.specs.Event.{Event, IsEventText}
-use Rattle.rule_table.specs.Control.{Control, queue_deleted}
+use Rattle.config_changes.specs.Control.{Control, queue_deleted}
 use Rattle.rule_table.specs.RuleSet.{IsAllowed}
 use Rattle.rule_table.specs.WellFormed.{IsWellFormed}
 use Rattle.delivery_duties.specs.declared.duty.DutyRow.{DutyRow}

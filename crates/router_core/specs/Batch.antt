@@ -2,7 +2,7 @@
 use Rattle.std.specs.Prelude.{ℕ, List}
 use Rattle.delivery_duties.specs.declared.duty.NewDuty.{NewDuty}
 use Rattle.delivery_duties.specs.declared.outcome.Outcome.{Outcome}
-use Rattle.rule_table.specs.Control.{Control}
+use Rattle.config_changes.specs.Control.{Control}
 
 -- an accepted event: its number, its bus, the configuration version `k` at which it was matched, the moment of its member `time`,
 -- its text, and its duties

@@ -8,7 +8,7 @@ use Rattle.event_shape.specs.declared.entry.EntryFault.{EntryFault}
 use Rattle.pattern_meaning.specs.Pattern.{Pattern}
 use Rattle.pattern_meaning.specs.Holds.{PatternHolds}
 use Rattle.pattern_read.specs.Text.{IsPatternText}
-use Rattle.rule_table.specs.declared.control.Target.{Target}
+use Rattle.config_changes.specs.declared.control.Target.{Target}
 use Rattle.rule_table.specs.RuleSet.{Rule, RuleSet, rules_of}
 use Rattle.rule_table.specs.Target.{row_of}
 use Rattle.delivery_duties.specs.declared.duty.NewDuty.{NewDuty}

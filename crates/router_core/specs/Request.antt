@@ -4,7 +4,7 @@ use Rattle.json_text.specs.Tree.{Tree}
 use Rattle.event_shape.specs.Names.{owner}
 use Rattle.event_shape.specs.Unnumbered.{Unnumbered}
 use Rattle.event_shape.specs.declared.entry.EntryFault.{EntryFault}
-use Rattle.rule_table.specs.declared.control.Target.{Target}
+use Rattle.config_changes.specs.declared.control.Target.{Target}
 
 -- What a request asks for. An entry of a PutEvents is an event without its number, or has a fault; `size` is the number of bytes of all
 -- entries together. `put_policy` has the policy's text as it would be stored. Of a `put_statement` the statement allows this account, or

@@ -1,8 +1,8 @@
 //! Requests.
+use config_changes::Target;
 use event_shape::{EntryFault, Unnumbered};
 use json_text::{Json, Text};
 use pattern_read::PatternText;
-use rule_table::Target;
 
 /// What a request asks for. Each bus is given by its name.
 #[derive(Drop)]

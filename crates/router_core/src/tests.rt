@@ -1,12 +1,13 @@
 use crate::{
-    Action, Request, Seen, SeenEntry, SeenResult, SeenTargets, SeenVerdict, Tables, duties_of,
-    see_plain, see_plain_event,
+    Action, Errand, Request, Seen, SeenEntry, SeenResult, SeenTargets, SeenVerdict, Tables,
+    duties_of, see_plain, see_plain_event,
 };
+use config_changes::{Control, Target};
 use event_shape::{
     Checked, DEFAULT_BUS, EntryFault, Event, EventEntry, OWNER, Unnumbered, check, queue_arn,
 };
 use json_text::Text;
-use rule_table::{Control, RuleSet, Target};
+use rule_table::RuleSet;
 use shared_text::{SharedRow, SharedText};
 use std::alloc::Global;
 use std::test::Fail;
@@ -271,8 +272,18 @@ fn cross_threads(set: &RuleSet, row: &SharedRow, text: &SharedText) {
     may_be_shared(text);
 }
 
+/// Accepts only types whose values may move between threads.
+fn may_move<T: Send>() {}
+
+/// Accepts the types whose values threads pass on, and do not share.
+fn move_between_threads() {
+    may_move::<Tables>();
+    may_move::<Errand>();
+}
+
 #[test]
 fn values_cross_threads(rt: HostRuntime) -> Result<(), Fail> {
+    move_between_threads();
     let set = rules(rt.alloc())?;
     let text = long(rt.alloc(), "")?;
     if let Some(target) = event_targets(rt.alloc())?.front() {
