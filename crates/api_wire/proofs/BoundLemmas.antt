@@ -29,7 +29,8 @@ use Rattle.api_members.specs.Entry.{is_entry, texts_of, entry_with, entries_of}
 use Rattle.api_members.specs.CheckedEntry.{IsChecked, AreChecked}
 use Rattle.api_members.specs.Target.{is_target}
 use Rattle.api_members.specs.Count.{count_given}
-use Rattle.api_members.specs.Value.{IsTextThat, IsTargetArn, IsGrantee, are_few, is_list_of, HasBus, GivesOr, IsValid}
+use Rattle.config_changes.specs.TargetForm.{IsTargetArn}
+use Rattle.api_members.specs.Value.{IsTextThat, IsGrantee, are_few, is_list_of, HasBus, GivesOr, IsValid}
 use Rattle.api_members.specs.Refusal.{ValidOr, IsSoundMember}
 use Rattle.api_members.proofs.CheckedLemmas.{checked_len}
 use Rattle.api_members.proofs.CountLemmas.{within_limits}

@@ -8,8 +8,8 @@ use Rattle.json_text.specs.Node.{Node, value_of}
 use Rattle.json_text.specs.Grammar.{IsText}
 use Rattle.event_shape.specs.Names.{default_bus, owner, is_account}
 use Rattle.bus_policy.specs.Text.{IsPolicyText}
-use Rattle.rule_table.specs.declared.control.RetryPolicy.{RetryPolicy}
-use Rattle.rule_table.specs.declared.control.Target.{Target}
+use Rattle.config_changes.specs.declared.control.RetryPolicy.{RetryPolicy}
+use Rattle.config_changes.specs.declared.control.Target.{Target}
 use Rattle.router_core.specs.Request.{Action, Request, create_event_bus, delete_event_bus, describe_event_bus, list_event_buses, put_rule, delete_rule}
 use Rattle.router_core.specs.Request.{put_rule_state, describe_rule, list_rules, put_targets, remove_targets, list_targets_by_rule}
 use Rattle.router_core.specs.Request.{list_rule_names_by_target, put_policy, put_statement, remove_policy, remove_statement, put_events}

@@ -1,7 +1,8 @@
 //! A rule set, shared repeatedly.
 use anyhow::{Context, Result};
+use config_changes::Control;
 use json_text::Text;
-use rule_table::{Control, RuleSet};
+use rule_table::RuleSet;
 use std::alloc::Global;
 use std::rt::Clock;
 use std::time::{Duration, Instant};

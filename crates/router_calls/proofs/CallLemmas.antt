@@ -3,7 +3,7 @@
 use Rattle.std.proofs.Common.{◌≡◌, ℕ, suc, ◌-◌, ◌≤◌, List, [], ◌∷◌, length, get_or, take, drop, sym, refl, ap, ◌∙◌, subst, arith}
 use Rattle.std.specs.Prelude.{Option, Result, Ok, Err, IfOk, OnOk}
 use Rattle.std.proofs.Math.Seq.{take-length}
-use Rattle.rule_table.specs.Control.{Control}
+use Rattle.config_changes.specs.Control.{Control}
 use Rattle.rule_table.specs.RuleSet.{RuleSet, IsSound}
 use Rattle.api_replies.specs.Reply.{Reply}
 use Rattle.api_replies.specs.declared.reply.Reply.{Reply as CodeReply}

@@ -5,8 +5,8 @@ use Rattle.std.specs.Prelude.{All, cond}
 use Rattle.std.specs.List.{Contains}
 use Rattle.std.proofs.lemmas.List.Elements.{All-cons, All-map, All-contains}
 use Rattle.json_text.specs.Tree.{Tree}
-use Rattle.rule_table.specs.declared.control.Target.{Target}
-use Rattle.rule_table.specs.Control.{Control, targets_put, targets_removed}
+use Rattle.config_changes.specs.declared.control.Target.{Target}
+use Rattle.config_changes.specs.Control.{Control, targets_put, targets_removed}
 use Rattle.rule_table.specs.RuleSet.{Bus, RuleSet, has_queue}
 use Rattle.delivery_duties.specs.declared.stored.StoredMessage.{StoredMessage}
 use Rattle.delivery_duties.specs.Queues.{messages_of, messages_through}
@@ -24,7 +24,8 @@ use Rattle.router_core.specs.Verdict.{IsPolicyOf}
 use Rattle.router_calls.specs.Accepted.{Given, events_in}
 use Rattle.router_calls.specs.Answer.{Answer, IsAnswer, IsAnswerAt, IsControlled, IsPublished, IsTargetsPut, AreTargetsRemoved, IsRuleDeleted, IsQueueDeleted}
 use Rattle.router_calls.specs.Answer.{IsOnBus, IsGranted, IsRevoked, IsStatementRemovedFrom, events_answer, entries_reply, targets_answer, removals_answer}
-use Rattle.router_calls.specs.Answer.{reply_alone, writes, deletion_answer, deletion_reply, messages_deletion}
+use Rattle.call_replies.specs.Replies.{deletion_reply}
+use Rattle.router_calls.specs.Answer.{reply_alone, writes, deletion_answer, messages_deletion}
 use Rattle.router_calls.specs.Changes.{MayMake}
 use Rattle.router_calls.specs.Removals.{removed_ids, failed_ids}
 use Rattle.router_calls.proofs.TargetLemmas.{split_within}

@@ -27,7 +27,8 @@ use Rattle.router_core.specs.declared.seen.SeenVerdict.{SeenVerdict}
 use Rattle.router_core.specs.declared.seen.SeenVerdict.TheVariants as verdict
 use Rattle.router_core.proofs.MatchingLemmas.{few_matched}
 use Rattle.router_calls.specs.Accepted.{Given, Placed, IsAcceptedAs, IsPlacedBy, IsPlaced, ArePlaced, number_after, events_in, failures_in}
-use Rattle.router_calls.specs.Answer.{Answer, IsPublished, entry_report, entries_reply, events_answer, items_reply}
+use Rattle.call_replies.specs.Replies.{items_reply}
+use Rattle.router_calls.specs.Answer.{Answer, IsPublished, entry_report, entries_reply, events_answer}
 use Rattle.router_calls.specs.Bounds.{IsBounded, IsForBus}
 use Rattle.router_calls.specs.Steps.{AddsEntries, AreReady, IsEventAdded, IsRefusalAdded, entries_answer, placed_answer}
 use Rattle.router_calls.specs.declared.put_events.PlacedEntries.{PlacedEntries}

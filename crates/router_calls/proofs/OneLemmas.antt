@@ -7,12 +7,12 @@ use Rattle.event_time.proofs.ClockLemmas.{time_once, iso_is_time}
 use Rattle.event_shape.specs.Names.{queue_arn}
 use Rattle.event_shape.specs.Event.{event_tree}
 use Rattle.event_shape.specs.Unnumbered.{Unnumbered, with_number}
-use Rattle.rule_table.specs.declared.control.Target.{Target}
-use Rattle.rule_table.specs.declared.control.TargetFault.{TargetFault}
-use Rattle.rule_table.specs.declared.control.TargetFault.TheVariants as target_fault
-use Rattle.rule_table.specs.declared.control.ControlFault.{ControlFault}
-use Rattle.rule_table.specs.declared.control.ControlFault.TheVariants as fault
-use Rattle.rule_table.specs.Control.{Control}
+use Rattle.config_changes.specs.declared.control.Target.{Target}
+use Rattle.config_changes.specs.declared.control.TargetFault.{TargetFault}
+use Rattle.config_changes.specs.declared.control.TargetFault.TheVariants as target_fault
+use Rattle.config_changes.specs.declared.control.ControlFault.{ControlFault}
+use Rattle.config_changes.specs.declared.control.ControlFault.TheVariants as fault
+use Rattle.config_changes.specs.Control.{Control}
 use Rattle.name_rows.specs.Rows.{named}
 use Rattle.bus_policy.specs.Verdict.{Asker, Verdict as PolicyVerdict, IsBusVerdict}
 use Rattle.bus_policy.specs.Parts.{statements_of}
@@ -37,11 +37,12 @@ use Rattle.router_core.specs.Request.{put_statement, remove_policy, remove_state
 use Rattle.router_core.specs.Request.{peek_messages, delete_messages, duty_counts, deliver_due}
 use Rattle.router_core.specs.Request.{Request}
 use Rattle.router_core.specs.Tables.{Tables, moment_at}
-use Rattle.router_calls.specs.Causes.{IsCause, IsTargetCause}
+use Rattle.call_replies.specs.Causes.{IsCause, IsTargetCause}
 use Rattle.router_calls.specs.Accepted.{Given, Placed, IsAcceptedAs, IsPlacedBy, IsPlaced, ArePlaced, number_after, events_in}
 use Rattle.router_calls.specs.Targets.{AreSplit}
 use Rattle.router_calls.specs.Answer.{Answer, IsAnswer, IsAnswerAt, IsControlled, IsPublished, IsTargetsPut, IsTested, targets_answer, events_answer}
-use Rattle.router_calls.specs.Answer.{entries_reply, reply_alone, tested_reply, IsQueueDeleted, IsRuleDeleted, AreTargetsRemoved, removals_answer, IsOnBus}
+use Rattle.call_replies.specs.Replies.{tested_reply}
+use Rattle.router_calls.specs.Answer.{entries_reply, reply_alone, IsQueueDeleted, IsRuleDeleted, AreTargetsRemoved, removals_answer, IsOnBus}
 use Rattle.router_calls.specs.Answer.{IsGranted, IsStatementPut, IsRevoked, IsStatementRemovedFrom, IsStatementRemoved}
 use Rattle.router_calls.specs.Removals.{removed_ids, failed_ids}
 

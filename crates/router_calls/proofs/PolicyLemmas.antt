@@ -7,7 +7,7 @@ use Rattle.name_rows.specs.Rows.{named}
 use Rattle.bus_policy.specs.Parts.{statements_of}
 use Rattle.bus_policy.specs.Change.{allow_for, first_policy, with_statement, some_has_sid, without_sid, without_statement}
 use Rattle.bus_policy.specs.Text.{IsPolicyText}
-use Rattle.rule_table.specs.Control.{policy_put}
+use Rattle.config_changes.specs.Control.{policy_put}
 use Rattle.rule_table.specs.RuleSet.{Bus, RuleSet}
 use Rattle.api_replies.specs.declared.reply.Reply.{Reply as CodeReply}
 use Rattle.router_core.specs.Tables.{Tables}
@@ -15,7 +15,8 @@ use Rattle.router_core.specs.Verdict.{IsPolicyOf}
 use Rattle.router_core.specs.declared.ready.Ready.{Ready}
 use Rattle.router_calls.specs.Decided.{answer_of}
 use Rattle.router_calls.specs.Permission.{unless_empty, revoking}
-use Rattle.router_calls.specs.Answer.{Answer, IsControlled, IsGranted, IsRevoked, IsStatementPut, IsStatementRemoved, empty_reply}
+use Rattle.call_replies.specs.Replies.{empty_reply}
+use Rattle.router_calls.specs.Answer.{Answer, IsControlled, IsGranted, IsRevoked, IsStatementPut, IsStatementRemoved}
 
 -- the same policy is put
 put_so : (t : Tables) (moment : ℕ) (bus : List ℕ) (a : Answer) (o p : Option (List ℕ)) → o ≡ p → IsControlled t moment (policy_put bus o) empty_reply a

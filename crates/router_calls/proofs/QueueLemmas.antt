@@ -3,7 +3,7 @@
 use Rattle.std.proofs.Common.{◌≡◌, ◌⊎◌, ℕ, ◌<◌, inl, inr, Bool, true, false, List, [], ◌∷◌, length, Option, refl, subst, arith}
 use Rattle.std.specs.Prelude.{cond, Result, Ok, Err, IfOk}
 use Rattle.std.specs.Str.{bytes_eq}
-use Rattle.rule_table.specs.Control.{queue_deleted}
+use Rattle.config_changes.specs.Control.{queue_deleted}
 use Rattle.rule_table.specs.RuleSet.{has_queue}
 use Rattle.delivery_duties.specs.declared.stored.StoredMessage.{StoredMessage}
 use Rattle.delivery_duties.specs.Queues as queues
@@ -13,7 +13,8 @@ use Rattle.api_replies.specs.Reply.{Reply}
 use Rattle.api_replies.specs.declared.reply.Reply.{Reply as CodeReply}
 use Rattle.router_core.specs.Tables.{Tables}
 use Rattle.router_core.specs.declared.ready.Ready.{Ready}
-use Rattle.router_calls.specs.Answer.{IsControlled, IsQueueDeleted, empty_reply}
+use Rattle.call_replies.specs.Replies.{empty_reply}
+use Rattle.router_calls.specs.Answer.{IsControlled, IsQueueDeleted}
 use Rattle.router_calls.specs.Decided.{answer_of}
 
 -- the queue exists, and a pending duty or a message names it

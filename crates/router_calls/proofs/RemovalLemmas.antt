@@ -10,11 +10,12 @@ use Rattle.std.proofs.lemmas.List.{length-map}
 use Rattle.json_text.specs.View.{tree_of, trees_of}
 use Rattle.json_text.specs.declared.value.Json.{Json}
 use Rattle.name_rows.specs.Rows.{named}
-use Rattle.rule_table.specs.declared.control.Target.{Target}
-use Rattle.rule_table.specs.Control.{targets_removed}
+use Rattle.config_changes.specs.declared.control.Target.{Target}
+use Rattle.config_changes.specs.Control.{targets_removed}
 use Rattle.event_shape.specs.Names.{IsShortName}
 use Rattle.rule_table.specs.RuleSet.{Rule, RuleSet, rule_at, AreRemovable, ForRule, IsAllowed}
-use Rattle.rule_table.specs.WellFormed.{IsWellFormed, NamesRule}
+use Rattle.rule_table.specs.WellFormed.{IsWellFormed}
+use Rattle.config_changes.specs.WellFormed.{NamesRule}
 use Rattle.rule_table.proofs.RefusalLemmas.{refused_not_allowed}
 use Rattle.api_replies.specs.declared.cause.Cause.{Cause}
 use Rattle.api_replies.specs.Reply.{Reply}
@@ -25,7 +26,8 @@ use Rattle.router_core.specs.declared.ready.Ready.{Ready}
 use Rattle.router_calls.specs.Decided.{answer_of}
 use Rattle.router_calls.proofs.TargetLemmas.{within_more, within_both}
 use Rattle.router_calls.specs.Removals.{has_target, without_target, removed_ids, failed_ids}
-use Rattle.router_calls.specs.Answer.{Answer, IsControlled, AreTargetsRemoved, target_report, targets_reply, removals_answer, items_reply, reply_alone, writes}
+use Rattle.call_replies.specs.Replies.{target_report, targets_reply, items_reply}
+use Rattle.router_calls.specs.Answer.{Answer, IsControlled, AreTargetsRemoved, removals_answer, reply_alone, writes}
 
 any_step : (b : Bool) (rest : Bool) (target : Target) (o : Option Target) → rest ≡ is_some o → (b || rest) ≡ is_some (cond b (Some target) o)
 any_step true rest target o is = refl

@@ -7,11 +7,12 @@ use Rattle.std.specs.List.{Contains}
 use Rattle.std.proofs.lemmas.List.Elements.{All-cons, All-weaker}
 use Rattle.std.proofs.lemmas.List.{length-map}
 use Rattle.json_text.specs.View.{tree_of, trees_of}
-use Rattle.rule_table.specs.declared.control.Target.{Target}
-use Rattle.rule_table.specs.Control.{targets_put}
+use Rattle.config_changes.specs.declared.control.Target.{Target}
+use Rattle.config_changes.specs.Control.{targets_put}
 use Rattle.rule_table.specs.RuleSet.{Rule, RuleSet, put_target, rule_at, AreGoodTargets, ForRule, IsAllowed}
-use Rattle.rule_table.specs.TargetForm.{IsWellFormedTarget}
-use Rattle.rule_table.specs.WellFormed.{IsWellFormed, NamesRule}
+use Rattle.config_changes.specs.TargetForm.{IsWellFormedTarget}
+use Rattle.rule_table.specs.WellFormed.{IsWellFormed}
+use Rattle.config_changes.specs.WellFormed.{NamesRule}
 use Rattle.rule_table.proofs.RefusalLemmas.{good_form, refused_not_allowed}
 use Rattle.api_replies.specs.declared.cause.Cause.{Cause}
 use Rattle.api_replies.specs.Reply.{Reply}
@@ -21,7 +22,8 @@ use Rattle.router_calls.specs.Decided.{answer_of}
 use Rattle.router_core.specs.Batch as batch
 use Rattle.router_core.specs.Tables.{Tables}
 use Rattle.router_calls.specs.Targets.{AreSplit}
-use Rattle.router_calls.specs.Answer.{Answer, IsControlled, IsTargetsPut, target_report, targets_answer, targets_reply, items_reply, reply_alone, writes}
+use Rattle.call_replies.specs.Replies.{target_report, targets_reply, items_reply}
+use Rattle.router_calls.specs.Answer.{Answer, IsControlled, IsTargetsPut, targets_answer, reply_alone, writes}
 use Rattle.router_calls.specs.Steps.{AddsTargets, AreAllSplit, IsOneSplit}
 use Rattle.router_calls.specs.declared.put_targets.SplitTargets.{SplitTargets}
 

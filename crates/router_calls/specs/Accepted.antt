@@ -14,7 +14,7 @@ use Rattle.router_core.specs.Matching.{AreDuties}
 use Rattle.router_core.specs.Verdict.{IsEntryVerdict}
 use Rattle.router_core.specs.declared.seen.SeenVerdict.{SeenVerdict}
 use Rattle.router_core.specs.declared.seen.SeenVerdict.TheVariants as verdict
-use Rattle.router_calls.specs.Causes.{entry_cause}
+use Rattle.call_replies.specs.Causes.{entry_cause}
 
 -- an entry of a PutEvents: an event without its number, or a fault
 abbrev pub Given : Type 0

@@ -1,24 +1,21 @@
 -- The router machine: what a request writes and what its reply is, by cases on the request.
 use Rattle.std.specs.Prelude.{◌≡◌, ℕ, ◌+◌, ◌<◌, ◌≤◌, ◌⊎◌, is_some, not, ◌&&◌, Bool, true, false, if◌then◌else◌, List, [], ◌∷◌, length, map}
-use Rattle.std.specs.Prelude.{take, Option, Some, None, Ok, Err, codes, decimal}
+use Rattle.std.specs.Prelude.{Option, Some, None, Ok, Err, codes}
 use Rattle.json_text.specs.Compact.{compact_text}
 use Rattle.api_replies.specs.declared.member.Member.TheVariants as member
-use Rattle.json_text.specs.Tree.{Tree, truth, number, text, list, object, items_of, members_of}
+use Rattle.json_text.specs.Tree.{Tree, text, object, members_of}
 use Rattle.event_shape.specs.Names.{queue_arn, bus_arn, rule_arn}
 use Rattle.event_shape.specs.Id.{event_id}
-use Rattle.rule_table.specs.declared.control.Target.{Target}
-use Rattle.rule_table.specs.declared.control.ControlFault.{ControlFault}
-use Rattle.rule_table.specs.Control.{Control, bus_created, bus_deleted, rule_put, rule_deleted, state_put, targets_put}
-use Rattle.rule_table.specs.Control.{targets_removed, policy_put, queue_created, queue_deleted}
+use Rattle.config_changes.specs.declared.control.Target.{Target}
+use Rattle.config_changes.specs.declared.control.ControlFault.{ControlFault}
+use Rattle.config_changes.specs.Control.{Control, bus_created, bus_deleted, rule_put, rule_deleted, state_put, targets_put}
+use Rattle.config_changes.specs.Control.{targets_removed, policy_put, queue_created, queue_deleted}
 use Rattle.name_rows.specs.Rows.{named}
 use Rattle.rule_table.specs.RuleSet.{Rule, Bus, RuleSet, IsAllowed, has_bus, has_queue, rule_at}
 use Rattle.rule_table.specs.Refusal.{IsRefused}
-use Rattle.delivery_duties.specs.declared.message.QueueMessage.{QueueMessage}
-use Rattle.delivery_duties.specs.declared.message.DeadLetterAttributes.{DeadLetterAttributes}
 use Rattle.delivery_duties.specs.declared.stored.StoredMessage.{StoredMessage}
-use Rattle.delivery_duties.specs.DeadLetter.{shown}
 use Rattle.delivery_duties.specs.Queues.{messages_of, messages_through}
-use Rattle.delivery_duties.specs.Duties.{Duties, IsNamed, delivered_of, dead_lettered_of, dropped_of}
+use Rattle.delivery_duties.specs.Duties.{IsNamed}
 use Rattle.api_replies.specs.declared.kind.Kind.TheVariants as kind
 use Rattle.api_replies.specs.declared.cause.Cause.{Cause}
 use Rattle.api_replies.specs.declared.cause.Cause.TheVariants as cause
@@ -35,7 +32,8 @@ use Rattle.router_core.specs.Verdict.{IsPolicyOf}
 use Rattle.config_views.specs.Views.{described_bus, listed_buses, described_rule, listed_rules, listed_targets, listed_rule_names}
 use Rattle.router_core.specs.Request.{IsEntitled, IsPublishing}
 use Rattle.router_calls.specs.Bounds.{IsBounded}
-use Rattle.router_calls.specs.Causes.{IsCause}
+use Rattle.call_replies.specs.Causes.{IsCause}
+use Rattle.call_replies.specs.Replies.{empty_reply, items_reply, targets_reply, peeked, deletion_reply, duties_reply, tested_reply}
 use Rattle.router_calls.specs.Accepted.{Given, Placed, ArePlaced, events_in, failures_in}
 use Rattle.router_calls.specs.Targets.{AreSplit}
 use Rattle.router_calls.specs.Removals.{removed_ids, failed_ids}
@@ -61,18 +59,6 @@ abbrev pub IsControlled : Tables → ℕ → Control → Reply → Answer → Ty
 IsControlled t moment control reply a =
     (IsAllowed control t.set × (a ≡ writes t moment (batch.control control ∷ []) reply))
     ⊎ ((fault : ControlFault) × (c : Cause) × IsRefused control t.set fault × IsCause control fault c × (a ≡ reply_alone (refused c)))
-
--- a reply with the number of items that failed, and a list
-abbrev pub items_reply : ℕ → List ℕ → List Tree → Reply
-items_reply failed key items = served ((codes "FailedEntryCount", number (decimal failed)) ∷ (key, list (items_of items)) ∷ [])
-
--- the item of a target that failed: its id, and why
-abbrev pub target_report : List ℕ × Cause → Tree
-target_report failed = object (members_of ((codes "TargetId", text failed.0) ∷ failed_members failed.1))
-
--- the reply to a PutTargets
-abbrev pub targets_reply : List (List ℕ × Cause) → Reply
-targets_reply failed = items_reply (length failed) (codes "FailedEntries") (map target_report failed)
 
 -- the answer to a PutTargets on a rule: the accepted targets are one entry; without one nothing is written
 abbrev pub targets_answer : Tables → ℕ → List ℕ → List ℕ → List Target → List (List ℕ × Cause) → Answer
@@ -110,47 +96,9 @@ IsPublished t set caller moment entries size a =
     ⊎ ((size ≤ 262144) × ((all : List Placed) × ArePlaced set caller (t.events + 1) entries all
     × (a ≡ events_answer t moment (events_in all) (entries_reply all))))
 
--- the attributes of a dead letter; a delivered text has none
-abbrev pub attribute_members : Option DeadLetterAttributes → List (List ℕ × Tree)
-attribute_members None = []
-attribute_members (Some a) =
-    (codes "RULE_ARN", text a.rule_arn)
-    ∷ (codes "TARGET_ARN", text a.target_arn)
-    ∷ (codes "ERROR_CODE", text a.error_code)
-    ∷ (codes "ERROR_MESSAGE", text a.error_message)
-    ∷ (codes "EXHAUSTED_RETRY_CONDITION", text a.exhausted_retry_condition)
-    ∷ (codes "RETRY_ATTEMPTS", text a.retry_attempts)
-    ∷ []
-
--- the member of the reply for one message: its number, its body, and its attributes
-abbrev pub message_report : QueueMessage → Tree
-message_report m = object (members_of (
-    (codes "Number", number (decimal m.number))
-    ∷ (codes "Body", text m.body)
-    ∷ (codes "Attributes", object (members_of (attribute_members m.attributes)))
-    ∷ []))
-
--- the reply to a PeekMessages that shows these messages
-abbrev pub messages_reply : List QueueMessage → Reply
-messages_reply messages = served ((codes "Messages", list (items_of (map message_report messages))) ∷ [])
-
--- PeekMessages: the oldest messages of the queue, at most `limit`
-abbrev pub peeked : Tables → List ℕ → ℕ → Answer
-peeked t queue limit =
-    reply_alone (if has_queue queue t.set then messages_reply (map shown (take limit (messages_of queue t.duties.queues)))
-    else refused (cause.NotFound kind.Queue queue))
-
--- the reply to a TestEventPattern
-abbrev pub tested_reply : Bool → Reply
-tested_reply matches = served ((codes "Result", truth matches) ∷ [])
-
 -- TestEventPattern: whether the pattern with this text matches the event
 abbrev pub IsTested : List ℕ → Tree → Answer → Type 0
 IsTested pattern event a = (matches : Bool) × IsTestedAs pattern event matches × (a ≡ reply_alone (tested_reply matches))
-
--- the reply that has no member
-abbrev pub empty_reply : Reply
-empty_reply = served []
 
 -- DeleteQueue: a queue that a pending duty or a message names is in use; else the queue is deleted, or the change is refused. One that does not
 -- exist is refused as such, whatever names it.
@@ -158,10 +106,6 @@ abbrev pub IsQueueDeleted : Tables → ℕ → List ℕ → Answer → Type 0
 IsQueueDeleted t moment name a =
     ((has_queue name t.set ≡ true) × IsNamed name t.duties × (a ≡ reply_alone (refused (cause.InUse kind.Queue name))))
     ⊎ (((has_queue name t.set ≡ false) ⊎ ¬ (IsNamed name t.duties)) × IsControlled t moment (queue_deleted name) empty_reply a)
-
--- the reply to a DeleteMessages: how many messages it deletes
-abbrev pub deletion_reply : ℕ → Reply
-deletion_reply count = served ((codes "Deleted", number (decimal count)) ∷ [])
 
 -- the answer to a DeleteMessages that is to delete these messages, which have the numbers up to `through`; without one nothing is written
 abbrev pub deletion_answer : Tables → ℕ → List ℕ → ℕ → List StoredMessage → Answer
@@ -174,16 +118,6 @@ abbrev pub messages_deletion : Tables → ℕ → List ℕ → ℕ → Answer
 messages_deletion t moment queue through =
     if has_queue queue t.set then deletion_answer t moment queue through (messages_through through (messages_of queue t.duties.queues))
     else reply_alone (refused (cause.NotFound kind.Queue queue))
-
--- the reply to a DutyCounts: the number of duties made so far, and the number in each state
-abbrev pub duties_reply : Duties → Reply
-duties_reply duties = served (
-    (codes "Created", number (decimal duties.created))
-    ∷ (codes "Pending", number (decimal (length duties.pending)))
-    ∷ (codes "Delivered", number (decimal (delivered_of duties.ended)))
-    ∷ (codes "DeadLettered", number (decimal (dead_lettered_of duties.ended)))
-    ∷ (codes "Dropped", number (decimal (dropped_of duties.ended)))
-    ∷ [])
 
 -- the bus exists, and the rule does not
 abbrev pub lacks_rule : List ℕ → List ℕ → RuleSet → Bool
@@ -273,7 +207,7 @@ IsAnswerAt t set caller moment (test_event_pattern pattern event) a = IsTested p
 IsAnswerAt t set caller moment (create_queue name) a =
     IsControlled t moment (queue_created name) (served ((codes "QueueArn", text (queue_arn name)) ∷ [])) a
 IsAnswerAt t set caller moment (delete_queue name) a = IsQueueDeleted t moment name a
-IsAnswerAt t set caller moment (peek_messages queue limit) a = a ≡ peeked t queue limit
+IsAnswerAt t set caller moment (peek_messages queue limit) a = a ≡ reply_alone (peeked queue limit t.set t.duties)
 IsAnswerAt t set caller moment (delete_messages queue through) a = a ≡ messages_deletion t moment queue through
 IsAnswerAt t set caller moment duty_counts a = a ≡ reply_alone (duties_reply t.duties)
 IsAnswerAt t set caller moment (deliver_due budget) a = ⊥

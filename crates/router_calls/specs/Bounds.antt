@@ -8,10 +8,11 @@ use Rattle.event_shape.specs.declared.entry.EntryFault.{EntryFault}
 use Rattle.bus_policy.specs.Stored.{IsStored}
 use Rattle.bus_policy.specs.Change.{IsAccountGiven}
 use Rattle.bus_policy.specs.StatementId.{IsStatementId}
-use Rattle.rule_table.specs.Control.{bus_created, bus_deleted, rule_put, rule_deleted, state_put, targets_removed, policy_put, queue_created}
-use Rattle.rule_table.specs.Control.{queue_deleted}
-use Rattle.rule_table.specs.TargetForm.{IsTargetArn}
-use Rattle.rule_table.specs.WellFormed.{IsWellFormed, NamesRule, IsSomePattern}
+use Rattle.config_changes.specs.Control.{bus_created, bus_deleted, rule_put, rule_deleted, state_put, targets_removed, policy_put, queue_created}
+use Rattle.config_changes.specs.Control.{queue_deleted}
+use Rattle.config_changes.specs.TargetForm.{IsTargetArn}
+use Rattle.rule_table.specs.WellFormed.{IsWellFormed, IsSomePattern}
+use Rattle.config_changes.specs.WellFormed.{NamesRule}
 use Rattle.router_core.specs.Request.{Action, create_event_bus, delete_event_bus, describe_event_bus, list_event_buses, put_rule, delete_rule}
 use Rattle.router_core.specs.Request.{put_rule_state, describe_rule, list_rules, put_targets, remove_targets, list_targets_by_rule}
 use Rattle.router_core.specs.Request.{list_rule_names_by_target, put_policy, put_statement, remove_policy, remove_statement, put_events}

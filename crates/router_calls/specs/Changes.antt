@@ -1,9 +1,9 @@
 -- Which change of the configuration an action may make.
 use Rattle.std.specs.Prelude.{◌≡◌, ℕ, List, Option, Some, None, All}
 use Rattle.std.specs.List.{Contains}
-use Rattle.rule_table.specs.declared.control.Target.{Target}
-use Rattle.rule_table.specs.Control.{Control, bus_created, bus_deleted, rule_put, rule_deleted, state_put, targets_put}
-use Rattle.rule_table.specs.Control.{targets_removed, policy_put, queue_created, queue_deleted}
+use Rattle.config_changes.specs.declared.control.Target.{Target}
+use Rattle.config_changes.specs.Control.{Control, bus_created, bus_deleted, rule_put, rule_deleted, state_put, targets_put}
+use Rattle.config_changes.specs.Control.{targets_removed, policy_put, queue_created, queue_deleted}
 use Rattle.router_core.specs.Request.{Action, create_event_bus, delete_event_bus, put_rule, delete_rule, put_rule_state, put_targets, remove_targets}
 use Rattle.router_core.specs.Request.{put_policy, put_statement, remove_policy, remove_statement, create_queue, delete_queue}
 

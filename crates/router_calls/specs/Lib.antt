@@ -1,4 +1,3 @@
-pub mod Causes
 pub mod Accepted
 pub mod Targets
 pub mod Removals

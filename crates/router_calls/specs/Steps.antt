@@ -3,10 +3,10 @@ use Rattle.std.specs.Prelude.{◌≡◌, ◌⊎◌, ℕ, ◌+◌, ◌≤◌, Lis
 use Rattle.json_text.specs.Moment.{IsMoment}
 use Rattle.json_text.specs.View.{trees_of}
 use Rattle.event_shape.specs.Names.{owner}
-use Rattle.rule_table.specs.declared.control.Target.{Target}
+use Rattle.config_changes.specs.declared.control.Target.{Target}
 use Rattle.rule_table.specs.RuleSet.{RuleSet, put_target, IsGoodTarget, IsSound}
 use Rattle.rule_table.specs.Refusal.{HasTargetFault}
-use Rattle.rule_table.specs.declared.control.TargetFault.{TargetFault}
+use Rattle.config_changes.specs.declared.control.TargetFault.{TargetFault}
 use Rattle.api_replies.specs.declared.cause.Cause.{Cause}
 use Rattle.api_replies.specs.Reply.{Reply}
 use Rattle.router_core.specs.Batch as batch
@@ -22,9 +22,10 @@ use Rattle.router_core.specs.declared.ready.Part.{Part}
 use Rattle.router_core.specs.declared.seen.Seen.{Seen}
 use Rattle.router_core.specs.declared.seen.SeenEntry.{SeenEntry}
 use Rattle.router_calls.specs.Accepted.{Given, Placed, ArePlaced, events_in, failures_in}
-use Rattle.router_calls.specs.Causes.{IsTargetCause}
+use Rattle.call_replies.specs.Causes.{IsTargetCause}
 use Rattle.router_calls.specs.Targets.{AreSplit}
-use Rattle.router_calls.specs.Answer.{Answer, IsAnswerAt, IsPublished, IsTested, entry_report, target_report, items_reply, reply_alone, writes}
+use Rattle.call_replies.specs.Replies.{target_report, items_reply}
+use Rattle.router_calls.specs.Answer.{Answer, IsAnswerAt, IsPublished, IsTested, entry_report, reply_alone, writes}
 use Rattle.router_calls.specs.declared.put_events.PlacedEntries.{PlacedEntries}
 use Rattle.router_calls.specs.declared.put_targets.SplitTargets.{SplitTargets}
 

@@ -1,11 +1,11 @@
 -- What becomes of the targets of a PutTargets.
 use Rattle.std.specs.Prelude.{◌≡◌, ◌⊎◌, ℕ, List, [], ◌∷◌}
-use Rattle.rule_table.specs.declared.control.Target.{Target}
-use Rattle.rule_table.specs.declared.control.TargetFault.{TargetFault}
+use Rattle.config_changes.specs.declared.control.Target.{Target}
+use Rattle.config_changes.specs.declared.control.TargetFault.{TargetFault}
 use Rattle.rule_table.specs.RuleSet.{RuleSet, put_target, IsGoodTarget}
 use Rattle.rule_table.specs.Refusal.{HasTargetFault}
 use Rattle.api_replies.specs.declared.cause.Cause.{Cause}
-use Rattle.router_calls.specs.Causes.{IsTargetCause}
+use Rattle.call_replies.specs.Causes.{IsTargetCause}
 
 -- The targets that are accepted, and the id and the refusal of each other one, both in their order. Each target is put to the rule's targets
 -- with the accepted ones before it, so one that replaces another is no sixth.

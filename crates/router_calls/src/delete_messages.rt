@@ -11,7 +11,8 @@ ghost use Rattle.router_core.specs.Ready.{IsReadyFor};
 ghost use Rattle.router_calls.specs.Answer.{messages_deletion, writes};
 ghost use Rattle.router_calls.specs.Decided.{answer_of};
 
-use crate::reply::{number_reply, refused};
+use crate::reply::refused;
+use call_replies::number_reply;
 use json_text::{NoMemory, Text};
 use router_core::{Batch, Cause, Entry, Kind, Part, Ready, Reply, Tables};
 use std::alloc::Global;

@@ -9,10 +9,11 @@ ghost use Rattle.router_calls.specs.Answer.{IsQueueDeleted};
 ghost use Rattle.router_calls.specs.Decided.{answer_of};
 
 use crate::configure::configure;
-use crate::reply::{empty_reply, refused};
+use crate::reply::refused;
+use call_replies::empty_reply;
+use config_changes::Control;
 use json_text::{NoMemory, Text};
 use router_core::{Cause, Kind, Ready, Reply, Tables};
-use rule_table::Control;
 use std::alloc::Global;
 
 /// Deletes the queue. A queue that a target, a dead-letter setting, a pending delivery or a message names is in use.

@@ -1,7 +1,6 @@
 //! The router machine: decides what each request changes and what its reply is.
 #![tactic(auto)]
 
-mod causes;
 mod configure;
 mod create_event_bus;
 mod create_queue;
@@ -9,9 +8,7 @@ mod delete_event_bus;
 mod delete_messages;
 mod delete_queue;
 mod delete_rule;
-mod duty_counts;
 mod laws;
-mod peek_messages;
 mod policy_change;
 mod put_events;
 mod put_permission;

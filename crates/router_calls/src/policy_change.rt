@@ -2,19 +2,21 @@
 ghost use Rattle.std.specs.Prelude.{◌≡◌, ◌≤◌, None, IfOk, IfSome};
 ghost use Rattle.json_text.specs.Moment.{IsMoment};
 ghost use Rattle.event_shape.specs.Names.{IsBusName};
-ghost use Rattle.rule_table.specs.Control.{policy_put};
+ghost use Rattle.config_changes.specs.Control.{policy_put};
 ghost use Rattle.api_replies.specs.declared.kind.Kind.TheVariants as kind_is;
 ghost use Rattle.api_replies.specs.declared.cause.Cause.TheVariants as cause_is;
 ghost use Rattle.api_replies.specs.Reply as replies;
 ghost use Rattle.router_core.specs.Ready.{IsReadyFor};
-ghost use Rattle.router_calls.specs.Answer.{IsControlled, empty_reply, reply_alone};
+ghost use Rattle.call_replies.specs.Replies.{empty_reply};
+ghost use Rattle.router_calls.specs.Answer.{IsControlled, reply_alone};
 ghost use Rattle.router_calls.specs.Decided.{answer_of};
 
 use crate::configure::configure;
-use crate::reply::{empty_reply, refused};
+use crate::reply::refused;
+use call_replies::empty_reply;
+use config_changes::Control;
 use json_text::{NoMemory, Text};
 use router_core::{Cause, Kind, Ready, Reply, Tables};
-use rule_table::Control;
 use std::alloc::Global;
 
 /// Gives the bus this policy, or takes its policy away.

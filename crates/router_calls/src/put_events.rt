@@ -13,9 +13,9 @@ ghost use Rattle.router_calls.specs.Answer.{IsPublished, entry_report};
 ghost use Rattle.router_calls.specs.Decided.{answer_of};
 ghost use Rattle.router_calls.specs.Steps.{placed_of, placed_answer, AddsEntries, AreReady, AreSeenOn, IsEventAdded, IsRefusalAdded, IsSeenOn};
 
-use crate::causes::entry_cause;
-use crate::reply::{items_reply, refused};
+use crate::reply::refused;
 use crate::requests::read_tables;
+use call_replies::{entry_cause, items_reply};
 use event_shape::{EntryFault, Unnumbered, event_id};
 use json_text::{Items, Json, Members, NoMemory, Text, push_member};
 use router_core::{

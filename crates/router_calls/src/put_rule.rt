@@ -3,20 +3,20 @@ ghost use Rattle.std.specs.Prelude.{◌≡◌, ◌≤◌, ◌∷◌, [], IfOk, I
 ghost use Rattle.json_text.specs.Moment.{IsMoment};
 ghost use Rattle.json_text.specs.Tree.{text};
 ghost use Rattle.event_shape.specs.Names.{rule_arn};
-ghost use Rattle.rule_table.specs.Control.{rule_put};
+ghost use Rattle.config_changes.specs.Control.{rule_put};
 ghost use Rattle.api_replies.specs.Reply as replies;
-ghost use Rattle.rule_table.specs.View.{control_of};
-ghost use Rattle.rule_table.specs.WellFormed.{NamesRule};
+ghost use Rattle.config_changes.specs.View.{control_of};
+ghost use Rattle.config_changes.specs.WellFormed.{NamesRule};
 ghost use Rattle.router_core.specs.Ready.{IsReadyFor};
 ghost use Rattle.router_calls.specs.Answer.{IsControlled};
 ghost use Rattle.router_calls.specs.Decided.{answer_of};
 
 use crate::configure::configure;
-use crate::reply::text_reply;
+use call_replies::text_reply;
+use config_changes::Control;
 use event_shape::rule_arn;
 use json_text::{NoMemory, Text};
 use router_core::{Ready, Reply, Tables};
-use rule_table::Control;
 use std::alloc::Global;
 
 pub(crate) fn put_rule(

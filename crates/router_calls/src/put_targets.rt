@@ -1,20 +1,20 @@
 //! PutTargets.
 ghost use Rattle.std.specs.Prelude.{◌≡◌, ◌≤◌, length, map, IfOk, IfSome, OnOk};
 ghost use Rattle.json_text.specs.Moment.{IsMoment};
-ghost use Rattle.json_text.specs.View.{tree_of};
 ghost use Rattle.rule_table.specs.Target.{target_of};
-ghost use Rattle.rule_table.specs.WellFormed.{NamesRule};
+ghost use Rattle.config_changes.specs.WellFormed.{NamesRule};
 ghost use Rattle.router_core.specs.Ready.{IsReadyFor};
-ghost use Rattle.router_calls.specs.Answer.{IsTargetsPut, target_report};
+ghost use Rattle.router_calls.specs.Answer.{IsTargetsPut};
 ghost use Rattle.router_calls.specs.Decided.{answer_of};
 ghost use Rattle.router_calls.specs.Steps.{AddsTargets, AreAllSplit, IsOneSplit};
 
-use crate::causes::target_cause;
 use crate::configure::configure;
-use crate::reply::{items_reply, refused};
-use json_text::{Items, Json, Members, NoMemory, Text, push_text};
-use router_core::{Cause, Kind, Ready, Reply, Tables, push_failure};
-use rule_table::{Control, RuleSet, RuleTarget, Target, put_target};
+use crate::reply::refused;
+use call_replies::{items_reply, target_cause, target_json};
+use config_changes::{Control, Target};
+use json_text::{Items, NoMemory, Text};
+use router_core::{Cause, Kind, Ready, Reply, Tables};
+use rule_table::{RuleSet, RuleTarget, put_target};
 use std::alloc::Global;
 
 /// Puts each target that has no fault to the rule, as one change. If all fail, nothing is changed.
@@ -138,13 +138,4 @@ fn split_one(
         }
     }
     Ok(())
-}
-
-pub(crate) fn target_json(alloc: Global, id: &str, cause: &Cause) -> Result<Json, NoMemory>
-    ensures { IfOk result (λ j. tree_of j ≡ target_report (id.now, cause.now)) }
-{
-    let mut members: Members = Vec::with_capacity(alloc, 3)?;
-    push_text(alloc, &mut members, "TargetId", id)?;
-    push_failure(alloc, &mut members, cause)?;
-    Ok(Json::Obj(members))
 }

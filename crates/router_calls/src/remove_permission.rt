@@ -4,11 +4,12 @@ ghost use Rattle.json_text.specs.Moment.{IsMoment};
 ghost use Rattle.json_text.specs.Tree.{Tree};
 ghost use Rattle.event_shape.specs.Names.{IsBusName};
 ghost use Rattle.bus_policy.specs.Text.{IsPolicyText};
-ghost use Rattle.rule_table.specs.Control.{policy_put};
+ghost use Rattle.config_changes.specs.Control.{policy_put};
 ghost use Rattle.api_replies.specs.declared.cause.Cause.TheVariants as cause_is;
 ghost use Rattle.api_replies.specs.Reply as replies;
 ghost use Rattle.router_core.specs.Ready.{IsReadyFor};
-ghost use Rattle.router_calls.specs.Answer.{IsControlled, IsRevoked, IsStatementRemoved, empty_reply, reply_alone};
+ghost use Rattle.call_replies.specs.Replies.{empty_reply};
+ghost use Rattle.router_calls.specs.Answer.{IsControlled, IsRevoked, IsStatementRemoved, reply_alone};
 ghost use Rattle.router_calls.specs.Decided.{answer_of};
 
 use crate::policy_change::{change_policy, no_bus};

@@ -19,8 +19,6 @@ use crate::delete_event_bus::delete_event_bus;
 use crate::delete_messages::delete_messages;
 use crate::delete_queue::delete_queue;
 use crate::delete_rule::delete_rule;
-use crate::duty_counts::duty_counts;
-use crate::peek_messages::peek_messages;
 use crate::put_events::put_events;
 use crate::put_permission::{put_policy, put_statement};
 use crate::put_rule::put_rule;
@@ -30,6 +28,7 @@ use crate::remove_permission::{remove_policy, remove_statement};
 use crate::remove_targets::remove_targets;
 use crate::reply::shown;
 use crate::test_event_pattern::test_event_pattern;
+use call_replies::{duty_counts, peek_messages};
 use config_views::{
     describe_event_bus, describe_rule, list_event_buses, list_rule_names_by_target, list_rules,
     list_targets_by_rule,
@@ -108,13 +107,17 @@ fn answer(
         }
         Action::CreateQueue { name } => create_queue(alloc, tables, moment, name),
         Action::DeleteQueue { name } => delete_queue(alloc, tables, moment, name),
-        Action::PeekMessages { queue, limit } => {
-            peek_messages(alloc, tables, queue.as_str(), *limit)
-        }
+        Action::PeekMessages { queue, limit } => Ok(shown(peek_messages(
+            alloc,
+            tables.set(),
+            tables.duties(),
+            queue.as_str(),
+            *limit,
+        )?)),
         Action::DeleteMessages { queue, through } => {
             delete_messages(alloc, tables, moment, queue, *through)
         }
-        Action::DutyCounts => duty_counts(alloc, tables),
+        Action::DutyCounts => Ok(shown(duty_counts(alloc, tables.duties())?)),
         Action::TestEventPattern { .. } => test_event_pattern(alloc, &seen.result),
         Action::DeliverDue { .. } => unreachable!(),
         Action::DescribeEventBus { name } => {

@@ -2,13 +2,13 @@
 ghost use Rattle.std.specs.Prelude.{◌≡◌, ℕ, List, None, IfOk};
 ghost use Rattle.json_text.specs.Tree.{Tree};
 ghost use Rattle.rule_table.specs.RuleSet.{RuleSet};
-ghost use Rattle.api_replies.specs.View.{reply_of};
 ghost use Rattle.router_core.specs.Request.{test_event_pattern as test_pattern};
 ghost use Rattle.router_core.specs.Matching.{IsSeenResult};
-ghost use Rattle.router_calls.specs.Answer.{IsTested, tested_reply};
+ghost use Rattle.router_calls.specs.Answer.{IsTested};
 ghost use Rattle.router_calls.specs.Decided.{answer_of};
 
-use json_text::{Json, Members, NoMemory, push_member};
+use call_replies::tested_reply;
+use json_text::NoMemory;
 use router_core::{Ready, Reply, SeenResult};
 use std::alloc::Global;
 
@@ -26,16 +26,4 @@ pub(crate) fn test_event_pattern(
         SeenResult::Tested(matches) => Ok((None, tested_reply(alloc, *matches)?)),
         SeenResult::Entries(_) | SeenResult::Nothing => unreachable!(),
     }
-}
-
-/// The reply that says whether the pattern matches.
-fn tested_reply(alloc: Global, matches: bool) -> Result<Reply, NoMemory>
-    ensures { IfOk result (λ r. reply_of r ≡ tested_reply matches) }
-{
-    let mut members: Members = Vec::with_capacity(alloc, 1)?;
-    push_member(alloc, &mut members, "Result", Json::Truth(matches))?;
-    Ok(Reply {
-        status: 200,
-        body: Json::Obj(members),
-    })
 }

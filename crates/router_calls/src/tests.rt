@@ -20,6 +20,7 @@ use crate::requests::read_tables;
 use crate::tests::queues::queue_action;
 use api_replies::Reply;
 use bus_policy::{Policy, is_statement_id};
+use config_changes::{RetryPolicy, Target};
 use delivery_duties::{Fate, Outcome};
 use event_shape::{
     CheckFault, EntryFault, EventEntry, OWNER, Unnumbered, check, is_account, is_bus_name,
@@ -28,7 +29,6 @@ use event_shape::{
 use json_text::{Bytes, Json, Text, read, write};
 use pattern_read::PatternText;
 use router_core::{Action, Errand, Ready, Request, Tables, see_plain};
-use rule_table::{RetryPolicy, Target};
 use std::alloc::Global;
 use std::test::Fail;
 

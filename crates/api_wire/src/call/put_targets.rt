@@ -11,9 +11,9 @@ use api_members::{
     age_given, attempts_given, bus_given, given, members_in, read_dead_letter, text_of, values_in,
 };
 use api_replies::Member;
+use config_changes::{RetryPolicy, Target};
 use json_text::{Json, NoMemory, Text};
 use router_core::Action;
-use rule_table::{RetryPolicy, Target};
 use std::alloc::Global;
 
 pub(super) fn put_targets(alloc: Global, members: &[(Text, Json)]) -> Result<Action, NoMemory>

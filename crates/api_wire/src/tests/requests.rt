@@ -3,10 +3,10 @@ use super::{call, call_by};
 use crate::read_call;
 use api_members::CheckedEntry;
 use api_replies::Member;
+use config_changes::{RetryPolicy, Target};
 use event_shape::EntryFault;
 use json_text::{Json, Text};
 use router_core::{Action, Request};
-use rule_table::{RetryPolicy, Target};
 use std::test::Fail;
 
 fn is_target(target: &Target, id: &str, arn: &str) -> bool {

@@ -8,10 +8,10 @@ ghost use Rattle.router_calls.specs.Bounds.{IsBounded};
 use crate::tests::{
     PATTERN, READING, Step, bus_name, deliver_next, is_replied, queue_name, rule_name, text,
 };
+use config_changes::{RetryPolicy, Target};
 use delivery_duties::{Fate, Outcome};
 use json_text::Text;
 use router_core::{Action, Tables};
-use rule_table::{RetryPolicy, Target};
 use std::alloc::Global;
 use std::test::Fail;
 

@@ -3,10 +3,10 @@ use Rattle.std.specs.Prelude.{codes}
 use Rattle.std.proofs.lemmas.Bool.Decides.{nat_tests}
 use Rattle.std.specs.Vec.{vec_len}
 use Rattle.json_text.specs.View.{trees_of}
-use Rattle.rule_table.specs.Control.{targets_put}
+use Rattle.config_changes.specs.Control.{targets_put}
 use Rattle.rule_table.specs.RuleSet.{rule_at}
 use Rattle.api_replies.specs.View.{reply_of}
-use Rattle.router_calls.specs.Answer.{items_reply}
+use Rattle.call_replies.specs.Replies.{items_reply}
 use Rattle.router_calls.specs.Steps.{AreAllSplit}
 use Rattle.router_calls.proofs.CallLemmas.{controlled_so}
 use Rattle.router_calls.proofs.TargetLemmas.{put_answered, put_form}

@@ -1,7 +1,7 @@
 use Rattle.std.proofs.Common.{◌≡◌, ◌++◌, drop, map}
 use Rattle.json_text.specs.View.{trees_of}
 use Rattle.rule_table.specs.Target.{target_of}
-use Rattle.router_calls.specs.Answer.{target_report}
+use Rattle.call_replies.specs.Replies.{target_report}
 use Rattle.router_calls.specs.Removals.{removed_ids, failed_ids}
 use Rattle.router_calls.proofs.remove_targets.remove_all.Given as goal
 
