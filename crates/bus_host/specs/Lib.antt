@@ -1,7 +1,6 @@
 pub mod HostFault
 pub mod Knock
 pub mod Host
-pub mod Ending
-pub mod Places
 pub mod Doors
 pub mod Plans
+pub mod Stock

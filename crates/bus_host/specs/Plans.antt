@@ -1,5 +1,5 @@
 -- What a door in memory plans and remembers.
-use Rattle.std.specs.Prelude.{List, [], ◌∷◌, map}
+use Rattle.std.specs.Prelude.{List, [], ◌∷◌}
 use Rattle.bus_host.specs.declared.mem_door.Plan.{Plan}
 use Rattle.bus_host.specs.declared.mem_door.Plan.TheVariants.{Conn, Quiet, Failed, NoMemory}
 

@@ -16,13 +16,13 @@ pub enum HostFault {
     NoMemory,
 }
 
-/// What opens disks, doors and links, and takes them back. It shows the links that it gave and took back. Which disks and doors it gave and took back
-/// is not specified yet.
+/// What opens disks, doors and links, and takes them back. It shows the doors and the links that it gave and took back.
+/// Which disks it gave and took back is not specified yet.
 pub trait Host {
     ghost use Rattle.std.specs.Prelude.{List, [], ◌∷◌, ◌++◌, MatchResult};
     ghost use Rattle.router_disk.specs.Faults.{CountsFaults};
     ghost use Rattle.bus_host.specs.HostFault.{host_outcome};
-    ghost use Rattle.bus_host.specs.Host.{SameFaults, SameLinks};
+    ghost use Rattle.bus_host.specs.Host.{SameFaults, SameGiven};
 
     type Disk: Disk;
 
@@ -38,6 +38,12 @@ pub trait Host {
 
     /// The number of calls of `link` that have failed.
     ghost link_faults: { Self → ℕ };
+
+    /// The doors given so far, each after its port, in order, as they were given.
+    ghost doors_given: { Self → List (ℕ × Self.Door) };
+
+    /// The doors taken back so far, in order, as they were then.
+    ghost doors_back: { Self → List Self.Door };
 
     /// The links given so far, in order, as they were given.
     ghost links_given: { Self → List Self.Link };
@@ -62,20 +68,26 @@ pub trait Host {
         ensures count { CountsFaults (disk_faults self.old) (disk_faults self.new) (host_outcome result) }
         ensures door { door_faults self.new ≡ door_faults self.old }
         ensures link { link_faults self.new ≡ link_faults self.old }
-        ensures links { SameLinks links_given links_back self.old self.new };
+        ensures doors { SameGiven doors_given doors_back self.old self.new }
+        ensures links { SameGiven links_given links_back self.old self.new };
 
     /// A door at `port` of this machine.
     fn door(&mut self, port: u16) -> Result<Self::Door, HostFault>
         ensures count { CountsFaults (door_faults self.old) (door_faults self.new) (host_outcome result) }
         ensures disk { disk_faults self.new ≡ disk_faults self.old }
         ensures link { link_faults self.new ≡ link_faults self.old }
-        ensures links { SameLinks links_given links_back self.old self.new };
+        ensures given { MatchResult result
+            (λ door. doors_given self.new ≡ doors_given self.old ++ (port, door) ∷ [])
+            (λ _. doors_given self.new ≡ doors_given self.old) }
+        ensures back { doors_back self.new ≡ doors_back self.old }
+        ensures links { SameGiven links_given links_back self.old self.new };
 
     /// A link to other machines.
     fn link(&mut self) -> Result<Self::Link, HostFault>
         ensures count { CountsFaults (link_faults self.old) (link_faults self.new) (host_outcome result) }
         ensures disk { disk_faults self.new ≡ disk_faults self.old }
         ensures door { door_faults self.new ≡ door_faults self.old }
+        ensures doors { SameGiven doors_given doors_back self.old self.new }
         ensures given { MatchResult result
             (λ link. links_given self.new ≡ links_given self.old ++ link ∷ [])
             (λ _. links_given self.new ≡ links_given self.old) }
@@ -84,16 +96,20 @@ pub trait Host {
     /// Takes a disk back.
     fn back_disk(&mut self, disk: Self::Disk)
         ensures faults { SameFaults disk_faults door_faults link_faults self.old self.new }
-        ensures links { SameLinks links_given links_back self.old self.new };
+        ensures doors { SameGiven doors_given doors_back self.old self.new }
+        ensures links { SameGiven links_given links_back self.old self.new };
 
     /// Takes a door back.
     fn back_door(&mut self, door: Self::Door)
         ensures faults { SameFaults disk_faults door_faults link_faults self.old self.new }
-        ensures links { SameLinks links_given links_back self.old self.new };
+        ensures given { doors_given self.new ≡ doors_given self.old }
+        ensures back { doors_back self.new ≡ doors_back self.old ++ door ∷ [] }
+        ensures links { SameGiven links_given links_back self.old self.new };
 
     /// Takes a link back.
     fn back_link(&mut self, link: Self::Link)
         ensures faults { SameFaults disk_faults door_faults link_faults self.old self.new }
+        ensures doors { SameGiven doors_given doors_back self.old self.new }
         ensures given { links_given self.new ≡ links_given self.old }
         ensures back { links_back self.new ≡ links_back self.old ++ link ∷ [] };
 }

@@ -2,8 +2,7 @@
 ghost use Rattle.std.specs.Prelude.{◌≡◌, Some, [], map};
 ghost use Rattle.bus_host.specs.Plans.{connections_of};
 
-use crate::no_host::raise;
-use crate::{Door, Ended, Knock};
+use crate::{Door, Ended, Knock, raise};
 use http_server::Log;
 use router_disk::{Sink, Source};
 use std::alloc::Global;

@@ -1,9 +1,9 @@
 // A host whose every call fails, with a disk, a door and a link whose calls fail.
-ghost use Rattle.std.specs.Prelude.{◌≡◌, ◌≤◌, [], ◌∷◌, ◌++◌, map, Err};
-ghost use Rattle.router_disk.specs.Faults.{CountsFaults, Rose};
+ghost use Rattle.std.specs.Prelude.{◌≡◌, [], ◌∷◌, ◌++◌, map, Err};
+ghost use Rattle.router_disk.specs.Faults.{CountsFaults};
 ghost use Rattle.bus_host.specs.HostFault.{host_outcome};
 
-use crate::{Door, Host, HostFault, Knock};
+use crate::{Door, Host, HostFault, Knock, raise};
 use http_server::Log;
 use router_disk::{Disk, Failed, Link, LinkFault, MemSink, MemSource};
 
@@ -31,6 +31,7 @@ pub struct NoHost {
     disk_faults: u64,
     door_faults: u64,
     link_faults: u64,
+    doors_back: Log<NoDoor, ()>,
     links_back: Log<NoLink, ()>,
 }
 
@@ -40,12 +41,14 @@ impl NoHost {
         ensures disk { ⟦<NoHost as Host>⟧.disk_faults result ≡ 0 }
         ensures door { ⟦<NoHost as Host>⟧.door_faults result ≡ 0 }
         ensures link { ⟦<NoHost as Host>⟧.link_faults result ≡ 0 }
+        ensures doors_back { ⟦<NoHost as Host>⟧.doors_back result ≡ [] }
         ensures links_back { ⟦<NoHost as Host>⟧.links_back result ≡ [] }
     {
         NoHost {
             disk_faults: 0,
             door_faults: 0,
             link_faults: 0,
+            doors_back: Log::new(),
             links_back: Log::new(),
         }
     }
@@ -157,7 +160,7 @@ impl Door for NoDoor {
 
 impl Host for NoHost {
     ghost use Rattle.std.specs.Prelude.{map, MatchResult};
-    ghost use Rattle.bus_host.specs.Host.{SameLinks};
+    ghost use Rattle.bus_host.specs.Host.{SameGiven};
 
     type Disk = NoDisk;
 
@@ -170,6 +173,10 @@ impl Host for NoHost {
     ghost door_faults = { λ h. h.door_faults };
 
     ghost link_faults = { λ h. h.link_faults };
+
+    ghost doors_given = { λ h. [] };
+
+    ghost doors_back = { λ h. map (λ pair. pair.0) h.doors_back.items };
 
     ghost links_given = { λ h. [] };
 
@@ -191,6 +198,7 @@ impl Host for NoHost {
         ensures count { CountsFaults self.old.disk_faults self.new.disk_faults (host_outcome result) }
         ensures door { self.new.door_faults ≡ self.old.door_faults }
         ensures link { self.new.link_faults ≡ self.old.link_faults }
+        ensures doors { self.new.doors_back ≡ self.old.doors_back }
         ensures links { self.new.links_back ≡ self.old.links_back }
         ensures fails { result ≡ Err HostFault.Failed }
     {
@@ -202,6 +210,7 @@ impl Host for NoHost {
         ensures count { CountsFaults self.old.door_faults self.new.door_faults (host_outcome result) }
         ensures disk { self.new.disk_faults ≡ self.old.disk_faults }
         ensures link { self.new.link_faults ≡ self.old.link_faults }
+        ensures doors { self.new.doors_back ≡ self.old.doors_back }
         ensures links { self.new.links_back ≡ self.old.links_back }
         ensures fails { result ≡ Err HostFault.Failed }
     {
@@ -213,6 +222,7 @@ impl Host for NoHost {
         ensures count { CountsFaults self.old.link_faults self.new.link_faults (host_outcome result) }
         ensures disk { self.new.disk_faults ≡ self.old.disk_faults }
         ensures door { self.new.door_faults ≡ self.old.door_faults }
+        ensures doors { self.new.doors_back ≡ self.old.doors_back }
         ensures links { self.new.links_back ≡ self.old.links_back }
         ensures fails { result ≡ Err HostFault.Failed }
     {
@@ -222,17 +232,11 @@ impl Host for NoHost {
 
     fn back_disk(&mut self, _disk: NoDisk) {}
 
-    fn back_door(&mut self, _door: NoDoor) {}
+    fn back_door(&mut self, door: NoDoor) {
+        self.doors_back = self.doors_back.and(&door, &());
+    }
 
     fn back_link(&mut self, link: NoLink) {
         self.links_back = self.links_back.and(&link, &());
     }
-}
-
-// Counts a fault.
-pub(crate) fn raise(faults: &mut u64)
-    ensures later { faults.old ≤ faults.new }
-    ensures rose { Rose faults.old faults.new }
-{
-    *faults = faults.saturating_add(1);
 }

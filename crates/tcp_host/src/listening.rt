@@ -1,7 +1,7 @@
 // A listening socket of this machine, and the wait for its clients.
 ghost use Rattle.std.specs.Prelude.{◌≡◌, ◌⊎◌, ◌↔◌, Some, IsTrue};
 
-use crate::HostFault;
+use bus_host::HostFault;
 use libc::{EBADF, EINVAL, ENOTSOCK};
 use mio::unix::SourceFd;
 use mio::{Events, Interest, Poll, Token};

@@ -1,5 +1,6 @@
 // A door over TCP, with its clients in the same thread.
-use crate::{Door, Knock, TcpDoor, Waited};
+use crate::{TcpDoor, Waited};
+use bus_host::{Door, Knock};
 use router_disk::{Sink, Source};
 use std::io;
 use std::io::{Read, Write};

@@ -1,14 +1,16 @@
 // A listener over TCP, the adapter for the clients of this machine. What the system does is trusted.
-ghost use Rattle.std.specs.Prelude.{◌≡◌, ◌+◌, ◌-◌, ◌<◌, Ok, IfOk};
+ghost use Rattle.std.specs.Prelude.{◌≡◌, ◌+◌, ◌-◌, ◌<◌, [], ◌∷◌, ◌++◌, map, Ok, Some, IfOk};
+ghost use Rattle.bus_host.specs.Doors.{Lengthened, given_by};
 ghost use Rattle.bus_host.specs.Knock.{knock_outcome};
-ghost use Rattle.bus_host.specs.Places.{limit_for, out_after};
+ghost use Rattle.tcp_host.specs.Places.{fresh, limit_for, out_after};
 
 use crate::closing::Closing;
 use crate::line::Line;
 use crate::listening::{Arrival, Listening, pause};
 use crate::mark::Mark;
-use crate::no_host::raise;
-use crate::{Door, HostFault, Knock, TcpSink, TcpSource};
+use crate::{TcpSink, TcpSource};
+use bus_host::{Door, Ended, HostFault, Knock, raise};
+use http_server::Log;
 use std::alloc::{AllocError, Global};
 use std::marker::Model;
 use std::net::{Net, TcpListener, TcpStream};
@@ -27,16 +29,26 @@ pub struct TcpDoor<N> {
     out: usize,
     mark: Arc<Mark>,
     closing: Closing,
+    given: Log<TcpSource<N>, TcpSink<N>>,
+    ended: Log<Ended<TcpSource<N>, TcpSink<N>>, ()>,
     faults: u64,
 }
 
 impl<N> Model for TcpDoor<N> {
-    ghost use Rattle.std.specs.Prelude.{◌≤◌};
-    ghost use Rattle.bus_host.specs.Places.{Places};
+    ghost use Rattle.std.specs.Prelude.{◌≤◌, map};
+    ghost use Rattle.tcp_host.specs.Places.{Places};
+    ghost use Rattle.tcp_host.specs.declared.tcp_sink.TcpSink.{TcpSink};
+    ghost use Rattle.tcp_host.specs.declared.tcp_source.TcpSource.{TcpSource};
 
-    ghost Value = { Places };
+    ghost Value = { Places (TcpSource N) (TcpSink N) };
 
-    ghost view = { λ d. record { limit = d.limit; out = d.out; faults = d.faults } };
+    ghost view = { λ d. record {
+      limit = d.limit;
+      out = d.out;
+      given = d.given.items;
+      ended = map (λ pair. pair.0) d.ended.items;
+      faults = d.faults;
+    } };
 
     ghost invariant = { λ d. d.out ≤ d.limit };
 }
@@ -45,7 +57,7 @@ impl<N: Net<Stream = TcpStream, Listener = TcpListener> + Clock + Copy> TcpDoor<
     /// Listens at `port` for a program with so many workers, that is, links. It gives out one connection fewer at once,
     /// so that a worker stays free, and one if there is only one worker; then each idle connection ends after 0.25 s.
     pub fn open(alloc: Global, system: N, port: u16, workers: usize) -> Result<Self, HostFault>
-        ensures opened { IfOk result (λ door. door ≡ record { limit = limit_for workers; out = 0; faults = 0 }) }
+        ensures opened { IfOk result (λ door. door ≡ fresh (limit_for workers)) }
     {
         let Ok(mark) = Arc::new(alloc, Mark::new(workers <= 1)) else {
             return Err(HostFault::NoMemory);
@@ -62,6 +74,8 @@ impl<N: Net<Stream = TcpStream, Listener = TcpListener> + Clock + Copy> TcpDoor<
             out: 0,
             mark,
             closing,
+            given: Log::new(),
+            ended: Log::new(),
             faults: 0,
         })
     }
@@ -100,7 +114,7 @@ impl<N: Net<Stream = TcpStream, Listener = TcpListener> + Clock + Copy> TcpDoor<
     fn admit(&mut self, stream: TcpStream) -> Knock<TcpSource<N>, TcpSink<N>>
         requires { self.old.out < self.old.limit }
         ensures outcome { knock_outcome result ≡ Ok tt }
-        ensures out { self.new ≡ record self.old { out = out_after self.old.out result } }
+        ensures out { self.new ≡ record self.old { out = out_after self.old.out result; given = self.old.given ++ given_by result } }
     {
         self.mark.clear();
         let Ok(line) = Line::new(stream) else {
@@ -112,6 +126,7 @@ impl<N: Net<Stream = TcpStream, Listener = TcpListener> + Clock + Copy> TcpDoor<
         match self.halves(line, since) {
             Ok((input, output)) => {
                 self.out += 1;
+                self.given = self.given.and(&input, &output);
                 Knock::Conn(input, output)
             }
             Err(AllocError) => Knock::NoMemory,
@@ -127,7 +142,7 @@ impl<N: Net<Stream = TcpStream, Listener = TcpListener> + Clock + Copy> TcpDoor<
 }
 
 impl<N: Net<Stream = TcpStream, Listener = TcpListener> + Clock + Copy + Send> Door for TcpDoor<N> {
-    ghost use Rattle.std.specs.Prelude.{None};
+    ghost use Rattle.std.specs.Prelude.{None, Some};
     ghost use Rattle.router_disk.specs.Faults.{CountsFaults};
 
     type In = TcpSource<N>;
@@ -136,9 +151,9 @@ impl<N: Net<Stream = TcpStream, Listener = TcpListener> + Clock + Copy + Send> D
 
     ghost ahead = { λ d. None };
 
-    ghost given = { λ d. None };
+    ghost given = { λ d. Some d.given };
 
-    ghost ended = { λ d. None };
+    ghost ended = { λ d. Some d.ended };
 
     ghost faults = { λ d. d.faults };
 
@@ -150,6 +165,8 @@ impl<N: Net<Stream = TcpStream, Listener = TcpListener> + Clock + Copy + Send> D
         ensures count { CountsFaults self.old.faults self.new.faults (knock_outcome result) }
         ensures out { self.new.out ≡ out_after self.old.out result }
         ensures limit { self.new.limit ≡ self.old.limit }
+        ensures given { Lengthened (Some self.old.given) (Some self.new.given) (given_by result) }
+        ensures ended { self.new.ended ≡ self.old.ended }
     {
         if self.faults == u64::MAX {
             return Knock::Failed;
@@ -169,12 +186,17 @@ impl<N: Net<Stream = TcpStream, Listener = TcpListener> + Clock + Copy + Send> D
         }
     }
 
-    fn done(&mut self, input: TcpSource<N>, _output: TcpSink<N>, _cut: bool)
+    fn done(&mut self, input: TcpSource<N>, output: TcpSink<N>, cut: bool)
         ensures faults { self.new.faults ≡ self.old.faults }
         ensures out { self.new.out ≡ self.old.out - 1 }
         ensures limit { self.new.limit ≡ self.old.limit }
+        ensures given { self.new.given ≡ self.old.given }
+        ensures ended { Lengthened (Some self.old.ended) (Some self.new.ended) (record { input = input; output = output; cut = cut } ∷ []) }
     {
         self.out = self.out.saturating_sub(1);
+        let ended = Ended { input, output, cut };
+        self.ended = self.ended.and(&ended, &());
+        let Ended { input, .. } = ended;
         let TcpSource {
             line,
             took_mark,

@@ -3,7 +3,7 @@ ghost use Rattle.std.specs.Prelude.{◌≡◌};
 
 use crate::http_link::is_waiting;
 use crate::line::Line;
-use crate::no_host::raise;
+use bus_host::raise;
 use router_disk::{Failed, Sink};
 use std::sync::Arc;
 use std::time::{Clock, Duration, Instant};

@@ -1,6 +1,6 @@
 // A link over TCP, the adapter for the endpoints of this machine. What the system does is trusted.
 use crate::heads::Heads;
-use crate::no_host::raise;
+use bus_host::raise;
 use http_target::{Endpoint, Reply};
 use router_disk::{Link, LinkFault};
 use std::alloc::Global;

@@ -1,6 +1,6 @@
 // When a connection ends without its client's doing.
 ghost use Rattle.std.specs.Prelude.{◌↔◌, IsTrue};
-ghost use Rattle.bus_host.specs.Ending.{IsOver};
+ghost use Rattle.tcp_host.specs.Ending.{IsOver};
 
 use std::time::Duration;
 

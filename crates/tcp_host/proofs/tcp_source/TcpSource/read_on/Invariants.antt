@@ -1,5 +1,5 @@
 use Rattle.std.proofs.Common.{◌≡◌}
-use Rattle.bus_host.proofs.tcp_source.TcpSource.read_on.Given as goal
+use Rattle.tcp_host.proofs.tcp_source.TcpSource.read_on.Given as goal
 
 -- waiting for bytes is no fault
 abbrev pub invariant-loop : goal.invariant-loop

@@ -6,7 +6,7 @@ use crate::ending::Waited;
 use crate::http_link::is_waiting;
 use crate::line::Line;
 use crate::mark::Mark;
-use crate::no_host::raise;
+use bus_host::raise;
 use router_disk::{Failed, Source};
 use std::sync::Arc;
 use std::time::{Clock, Instant};

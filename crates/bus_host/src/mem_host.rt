@@ -1,0 +1,130 @@
+// A host in memory.
+ghost use Rattle.std.specs.Prelude.{◌≡◌, [], ◌∷◌, ◌++◌, Err, MatchResult};
+ghost use Rattle.router_disk.specs.Faults.{CountsFaults};
+ghost use Rattle.bus_host.specs.HostFault.{host_outcome};
+ghost use Rattle.bus_host.specs.Stock.{Gave, GoesByPlan, TookBack};
+
+use crate::{Host, HostFault, MemDoor, NoDisk, NoHost, Stock};
+use http_server::Log;
+use router_disk::{MemLink, Sink, Source};
+use std::alloc::Global;
+use std::collections::LinkedList;
+
+/// A host that gives doors and links in memory as it plans them, and takes them back. Each call for a disk fails.
+#[derive(Drop)]
+pub struct MemHost<I, O> {
+    disks: NoHost,
+    ports: Log<u16, MemDoor<I, O>>,
+    pub doors: Stock<MemDoor<I, O>>,
+    pub links: Stock<MemLink>,
+}
+
+impl<I: Source + Drop, O: Sink + Drop> MemHost<I, O> {
+    /// A host that plans these results for the calls of `door` and of `link`. After the last one of a list, each further call fails.
+    pub fn new(
+        alloc: Global,
+        doors: LinkedList<Result<MemDoor<I, O>, HostFault>>,
+        links: LinkedList<Result<MemLink, HostFault>>,
+    ) -> Self
+        ensures doors { result.doors ≡ record { planned = doors; given = []; back = []; held = []; faults = 0 } }
+        ensures links { result.links ≡ record { planned = links; given = []; back = []; held = []; faults = 0 } }
+        ensures doors_given { ⟦<MemHost<I, O> as Host>⟧.doors_given result ≡ [] }
+        ensures disk { ⟦<MemHost<I, O> as Host>⟧.disk_faults result ≡ 0 }
+    {
+        MemHost {
+            disks: NoHost::new(),
+            ports: Log::new(),
+            doors: Stock::new(alloc, doors),
+            links: Stock::new(alloc, links),
+        }
+    }
+}
+
+impl<I: Source + Drop, O: Sink + Drop> Host for MemHost<I, O> {
+    type Disk = NoDisk;
+
+    type Door = MemDoor<I, O>;
+
+    type Link = MemLink;
+
+    ghost disk_faults = { λ h. ⟦<NoHost as Host>⟧.disk_faults h.disks };
+
+    ghost door_faults = { λ h. h.doors.faults };
+
+    ghost link_faults = { λ h. h.links.faults };
+
+    ghost doors_given = { λ h. h.ports.items };
+
+    ghost doors_back = { λ h. h.doors.back };
+
+    ghost links_given = { λ h. h.links.given };
+
+    ghost links_back = { λ h. h.links.back };
+
+    fn disk_faults(&self) -> u64 {
+        self.disks.disk_faults()
+    }
+
+    fn door_faults(&self) -> u64 {
+        self.doors.faults()
+    }
+
+    fn link_faults(&self) -> u64 {
+        self.links.faults()
+    }
+
+    fn disk(&mut self, path: &str) -> Result<NoDisk, HostFault>
+        ensures count { CountsFaults (⟦<NoHost as Host>⟧.disk_faults self.old.disks)
+            (⟦<NoHost as Host>⟧.disk_faults self.new.disks) (host_outcome result) }
+        ensures fails { result ≡ Err HostFault.Failed }
+        ensures rest { self.new ≡ record self.old { disks = self.new.disks } }
+    {
+        self.disks.disk(path)
+    }
+
+    fn door(&mut self, port: u16) -> Result<MemDoor<I, O>, HostFault>
+        ensures count { CountsFaults self.old.doors.faults self.new.doors.faults (host_outcome result) }
+        ensures plan { GoesByPlan self.old.doors self.new.doors result }
+        ensures given { Gave self.old.doors.given self.new.doors.given result }
+        ensures back { self.new.doors.back ≡ self.old.doors.back }
+        ensures port { MatchResult result (λ door. self.new.ports.items ≡ self.old.ports.items ++ (port, door) ∷ [])
+            (λ _. self.new.ports.items ≡ self.old.ports.items) }
+        ensures rest { self.new ≡ record self.old { ports = self.new.ports; doors = self.new.doors } }
+    {
+        match self.doors.give() {
+            Ok(door) => {
+                self.ports = self.ports.and(&port, &door);
+                Ok(door)
+            }
+            Err(fault) => Err(fault),
+        }
+    }
+
+    fn link(&mut self) -> Result<MemLink, HostFault>
+        ensures count { CountsFaults self.old.links.faults self.new.links.faults (host_outcome result) }
+        ensures plan { GoesByPlan self.old.links self.new.links result }
+        ensures given { Gave self.old.links.given self.new.links.given result }
+        ensures back { self.new.links.back ≡ self.old.links.back }
+        ensures rest { self.new ≡ record self.old { links = self.new.links } }
+    {
+        self.links.give()
+    }
+
+    fn back_disk(&mut self, disk: NoDisk) {
+        self.disks.back_disk(disk);
+    }
+
+    fn back_door(&mut self, door: MemDoor<I, O>)
+        ensures back { TookBack self.old.doors self.new.doors door }
+        ensures rest { self.new ≡ record self.old { doors = self.new.doors } }
+    {
+        self.doors.take_back(door);
+    }
+
+    fn back_link(&mut self, link: MemLink)
+        ensures back { TookBack self.old.links self.new.links link }
+        ensures rest { self.new ≡ record self.old { links = self.new.links } }
+    {
+        self.links.take_back(link);
+    }
+}

@@ -1,0 +1,157 @@
+// The host of the program: doors and links over TCP. It has no disk yet.
+ghost use Rattle.std.specs.Prelude.{◌≡◌, [], ◌∷◌, ◌++◌, map, length, Err, IfOk, IsOk, MatchResult};
+ghost use Rattle.router_disk.specs.Faults.{CountsFaults};
+ghost use Rattle.bus_host.specs.HostFault.{host_outcome};
+ghost use Rattle.tcp_host.specs.Places.{counted, fresh, limit_for};
+
+use crate::{HttpLink, TcpDoor};
+use bus_host::{Host, HostFault, NoDisk, NoHost, raise};
+use http_server::Log;
+use std::alloc::Global;
+use std::net::{Net, TcpListener, TcpStream};
+use std::time::Clock;
+
+/// A host whose doors and links go over the system's sockets, by its monotonic clock. A door gives out one connection
+/// fewer at once than the host had given links when it opened the door, and at least one: each worker has a link. Each
+/// call for a disk fails.
+#[derive(Drop)]
+pub struct TcpHost<N> {
+    alloc: Global,
+    system: N,
+    disks: NoHost,
+    door_faults: u64,
+    /// The number of links given. It stays at the last `usize`.
+    links: usize,
+    doors_given: Log<u16, TcpDoor<N>>,
+    doors_back: Log<TcpDoor<N>, ()>,
+    links_given: Log<HttpLink<N>, ()>,
+    links_back: Log<HttpLink<N>, ()>,
+    ghost counted: { links ≡ counted (length links_given.items) },
+}
+
+impl<N: Net<Stream = TcpStream, Listener = TcpListener> + Clock + Copy + Send + Drop> TcpHost<N> {
+    /// A host that has given no door and no link yet.
+    pub fn new(alloc: Global, system: N) -> Self
+        ensures disk { ⟦<TcpHost<N> as Host>⟧.disk_faults result ≡ 0 }
+        ensures door { ⟦<TcpHost<N> as Host>⟧.door_faults result ≡ 0 }
+        ensures doors_given { ⟦<TcpHost<N> as Host>⟧.doors_given result ≡ [] }
+        ensures doors_back { ⟦<TcpHost<N> as Host>⟧.doors_back result ≡ [] }
+        ensures given { ⟦<TcpHost<N> as Host>⟧.links_given result ≡ [] }
+        ensures back { ⟦<TcpHost<N> as Host>⟧.links_back result ≡ [] }
+    {
+        TcpHost {
+            alloc,
+            system,
+            disks: NoHost::new(),
+            door_faults: 0,
+            links: 0,
+            doors_given: Log::new(),
+            doors_back: Log::new(),
+            links_given: Log::new(),
+            links_back: Log::new(),
+        }
+    }
+}
+
+impl<N: Net<Stream = TcpStream, Listener = TcpListener> + Clock + Copy + Send + Drop> Host
+    for TcpHost<N> {
+    ghost use Rattle.std.specs.Prelude.{◌≡◌, ◌∷◌, ◌++◌, [], map, length, Err, IfOk, IsOk, MatchResult};
+    ghost use Rattle.router_disk.specs.Faults.{CountsFaults};
+    ghost use Rattle.bus_host.specs.HostFault.{host_outcome};
+    ghost use Rattle.tcp_host.specs.Places.{counted, fresh, limit_for};
+
+    type Disk = NoDisk;
+
+    type Door = TcpDoor<N>;
+
+    type Link = HttpLink<N>;
+
+    ghost disk_faults = { λ h. ⟦<NoHost as Host>⟧.disk_faults h.disks };
+
+    ghost door_faults = { λ h. h.door_faults };
+
+    ghost link_faults = { λ h. 0 };
+
+    ghost doors_given = { λ h. h.doors_given.items };
+
+    ghost doors_back = { λ h. map (λ pair. pair.0) h.doors_back.items };
+
+    ghost links_given = { λ h. map (λ pair. pair.0) h.links_given.items };
+
+    ghost links_back = { λ h. map (λ pair. pair.0) h.links_back.items };
+
+    fn disk_faults(&self) -> u64 {
+        self.disks.disk_faults()
+    }
+
+    fn door_faults(&self) -> u64 {
+        self.door_faults
+    }
+
+    fn link_faults(&self) -> u64 {
+        0
+    }
+
+    fn disk(&mut self, path: &str) -> Result<NoDisk, HostFault>
+        ensures count { CountsFaults (⟦<NoHost as Host>⟧.disk_faults self.old.disks)
+            (⟦<NoHost as Host>⟧.disk_faults self.new.disks) (host_outcome result) }
+        ensures fails { result ≡ Err HostFault.Failed }
+        ensures rest { self.new ≡ record self.old { disks = self.new.disks } }
+    {
+        self.disks.disk(path)
+    }
+
+    /// A door at a port of 127.0.0.1. Its limit goes by the links given so far.
+    fn door(&mut self, port: u16) -> Result<TcpDoor<N>, HostFault>
+        ensures count { CountsFaults self.old.door_faults self.new.door_faults (host_outcome result) }
+        ensures given { MatchResult result
+            (λ door. self.new.doors_given.items ≡ self.old.doors_given.items ++ (port, door) ∷ [])
+            (λ _. self.new.doors_given.items ≡ self.old.doors_given.items) }
+        ensures limit { IfOk result (λ door. door ≡ fresh (limit_for (counted (length self.old.links_given.items)))) }
+        ensures rest { self.new ≡ record self.old { door_faults = self.new.door_faults; doors_given = self.new.doors_given } }
+    {
+        if self.door_faults == u64::MAX {
+            return Err(HostFault::Failed);
+        }
+        match TcpDoor::open(self.alloc, self.system, port, self.links) {
+            Ok(door) => {
+                self.doors_given = self.doors_given.and(&port, &door);
+                Ok(door)
+            }
+            Err(HostFault::NoMemory) => Err(HostFault::NoMemory),
+            Err(HostFault::Failed) => {
+                raise(&mut self.door_faults);
+                Err(HostFault::Failed)
+            }
+        }
+    }
+
+    /// A new link. It opens its connections at each send, so that this does not fail.
+    fn link(&mut self) -> Result<HttpLink<N>, HostFault>
+        ensures given { IfOk result (λ link. map (λ pair. pair.0) self.new.links_given.items
+            ≡ map (λ pair. pair.0) self.old.links_given.items ++ link ∷ []) }
+        ensures gives { IsOk result }
+        ensures back { self.new.links_back ≡ self.old.links_back }
+        ensures doors { (self.new.doors_given ≡ self.old.doors_given) × (self.new.doors_back ≡ self.old.doors_back) }
+        ensures faults { (self.new.disks ≡ self.old.disks) × (self.new.door_faults ≡ self.old.door_faults) }
+    {
+        let link = HttpLink::new(self.alloc, self.system);
+        self.links_given = self.links_given.and(&link, &());
+        self.links = self.links.saturating_add(1);
+        Ok(link)
+    }
+
+    fn back_disk(&mut self, disk: NoDisk) {
+        self.disks.back_disk(disk);
+    }
+
+    /// Stops listening, and waits at most 1 s for connections whose clients may still send.
+    fn back_door(&mut self, door: TcpDoor<N>) {
+        self.doors_back = self.doors_back.and(&door, &());
+        door.close();
+    }
+
+    fn back_link(&mut self, link: HttpLink<N>) {
+        self.links_back = self.links_back.and(&link, &());
+    }
+}
