@@ -12,7 +12,7 @@ use prog.Atomic.{either}
 use Rattle.atomic_table.specs.Table.{State, Me, step, Act, keeps, takes, gives, Valid, homes_after, carried_after, Allows, Splits, Joins, opening, Final, Seen}
 use Rattle.atomic_table.proofs.Lists.{at_set, set_here, set_else, set_again}
 use Rattle.turn_book.specs.declared.view.View.{View}
-use Rattle.turn_book.specs.Rule.{is_number, turns_by, total, Apart, Fits, IsHome, Kept, Holds, opener, note, newcomer, making, learning, waiting, holding, giving, looking, Learns, names_only, AreOf, asked, came, gave, looked}
+use Rattle.turn_book.specs.Rule.{is_number, turns_by, total, Apart, Fits, IsHome, Kept, Holds, opener, note, newcomer, making, learning, waiting, holding, giving, looking, Learns, names_only, AreOf, asked, came, gave, looked, IsUnmade}
 
 abbrev Homes : Type 0 → Type 0
 Homes V = List (maybe.Option (Option V))
@@ -606,10 +606,15 @@ module _ {V T : Type 0} (turns : V → List T) (made_by : T → Option ℕ) (sou
   -- If one seat represents all passes and holds no turn, the value is at home
   pub closes : (id : ℕ) (v : View T) (s : State (Option V) (View T)) → Rule s → get_elem? s.views id ≡ some v → 0 < v.made → v.passes ≡ v.made
       → v.stage ≡ 0
-      → (x : V) × (s.homes ≡ some (Some x) ∷ []) × sound x × Learns made_by v (turns x)
+      → (x : V) × (s.homes ≡ some (Some x) ∷ []) × sound x × Learns made_by v (turns x) × IsUnmade made_by v.made (turns x)
   closes id v s h at maker whole idle = let k = h.kept in let f = k.each id v at in let is = f.maker maker in let all = k.passes in ⊎_elim
-      (λ (t : (x : V) × (s.homes ≡ some (Some x) ∷ []) × (turns x ≡ k.log) × sound x). let (x, full, story, fine) = t in
-      (x, full, fine, (subst (IsPrefix v.seen) (sym story) f.seen, ap (turns_by made_by v.number) story ∙ sym (f.own (omega arith)))))
+      (λ (t : (x : V) × (s.homes ≡ some (Some x) ∷ []) × (turns x ≡ k.log) × sound x). let (x, full, story, fine) = t in (
+        x,
+        full,
+        fine,
+        (subst (IsPrefix v.seen) (sym story) f.seen, ap (turns_by made_by v.number) story ∙ sym (f.own (omega arith))),
+        λ n most. ap (turns_by made_by n) story ∙ k.later n (omega (arith, is, most)),
+      ))
       (λ (t : (s.homes ≡ none ∷ []) × ((i : ℕ) × (u : View T) × (get_elem? s.views i ≡ some u) × (1 < u.stage))). let (
         empty,
         (
@@ -652,7 +657,7 @@ module _ {V T : Type 0} (turns : V → List T) (made_by : T → Option ℕ) (sou
   -- the slot has a value, which represents the history
   abbrev pub IsLast : View T → Option V → Type 0
   IsLast v None = 1 < 1
-  IsLast v (Some x) = sound x × Learns made_by v (turns x)
+  IsLast v (Some x) = sound x × Learns made_by v (turns x) × IsUnmade made_by v.made (turns x)
 
   pub taken : (id : ℕ) (v : View T) (words : List ℕ) (slots : List (Option V)) (r : Option V)
       → Final (Seen (Holds turns made_by sound) id v) words slots → get_elem? slots 0 ≡ some r
@@ -662,6 +667,7 @@ module _ {V T : Type 0} (turns : V → List T) (made_by : T → Option ℕ) (sou
     full,
     fine,
     learns,
+    unmade,
   ) = closes turns made_by sound id v s h at maker whole idle in
       let is : Some x ≡ r = one_there slots 0 (Some x) r (same 0 (Some x) (ap (λ (hs : Homes V). get_elem? hs 0) full)) there in
-      subst (IsLast v) is (fine, learns)
+      subst (IsLast v) is (fine, learns, unmade)

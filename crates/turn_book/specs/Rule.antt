@@ -97,6 +97,10 @@ module _ {T : Type 0} where
   abbrev pub Learns : (T → Option ℕ) → View T → List T → Type 0
   Learns made_by v log = IsPrefix v.seen log × (turns_by made_by v.number log ≡ turns_by made_by v.number v.seen)
 
+  -- no turn names a pass that was not made, if so many were
+  abbrev pub IsUnmade : (T → Option ℕ) → ℕ → List T → Type 0
+  IsUnmade made_by made log = (n : ℕ) → made ≤ n → turns_by made_by n log ≡ []
+
   -- each turn names pass n, or no pass
   abbrev pub AreOf : (T → Option ℕ) → ℕ → List T → Type 0
   AreOf made_by n added = All (λ t. names_only n (made_by t) ≡ true) added

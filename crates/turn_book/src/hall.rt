@@ -1,7 +1,7 @@
 //! The hall, which keeps the value, and its passes.
 ghost use Rattle.std.specs.Prelude.{◌≡◌, ℕ, ◌+◌, ◌<◌, [], ◌∷◌, length, All, IfOk, IfErr, IfSome, IfNone, None};
 ghost use mathlib.Core.List.{IsPrefix};
-ghost use Rattle.turn_book.specs.Rule.{turns_by, opener, newcomer, making, waiting, holding, giving, looking, Learns};
+ghost use Rattle.turn_book.specs.Rule.{turns_by, opener, newcomer, making, waiting, holding, giving, looking, Learns, IsUnmade};
 ghost use Rattle.turn_book.specs.Passes.{view, IsFree, HasTurn, IsSamePass, HasSameTurn, Extends};
 
 use crate::fault::NoMemory;
@@ -281,6 +281,7 @@ impl<V: Story> Hall<V> {
         requires here { seat.table_id ≡ self.table.shared.table_id }
         requires all { (0 < (view seat).made) × ((view seat).passes ≡ (view seat).made) × ((view seat).stage ≡ 0) }
         ensures history { Learns V.made_by (view seat) (V.turns result) }
+        ensures unmade { IsUnmade V.made_by (view seat).made (V.turns result) }
         ensures sound { V.sound result }
     {
         let Hall {
@@ -296,13 +297,14 @@ impl<V: Story> Hall<V> {
         value
     }
 
-    /// The value, in return for all passes. Its history begins with what each pass has seen.
+    /// The value, in return for all passes. Its history begins with what each pass has seen, and has no turn of any other pass.
     pub fn close(self, pass: Pass<V>, others: Vec<Pass<V>>) -> V
         requires pass { (pass.seat.table_id ≡ self.table.shared.table_id) × IsFree pass.seat }
         requires others { All (λ p. (p.seat.table_id ≡ self.table.shared.table_id) × IsFree p.seat) others.items }
         requires all { (view pass.seat).made ≡ 1 + length others.items }
         ensures history { Learns V.made_by (view pass.seat) (V.turns result) }
         ensures others { All (λ p. IsPrefix (view p.seat).seen (V.turns result)) others.items }
+        ensures unmade { IsUnmade V.made_by (view pass.seat).made (V.turns result) }
         ensures sound { V.sound result }
     {
         let Pass {

@@ -19,3 +19,9 @@ returns-clause-sound g c = let (maker, whole, idle) = c.requires.all in
     let last = taken g.V.Story.turns g.V.Story.made_by g.V.Story.sound c.args.seat.id c.args.seat.me.0 _ _ c.take-value.result
     c.close_with-closed.ensures.values.2 c.take-value.ensures.value maker whole idle in
     (subst (IsLast g.V.Story.turns g.V.Story.made_by g.V.Story.sound c.args.seat.me.0) c.in-Some.is last).0
+
+pub returns-clause-unmade : goal.returns-clause-unmade
+returns-clause-unmade g c = let (maker, whole, idle) = c.requires.all in
+    let last = taken g.V.Story.turns g.V.Story.made_by g.V.Story.sound c.args.seat.id c.args.seat.me.0 _ _ c.take-value.result
+    c.close_with-closed.ensures.values.2 c.take-value.ensures.value maker whole idle in
+    (subst (IsLast g.V.Story.turns g.V.Story.made_by g.V.Story.sound c.args.seat.me.0) c.in-Some.is last).2
