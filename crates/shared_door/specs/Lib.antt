@@ -1,0 +1,4 @@
+pub mod Tickets
+pub mod Shown
+pub mod Visits
+pub mod Knocks

@@ -1,0 +1,15 @@
+//! What a connection owes to the history that the threads share.
+ghost use Rattle.std.specs.Prelude.{ℕ, Bool, List, ◌++◌};
+
+use turn_book::Story;
+
+/// A value whose history the connections of a door have to fit.
+pub trait Served<I, O>: Story {
+    // The connection with this number, which came with these streams and ended with those, fits a history with these
+    // turns. `true`: out of memory ended it.
+    ghost fits: { ℕ → I × O → I × O → Bool → List Self.Turn → Type 0 };
+
+    // It then fits each longer history.
+    ghost lasts: { (n : ℕ) (came went : I × O) (cut : Bool) (turns more : List Self.Turn)
+        → fits n came went cut turns → fits n came went cut (turns ++ more) };
+}
