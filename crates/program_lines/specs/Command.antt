@@ -1,0 +1,25 @@
+-- The commands of the program.
+use Rattle.std.specs.Prelude.{◌≡◌, ℕ, ◌≤◌, List, [], ◌∷◌, Some, None, IfSome, codes}
+use Rattle.json_text.specs.Moment.{IsMoment}
+use Rattle.program_lines.specs.declared.command.Command.{Command}
+use Rattle.program_lines.specs.declared.command.Command.TheVariants.{Once, Serve}
+use Rattle.program_lines.specs.Options.{AreOptions}
+
+-- the program's name, the command, and its options: `once` may have `--now`; `serve` has `--port` and `--workers`, and may have
+-- `--connections`
+abbrev pub IsCommand : List (List ℕ) → Command → Type 0
+IsCommand [] command = ⊥
+IsCommand (name ∷ []) command = ⊥
+IsCommand (name ∷ word ∷ words) (Once now) = (word ≡ codes "once") × AreOptions words now None None None
+IsCommand (name ∷ word ∷ words) (Serve port workers connections) =
+    (word ≡ codes "serve") × AreOptions words None (Some port) (Some workers) connections
+
+-- the bounds of a command's numbers
+abbrev pub IsWithin : Command → Type 0
+IsWithin (Once now) = IfSome now IsMoment
+IsWithin (Serve port workers connections) =
+    (1 ≤ port) × (port ≤ 65535) × (1 ≤ workers) × (workers ≤ 16) × IfSome connections (λ k. (1 ≤ k) × (k ≤ 1000000))
+
+-- words are one command at most
+abbrev pub HaveOneCommand : Type 0
+HaveOneCommand = (words : List (List ℕ)) (a b : Command) → IsCommand words a → IsCommand words b → a ≡ b

@@ -1,0 +1,6 @@
+pub mod Number
+pub mod Options
+pub mod Command
+pub mod Reading
+pub mod Status
+pub mod Printed

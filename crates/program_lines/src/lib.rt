@@ -1,0 +1,16 @@
+//! The program's command line, and the lines that it prints beside replies.
+#![tactic(auto)]
+
+mod command;
+mod laws;
+mod number;
+mod options;
+mod printed;
+mod status;
+#[cfg(test)]
+mod tests;
+
+pub use command::{Command, read_command};
+pub use laws::one_command;
+pub use printed::{Summary, listening_line, summary_text};
+pub use status::Status;
