@@ -7,8 +7,8 @@ use Rattle.event_shape.specs.Names.{IsBusName, IsShortName, IsQueueName}
 use Rattle.event_shape.specs.Unnumbered.{Unnumbered}
 use Rattle.event_shape.specs.declared.entry.EntryFault.{EntryFault}
 use Rattle.bus_policy.specs.StatementId.{IsStatementId}
-use Rattle.rule_table.specs.declared.control.Target.{Target}
-use Rattle.rule_table.specs.WellFormed.{NamesRule, AreWellFormedIds}
+use Rattle.config_changes.specs.declared.control.Target.{Target}
+use Rattle.config_changes.specs.WellFormed.{NamesRule, AreWellFormedIds}
 use Rattle.router_core.specs.Request.{IsEntitled, IsOneTurn}
 use Rattle.router_core.specs.Request.{Action, create_event_bus, delete_event_bus, describe_event_bus, list_event_buses, put_rule, delete_rule}
 use Rattle.router_core.specs.Request.{put_rule_state, describe_rule, list_rules, put_targets, remove_targets, list_targets_by_rule}
@@ -25,7 +25,8 @@ use Rattle.api_members.specs.declared.asked.Syntax.TheVariants as syntax
 use Rattle.api_members.specs.Given.{given, text_given, text_of, values_in}
 use Rattle.api_members.specs.Entry.{texts_of, entries_of}
 use Rattle.api_members.specs.CheckedEntry.{AreChecked}
-use Rattle.api_members.specs.Value.{IsPattern, IsTargetArn}
+use Rattle.config_changes.specs.TargetForm.{IsTargetArn}
+use Rattle.api_members.specs.Value.{IsPattern}
 use Rattle.api_members.specs.Refusal.{IsSoundMember, AreSound}
 use Rattle.api_members.proofs.CountLemmas.{within_limits}
 use Rattle.api_members.proofs.TextLemmas.{pattern_text, event_is_value}

@@ -1,8 +1,8 @@
 -- One message, from what was written for it. Other files cite `other_exchange`, `refused_exchange`, `answered_exchange`,
--- `fault_exchange`, `delivery_exchange` and `answered_closes`.
-use Rattle.std.proofs.Common.{◌≡◌, ℕ, ◌⊎◌, inl, inr, Bool, true, false, List, [], ◌∷◌, ◌++◌, map, Option, Some, None, Result, Ok, Err, sym, refl, ap}
+-- `fault_exchange`, `delivery_exchange`, `learned_none`, `learned_closes` and `answered_closes`.
+use Rattle.std.proofs.Common.{◌≡◌, ℕ, inl, inr, Bool, true, false, List, [], ◌∷◌, ◌++◌, map, Option, Some, None, Result, Ok, Err, sym, refl, ap}
 use Rattle.std.proofs.Common.{◌∙◌, subst}
-use Rattle.std.proofs.Common.{append-nil}
+use Rattle.std.proofs.Common.{◌≤◌, length, append-nil, append_assoc, arith}
 use Rattle.std.specs.Prelude.{IfOk, OnErr}
 use Rattle.std.proofs.lemmas.List.Elements.{All-nil, All-cons}
 use Rattle.json_text.specs.declared.base.NoMemory.{NoMemory}
@@ -25,19 +25,21 @@ use Rattle.api_replies.specs.Written.{reply_text}
 use Rattle.courier_run.specs.Claim.{moment_of}
 use Rattle.bus_server.specs.declared.book.Seat.{Seat}
 use Rattle.bus_server.specs.declared.book.TurnReply.{TurnReply}
-use Rattle.bus_server.specs.History.{State, Turn, IsLegal, Ask, placed, after_ask, after_written, readings_at, asked_readings}
+use Rattle.bus_server.specs.History.{State, Turn, IsLegal, Ask, Placed, placed, placed_by, turns_by, claims_by, state_after, after_ask}
+use Rattle.bus_server.specs.History.{after_written, readings_at, asked_readings}
 use Rattle.bus_server.specs.Sublist.{IsSublist}
-use Rattle.bus_server.specs.Book.{BookState, state_of, IsBook}
-use Rattle.bus_server.specs.Exchange.{Exchange, IsExchange, refused, answered, unrendered, delivered, out_of_memory, unposted, posted, sent_text}
-use Rattle.bus_server.specs.Exchanges.{after_placed}
+use Rattle.bus_server.specs.Book.{BookState, state_of, IsBook, HasLearned}
+use Rattle.bus_server.specs.Desk.{AfterLearning}
+use Rattle.bus_server.specs.Exchange.{Exchange, IsExchange, IsWithoutTurn, refused, answered, unrendered, delivered, out_of_memory, unposted, posted, sent_text}
+use Rattle.bus_server.specs.Exchanges.{IsLookAt}
 use Rattle.bus_server.specs.Answered.{IsAnswered, IsUnrendered, turn_text}
-use Rattle.bus_server.specs.Sent.{AreSent}
+use Rattle.bus_server.specs.Sent.{AreSent, tries_with}
 use Rattle.bus_server.specs.Responses.{text_or, IsFaultText, AnswersDelivery}
 use Rattle.bus_server.specs.World.{World, world}
 use Rattle.bus_server.specs.Running.{AreMade, ExchangeOf}
-use Rattle.bus_server.proofs.PlacedLemmas.{IsByLatest, one_made, state_added, after_of_placed, sublist_skip}
-use Rattle.bus_server.proofs.ReadingLemmas.{delivered_read, delivered_latest}
-use Rattle.bus_server.proofs.SentLemmas.{asked_unsent, delivered_attempts}
+use Rattle.bus_server.proofs.PassLemmas.{placed_of_pass, placed_none, none_of_mine, versions_grow}
+use Rattle.bus_server.proofs.PlacedLemmas.{one_made, only_placed, state_added, sublist_skip}
+use Rattle.bus_server.proofs.ReadingLemmas.{delivered_read, delivered_current}
 use Rattle.bus_server.proofs.HistoryLemmas.{legal_back}
 
 -- a reply to a POST is written whole
@@ -58,128 +60,168 @@ IsUnsent old new = AreSent old.answered new.answered old.link_faults new.link_fa
 
 -- an exchange without a turn
 abbrev unturned : Message → ℕ → Reply → Exchange
-unturned m reading reply = record { message = m; reading = reading; steps = []; turns = []; looks = []; reply = reply }
+unturned m reading reply = record { message = m; reading = reading; steps = []; turns = []; looks = []; tries = []; reply = reply }
 
-nothing_made : (m : Message) (reading : ℕ) (reply : Reply) (old new : World) → IsExchange (unturned m reading reply) → new.book ≡ old.book
-    → Gives old.ahead new.ahead (reading ∷ []) → IsUnsent old new → AreMade old new (unturned m reading reply ∷ [])
-nothing_made m reading reply old new is same gave unsent =
-    one_made old new (unturned m reading reply) [] is (ap (λ (b : BookState). b.opened) same)
-    (ap (λ (b : BookState). b.turns) same ∙ sym (append-nil old.book.turns)) refl (All-nil (λ (look : State). look ≡ state_of old.book)) gave tt
-    (All-nil IsByLatest) unsent
+abbrev is_unturned : (m : Message) (reading : ℕ) (reply : Reply) → IsWithoutTurn (unturned m reading reply) reply
+is_unturned m reading reply = record { no_steps = refl; no_turns = refl; no_looks = refl; no_tries = refl; replies = refl }
+
+-- the pass made no turn, but may have learned of others
+nothing_made : (seat : Seat) (m : Message) (reading : ℕ) (reply : Reply) (old new : World) → IsExchange (unturned m reading reply)
+    → HasLearned seat.pass old.book new.book → Gives old.ahead new.ahead (reading ∷ []) → IsUnsent old new
+    → AreMade seat old new (unturned m reading reply ∷ [])
+nothing_made seat m reading reply old new is l gave unsent =
+    one_made seat old new (unturned m reading reply) l.more is l.opened l.turns (sym (placed_none seat.pass (state_of old.book) l.more l.by_others))
+    (All-nil (λ (p : Placed). p.turn.connection ≡ seat.connection)) (All-nil (IsLookAt seat.pass (state_of old.book) l.more [])) gave
+    (subst (λ (ts : List Turn). IsSublist (asked_readings ts) (moment_of reading ∷ [])) (sym l.by_others) tt) tt unsent
 
 -- the method is not POST
-pub other_exchange : (m : Message) (close : Bool) (old new : World) (result : Result (Unit {0}) Failed) (reading : ℕ)
-    → is_post m.method ≡ false → new.book ≡ old.book → Gives old.ahead new.ahead (reading ∷ []) → IsUnsent old new
-    → WritesAll old.written new.written result (sent_text m.method not_post close) → ExchangeOf m close old new result
-other_exchange m close old new result reading unserved same gave unsent writes = record {
+pub other_exchange : (seat : Seat) (m : Message) (close : Bool) (old new : World) (result : Result (Unit {0}) Failed) (reading : ℕ)
+    → is_post m.method ≡ false → HasLearned seat.pass old.book new.book → Gives old.ahead new.ahead (reading ∷ []) → IsUnsent old new
+    → WritesAll old.written new.written result (sent_text m.method not_post close) → ExchangeOf seat m close old new result
+other_exchange seat m close old new result reading unserved l gave unsent writes = record {
   exchanged = unturned m reading not_post;
   message_is = refl;
-  made = nothing_made m reading not_post old new
-      (unposted unserved (record { no_steps = refl; no_turns = refl; no_looks = refl; replies = refl })) same gave unsent;
+  made = nothing_made seat m reading not_post old new (unposted unserved (is_unturned m reading not_post)) l gave unsent;
   writes = writes;
 }
 
 -- out of memory, and nothing changed
-pub refused_exchange : (m : Message) (close : Bool) (old new : World) (result : Result (Unit {0}) Failed) (reading : ℕ)
-    → is_post m.method ≡ true → new.book ≡ old.book → Gives old.ahead new.ahead (reading ∷ []) → IsUnsent old new
-    → WritesAll old.written new.written result (reply_text no_memory close) → ExchangeOf m close old new result
-refused_exchange m close old new result reading post same gave unsent writes = record {
+pub refused_exchange : (seat : Seat) (m : Message) (close : Bool) (old new : World) (result : Result (Unit {0}) Failed) (reading : ℕ)
+    → is_post m.method ≡ true → HasLearned seat.pass old.book new.book → Gives old.ahead new.ahead (reading ∷ []) → IsUnsent old new
+    → WritesAll old.written new.written result (reply_text no_memory close) → ExchangeOf seat m close old new result
+refused_exchange seat m close old new result reading post l gave unsent writes = record {
   exchanged = unturned m reading no_memory;
   message_is = refl;
-  made = nothing_made m reading no_memory old new
-      (posted post (out_of_memory (record { no_steps = refl; no_turns = refl; no_looks = refl; replies = refl }))) same gave unsent;
+  made = nothing_made seat m reading no_memory old new (posted post (out_of_memory (is_unturned m reading no_memory))) l gave unsent;
   writes = sent_whole m no_memory close old.written new.written result post writes;
 }
 
--- an exchange of the turn that was added
-abbrev with_turn : (m : Message) (reading : ℕ) (seat : Seat) (old new : BookState) (r : Request) (close : Bool) (reply : TurnReply)
-    → IsAnswered seat old new r close reply → Reply → Exchange
-with_turn m reading seat old new r close reply is replied =
-    record { message = m; reading = reading; steps = []; turns = record { before = state_of old; turn = is.turn } ∷ []; looks = []; reply = replied }
+-- an exchange of the turn that was added, after turns of others
+abbrev with_turn : (m : Message) (reading : ℕ) (seat : Seat) (mid new : BookState) (r : Request) (close : Bool) (reply : TurnReply)
+    → IsAnswered seat mid new r close reply → Reply → Exchange
+with_turn m reading seat mid new r close reply is replied = record {
+  message = m;
+  reading = reading;
+  steps = [];
+  turns = record { before = state_of mid; turn = is.turn } ∷ [];
+  looks = [];
+  tries = [];
+  reply = replied;
+}
+
+-- what a pass's turn for a request is
+abbrev TurnOf : (seat : Seat) (r : Request) (close : Bool) (reply : TurnReply) (old new : BookState) → Type 0
+TurnOf seat r close reply old new = AfterLearning seat.pass (λ mid now. IsAnswered seat mid now r close reply) old new
 
 turn_made : (m : Message) (reading : ℕ) (seat : Seat) (old new : World) (r : Request) (close : Bool) (reply : TurnReply)
-    (is : IsAnswered seat old.book new.book r close reply) (replied : Reply)
-    → IsExchange (with_turn m reading seat old.book new.book r close reply is replied) → new.book.opened ≡ old.book.opened
+    (at : TurnOf seat r close reply old.book new.book) (replied : Reply)
+    → IsExchange (with_turn m reading seat at.mid new.book r close reply at.done replied) → new.book.opened ≡ old.book.opened
     → r.reading ≡ moment_of reading → Gives old.ahead new.ahead (reading ∷ []) → IsUnsent old new
-    → AreMade old new (with_turn m reading seat old.book new.book r close reply is replied ∷ [])
-turn_made m reading seat old new r close reply is replied exchange opened read gave unsent =
-    let e = with_turn m reading seat old.book new.book r close reply is replied in
-    one_made old new e (is.turn ∷ []) exchange opened is.turns refl (All-nil _) gave
-    (subst (λ (ask : Ask). IsSublist (readings_at ask ++ []) (moment_of reading ∷ [])) (sym is.from.made_for) (inl (read, tt)))
-    (All-cons IsByLatest (record { before = state_of old.book; turn = is.turn }) [] is.latest (All-nil IsByLatest))
-    (subst (AreSent old.answered new.answered old.link_faults new.link_faults)
-    (sym (asked_unsent (record { before = state_of old.book; turn = is.turn }) r is.from.made_for)) unsent)
+    → AreMade seat old new (with_turn m reading seat at.mid new.book r close reply at.done replied ∷ [])
+turn_made m reading seat old new r close reply at replied exchange opened read gave unsent =
+    let n : ℕ = seat.pass in
+    let is = at.done in
+    let l = at.learned in
+    let s : State = state_of old.book in
+    let e = with_turn m reading seat at.mid new.book r close reply is replied in
+    let p : Placed = record { before = state_of at.mid; turn = is.turn } in
+    let now : state_of at.mid ≡ state_after l.more s = state_added old.book at.mid l.more l.opened l.turns in
+    let own : placed_by n (placed s (l.more ++ is.turn ∷ [])) ≡ p ∷ [] = only_placed n s (state_of at.mid) l.more is.turn l.by_others now is.from.pass in
+    let mine : turns_by n (l.more ++ is.turn ∷ []) ≡ is.turn ∷ [] =
+    sym (placed_of_pass n s (l.more ++ is.turn ∷ [])) ∙ ap (map (λ (q : Placed). q.turn)) own in
+    let grown : length s.controls ≤ length (state_of at.mid).controls =
+    subst (λ (z : State). length s.controls ≤ length z.controls) (sym now) (versions_grow l.more s) in
+    let latest : is.turn.k ≡ length (state_of at.mid).controls = is.latest in
+    one_made seat old new e (l.more ++ is.turn ∷ []) exchange opened
+    (is.turns ∙ ap (λ (ts : List Turn). ts ++ is.turn ∷ []) l.turns ∙ append_assoc old.book.turns l.more (is.turn ∷ []))
+    (sym own) (All-cons (λ (q : Placed). q.turn.connection ≡ seat.connection) p [] is.from.connection (All-nil _)) (All-nil _) gave
+    (subst (λ (ts : List Turn). IsSublist (asked_readings ts) (moment_of reading ∷ [])) (sym mine)
+    (subst (λ (ask : Ask). IsSublist (readings_at ask ++ []) (moment_of reading ∷ [])) (sym is.from.made_for) (inl (read, tt))))
+    (omega (arith, latest, grown), tt) unsent
 
 -- one turn
 pub answered_exchange : (m : Message) (close : Bool) (old new : World) (result : Result (Unit {0}) Failed) (reading : ℕ)
     (seat : Seat) (r : Request) (reply : TurnReply) (bytes : Result (List ℕ) NoMemory)
     → is_post m.method ≡ true → new.book.opened ≡ old.book.opened → IsAsked m (moment_of reading) r
-    → IsAnswered seat old.book new.book r close reply
+    → TurnOf seat r close reply old.book new.book
     → IfOk bytes (λ b. b ≡ turn_text reply close) → OnErr bytes (IsUnrendered reply)
     → Gives old.ahead new.ahead (reading ∷ []) → IsUnsent old new → WritesAll old.written new.written result (text_or bytes close)
-    → ExchangeOf m close old new result
-answered_exchange m close old new result reading seat r reply (Ok bytes) post opened is_asked is ok err gave unsent writes = record {
-  exchanged = with_turn m reading seat old.book new.book r close reply is is.replied;
+    → ExchangeOf seat m close old new result
+answered_exchange m close old new result reading seat r reply (Ok bytes) post opened is_asked at ok err gave unsent writes = record {
+  exchanged = with_turn m reading seat at.mid new.book r close reply at.done at.done.replied;
   message_is = refl;
-  made = turn_made m reading seat old new r close reply is is.replied
+  made = turn_made m reading seat old new r close reply at at.done.replied
       (posted post (answered r is_asked (record {
-        turn = record { before = state_of old.book; turn = is.turn };
+        turn = record { before = state_of at.mid; turn = at.done.turn };
         turns = refl;
         no_steps = refl;
         no_looks = refl;
-        ask = is.from.made_for;
-        answer = is.answer;
+        no_tries = refl;
+        ask = at.done.from.made_for;
+        answer = at.done.answer;
       }))) opened is_asked.read_at gave unsent;
-  writes = sent_whole m is.replied close old.written new.written result post
-      (subst (WritesAll old.written new.written result) (ok ∙ is.text) writes);
+  writes = sent_whole m at.done.replied close old.written new.written result post
+      (subst (WritesAll old.written new.written result) (ok ∙ at.done.text) writes);
 }
-answered_exchange m close old new result reading seat r reply (Err none) post opened is_asked is ok err gave unsent writes = record {
-  exchanged = with_turn m reading seat old.book new.book r close reply is no_memory;
+answered_exchange m close old new result reading seat r reply (Err none) post opened is_asked at ok err gave unsent writes = record {
+  exchanged = with_turn m reading seat at.mid new.book r close reply at.done no_memory;
   message_is = refl;
-  made = turn_made m reading seat old new r close reply is no_memory
-      (posted post (unrendered r is.replied is_asked (record {
-        turn = record { before = state_of old.book; turn = is.turn };
+  made = turn_made m reading seat old new r close reply at no_memory
+      (posted post (unrendered r at.done.replied is_asked (record {
+        turn = record { before = state_of at.mid; turn = at.done.turn };
         turns = refl;
         no_steps = refl;
         no_looks = refl;
-        ask = is.from.made_for;
-        answer = is.answer;
-      }) (is.unwritten err) refl)) opened is_asked.read_at gave unsent;
+        no_tries = refl;
+        ask = at.done.from.made_for;
+        answer = at.done.answer;
+      }) (at.done.unwritten err) refl)) opened is_asked.read_at gave unsent;
   writes = sent_whole m no_memory close old.written new.written result post writes;
 }
 
 -- the message is refused, or out of memory while it was read
-pub fault_exchange : (m : Message) (close : Bool) (old new : World) (result : Result (Unit {0}) Failed) (reading : ℕ)
+pub fault_exchange : (seat : Seat) (m : Message) (close : Bool) (old new : World) (result : Result (Unit {0}) Failed) (reading : ℕ)
     (fault : CallFault) (bytes : Result (List ℕ) NoMemory)
-    → is_post m.method ≡ true → new.book ≡ old.book → IsFault m fault → IfOk bytes (λ b. IsFaultText fault close b)
+    → is_post m.method ≡ true → HasLearned seat.pass old.book new.book → IsFault m fault → IfOk bytes (λ b. IsFaultText fault close b)
     → Gives old.ahead new.ahead (reading ∷ []) → IsUnsent old new → WritesAll old.written new.written result (text_or bytes close)
-    → ExchangeOf m close old new result
-fault_exchange m close old new result reading fault (Err none) post same is ok gave unsent writes =
-    refused_exchange m close old new result reading post same gave unsent writes
-fault_exchange m close old new result reading (faults.Refused c) (Ok bytes) post same is ok gave unsent writes = record {
+    → ExchangeOf seat m close old new result
+fault_exchange seat m close old new result reading fault (Err none) post l is ok gave unsent writes =
+    refused_exchange seat m close old new result reading post l gave unsent writes
+fault_exchange seat m close old new result reading (faults.Refused c) (Ok bytes) post l is ok gave unsent writes = record {
   exchanged = unturned m reading (refusal_of c);
   message_is = refl;
-  made = nothing_made m reading (refusal_of c) old new
-      (posted post (refused c is (record { no_steps = refl; no_turns = refl; no_looks = refl; replies = refl }))) same gave unsent;
+  made = nothing_made seat m reading (refusal_of c) old new (posted post (refused c is (is_unturned m reading (refusal_of c)))) l gave unsent;
   writes = sent_whole m (refusal_of c) close old.written new.written result post (subst (WritesAll old.written new.written result) ok writes);
 }
-fault_exchange m close old new result reading faults.NoMemory (Ok bytes) post same is ok gave unsent writes = absurd ok
+fault_exchange seat m close old new result reading faults.NoMemory (Ok bytes) post l is ok gave unsent writes = absurd ok
+
+-- the pass learned nothing
+pub learned_none : (n : ℕ) (old new : BookState) → new ≡ old → HasLearned n old new
+learned_none n old new same = record {
+  opened = ap (λ (b : BookState). b.opened) same;
+  more = [];
+  turns = ap (λ (b : BookState). b.turns) same ∙ sym (append-nil old.turns);
+  by_others = refl;
+}
 
 -- the steps of a DeliverDue
-pub delivery_exchange : (m : Message) (close : Bool) (old new : World) (ahead_mid : Option (ℕ → ℕ)) (result : Result (Unit {0}) Failed) (reading : ℕ)
-    (r : Request) (budget : ℕ) → is_post m.method ≡ true → new.book.opened ≡ old.book.opened → IsBook new.book → IsAsked m (moment_of reading) r
-    → r.action ≡ deliver_due budget → Gives old.ahead ahead_mid (reading ∷ [])
-    → AnswersDelivery budget close (world old.book old.left old.written ahead_mid old.answered old.link_faults) new result
-    → ExchangeOf m close old new result
-delivery_exchange m close old new ahead_mid result reading r budget post opened book is_asked due gave (inl d) =
-    let s = state_of old.book in
-    let turns = placed s d.steps.added in
+pub delivery_exchange : (seat : Seat) (m : Message) (close : Bool) (old new : World) (ahead_mid : Option (ℕ → ℕ)) (result : Result (Unit {0}) Failed)
+    (reading : ℕ) (r : Request) (budget : ℕ) → is_post m.method ≡ true → new.book.opened ≡ old.book.opened → IsBook new.book
+    → IsAsked m (moment_of reading) r → r.action ≡ deliver_due budget → Gives old.ahead ahead_mid (reading ∷ [])
+    → AnswersDelivery seat budget close (world old.book old.left old.written ahead_mid old.answered old.link_faults) new result
+    → ExchangeOf seat m close old new result
+delivery_exchange seat m close old new ahead_mid result reading r budget post opened book is_asked due gave (inl d) =
+    let n : ℕ = seat.pass in
+    let s : State = state_of old.book in
+    let added : List Turn = d.steps.added in
+    let turns : List Placed = placed_by n (placed s added) in
     let e : Exchange = record {
       message = m;
       reading = reading;
       steps = d.steps.readings;
       turns = turns;
       looks = state_of new.book ∷ [];
+      tries = tries_with d.steps.delivered.attempts d.steps.delivered.last;
       reply = d.reply;
     } in
     let is : IsExchange e = posted post (delivered r budget is_asked due (record {
@@ -187,34 +229,46 @@ delivery_exchange m close old new ahead_mid result reading r budget post opened 
       looks = refl;
       result = d.made;
       delivered = d.steps.delivered;
+      tries = refl;
       replies = d.replies;
     })) in
-    let legal : IsLegal s d.steps.added = legal_back old.book.opened old.book.turns d.steps.added
+    let legal : IsLegal s added = legal_back old.book.opened old.book.turns added
     (subst (λ (ts : List Turn). IsLegal old.book.opened ts) d.steps.turns (subst (λ (x : State). IsLegal x new.book.turns) opened book.legal)) in
-    let look = state_added old.book new.book d.steps.added opened d.steps.turns ∙ sym (after_of_placed s d.steps.added) in
+    let look : IsLookAt n s added turns (state_of new.book) =
+    (added, [], sym (append-nil added), refl, state_added old.book new.book added opened d.steps.turns) in
     record {
       exchanged = e;
       message_is = refl;
-      made = one_made old new e d.steps.added is opened d.steps.turns refl
-          (All-cons (λ (x : State). x ≡ after_placed turns s) (state_of new.book) [] look (All-nil (λ (x : State). x ≡ after_placed turns s)))
+      made = one_made seat old new e added is opened d.steps.turns refl d.steps.named
+          (All-cons (IsLookAt n s added turns) (state_of new.book) [] look (All-nil (IsLookAt n s added turns)))
           (Gives-append gave d.steps.gives)
-          (sublist_skip (asked_readings d.steps.added) (map moment_of d.steps.readings) (moment_of reading)
-          (delivered_read budget s (state_of new.book) d.steps.added d.steps.readings d.made d.steps.delivered))
-          (delivered_latest budget s (state_of new.book) d.steps.added d.steps.readings d.made legal d.steps.delivered)
-          (subst (AreSent old.answered new.answered old.link_faults new.link_faults)
-          (sym (delivered_attempts turns d.steps.delivered.attempts d.steps.delivered.last d.steps.delivered.steps)) d.steps.sent);
+          (sublist_skip (asked_readings (turns_by n added)) (map moment_of d.steps.readings) (moment_of reading)
+          (delivered_read budget n s (state_of new.book) added d.steps.readings d.made d.steps.delivered))
+          (delivered_current budget n s (state_of new.book) added d.steps.readings d.made legal d.steps.delivered)
+          d.steps.sent;
       writes = sent_whole m d.reply close old.written new.written result post d.writes;
     }
-delivery_exchange m close old new ahead_mid result reading r budget post opened book is_asked due gave (inr u) =
-    refused_exchange m close old new result reading post u.book (Gives-append gave u.readings) u.unsent u.writes
+delivery_exchange seat m close old new ahead_mid result reading r budget post opened book is_asked due gave (inr u) =
+    refused_exchange seat m close old new result reading post (learned_none seat.pass old.book new.book u.book) (Gives-append gave u.readings) u.unsent
+    u.writes
 
 claims_written : (b : Option Batch) (s : State) → (after_written b s).open_claims ≡ s.open_claims
 claims_written None s = refl
 claims_written (Some b) s = refl
 
+-- others made turns
+pub learned_closes : (n : ℕ) (old new : BookState) → HasLearned n old new → claims_by n (state_of old).open_claims ≡ []
+    → claims_by n (state_of new).open_claims ≡ []
+learned_closes n old new l none =
+    ap (λ (s : State). claims_by n s.open_claims) (state_added old new l.more l.opened l.turns) ∙ none_of_mine n l.more (state_of old) l.by_others none
+
 -- a request of one turn opens no claim and ends none
-pub answered_closes : (seat : Seat) (old new : BookState) (r : Request) (close : Bool) (reply : TurnReply) → IsAnswered seat old new r close reply
-    → new.opened ≡ old.opened → (state_of old).open_claims ≡ [] → (state_of new).open_claims ≡ []
-answered_closes seat old new r close reply is opened none =
-    ap (λ (s : State). s.open_claims) (state_added old new (is.turn ∷ []) opened is.turns)
-    ∙ ap (λ (ask : Ask). (after_ask is.turn ask (state_of old)).open_claims) is.from.made_for ∙ claims_written is.turn.batch (state_of old) ∙ none
+pub answered_closes : (seat : Seat) (old new : BookState) (r : Request) (close : Bool) (reply : TurnReply) → TurnOf seat r close reply old new
+    → new.opened ≡ old.opened → claims_by seat.pass (state_of old).open_claims ≡ [] → claims_by seat.pass (state_of new).open_claims ≡ []
+answered_closes seat old new r close reply at opened none =
+    let is = at.done in
+    let before : claims_by seat.pass (state_of at.mid).open_claims ≡ [] = learned_closes seat.pass old at.mid at.learned none in
+    ap (claims_by seat.pass)
+    (ap (λ (s : State). s.open_claims) (state_added at.mid new (is.turn ∷ []) (opened ∙ sym at.learned.opened) is.turns)
+    ∙ ap (λ (ask : Ask). (after_ask is.turn ask (state_of at.mid)).open_claims) is.from.made_for ∙ claims_written is.turn.batch (state_of at.mid))
+    ∙ before

@@ -11,7 +11,7 @@ use Rattle.courier_run.specs.Steps.{Attempt, Step, claims, records, puts_back, s
 use Rattle.courier_run.specs.Turn.{End, at_budget, unclaimed, unsent, unrecorded, last_steps, last_moments}
 use Rattle.bus_server.specs.History.{State, Turn, IsTurnOf, after_turn, IsLegal, Placed, placed}
 use Rattle.bus_server.specs.Delivery.{step_of, step_for, IsIdle, IsFullAt}
-use Rattle.bus_server.specs.Exchanges.{after_placed}
+use Rattle.bus_server.proofs.PlacedLemmas.{after_placed}
 use Rattle.bus_server.specs.OneSession.{RecordsAttempt, AreAnsweredAlike}
 use Rattle.bus_server.proofs.SteadyLemmas.{IsSteady, steady_turn}
 use Rattle.bus_server.proofs.OneStepLemmas.{IsAttemptIn, attempt_at, put_back_at, same_attempt, none_next}

@@ -4,7 +4,7 @@ use Rattle.std.proofs.Common.{ap, ◌∙◌, subst, arith}
 use Rattle.std.specs.Prelude.{All, Contains, ◌||◌, ◌==◌}
 use Rattle.std.proofs.lemmas.List.{map-append, length-map}
 use Rattle.std.proofs.lemmas.List.Elements.{All-nil, All-cons, All-head, All-tail, Contains-append_left, Contains-append_right}
-use Rattle.rule_table.specs.Control.{Control}
+use Rattle.config_changes.specs.Control.{Control}
 use Rattle.rule_table.specs.RuleSet.{RuleSet, rule_set_at}
 use Rattle.router_core.specs.Request.{Request, Action, deliver_due}
 use Rattle.router_core.specs.Batch.{Batch}
@@ -28,14 +28,15 @@ use Rattle.bus_server.specs.Delivery.{step_of, IsIdle, IsFullAt}
 use Rattle.bus_server.specs.Exchange.{Exchange, IsExchange, IsPosted, IsOneTurn, IsWithoutTurn, IsDelivery, IsDeliveryReply, counts_of, exchange_text}
 use Rattle.bus_server.specs.Exchange.{sent_text}
 use Rattle.bus_server.specs.Exchange.{refused, answered, unrendered, delivered, out_of_memory, unposted, posted}
-use Rattle.bus_server.specs.Exchanges.{turns_of, readings_of, messages_of, after_placed, LookAfterTurns}
+use Rattle.bus_server.specs.Exchanges.{turns_of, readings_of, messages_of}
 use Rattle.bus_server.specs.Session.{closes, texts_from, request_limit}
 use Rattle.bus_server.specs.OneSession.{AreAnsweredAlike}
 use Rattle.bus_server.proofs.SteadyLemmas.{IsSteady}
 use Rattle.bus_server.proofs.OneDeliveryLemmas.{SameState, IsLegalFrom, legal_split, steady_placed, Agree, agree_front, agree_rest, agree_map, Over}
 use Rattle.bus_server.proofs.OneDeliveryLemmas.{used, none_due, at_limit}
 use Rattle.bus_server.proofs.OneDeliveryLemmas.{Attempts, readings_in, same_attempts}
-use Rattle.bus_server.proofs.PlacedLemmas.{IsByLatest, after_append}
+use Rattle.bus_server.proofs.PlacedLemmas.{IsByLatest, after_placed, after_append}
+use Rattle.bus_server.proofs.AloneLemmas.{LookAfterTurns}
 
 -- the law of `router_calls`: a request has at most one answer
 abbrev pub OneAnswer : Type 0

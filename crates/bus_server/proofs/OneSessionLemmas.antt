@@ -11,19 +11,18 @@ use Rattle.api_messages.specs.declared.message.Refusal.{Refusal}
 use Rattle.api_messages.specs.Between.{AreEmptyLines}
 use Rattle.api_messages.specs.Messages.{HoldsMessage, IsStream, IsAwaited, IsRefused}
 use Rattle.api_messages.proofs.MessageLemmas.{one_message, not_refused, not_awaited, undecided, one_refusal}
+use Rattle.bus_server.specs.declared.book.Seat.{Seat}
 use Rattle.bus_server.specs.declared.session.SessionEnd.{SessionEnd}
 use Rattle.bus_server.specs.declared.session.SessionEnd.TheVariants.{Closed, Cut, Refused, Long, ReadFault, WriteFault, NoMemory}
-use Rattle.bus_server.specs.History.{State, Turn, Placed, IsLegal}
-use Rattle.bus_server.specs.Book.{BookState, state_of, IsBook}
+use Rattle.bus_server.specs.Book.{BookState, state_of}
 use Rattle.bus_server.specs.Exchange.{Exchange}
-use Rattle.bus_server.specs.Exchanges.{turns_of, readings_of, messages_of, after_placed, AreAdded}
+use Rattle.bus_server.specs.Exchanges.{readings_of, messages_of, AreAdded, IsAlone}
 use Rattle.bus_server.specs.Session.{request_limit, NoneCloses, LastCloses, OpenBefore, Course, refusal_reply, EndsWith, IsSession, texts_of}
 use Rattle.bus_server.specs.World.{World}
 use Rattle.bus_server.specs.OneSession.{IsUndisturbed, IsPlain, BeginAlike, EndAlike, IsUndecided}
-use Rattle.bus_server.proofs.HistoryLemmas.{legal_back}
 use Rattle.bus_server.proofs.SteadyLemmas.{IsSteady, steady_begun, steady_after}
-use Rattle.bus_server.proofs.PlacedLemmas.{state_added, after_of_placed}
-use Rattle.bus_server.proofs.OneDeliveryLemmas.{Agree, IsLegalFrom, legal_placed}
+use Rattle.bus_server.proofs.AloneLemmas.{added_alone, tables_added}
+use Rattle.bus_server.proofs.OneDeliveryLemmas.{Agree}
 use Rattle.bus_server.proofs.OneExchangeLemmas.{OneAnswer, ExchangesAt, same_exchanges}
 
 -- the readings of two clocks that are to give the same
@@ -245,38 +244,32 @@ same_stop ms rest _ _ _ _ (at_limit count opens) (inside short opens2 none2 line
 same_stop ms rest _ _ _ _ (at_limit count opens) (at_refusal short opens2 none2 why is) = absurd (omega (arith, short, count))
 same_stop ms rest _ _ _ _ (at_limit count opens) (at_limit count2 opens2) = inl (refl, refl)
 
--- the exchanges of a plain session
-exchanges_at : (old new : BookState) (end : SessionEnd) (c : Course) → IsSteady (state_of old) → AreAdded old new c.exchanges → IsPlain new end c
-    → ExchangesAt (state_of old) c.exchanges
-exchanges_at old new end c steady added plain =
-    let legal : IsLegal (state_of old) added.added = legal_back old.opened old.turns added.added
-    (subst (λ (ts : List Turn). IsLegal old.opened ts) added.turns (subst (λ (s : State). IsLegal s new.turns) added.opened plain.book.legal)) in
+-- the exchanges of a plain session, which made all turns
+exchanges_at : (seat : Seat) (old new : BookState) (end : SessionEnd) (c : Course) → IsSteady (state_of old) → (added : AreAdded seat old new c.exchanges)
+    → IsAlone seat added.added → IsPlain new end c → ExchangesAt (state_of old) c.exchanges
+exchanges_at seat old new end c steady added alone plain =
+    let were = added_alone seat old new c.exchanges added alone plain.book in
     record {
-      each = added.each;
-      legal = subst (IsLegalFrom (state_of old)) (sym added.own) (legal_placed (state_of old) added.added legal);
+      each = were.each;
+      legal = were.legal;
       steady = steady;
-      looks = added.looks;
+      looks = were.looks;
       remembered = plain.replies;
-      latest = added.latest;
+      latest = were.latest;
     }
 
--- the tables after a session
-tables_added : (old new : BookState) (es : List Exchange) → AreAdded old new es → IsBook new → new.tables ≡ (after_placed (turns_of es) (state_of old)).tables
-tables_added old new es added book =
-    sym book.tables
-    ∙ ap (λ (s : State). s.tables) (state_added old new added.added added.opened added.turns ∙ sym (after_of_placed (state_of old) added.added)
-    ∙ ap (λ (ps : List Placed). after_placed ps (state_of old)) (sym added.own))
-
 -- the law
-pub end_alike : OneAnswer → (old new other other_new : World) (end other_end : SessionEnd)
-    (one : IsSession old new end) (two : IsSession other other_new other_end)
-    → BeginAlike old new other other_new end other_end one two → EndAlike old new other other_new end other_end one two
-end_alike one_answer old new other other_new end other_end one two begin =
+pub end_alike : OneAnswer → (old new other other_new : World) (end other_end : SessionEnd) (seat other_seat : Seat)
+    (one : IsSession seat old new end) (two : IsSession other_seat other other_new other_end)
+    → BeginAlike seat other_seat old new other other_new end other_end one two → EndAlike seat other_seat old new other other_new end other_end one two
+end_alike one_answer old new other other_new end other_end seat other_seat one two begin =
     let c = one.course in
     let d = two.course in
     let s = state_of old.book in
     let steady : IsSteady s = steady_after old.book.turns old.book.opened (subst IsSteady (sym begin.opened) steady_begun) in
-    let moved : AreAdded old.book other_new.book d.exchanges = subst (λ (b : BookState). AreAdded b other_new.book d.exchanges) begin.book two.exchanges in
+    let (moved, moved_alone) : (a : AreAdded other_seat old.book other_new.book d.exchanges) × IsAlone other_seat a.added =
+    subst (λ (b : BookState). (a : AreAdded other_seat b other_new.book d.exchanges) × IsAlone other_seat a.added) begin.book
+    (two.exchanges, begin.other_alone) in
     let stop = stop_of end c _ begin.plain.undisturbed one.ends in
     let stop_too = stop_of other_end d _ begin.other_plain.undisturbed two.ends in
     let same = same_messages one.taken c.rest d.rest (messages_of c.exchanges) (messages_of d.exchanges) end other_end c.closing d.closing
@@ -284,14 +277,15 @@ end_alike one_answer old new other other_new end other_end one two begin =
     let agree = agree_clocks old.ahead other.ahead new.ahead other_new.ahead begin.readings (readings_of c.exchanges) (readings_of d.exchanges)
     begin.ahead begin.other_ahead one.readings two.readings in
     let equal = same_exchanges s s c.exchanges d.exchanges one_answer (record { tables = refl; controls = refl }) same.0 agree begin.answers
-    (exchanges_at old.book new.book end c steady one.exchanges begin.plain) (exchanges_at old.book other_new.book other_end d steady moved begin.other_plain) in
+    (exchanges_at seat old.book new.book end c steady one.exchanges begin.alone begin.plain)
+    (exchanges_at other_seat old.book other_new.book other_end d steady moved moved_alone begin.other_plain) in
     let moved_stop : Stop (messages_of c.exchanges) c.rest other_end d.closing =
     subst (λ (ms : List Message). Stop ms c.rest other_end d.closing) same.0
     (subst (λ (r : List ℕ). Stop (messages_of d.exchanges) r other_end d.closing) same.1 stop_too) in
     record {
       texts = equal.texts 0;
-      tables = tables_added old.book other_new.book d.exchanges moved begin.other_plain.book ∙ equal.state.tables
-          ∙ sym (tables_added old.book new.book c.exchanges one.exchanges begin.plain.book);
+      tables = tables_added other_seat old.book other_new.book d.exchanges moved moved_alone begin.other_plain.book ∙ equal.state.tables
+          ∙ sym (tables_added seat old.book new.book c.exchanges one.exchanges begin.alone begin.plain.book);
       rest = same.1;
       ends = elim (same_stop (messages_of c.exchanges) c.rest end other_end c.closing d.closing stop moved_stop) [
         | inl alike ↦ inl (

@@ -1,11 +1,11 @@
 -- Pending duties: in the order of their numbers, each under its own number, and none above the number of duties made so far. Each change of
--- the tables keeps this. Other files cite `IsNumbered`, `entries_numbered`, `marked_numbered`, `row_number`, `ordered_of`, `marked_row_there`, `released` and
+-- the tables keeps this. Other files cite `IsNumbered`, `entries_numbered`, `marked_numbered`, `key_has`, `row_number`, `ordered_of`, `marked_row_there`, `released` and
 -- `restored`.
 use Rattle.std.proofs.Common.{◌≡◌, ◌≢◌, ℕ, ◌+◌, ◌<◌, ◌≤◌, Bool, true, false, cond, eqb, ltb, List, [], ◌∷◌, Option, Some, None, refl, sym, ap, ◌∙◌, subst}
 use Rattle.std.proofs.Common.{arith}
 use Rattle.std.proofs.lemmas.Bool.{eq-eqb, eqb-true, le-ltb}
-use Rattle.rule_table.specs.Control.{Control, bus_created, bus_deleted, rule_put, rule_deleted, state_put, targets_put, targets_removed, policy_put}
-use Rattle.rule_table.specs.Control.{queue_created, queue_deleted}
+use Rattle.config_changes.specs.Control.{Control, bus_created, bus_deleted, rule_put, rule_deleted, state_put, targets_put, targets_removed, policy_put}
+use Rattle.config_changes.specs.Control.{queue_created, queue_deleted}
 use Rattle.key_tree.specs.Entries.{value_at, placed, without, AllKeys, AreSorted}
 use Rattle.key_tree.proofs.EntryLemmas.{AllKeys-weaker, AllKeys-placed, AllKeys-without, others, placed_lower, sorted_placed, sorted_without}
 use Rattle.key_tree.proofs.EntryLemmas.{value_at-placed, value_at-without_same, without_none}
@@ -56,7 +56,7 @@ name_at key row (x ∷ es) a e =
       | false ↦ λ i h. name_at key row es a.1 h
     ]) refl e
 
-key_has : {V : Type 0} (P : ℕ → Type 0) (key : ℕ) (w : V) (es : List (ℕ × V)) → AllKeys P es → value_at key es ≡ Some w → P key
+pub key_has : {V : Type 0} (P : ℕ → Type 0) (key : ℕ) (w : V) (es : List (ℕ × V)) → AllKeys P es → value_at key es ≡ Some w → P key
 key_has P key w [] a e = absurd (cc)
 key_has P key w (x ∷ es) a e =
     (elim (eqb x.0 key) as (λ b. eqb x.0 key ≡ b → cond b (Some x.1) (value_at key es) ≡ Some w → P key) [

@@ -1,7 +1,7 @@
 -- The turns of a DeliverDue: their readings are some of the clock's, and they go by the latest configuration version. Other files cite
--- `delivered_read` and `delivered_latest`.
-use Rattle.std.proofs.Common.{◌≡◌, ℕ, inl, List, [], ◌∷◌, ◌++◌, map, Option, Some, None, Result, sym, refl, ap, ◌∙◌, subst}
-use Rattle.std.specs.Prelude.{unwrap_or, All}
+-- `delivered_read` and `delivered_current`.
+use Rattle.std.proofs.Common.{◌≡◌, ℕ, true, false, cond, inl, List, [], ◌∷◌, ◌++◌, length, map, arith, Option, Some, None, Result, sym, refl, ap, ◌∙◌, subst}
+use Rattle.std.specs.Prelude.{◌==◌, unwrap_or, All}
 use Rattle.std.specs.Option.{option_map}
 use Rattle.std.proofs.lemmas.List.Elements.{All-nil, All-cons}
 use Rattle.delivery_duties.specs.declared.duty.DutyRow.{DutyRow}
@@ -13,10 +13,12 @@ use Rattle.courier_run.specs.Claim.{Claim, moment_of}
 use Rattle.courier_run.specs.Steps.{Attempt, Step, claims, records, puts_back, other, steps_of}
 use Rattle.courier_run.specs.Turn.{End, at_budget, unclaimed, unsent, unrecorded, last_steps, last_moments}
 use Rattle.bus_server.specs.History as history
-use Rattle.bus_server.specs.History.{State, Turn, Ask, placed, after_turn, readings_at, asked_readings, IsLegal, IsTurnFor, IsLatest}
+use Rattle.bus_server.specs.History.{State, Turn, Ask, Placed, placed, placed_by, turns_by, after_turn, readings_at, asked_readings, IsLegal, IsTurnFor, IsLatest}
 use Rattle.bus_server.specs.Sublist.{IsSublist}
 use Rattle.bus_server.specs.Delivery.{claim_of, claim_in, attempt_in, step_for, step_of, IsDelivered}
-use Rattle.bus_server.proofs.PlacedLemmas.{IsByLatest, sublist_same}
+use Rattle.bus_server.specs.Exchanges.{AreCurrent}
+use Rattle.bus_server.proofs.PassLemmas.{placed_of_pass}
+use Rattle.bus_server.proofs.PlacedLemmas.{IsByLatest, sublist_same, current_latest}
 
 -- a turn with this step has these readings
 abbrev HasReadings : Step → List ℕ → Type 0
@@ -51,50 +53,53 @@ readings_by s ask step is = subst (λ (x : Step). HasReadings x (readings_at ask
 pair_readings : (first later : List ℕ) (reading : ℕ) → first ≡ reading ∷ [] → later ≡ [] → (rest : List ℕ) → first ++ (later ++ rest) ≡ reading ∷ rest
 pair_readings first later reading is none rest = ap (λ (xs : List ℕ). xs ++ (later ++ rest)) is ∙ ap (λ (xs : List ℕ). reading ∷ (xs ++ rest)) none
 
-none_left : (s : State) (turns : List Turn) → map step_of (placed s turns) ≡ [] → asked_readings turns ≡ []
-none_left s [] is = refl
-none_left s (t ∷ ts) is = cc
+-- the turns of placed turns
+abbrev pub turns_at : List Placed → List Turn
+turns_at ps = map (λ p. p.turn) ps
 
-put_back_readings : (s : State) (turns : List Turn) (c : Claim) → map step_of (placed s turns) ≡ claims c ∷ puts_back c ∷ []
-    → asked_readings turns ≡ c.reading ∷ []
-put_back_readings s [] c is = cc
-put_back_readings s (t ∷ []) c is = cc
-put_back_readings s (t ∷ u ∷ []) c is =
-    let first : step_for s t.ask ≡ claims c = cc in
-    let later : step_for (after_turn t s) u.ask ≡ puts_back c = cc in
-    pair_readings (readings_at t.ask) (readings_at u.ask) c.reading (readings_by s t.ask (claims c) first)
-    (readings_by (after_turn t s) u.ask (puts_back c) later) []
-put_back_readings s (t ∷ u ∷ v ∷ ts) c is = cc
+none_left : (ps : List Placed) → map step_of ps ≡ [] → asked_readings (turns_at ps) ≡ []
+none_left [] is = refl
+none_left (p ∷ ps) is = cc
 
-last_readings : (s : State) (turns : List Turn) (last : End) → map step_of (placed s turns) ≡ last_steps last
-    → IsSublist (asked_readings turns) (last_moments last)
-last_readings s turns at_budget is = subst (λ (rs : List ℕ). IsSublist rs []) (sym (none_left s turns is)) tt
-last_readings s turns (unclaimed moment) is = subst (λ (rs : List ℕ). IsSublist rs (moment ∷ [])) (sym (none_left s turns is)) tt
-last_readings s turns (unsent c) is =
-    subst (λ (rs : List ℕ). IsSublist rs (c.reading ∷ [])) (sym (put_back_readings s turns c is)) (sublist_same (c.reading ∷ []))
-last_readings s turns (unrecorded c outcome) is =
-    subst (λ (rs : List ℕ). IsSublist rs (c.reading ∷ [])) (sym (put_back_readings s turns c is)) (sublist_same (c.reading ∷ []))
+put_back_readings : (ps : List Placed) (c : Claim) → map step_of ps ≡ claims c ∷ puts_back c ∷ [] → asked_readings (turns_at ps) ≡ c.reading ∷ []
+put_back_readings [] c is = cc
+put_back_readings (p ∷ []) c is = cc
+put_back_readings (p ∷ q ∷ []) c is =
+    let first : step_of p ≡ claims c = cc in
+    let later : step_of q ≡ puts_back c = cc in
+    pair_readings (readings_at p.turn.ask) (readings_at q.turn.ask) c.reading (readings_by p.before p.turn.ask (claims c) first)
+    (readings_by q.before q.turn.ask (puts_back c) later) []
+put_back_readings (p ∷ q ∷ r ∷ ps) c is = cc
 
-steps_readings : (s : State) (turns : List Turn) (attempts : List Attempt) (last : End)
-    → map step_of (placed s turns) ≡ steps_of attempts ++ last_steps last
-    → IsSublist (asked_readings turns) (map (λ (a : Attempt). a.claim.reading) attempts ++ last_moments last)
-steps_readings s turns [] last is = last_readings s turns last is
-steps_readings s [] (a ∷ attempts) last is = cc
-steps_readings s (t ∷ []) (a ∷ attempts) last is = cc
-steps_readings s (t ∷ u ∷ ts) (a ∷ attempts) last is =
-    let first : step_for s t.ask ≡ claims a.claim = cc in
-    let later : step_for (after_turn t s) u.ask ≡ records a = cc in
-    let rest : map step_of (placed (after_turn u (after_turn t s)) ts) ≡ steps_of attempts ++ last_steps last = cc in
+last_readings : (ps : List Placed) (last : End) → map step_of ps ≡ last_steps last → IsSublist (asked_readings (turns_at ps)) (last_moments last)
+last_readings ps at_budget is = subst (λ (rs : List ℕ). IsSublist rs []) (sym (none_left ps is)) tt
+last_readings ps (unclaimed moment) is = subst (λ (rs : List ℕ). IsSublist rs (moment ∷ [])) (sym (none_left ps is)) tt
+last_readings ps (unsent c) is =
+    subst (λ (rs : List ℕ). IsSublist rs (c.reading ∷ [])) (sym (put_back_readings ps c is)) (sublist_same (c.reading ∷ []))
+last_readings ps (unrecorded c outcome) is =
+    subst (λ (rs : List ℕ). IsSublist rs (c.reading ∷ [])) (sym (put_back_readings ps c is)) (sublist_same (c.reading ∷ []))
+
+steps_readings : (ps : List Placed) (attempts : List Attempt) (last : End) → map step_of ps ≡ steps_of attempts ++ last_steps last
+    → IsSublist (asked_readings (turns_at ps)) (map (λ (a : Attempt). a.claim.reading) attempts ++ last_moments last)
+steps_readings ps [] last is = last_readings ps last is
+steps_readings [] (a ∷ attempts) last is = cc
+steps_readings (p ∷ []) (a ∷ attempts) last is = cc
+steps_readings (p ∷ q ∷ ps) (a ∷ attempts) last is =
+    let first : step_of p ≡ claims a.claim = cc in
+    let later : step_of q ≡ records a = cc in
+    let rest : map step_of ps ≡ steps_of attempts ++ last_steps last = cc in
     subst (λ (rs : List ℕ). IsSublist rs (a.claim.reading ∷ (map (λ (b : Attempt). b.claim.reading) attempts ++ last_moments last)))
-    (sym (pair_readings (readings_at t.ask) (readings_at u.ask) a.claim.reading (readings_by s t.ask (claims a.claim) first)
-    (readings_by (after_turn t s) u.ask (records a) later) (asked_readings ts)))
-    (inl (refl, steps_readings (after_turn u (after_turn t s)) ts attempts last rest))
+    (sym (pair_readings (readings_at p.turn.ask) (readings_at q.turn.ask) a.claim.reading (readings_by p.before p.turn.ask (claims a.claim) first)
+    (readings_by q.before q.turn.ask (records a) later) (asked_readings (turns_at ps))))
+    (inl (refl, steps_readings ps attempts last rest))
 
--- the turns of a DeliverDue
-pub delivered_read : (budget : ℕ) (s look : State) (turns : List Turn) (readings : List ℕ) (result : Result Turned TurnFault)
-    → IsDelivered budget (placed s turns) readings look result → IsSublist (asked_readings turns) (map moment_of readings)
-delivered_read budget s look turns readings result d =
-    subst (λ (ms : List ℕ). IsSublist (asked_readings turns) ms) (sym d.moments) (steps_readings s turns d.attempts d.last d.steps)
+-- the turns of a DeliverDue, among all turns
+pub delivered_read : (budget n : ℕ) (s look : State) (turns : List Turn) (readings : List ℕ) (result : Result Turned TurnFault)
+    → IsDelivered budget (placed_by n (placed s turns)) readings look result → IsSublist (asked_readings (turns_by n turns)) (map moment_of readings)
+delivered_read budget n s look turns readings result d =
+    subst (λ (ts : List Turn). IsSublist (asked_readings ts) (map moment_of readings)) (placed_of_pass n s turns)
+    (subst (λ (ms : List ℕ). IsSublist (asked_readings (turns_at (placed_by n (placed s turns)))) ms) (sym d.moments)
+    (steps_readings (placed_by n (placed s turns)) d.attempts d.last d.steps))
 
 -- no step is one of another user's turns
 abbrev NoneOther : List Step → Type 0
@@ -126,15 +131,22 @@ by_latest s turn (history.claims duty reading) legal own = legal.latest
 by_latest s turn (history.records duty reading outcome) legal own = legal.ends.latest
 by_latest s turn (history.puts_back duty) legal own = legal.1.2.latest
 
-steps_latest : (s : State) (turns : List Turn) → IsLegal s turns → NoneOther (map step_of (placed s turns)) → All IsByLatest (placed s turns)
-steps_latest s [] legal none = All-nil IsByLatest
-steps_latest s (t ∷ ts) legal none =
-    let own = first_other (step_for s t.ask) (map step_of (placed (after_turn t s) ts)) none in
-    All-cons IsByLatest (record { before = s; turn = t }) (placed (after_turn t s) ts) (by_latest s t t.ask legal.0 own.0)
-    (steps_latest (after_turn t s) ts legal.1 own.1)
+steps_latest : (n : ℕ) (s : State) (turns : List Turn) → IsLegal s turns → NoneOther (map step_of (placed_by n (placed s turns)))
+    → All IsByLatest (placed_by n (placed s turns))
+steps_latest n s [] legal none = All-nil IsByLatest
+steps_latest n s (t ∷ ts) legal none =
+    let p : Placed = record { before = s; turn = t } in
+    let rest : List Placed = placed_by n (placed (after_turn t s) ts) in
+    (elim (t.pass == n) as (λ b. NoneOther (map step_of (cond b (p ∷ rest) rest)) → All IsByLatest (cond b (p ∷ rest) rest)) [
+      | true ↦ λ is. let own = first_other (step_for s t.ask) (map step_of rest) is in
+          All-cons IsByLatest p rest (by_latest s t t.ask legal.0 own.0) (steps_latest n (after_turn t s) ts legal.1 own.1)
+      | false ↦ λ is. steps_latest n (after_turn t s) ts legal.1 is
+    ]) none
 
 -- the versions of the turns of a DeliverDue
-pub delivered_latest : (budget : ℕ) (s look : State) (turns : List Turn) (readings : List ℕ) (result : Result Turned TurnFault)
-    → IsLegal s turns → IsDelivered budget (placed s turns) readings look result → All IsByLatest (placed s turns)
-delivered_latest budget s look turns readings result legal d =
-    steps_latest s turns legal (subst NoneOther (sym d.steps) (none_other d.attempts d.last))
+pub delivered_current : (budget n : ℕ) (s look : State) (turns : List Turn) (readings : List ℕ) (result : Result Turned TurnFault)
+    → IsLegal s turns → IsDelivered budget (placed_by n (placed s turns)) readings look result
+    → AreCurrent (length s.controls) (placed_by n (placed s turns))
+delivered_current budget n s look turns readings result legal d =
+    current_latest n (length s.controls) s turns (omega arith)
+    (steps_latest n s turns legal (subst NoneOther (sym d.steps) (none_other d.attempts d.last)))

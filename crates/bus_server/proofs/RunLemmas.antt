@@ -1,35 +1,48 @@
 -- The run of a program. Other files cite `runs_once`, `run_linked`, `run_still`, `run_clocked` and `unlinked` (its session), and `end_faults` and
 -- `no_door_fault` (its faults).
 use Rattle.std.proofs.Common.{◌≡◌, ◌≢◌, ℕ, ◌⊎◌, inl, inr, List, [], ◌∷◌, ◌++◌, Option, Some, None, refl, sym, ap, ◌∙◌, subst}
+use Rattle.std.specs.Prelude.{All}
 use Rattle.std.specs.Io.KnownBytes.{Keeps}
 use Rattle.router_disk.specs.Clock.{repeating}
 use Rattle.router_disk.specs.Faults.{Rose}
 use Rattle.router_disk.specs.Link.{Exchange}
 use Rattle.router_disk.proofs.ClockLemmas.{Gives-none}
+use Rattle.program_lines.specs.declared.status.Status.{Status}
+use Rattle.program_lines.specs.declared.status.Status.TheVariants as statuses
 use Rattle.bus_server.specs.declared.session.SessionEnd.{SessionEnd}
 use Rattle.bus_server.specs.declared.session.SessionEnd.TheVariants as ends
-use Rattle.bus_server.specs.declared.program.Status.{Status}
-use Rattle.bus_server.specs.declared.program.Status.TheVariants as statuses
 use Rattle.router_core.specs.Tables.{first_tables}
-use Rattle.bus_server.specs.History.{begun}
+use Rattle.bus_server.specs.History.{State, begun, claims_by}
 use Rattle.bus_server.specs.Book.{BookState, state_of, IsBook}
 use Rattle.bus_server.specs.World.{World, world}
 use Rattle.bus_server.specs.Session.{IsSession}
-use Rattle.bus_server.specs.Run.{status_of, first_book, RunsOnce, RunsBy, Around, around, IsUnbegun, IsRun, FaultsMatch}
+use Rattle.bus_server.specs.Run.{status_of, first_book, only_seat, RunsOnce, RunsBy, around, IsUnbegun, IsRun, FaultsMatch}
+use Rattle.bus_server.specs.Exchanges.{IsAlone}
 use Rattle.bus_server.proofs.FoldLemmas.{folds_book}
+use Rattle.bus_server.proofs.SteadyLemmas.{IsSteady, steady_begun}
+use Rattle.bus_server.proofs.AloneLemmas.{added_alone}
+use Rattle.bus_server.proofs.RecordedLemmas.{all_recorded}
+use Rattle.bus_server.proofs.OnceLemmas.{is_alone, none_open}
 
--- a session over the first book
-pub runs_once : (old new : World) (end : SessionEnd) (status : Status) → old.book ≡ first_book → IsSession old new end → IsBook new.book
-    → ((state_of old.book).open_claims ≡ [] → (state_of new.book).open_claims ≡ []) → status ≡ status_of end → RunsOnce old new status
-runs_once old new end status begins session book closed ends =
+-- a session over the first book, whose pass made all turns
+pub runs_once : (old new : World) (end : SessionEnd) (status : Status) → old.book ≡ first_book → IsSession only_seat old new end → IsBook new.book
+    → (claims_by 0 (state_of old.book).open_claims ≡ [] → claims_by 0 (state_of new.book).open_claims ≡ []) → All (λ t. t.pass ≡ 0) new.book.turns
+    → status ≡ status_of end → RunsOnce old new status
+runs_once old new end status begins session book closed own ends =
     let opened : new.book.opened ≡ begun first_tables = session.exchanges.opened ∙ ap (λ (b : BookState). b.opened) begins in
+    let none : new.book.opened.open_claims ≡ [] = ap (λ (s : State). s.open_claims) opened in
+    let alone : IsAlone only_seat session.exchanges.added = is_alone old.book.turns new.book.turns session.exchanges.added session.exchanges.turns own in
+    let were = added_alone only_seat old.book new.book session.course.exchanges session.exchanges alone book in
+    let steady : IsSteady (state_of old.book) = subst (λ (b : BookState). IsSteady (state_of b)) (sym begins) steady_begun in
     record {
       end = end;
       session = session;
+      alone = alone;
+      recorded = all_recorded (state_of old.book) session.course.exchanges steady were.each were.legal were.looks;
       first = begins;
       ends = ends;
       book = book;
-      none_open = closed (ap (λ (b : BookState). (state_of b).open_claims) begins);
+      none_open = none_open new.book.turns new.book.opened own none (closed (ap (λ (b : BookState). claims_by 0 (state_of b).open_claims) begins));
       tables = folds_book new.book opened book;
     }
 

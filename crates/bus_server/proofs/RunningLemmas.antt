@@ -1,5 +1,6 @@
 -- A session goes on by one exchange, or ends. Other files cite `running_at_start`, `served_next`, `running_on`, `long_end`,
--- `closed_end`, `write_end` and `lack_end`.
+-- `closed_end`, `write_end`, `lack_end`, `session_later`,
+-- `exchange_at` and `session_at`.
 use Rattle.std.proofs.Common.{◌≡◌, ℕ, ◌+◌, ◌<◌, ◌≤◌, ◌⊎◌, inl, inr, Bool, true, false, ◌||◌, List, [], ◌∷◌, ◌++◌, length, Option, Some, None, Result}
 use Rattle.std.proofs.Common.{Ok, Err, sym, refl, ap, ◌∙◌, subst, arith, append_assoc, append-nil, length-append}
 use Rattle.std.specs.Prelude.{◌==◌}
@@ -11,6 +12,8 @@ use Rattle.router_disk.proofs.StreamLemmas.{Consumes-append, Appends-append, App
 use Rattle.api_messages.specs.declared.message.Message.{Message}
 use Rattle.api_messages.specs.Messages.{HoldsMessage, IsAwaited, IsStream}
 use Rattle.api_messages.specs.Between.{HasHead}
+use Rattle.bus_server.specs.declared.book.Seat.{Seat}
+use Rattle.bus_server.specs.Book.{BookState, HasLearned}
 use Rattle.bus_server.specs.Exchange.{Exchange, exchange_text}
 use Rattle.bus_server.specs.Exchanges.{messages_of}
 use Rattle.bus_server.specs.World.{World, world}
@@ -23,7 +26,10 @@ use Rattle.bus_server.specs.declared.incoming.Lack.{Lack}
 use Rattle.bus_server.specs.declared.incoming.Lack.TheVariants as lacks
 use Rattle.bus_server.specs.declared.session.SessionEnd.{SessionEnd}
 use Rattle.bus_server.specs.Incoming.{LackOf, IsFinish, closing_of, end_of}
-use Rattle.bus_server.proofs.PlacedLemmas.{none_made, made_append}
+use Rattle.turn_book.specs.Passes.{IsSamePass}
+use Rattle.bus_server.specs.Desk.{Known, seat_of}
+use Rattle.bus_server.proofs.DeskLemmas.{same_seat}
+use Rattle.bus_server.proofs.PlacedLemmas.{learned_made, made_append, made_later}
 
 holds_more : (bytes after more : List ℕ) (m : Message) → HoldsMessage bytes m after → HoldsMessage (bytes ++ more) m (after ++ more)
 holds_more bytes after more m (front, is, whole) = (front, is, ap (λ b. b ++ more) whole ∙ append_assoc front after more)
@@ -61,8 +67,8 @@ texts_whole before last =
     ap (λ (k : ℕ). texts_of before ++ exchange_text last (closes k last)) at ∙ sym (texts_append 0 before last)
 
 -- nothing was exchanged yet
-pub running_at_start : (old : World) (rest : List ℕ) → rest ≡ [] → IsRunning old old rest 0
-running_at_start old rest none = record {
+pub running_at_start : (seat : Seat) (old : World) (rest : List ℕ) → rest ≡ [] → IsRunning seat old old rest 0
+running_at_start seat old rest none = record {
   exchanged = [];
   count = refl;
   open_yet = tt;
@@ -70,7 +76,7 @@ running_at_start old rest none = record {
   takes = consumes_none old.left;
   stream = sym none;
   few = omega (arith, ap length none);
-  made = none_made old;
+  made = learned_made seat old old (record { opened = refl; more = []; turns = sym (append-nil old.book.turns); by_others = refl }) refl refl refl;
   written_are = Appends-none old.written;
 }
   where
@@ -78,10 +84,37 @@ running_at_start old rest none = record {
     consumes_none None = tt
     consumes_none (Some xs) = refl
 
+-- a session whose pass had first learned what others made
+pub session_later : (seat : Seat) (old : World) (book : BookState) (new : World) (end : SessionEnd) → HasLearned seat.pass old.book book
+    → IsSession seat (world book old.left old.written old.ahead old.answered old.link_faults) new end → IsSession seat old new end
+session_later seat old book new end l s =
+    let mid = world book old.left old.written old.ahead old.answered old.link_faults in
+    let made : AreMade seat mid new s.course.exchanges =
+    record { exchanges = s.exchanges; readings = s.readings; asked_at = s.asked_at; sent = s.sent } in
+    let all = made_later seat old mid new s.course.exchanges l refl refl refl made in
+    record {
+      course = s.course;
+      taken = s.taken;
+      takes = s.takes;
+      stream = s.stream;
+      exchanges = all.exchanges;
+      readings = all.readings;
+      asked_at = all.asked_at;
+      sent = all.sent;
+      written_are = s.written_are;
+      ends = s.ends;
+    }
+
+-- an exchange of the pass, whose number is the same
+pub exchange_at : {m : Message} {close : Bool} {old new : World} {result : Result (Unit {0}) Failed} (connection : Option ℕ) (first last : Known)
+    → IsSamePass first last → ExchangeOf (seat_of connection last) m close old new result → ExchangeOf (seat_of connection first) m close old new result
+exchange_at {m} {close} {old} {new} {result} connection first last same e =
+    subst (λ (s : Seat). ExchangeOf s m close old new result) (same_seat connection first last same) e
+
 -- the input and the output play no part in what was made
-made_at : (old now : World) (left written : Option (List ℕ)) (es : List Exchange) → AreMade old now es
-    → AreMade old (world now.book left written now.ahead now.answered now.link_faults) es
-made_at old now left written es made = record {
+made_at : (seat : Seat) (old now : World) (left written : Option (List ℕ)) (es : List Exchange) → AreMade seat old now es
+    → AreMade seat old (world now.book left written now.ahead now.answered now.link_faults) es
+made_at seat old now left written es made = record {
   exchanges = made.exchanges;
   readings = made.readings;
   asked_at = made.asked_at;
@@ -89,13 +122,13 @@ made_at old now left written es made = record {
 }
 
 -- one message more, and its exchange
-pub served_next : (old now new : World) (rest rest_new : List ℕ) (served : ℕ) (m : Message) (close : Bool) (result : Result (Unit {0}) Failed)
-    → IsRunning old now rest served
+pub served_next : (seat : Seat) (old now new : World) (rest rest_new : List ℕ) (served : ℕ) (m : Message) (close : Bool) (result : Result (Unit {0}) Failed)
+    → IsRunning seat old now rest served
     → ((taken : List ℕ) × Consumes now.left new.left taken × HoldsMessage (rest ++ taken) m rest_new × (length rest_new < piece_size))
-    → ExchangeOf m close (world now.book new.left now.written now.ahead now.answered now.link_faults) new result
+    → ExchangeOf seat m close (world now.book new.left now.written now.ahead now.answered now.link_faults) new result
     → close ≡ (m.close || (served + 1 == request_limit))
-    → IsServed m old new rest_new served result
-served_next old now new rest rest_new served m close result run (more, takes, holds, few) x is =
+    → IsServed seat m old new rest_new served result
+served_next seat old now new rest rest_new served m close result run (more, takes, holds, few) x is =
     let e = x.exchanged in
     let es = run.exchanged in
     let closing : closes (length es) e ≡ close = ap (λ (k : ℕ). e.message.close || (k + 1 == request_limit)) run.count
@@ -112,16 +145,16 @@ served_next old now new rest rest_new served m close result run (more, takes, ho
           (ap (λ (n : Message). messages_of es ++ n ∷ []) (sym x.message_is) ∙ sym (map-append (λ (d : Exchange). d.message) es (e ∷ [])))
           (stream_append (run.taken ++ more) (rest ++ more) rest_new (messages_of es) m (stream_more run.taken more rest (messages_of es) run.stream) holds);
       few = few;
-      made = made_append old (world now.book new.left now.written now.ahead now.answered now.link_faults) new es e
-          (made_at old now new.left now.written es run.made) x.made;
+      made = made_append seat old (world now.book new.left now.written now.ahead now.answered now.link_faults) new es e
+          (made_at seat old now new.left now.written es run.made) x.made;
       written_are = subst (λ (c : Bool). WritesAfter (texts_of es) (exchange_text e c) old.written new.written result) (sym closing)
           (writes_after old.written now.written new.written (texts_of es) (exchange_text e close) result run.written_are x.writes);
     }
 
 -- the message asks for no end
-pub running_on : (m : Message) (old now : World) (rest : List ℕ) (served : ℕ) → IsServed m old now rest served (Ok tt) → m.close ≡ false
-    → IsRunning old now rest (served + 1)
-running_on m old now rest served s stays = record {
+pub running_on : (seat : Seat) (m : Message) (old now : World) (rest : List ℕ) (served : ℕ) → IsServed seat m old now rest served (Ok tt) → m.close ≡ false
+    → IsRunning seat old now rest (served + 1)
+running_on seat m old now rest served s stays = record {
   exchanged = s.before ++ s.last ∷ [];
   count = length-append s.before (s.last ∷ []) ∙ ap (λ n. n + 1) s.count;
   open_yet = none_append s.before s.last s.open_yet (ap (λ (n : Message). n.close) s.message_is ∙ stays);
@@ -141,9 +174,9 @@ served_count : (before : List Exchange) (last : Exchange) (served : ℕ) → len
 served_count before last served is = length-append before (last ∷ []) ∙ ap (λ n. n + 1) is
 
 -- the last request that one session serves
-pub long_end : (m : Message) (old now : World) (rest : List ℕ) (served : ℕ) → IsServed m old now rest served (Ok tt) → served + 1 ≡ request_limit
-    → IsSession old now ends.Long
-long_end m old now rest served s last = record {
+pub long_end : (seat : Seat) (m : Message) (old now : World) (rest : List ℕ) (served : ℕ) → IsServed seat m old now rest served (Ok tt) → served + 1 ≡ request_limit
+    → IsSession seat old now ends.Long
+long_end seat m old now rest served s last = record {
   course = record { exchanges = s.before ++ s.last ∷ []; rest = rest; closing = None };
   taken = s.taken;
   takes = s.takes;
@@ -158,9 +191,9 @@ long_end m old now rest served s last = record {
 }
 
 -- the message asks to close
-pub closed_end : (m : Message) (old now : World) (rest : List ℕ) (served : ℕ) → IsServed m old now rest served (Ok tt)
-    → served + 1 < request_limit → m.close ≡ true → IsSession old now ends.Closed
-closed_end m old now rest served s below closes_it = record {
+pub closed_end : (seat : Seat) (m : Message) (old now : World) (rest : List ℕ) (served : ℕ) → IsServed seat m old now rest served (Ok tt)
+    → served + 1 < request_limit → m.close ≡ true → IsSession seat old now ends.Closed
+closed_end seat m old now rest served s below closes_it = record {
   course = record { exchanges = s.before ++ s.last ∷ []; rest = rest; closing = None };
   taken = s.taken;
   takes = s.takes;
@@ -179,9 +212,9 @@ closed_end m old now rest served s below closes_it = record {
 }
 
 -- the reply could not be written
-pub write_end : (m : Message) (old now : World) (rest : List ℕ) (served : ℕ) (e : Failed) → IsServed m old now rest served (Err e)
-    → served + 1 ≤ request_limit → IsSession old now ends.WriteFault
-write_end m old now rest served e s below = record {
+pub write_end : (seat : Seat) (m : Message) (old now : World) (rest : List ℕ) (served : ℕ) (e : Failed) → IsServed seat m old now rest served (Err e)
+    → served + 1 ≤ request_limit → IsSession seat old now ends.WriteFault
+write_end seat m old now rest served e s below = record {
   course = record { exchanges = s.before ++ s.last ∷ []; rest = rest; closing = None };
   taken = s.taken;
   takes = s.takes;
@@ -234,18 +267,18 @@ fault_ends (lacks.NoMemory true) es rest text left none below (at, cause) which 
 fault_ends (lacks.NoMemory false) es rest text left none below lacking which = cc
 
 -- no message comes
-pub lack_end : (old now : World) (left_new written_new : Option (List ℕ)) (rest : List ℕ) (served : ℕ) (lack : Lack) (end : SessionEnd)
-    → IsRunning old now rest served
+pub lack_end : (seat : Seat) (old now : World) (left_new written_new : Option (List ℕ)) (rest : List ℕ) (served : ℕ) (lack : Lack) (end : SessionEnd)
+    → IsRunning seat old now rest served
     → ((taken : List ℕ) × Consumes now.left left_new taken × LackOf (rest ++ taken) left_new lack)
     → IsFinish lack now.written written_new end → served < request_limit
-    → IsSession old (world now.book left_new written_new now.ahead now.answered now.link_faults) end
-lack_end old now left_new written_new rest served lack end run (more, takes, lacking) finish below =
+    → IsSession seat old (world now.book left_new written_new now.ahead now.answered now.link_faults) end
+lack_end seat old now left_new written_new rest served lack end run (more, takes, lacking) finish below =
     elim finish [
-      | inl done ↦ subst (IsSession old new) (sym done.0)
+      | inl done ↦ subst (IsSession seat old new) (sym done.0)
           (ended (end_of lack) (all_written lack course old.written written_new
           (Appends-append old.written now.written written_new _ _ run.written_are done.1))
           (lack_ends lack run.exchanged (rest ++ more) left_new run.open_yet few lacking))
-      | inr failed ↦ subst (IsSession old new) (sym failed.0)
+      | inr failed ↦ subst (IsSession seat old new) (sym failed.0)
           (ended ends.WriteFault (part failed.1.0 failed.1.1 failed.1.2)
           (fault_ends lack run.exchanged (rest ++ more) failed.1.0 left_new run.open_yet few lacking failed.1.1))
     ]
@@ -264,7 +297,7 @@ lack_end old now left_new written_new rest served lack end run (more, takes, lac
         subst (λ (c : Option (List ℕ)). WritesNotLast run.exchanged c old.written written_new) (sym is)
         (first, after, whole, Appends-append old.written now.written written_new (texts_of run.exchanged) first run.written_are appended)
 
-    ended : (stop : SessionEnd) → IsWritten stop course old.written written_new → EndsWith stop course (IsAtEnd left_new) → IsSession old new stop
+    ended : (stop : SessionEnd) → IsWritten stop course old.written written_new → EndsWith stop course (IsAtEnd left_new) → IsSession seat old new stop
     ended stop is_written is_end = record {
       course = course;
       taken = run.taken ++ more;
@@ -277,3 +310,9 @@ lack_end old now left_new written_new rest served lack end run (more, takes, lac
       written_are = is_written;
       ends = is_end;
     }
+
+-- a session of the pass, whose number is the same
+pub session_at : {old new : World} {end : SessionEnd} (connection : Option ℕ) (first last : Known) → IsSamePass first last
+    → IsSession (seat_of connection last) old new end → IsSession (seat_of connection first) old new end
+session_at {old} {new} {end} connection first last same s =
+    subst (λ (seat : Seat). IsSession seat old new end) (same_seat connection first last same) s

@@ -4,8 +4,8 @@ use Rattle.json_text.specs.Tree.{Tree}
 use Rattle.api_replies.specs.declared.cause.Cause.{Cause}
 use Rattle.api_replies.specs.Reply.{Reply}
 use Rattle.api_replies.specs.Written.{IsServedStatus}
-use Rattle.rule_table.specs.declared.control.Target.{Target}
-use Rattle.rule_table.specs.Control.{Control}
+use Rattle.config_changes.specs.declared.control.Target.{Target}
+use Rattle.config_changes.specs.Control.{Control}
 use Rattle.rule_table.specs.RuleSet.{Rule, Bus, RuleSet, has_queue}
 use Rattle.name_rows.specs.Rows.{named}
 use Rattle.config_views.specs.Views.{on_bus, on_bus_of, on_rule, on_rule_of}

@@ -1,10 +1,11 @@
--- What holds of the state after any turns. Other files cite `IsSteady`, `steady_turn`, `steady_after`, `steady_begun`, `held_moment` and `applied_append`.
+-- What holds of the state after any turns. Other files cite `IsSteady`, `steady_turn`, `steady_after`, `steady_begun`, `held_moment`,
+-- `open_written` and `applied_append`.
 use Rattle.std.proofs.Common.{◌≡◌, ℕ, ◌+◌, ◌≤◌, max, true, false, cond, List, [], ◌∷◌, ◌++◌, length, Option, Some, None, refl, sym, ap, ◌∙◌, subst, arith}
 use Rattle.std.proofs.Common.{length-append}
 use Rattle.std.proofs.Math.Nat.{le-max_left}
 use Rattle.std.specs.Prelude.{not, ◌==◌}
-use Rattle.rule_table.specs.Control.{Control, bus_created, bus_deleted, rule_put, rule_deleted, state_put, targets_put, targets_removed, policy_put}
-use Rattle.rule_table.specs.Control.{queue_created, queue_deleted}
+use Rattle.config_changes.specs.Control.{Control, bus_created, bus_deleted, rule_put, rule_deleted, state_put, targets_put, targets_removed, policy_put}
+use Rattle.config_changes.specs.Control.{queue_created, queue_deleted}
 use Rattle.rule_table.specs.RuleSet.{RuleSet, first_set, applied, applied_all}
 use Rattle.router_core.specs.Batch.{Batch, Entry, control, accepted, attempt, messages_deleted}
 use Rattle.router_core.specs.Tables.{Tables, first_tables, after_entry, after_entries}
@@ -88,7 +89,7 @@ steady_written (Some b) s h =
       version = sets ∙ count ∙ ap (λ n. n + length (controls_in b.entries)) h.version ∙ sym lengths;
     }
 
-open_written : (b : Option Batch) (s : State) → (after_written b s).open_claims ≡ s.open_claims
+pub open_written : (b : Option Batch) (s : State) → (after_written b s).open_claims ≡ s.open_claims
 open_written None s = refl
 open_written (Some b) s = refl
 

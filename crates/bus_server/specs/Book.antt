@@ -1,5 +1,5 @@
 -- The views of the router's guarded state in contracts, and what holds of it.
-use Rattle.std.specs.Prelude.{◌≡◌, ◌++◌, List, map, length, Option, Some, None}
+use Rattle.std.specs.Prelude.{◌≡◌, ℕ, ◌++◌, List, [], map, length, Option, Some, None, All}
 use Rattle.rule_table.specs.RuleSet.{rule_set_at}
 use Rattle.router_core.specs.Tables.{Tables, first_tables}
 use Rattle.router_core.specs.Batch.{Batch}
@@ -11,6 +11,7 @@ use Rattle.bus_server.specs.declared.history.Written.TheVariants.{Nothing, Chang
 use Rattle.bus_server.specs.declared.history.Turn.{Turn}
 use Rattle.bus_server.specs.declared.history.History.{History}
 use Rattle.bus_server.specs.declared.book.Book.{Book}
+use Rattle.bus_server.specs.declared.book.Seat.{Seat}
 use Rattle.bus_server.specs.Firsts.{firsts}
 use Rattle.bus_server.specs.History as view
 
@@ -48,13 +49,34 @@ turns_in history = map turn_of (recorded_in history)
 abbrev pub book_of : Book → BookState
 book_of b = record { opened = view.begun first_tables; tables = b.tables; turns = turns_in b.history }
 
--- to the history of the book turns were only added
-abbrev pub HasGrown : Book → Book → Type 0
-HasGrown old new = (more : List Turn) × (recorded_in new.history ≡ recorded_in old.history ++ more)
+-- the book as a pass knows it that has seen these turns: they were made from the first tables, and the tables are those after them
+abbrev pub seen_book : List Turn → BookState
+seen_book turns = record {
+  opened = view.begun first_tables;
+  tables = (view.state_after (map turn_of turns) (view.begun first_tables)).tables;
+  turns = map turn_of turns;
+}
+
+-- to the history of the book only turns of the seat's pass were added
+abbrev pub HasGrown : Seat → Book → Book → Type 0
+HasGrown seat old new = (more : List Turn) × (recorded_in new.history ≡ recorded_in old.history ++ more) × All (λ t. t.pass ≡ seat.pass) more
 
 -- the state after all turns
 abbrev pub state_of : BookState → view.State
 state_of b = view.state_after b.turns b.opened
+
+-- pass n learned turns that others made, and no others
+pub record HasLearned (n : ℕ) (old new : BookState) : Type 0 where
+  pub opened : new.opened ≡ old.opened
+  pub more : List view.Turn
+  pub turns : new.turns ≡ old.turns ++ more
+  pub by_others : view.turns_by n more ≡ []
+
+-- turns were added, and those of the seat's pass name the seat's connection
+pub record HasNamed (seat : Seat) (old new : BookState) : Type 0 where
+  pub more : List view.Turn
+  pub turns : new.turns ≡ old.turns ++ more
+  pub named : All (λ t. t.pass ≡ seat.pass → t.connection ≡ seat.connection) more
 
 -- What holds of a book: its turns are a legal history from the state in which it was opened, its tables are those after them, and its rule set is
 -- that of the latest configuration version.

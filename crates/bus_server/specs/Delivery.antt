@@ -1,5 +1,5 @@
 -- Delivery steps on the book, as the courier sees them.
-use Rattle.std.specs.Prelude.{◌≡◌, ℕ, ◌≤◌, true, List, ◌++◌, length, map, Option, Some, unwrap_or, Result}
+use Rattle.std.specs.Prelude.{◌≡◌, ℕ, ◌≤◌, true, List, ◌++◌, length, map, Option, Some, unwrap_or, Result, All}
 use Rattle.std.specs.Option.{option_map, option_and_then}
 use Rattle.delivery_duties.specs.declared.duty.DutyRow.{DutyRow}
 use Rattle.delivery_duties.specs.declared.outcome.Outcome.{Outcome}
@@ -14,11 +14,12 @@ use Rattle.courier_run.specs.Claim.{Claim, moment_of}
 use Rattle.courier_run.specs.Steps.{Attempt, Step, claims, records, puts_back, other, steps_of, attempts_in}
 use Rattle.courier_run.specs.Turn.{End, last_steps, last_moments, HasReason, reported}
 use Rattle.courier_run.specs.Turned.{turned_of}
+use Rattle.bus_server.specs.declared.book.Seat.{Seat}
 use Rattle.bus_server.specs.declared.held.Held.{Held}
 use Rattle.bus_server.specs.History as history
-use Rattle.bus_server.specs.History.{State, Turn, Ask, OpenClaim, open_claim, Placed, placed}
+use Rattle.bus_server.specs.History.{State, Turn, Ask, OpenClaim, open_claim, Placed, placed, placed_by}
 use Rattle.bus_server.specs.Book.{BookState, state_of}
-use Rattle.bus_server.specs.Sent.{AreSent}
+use Rattle.bus_server.specs.Sent.{AreSent, tries_with}
 
 -- the claim of the duty of this row, made at this reading, in a turn with this moment
 abbrev pub claim_of : ℕ → ℕ → DutyRow → Claim
@@ -60,9 +61,9 @@ step_of p = step_for p.before p.turn.ask
 abbrev pub attempts_of : List Placed → List Attempt
 attempts_of turns = attempts_in (map step_of turns)
 
--- what the turns of the book did, as the courier sees them
-abbrev pub steps_in : BookState → List Step
-steps_in b = map step_of (placed b.opened b.turns)
+-- what the turns of pass n did, as the courier sees them
+abbrev pub steps_in : ℕ → BookState → List Step
+steps_in n b = map step_of (placed_by n (placed b.opened b.turns))
 
 -- the claim that is held
 abbrev pub held_claim : Held → Claim
@@ -107,12 +108,13 @@ pub record IsDelivered (budget : ℕ) (turns : List Placed) (readings : List ℕ
   pub counts : reported result ≡ turned_of attempts
   pub reason : HasReason (IsIdle look) ⊥ (IsFullAt look) (length attempts ≡ budget) result last
 
--- the turns of one DeliverDue were added to the book, and the link did what their attempts did
-pub record Delivers (budget : ℕ) (old new : BookState) (ahead ahead_new : Option (ℕ → ℕ)) (answered answered_new : Option (List Exchange))
+-- the turns of one DeliverDue were added to what the seat's pass knows of the book, beside turns of other passes; and the link did what they did
+pub record Delivers (seat : Seat) (budget : ℕ) (old new : BookState) (ahead ahead_new : Option (ℕ → ℕ)) (answered answered_new : Option (List Exchange))
     (faults faults_new : ℕ) (result : Result Turned TurnFault) : Type 0 where
   pub added : List Turn
   pub turns : new.turns ≡ old.turns ++ added
+  pub named : All (λ p. p.turn.connection ≡ seat.connection) (placed_by seat.pass (placed (state_of old) added))
   pub readings : List ℕ
   pub gives : Gives ahead ahead_new readings
-  pub delivered : IsDelivered budget (placed (state_of old) added) readings (state_of new) result
-  pub sent : AreSent answered answered_new faults faults_new delivered.attempts
+  pub delivered : IsDelivered budget (placed_by seat.pass (placed (state_of old) added)) readings (state_of new) result
+  pub sent : AreSent answered answered_new faults faults_new (tries_with delivered.attempts delivered.last)

@@ -14,16 +14,18 @@ use Rattle.courier_run.specs.declared.fault.TurnFault.{TurnFault}
 use Rattle.courier_run.specs.declared.fault.TurnFault.TheVariants.{DiskFault, NumberLimit, NoMemory}
 use Rattle.courier_run.specs.Claim.{moment_of}
 use Rattle.bus_server.specs.History.{State, Placed, asked, IsAnsweredBy}
+use Rattle.bus_server.specs.Sent.{Try, tries_with}
 use Rattle.bus_server.specs.Delivery.{IsDelivered}
 
 -- a message; the reading of the clock when the message was whole; the readings of its delivery steps, and of a last look that found no duty; the
--- turns made for it, each with the state before it; the states at which it only looked; and its reply
+-- turns made for it, each with the state before it; the states at which it only looked; its attempts as the link saw them; and its reply
 pub record Exchange : Type 0 where
   pub message : Message
   pub reading : ℕ
   pub steps : List ℕ
   pub turns : List Placed
   pub looks : List State
+  pub tries : List Try
   pub reply : Reply
 
 -- what a DeliverDue reports of its steps
@@ -42,6 +44,7 @@ pub record IsWithoutTurn (e : Exchange) (reply : Reply) : Type 0 where
   pub no_steps : e.steps ≡ []
   pub no_turns : e.turns ≡ []
   pub no_looks : e.looks ≡ []
+  pub no_tries : e.tries ≡ []
   pub replies : e.reply ≡ reply
 
 -- an exchange of one turn, which answers the request with this reply
@@ -50,6 +53,7 @@ pub record IsOneTurn (e : Exchange) (request : Request) (reply : Reply) : Type 0
   pub turns : e.turns ≡ turn ∷ []
   pub no_steps : e.steps ≡ []
   pub no_looks : e.looks ≡ []
+  pub no_tries : e.tries ≡ []
   pub ask : turn.turn.ask ≡ asked request
   pub answer : IsAnsweredBy turn.before turn.turn request reply
 
@@ -59,6 +63,7 @@ pub record IsDelivery (e : Exchange) (budget : ℕ) : Type 0 where
   pub looks : e.looks ≡ look ∷ []
   pub result : Result Turned TurnFault
   pub delivered : IsDelivered budget e.turns e.steps look result
+  pub tries : e.tries ≡ tries_with delivered.attempts delivered.last
   pub replies : IsDeliveryReply result e.reply
 
 -- A POST and its reply.

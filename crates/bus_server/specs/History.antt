@@ -1,7 +1,7 @@
 -- The history: the turns of the router, oldest first, from the state that it began with.
 use Rattle.std.specs.Prelude.{◌≡◌, ℕ, ◌+◌, ◌<◌, ◌≤◌, false, true, ◌==◌, List, [], ◌∷◌, ◌++◌, length, Option, Some, None, filter, find, flat_map, not}
 use Rattle.event_shape.specs.Names.{IsQueueArn}
-use Rattle.rule_table.specs.Control.{Control}
+use Rattle.config_changes.specs.Control.{Control}
 use Rattle.rule_table.specs.RuleSet.{rule_set_at}
 use Rattle.delivery_duties.specs.declared.duty.DutyRow.{DutyRow}
 use Rattle.delivery_duties.specs.declared.outcome.Outcome.{Outcome}
@@ -158,6 +158,18 @@ pub record Placed : Type 0 where
 abbrev pub placed : State → List Turn → List Placed
 placed s [] = []
 placed s (turn ∷ turns) = record { before = s; turn = turn } ∷ placed (after_turn turn s) turns
+
+-- the turns that pass n made
+abbrev pub turns_by : ℕ → List Turn → List Turn
+turns_by n turns = filter (λ t. t.pass == n) turns
+
+-- the same of turns with the states before them
+abbrev pub placed_by : ℕ → List Placed → List Placed
+placed_by n turns = filter (λ p. p.turn.pass == n) turns
+
+-- the open claims that pass n made
+abbrev pub claims_by : ℕ → List OpenClaim → List OpenClaim
+claims_by n all = filter (λ c. c.pass == n) all
 
 -- the batches with this one before them, if there is one
 abbrev pub with_written : Option Batch → List Batch → List Batch

@@ -7,6 +7,7 @@ pub mod Answered
 pub mod Sent
 pub mod Delivery
 pub mod Turns
+pub mod Desk
 pub mod Exchange
 pub mod Exchanges
 pub mod World
@@ -15,6 +16,5 @@ pub mod Session
 pub mod Running
 pub mod Served
 pub mod Incoming
-pub mod Words
 pub mod Run
 pub mod OneSession

@@ -8,10 +8,11 @@ use Rattle.courier_run.specs.Claim.{NeedsSend}
 use Rattle.courier_run.specs.Steps.{Attempt, records}
 use Rattle.bus_server.specs.declared.session.SessionEnd.{SessionEnd}
 use Rattle.bus_server.specs.declared.session.SessionEnd.TheVariants.{Closed, Cut, Refused, Long, ReadFault, WriteFault, NoMemory}
+use Rattle.bus_server.specs.declared.book.Seat.{Seat}
 use Rattle.bus_server.specs.History.{Placed, begun}
 use Rattle.bus_server.specs.Book.{BookState, IsBook}
 use Rattle.bus_server.specs.Delivery.{step_of}
-use Rattle.bus_server.specs.Exchanges.{turns_of}
+use Rattle.bus_server.specs.Exchanges.{turns_of, IsAlone}
 use Rattle.bus_server.specs.Session.{Course, texts_of, IsSession}
 use Rattle.bus_server.specs.World.{World}
 
@@ -40,10 +41,12 @@ abbrev pub AreAnsweredAlike : List Placed → List Placed → Type 0
 AreAnsweredAlike turns others =
     (a b : Attempt) → RecordsAttempt turns a → RecordsAttempt others b → b.claim ≡ a.claim → NeedsSend a.claim → b.outcome ≡ a.outcome
 
--- two sessions from the same book, which was opened with the first tables, with the same bytes, the same readings and a link that
--- treated both alike
-pub record BeginAlike (old new other other_new : World) (end other_end : SessionEnd)
-    (one : IsSession old new end) (two : IsSession other other_new other_end) : Type 0 where
+-- two sessions, each the only one of its book, from the same book, which was opened with the first tables, with the same bytes, the same readings
+-- and a link that treated both alike
+pub record BeginAlike (seat other_seat : Seat) (old new other other_new : World) (end other_end : SessionEnd)
+    (one : IsSession seat old new end) (two : IsSession other_seat other other_new other_end) : Type 0 where
+  pub alone : IsAlone seat one.exchanges.added
+  pub other_alone : IsAlone other_seat two.exchanges.added
   pub book : other.book ≡ old.book
   pub opened : old.book.opened ≡ begun first_tables
   pub taken : two.taken ≡ one.taken
@@ -64,8 +67,8 @@ IsUndecided bytes = EndsInTarget bytes ⊎ EndsInTarget (first_bytes bytes)
 
 -- they wrote the same bytes and ended alike; in one case only the replies are the same: the bytes after the messages are undecided, and one
 -- session may refuse what the other awaits
-pub record EndAlike (old new other other_new : World) (end other_end : SessionEnd)
-    (one : IsSession old new end) (two : IsSession other other_new other_end) : Type 0 where
+pub record EndAlike (seat other_seat : Seat) (old new other other_new : World) (end other_end : SessionEnd)
+    (one : IsSession seat old new end) (two : IsSession other_seat other other_new other_end) : Type 0 where
   pub texts : texts_of two.course.exchanges ≡ texts_of one.course.exchanges
   pub tables : other_new.book.tables ≡ new.book.tables
   pub rest : two.course.rest ≡ one.course.rest

@@ -10,6 +10,7 @@ use Rattle.api_members.specs.declared.fault.CallFault.{CallFault}
 use Rattle.api_members.specs.declared.fault.CallFault.TheVariants as faults
 use Rattle.courier_run.specs.declared.turned.Turned.{Turned}
 use Rattle.courier_run.specs.declared.fault.TurnFault.{TurnFault}
+use Rattle.bus_server.specs.declared.book.Seat.{Seat}
 use Rattle.bus_server.specs.Sent.{AreSent}
 use Rattle.bus_server.specs.Delivery.{Delivers}
 use Rattle.bus_server.specs.Exchange.{IsDeliveryReply}
@@ -33,13 +34,13 @@ pub record IsUndelivered (close : Bool) (old new : World) (result : Result (Unit
   pub writes : WritesAll old.written new.written result (reply_text no_memory close)
 
 -- the steps of a DeliverDue, at most `budget`, and its reply
-pub record DeliveredOf (budget : ℕ) (close : Bool) (old new : World) (result : Result (Unit {0}) Failed) : Type 0 where
+pub record DeliveredOf (seat : Seat) (budget : ℕ) (close : Bool) (old new : World) (result : Result (Unit {0}) Failed) : Type 0 where
   pub made : Result Turned TurnFault
-  pub steps : Delivers budget old.book new.book old.ahead new.ahead old.answered new.answered old.link_faults new.link_faults made
+  pub steps : Delivers seat budget old.book new.book old.ahead new.ahead old.answered new.answered old.link_faults new.link_faults made
   pub reply : Reply
   pub replies : IsDeliveryReply made reply
   pub writes : WritesAll old.written new.written result (reply_text reply close)
 
 -- the answer to a DeliverDue: its steps and its reply, or out of memory before the first step
-abbrev pub AnswersDelivery : ℕ → Bool → World → World → Result (Unit {0}) Failed → Type 0
-AnswersDelivery budget close old new result = DeliveredOf budget close old new result ⊎ IsUndelivered close old new result
+abbrev pub AnswersDelivery : Seat → ℕ → Bool → World → World → Result (Unit {0}) Failed → Type 0
+AnswersDelivery seat budget close old new result = DeliveredOf seat budget close old new result ⊎ IsUndelivered close old new result

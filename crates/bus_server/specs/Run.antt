@@ -1,20 +1,25 @@
 -- The program: its session, its status, and the line that reports the status.
-use Rattle.std.specs.Prelude.{◌≡◌, ◌≢◌, ℕ, ◌⊎◌, List, [], ◌∷◌, ◌++◌, Option, Some, None, Result, codes}
+use Rattle.std.specs.Prelude.{◌≡◌, ◌≢◌, ℕ, ◌⊎◌, List, [], ◌∷◌, ◌++◌, Option, Some, None, Result, map}
 use Rattle.std.specs.Io.KnownBytes.{Keeps}
 use Rattle.router_disk.specs.Clock.{repeating, Gives}
 use Rattle.router_disk.specs.Faults.{CountsFaults, Rose}
 use Rattle.router_disk.specs.Link.{Exchange}
 use Rattle.router_disk.specs.Sink.{WritesAll}
 use Rattle.router_disk.specs.declared.fault.Failed.{Failed}
+use Rattle.program_lines.specs.declared.status.Status.{Status}
+use Rattle.program_lines.specs.declared.status.Status.TheVariants as statuses
+use Rattle.program_lines.specs.Status.{fault_line}
 use Rattle.router_core.specs.Tables.{first_tables, tables_after}
+use Rattle.bus_server.specs.declared.book.Seat.{Seat}
 use Rattle.bus_server.specs.declared.session.SessionEnd.{SessionEnd}
 use Rattle.bus_server.specs.declared.session.SessionEnd.TheVariants as ends
-use Rattle.bus_server.specs.declared.program.Status.{Status}
-use Rattle.bus_server.specs.declared.program.Status.TheVariants as statuses
 use Rattle.bus_server.specs.History.{batches_of, begun}
 use Rattle.bus_server.specs.Folds.{without_claims}
 use Rattle.bus_server.specs.Book.{BookState, state_of, IsBook}
 use Rattle.bus_server.specs.World.{World, world}
+use Rattle.bus_server.specs.Sent.{try_of}
+use Rattle.bus_server.specs.Delivery.{attempts_of}
+use Rattle.bus_server.specs.Exchanges.{turns_of, tries_of, IsAlone}
 use Rattle.bus_server.specs.Session.{IsSession}
 
 -- the status of a session's end
@@ -26,30 +31,6 @@ status_of ends.Long = statuses.Long
 status_of ends.ReadFault = statuses.ReadFault
 status_of ends.WriteFault = statuses.WriteFault
 status_of ends.NoMemory = statuses.NoMemory
-
--- the line that reports a status; each line ends in a line feed
-abbrev pub fault_line : Status → List ℕ
-fault_line statuses.Done = []
-fault_line statuses.Usage = codes "ebusd: bad arguments" ++ 10 ∷ []
-fault_line statuses.ReadFault = codes "ebusd: input failed" ++ 10 ∷ []
-fault_line statuses.WriteFault = codes "ebusd: output failed" ++ 10 ∷ []
-fault_line statuses.NoMemory = codes "ebusd: out of memory" ++ 10 ∷ []
-fault_line statuses.DoorFault = codes "ebusd: door failed" ++ 10 ∷ []
-fault_line statuses.Cut = codes "ebusd: input ended inside a message" ++ 10 ∷ []
-fault_line statuses.Long = codes "ebusd: request limit reached" ++ 10 ∷ []
-fault_line statuses.Refused = codes "ebusd: message refused" ++ 10 ∷ []
-
--- the exit status of the process
-abbrev pub code_of : Status → ℕ
-code_of statuses.Done = 0
-code_of statuses.Usage = 2
-code_of statuses.ReadFault = 3
-code_of statuses.WriteFault = 4
-code_of statuses.NoMemory = 7
-code_of statuses.DoorFault = 8
-code_of statuses.Cut = 9
-code_of statuses.Long = 10
-code_of statuses.Refused = 11
 
 -- the line of the status was written; if the write failed, which the count of faults shows, a first part of it
 abbrev pub IsReported : Status → Option (List ℕ) → Option (List ℕ) → ℕ → ℕ → Type 0
@@ -68,11 +49,17 @@ pub record FaultsMatch (status : Status) (reads reads_new writes writes_new : �
 abbrev pub first_book : BookState
 first_book = record { opened = begun first_tables; tables = first_tables; turns = [] }
 
+-- the seat of the one session: pass 0, and no other connection is served
+abbrev pub only_seat : Seat
+only_seat = record { pass = 0; connection = Some 0 }
+
 -- One session from the first book: its turns are a legal history that leaves no claim open, and the tables are the fold of its batches, claims
--- set aside.
+-- set aside. No other pass made a turn, and each attempt whose text was sent is recorded.
 pub record RunsOnce (old new : World) (status : Status) : Type 0 where
   pub end : SessionEnd
-  pub session : IsSession old new end
+  pub session : IsSession only_seat old new end
+  pub alone : IsAlone only_seat session.exchanges.added
+  pub recorded : tries_of session.course.exchanges ≡ map try_of (attempts_of (turns_of session.course.exchanges))
   pub first : old.book ≡ first_book
   pub ends : status ≡ status_of end
   pub book : IsBook new.book

@@ -4,6 +4,7 @@ use Rattle.std.specs.Io.KnownBytes.{Appends, Consumes}
 use Rattle.router_disk.specs.declared.fault.Failed.{Failed}
 use Rattle.api_messages.specs.declared.message.Message.{Message}
 use Rattle.api_messages.specs.Messages.{IsStream}
+use Rattle.bus_server.specs.declared.book.Seat.{Seat}
 use Rattle.bus_server.specs.Exchange.{Exchange, exchange_text}
 use Rattle.bus_server.specs.Exchanges.{messages_of}
 use Rattle.bus_server.specs.Running.{AreMade}
@@ -16,7 +17,7 @@ WritesAfter bytes text old new (Ok u) = Appends old new (bytes ++ text)
 WritesAfter bytes text old new (Err e) = WritesPart bytes text old new
 
 -- `served` exchanges, none of which asked to close, and then the exchange of this message
-pub record IsServed (message : Message) (old now : World) (rest : List ℕ) (served : ℕ) (result : Result (Unit {0}) Failed) : Type 0 where
+pub record IsServed (seat : Seat) (message : Message) (old now : World) (rest : List ℕ) (served : ℕ) (result : Result (Unit {0}) Failed) : Type 0 where
   pub before : List Exchange
   pub last : Exchange
   pub message_is : last.message ≡ message
@@ -27,5 +28,5 @@ pub record IsServed (message : Message) (old now : World) (rest : List ℕ) (ser
   pub stream : IsStream taken (messages_of (before ++ last ∷ [])) rest
   -- of the last piece that was read
   pub few : length rest < piece_size
-  pub made : AreMade old now (before ++ last ∷ [])
+  pub made : AreMade seat old now (before ++ last ∷ [])
   pub written_are : WritesAfter (texts_of before) (exchange_text last (closes (length before) last)) old.written now.written result

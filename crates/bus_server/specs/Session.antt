@@ -12,12 +12,12 @@ use Rattle.api_replies.specs.Written.{reply_text}
 use Rattle.bus_server.specs.declared.session.SessionEnd.{SessionEnd}
 use Rattle.bus_server.specs.declared.session.SessionEnd.TheVariants.{Closed, Cut, Refused, Long, ReadFault, WriteFault, NoMemory}
 use Rattle.courier_run.specs.Claim.{moment_of}
-use Rattle.bus_server.specs.History.{asked_readings}
+use Rattle.bus_server.specs.declared.book.Seat.{Seat}
+use Rattle.bus_server.specs.History.{asked_readings, turns_by}
 use Rattle.bus_server.specs.Sublist.{IsSublist}
 use Rattle.bus_server.specs.Sent.{AreSent}
-use Rattle.bus_server.specs.Delivery.{attempts_of}
 use Rattle.bus_server.specs.Exchange.{Exchange, exchange_text}
-use Rattle.bus_server.specs.Exchanges.{turns_of, readings_of, messages_of, AreAdded}
+use Rattle.bus_server.specs.Exchanges.{tries_of, readings_of, messages_of, AreAdded}
 use Rattle.bus_server.specs.World.{World}
 
 -- the number of requests that one session serves (this project's own limit)
@@ -129,20 +129,20 @@ IsWritten ReadFault c old new = WritesWhole c.exchanges c.closing old new
 IsWritten WriteFault c old new = WritesNotLast c.exchanges c.closing old new
 IsWritten NoMemory c old new = WritesWhole c.exchanges c.closing old new
 
--- A session, from the world before it to the world after it.
-pub record IsSession (old new : World) (end : SessionEnd) : Type 0 where
+-- A session from a seat, from the world before it to the world after it. The book is what the seat's pass knows of it.
+pub record IsSession (seat : Seat) (old new : World) (end : SessionEnd) : Type 0 where
   pub course : Course
   -- the bytes read are the messages of the exchanges, and the rest
   pub taken : List ℕ
   pub takes : Consumes old.left new.left taken
   pub stream : IsStream taken (messages_of course.exchanges) course.rest
-  -- each exchange is one of the router machine, by the states before its turns; these turns were added to the history, and no others
-  pub exchanges : AreAdded old.book new.book course.exchanges
+  -- each exchange is one of the router machine, by the states before its turns; these turns the pass added to the history, and no others
+  pub exchanges : AreAdded seat old.book new.book course.exchanges
   -- the clock gave these readings only; the readings of the turns are some of them, in order, each as a moment
   pub readings : Gives old.ahead new.ahead (readings_of course.exchanges)
-  pub asked_at : IsSublist (asked_readings exchanges.added) (map moment_of (readings_of course.exchanges))
-  -- the link answered what the recorded attempts record, in their order, and nothing else
-  pub sent : AreSent old.answered new.answered old.link_faults new.link_faults (attempts_of (turns_of course.exchanges))
+  pub asked_at : IsSublist (asked_readings (turns_by seat.pass exchanges.added)) (map moment_of (readings_of course.exchanges))
+  -- the link answered the tries of the exchanges, in their order, and nothing else
+  pub sent : AreSent old.answered new.answered old.link_faults new.link_faults (tries_of course.exchanges)
   -- the replies are written, and nothing else
   pub written_are : IsWritten end course old.written new.written
   pub ends : EndsWith end course (IsAtEnd new.left)

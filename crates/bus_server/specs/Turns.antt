@@ -11,7 +11,7 @@ use Rattle.bus_server.specs.declared.book.Seat.{Seat}
 use Rattle.bus_server.specs.History.{Turn, Ask, claims, records}
 use Rattle.bus_server.specs.Book.{BookState, state_of}
 use Rattle.bus_server.specs.Answered.{IsFrom}
-use Rattle.bus_server.specs.Delivery.{IsOpen, IsFullAt, attempt_in}
+use Rattle.bus_server.specs.Delivery.{attempt_in, IsOpen, IsFullAt}
 
 -- the number limit is reached, and an unclaimed duty is due at this reading
 abbrev pub IsLimited : BookState → ℕ → Type 0

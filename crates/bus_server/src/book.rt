@@ -6,7 +6,7 @@ ghost use Rattle.router_core.specs.Tables.{moment_at};
 ghost use Rattle.router_core.specs.Steps.{putting_back};
 ghost use Rattle.courier_run.specs.Claim.{FitsClaim};
 ghost use Rattle.bus_server.specs.History.{claims, puts_back, IsTurnOf};
-ghost use Rattle.bus_server.specs.Book.{book_of, state_of, IsBook, HasGrown};
+ghost use Rattle.bus_server.specs.Book.{book_of, state_of, recorded_in, IsBook, HasGrown};
 ghost use Rattle.bus_server.specs.Answered.{IsAskable, IsDecided, IsAnswered, IsRenderable, IsFrom};
 ghost use Rattle.bus_server.specs.Delivery.{held_claim, IsOpen, IsIdle};
 ghost use Rattle.bus_server.specs.Run.{first_book};
@@ -22,6 +22,7 @@ use router_calls::decide;
 use router_core::{Ready, Reply, Request, Tables, see_plain};
 use std::alloc::Global;
 use std::snapshot::Snapshot;
+use turn_book::Story;
 
 /// The router's guarded state.
 #[derive(Drop)]
@@ -48,10 +49,24 @@ pub enum TurnReply {
     Unrendered(Reply),
 }
 
+impl Story for Book {
+    ghost use Rattle.std.specs.Prelude.{Some};
+    ghost use Rattle.bus_server.specs.Book.{book_of, recorded_in, IsBook};
+
+    type Turn = Turn;
+
+    ghost turns = { λ b. recorded_in b.history };
+
+    ghost made_by = { λ t. Some t.pass };
+
+    ghost sound = { λ b. IsBook (book_of b) };
+}
+
 impl Book {
     /// The book before any turn.
     pub fn first(alloc: Global) -> Result<Book, NoMemory>
         ensures first { IfOk result (λ b. book_of b ≡ first_book) }
+        ensures unturned { IfOk result (λ b. recorded_in b.history ≡ []) }
         ensures book { IfOk result (λ b. IsBook (book_of b)) }
     {
         Ok(Book {
@@ -72,6 +87,7 @@ impl Book {
         requires book { IsBook (book_of self.old) }
         requires askable { IsAskable (request_of request) }
         ensures book { IsBook (book_of self.new) }
+        ensures grows { HasGrown seat self.old self.new }
         ensures answered { IfOk result (λ reply. IsAnswered seat (book_of self.old) (book_of self.new) (request_of request) close reply) }
         ensures renderable { IfOk result (λ reply. IsRenderable reply) }
         ensures unchanged { OnErr result (book_of self.new ≡ book_of self.old) }
@@ -89,6 +105,7 @@ impl Book {
         requires book { IsBook (book_of self.old) }
         requires askable { IsAskable (request_of request.now) }
         ensures book { IsBook (book_of self.new) }
+        ensures grows { HasGrown seat self.old self.new }
         ensures answered { IfOk result (λ reply. IsAnswered seat (book_of self.old) (book_of self.new) (request_of request.now) close reply) }
         ensures renderable { IfOk result (λ reply. IsRenderable reply) }
         ensures unchanged { OnErr result (book_of self.new ≡ book_of self.old) }
@@ -113,6 +130,7 @@ impl Book {
         requires book { IsBook (book_of self.old) }
         requires decided { IsDecided self.old.tables (request_of request.now) (Some ready, reply) }
         ensures book { IsBook (book_of self.new) }
+        ensures grows { HasGrown seat self.old self.new }
         ensures answered { IfOk result (λ reply. IsAnswered seat (book_of self.old) (book_of self.new) (request_of request.now) close reply) }
         ensures renderable { IfOk result (λ reply. IsRenderable reply) }
         ensures unchanged { OnErr result (book_of self.new ≡ book_of self.old) }
@@ -134,6 +152,7 @@ impl Book {
         requires book { IsBook (book_of self.old) }
         requires decided { IsDecided self.old.tables (request_of request.now) (None, reply) }
         ensures book { IsBook (book_of self.new) }
+        ensures grows { HasGrown seat self.old self.new }
         ensures answered { (close : Bool) → IsAnswered seat (book_of self.old) (book_of self.new) (request_of request.now) close result }
         ensures renderable { IsRenderable result }
     {
@@ -171,7 +190,7 @@ impl Book {
         requires book { IsBook (book_of self.old) }
         requires reading { IsMoment reading }
         ensures book { IsBook (book_of self.new) }
-        ensures grows { HasGrown self.old self.new }
+        ensures grows { HasGrown seat self.old self.new }
         ensures held { IfOk result (λ found. IfSome found (λ held. IsClaimedBy seat reading (book_of self.old) (book_of self.new) (held_claim held))) }
         ensures idle { IfOk result (λ found. IfNone found (IsIdle (state_of (book_of self.old)) reading × (book_of self.new ≡ book_of self.old))) }
         ensures refused { IfErr result (λ fault. IsUnclaimed (book_of self.old) reading fault × (book_of self.new ≡ book_of self.old)) }
@@ -207,7 +226,7 @@ impl Book {
         requires is_open { IsOpen (state_of (book_of self.old)) seat.pass (held_claim held) }
         requires fits { FitsClaim (held_claim held) outcome }
         ensures book { IsBook (book_of self.new) }
-        ensures grows { HasGrown self.old self.new }
+        ensures grows { HasGrown seat self.old self.new }
         ensures recorded { IfOk result (λ fate. IsRecordedBy seat (held_claim held) outcome fate (book_of self.old) (book_of self.new)) }
         ensures refused { IfErr result (λ fault. (fault ≡ BookFault.NumberLimit) × IsLimited (book_of self.new) held.reading
             × IsAdded seat (puts_back (held_claim held).number) (book_of self.old) (book_of self.new)) }
@@ -241,7 +260,7 @@ impl Book {
         requires book { IsBook (book_of self.old) }
         requires is_open { IsOpen (state_of (book_of self.old)) seat.pass (held_claim held) }
         ensures book { IsBook (book_of self.new) }
-        ensures grows { HasGrown self.old self.new }
+        ensures grows { HasGrown seat self.old self.new }
         ensures added { IsAdded seat (puts_back (held_claim held).number) (book_of self.old) (book_of self.new) }
         ensures tables { (book_of self.new).tables ≡ putting_back (held_claim held).number (book_of self.old).tables }
     {

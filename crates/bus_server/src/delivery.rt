@@ -1,78 +1,160 @@
 //! The steps of one DeliverDue, by the courier.
 ghost use Rattle.std.specs.Prelude.{◌≡◌, [], Err};
-ghost use Rattle.bus_server.specs.Book.{book_of, state_of, IsBook};
+ghost use Rattle.turn_book.specs.Passes.{IsFree, IsSamePass};
+ghost use Rattle.bus_server.specs.History.{claims_by};
+ghost use Rattle.bus_server.specs.Book.{state_of, seen_book, IsBook};
 ghost use Rattle.courier_run.specs.declared.turned.Turned.{Turned as Counted};
 ghost use Rattle.bus_server.specs.Delivery.{Delivers};
+ghost use Rattle.bus_server.specs.Desk.{book_seen, number_of, seat_of, seen_by, SeesMore};
 
-use crate::book::{Book, Seat};
+use crate::book::Book;
+use crate::desk::Desk;
 use crate::held::Held;
 use crate::history::Turn;
 use courier_run::{BookFault, DutyBook, TurnFault, Turned, turn};
 use delivery_duties::{Fate, Outcome};
 use router_disk::{Clock, Link};
-use std::alloc::Global;
+use std::marker::{Brand, PhantomData};
+use std::sync::Wait;
+use turn_book::Pass;
 
-/// The book as the courier sees it, from one seat.
-#[derive(Drop)]
-struct Seated<'a> {
-    book: &'a mut Book,
-    alloc: Global,
-    seat: Seat,
+/// Names what the steps of one call go by. Each call of a program picks it.
+pub(crate) trait Naming {
+    ghost use Rattle.std.specs.Prelude.{ℕ, List};
+    ghost use Rattle.atomic_table.specs.Seated.{TableId};
+    ghost use Rattle.bus_server.specs.declared.book.Seat.{Seat};
+    ghost use Rattle.bus_server.specs.declared.history.Turn.{Turn};
+
+    // The hall.
+    ghost hall: { TableId };
+
+    // The pass, and the connection that the turns name.
+    ghost seat: { Seat };
+
+    // How many passes the pass stands for, and how many it made.
+    ghost passes: { ℕ };
+
+    ghost made: { ℕ };
+
+    // What the pass had seen before the first step.
+    ghost before: { List Turn };
 }
 
-impl DutyBook for Seated<'_> {
-    ghost use Rattle.bus_server.specs.Book.{book_of, state_of, recorded_in, IsBook};
+impl Naming for Brand {
+    ghost use Rattle.std.specs.Prelude.{[]};
+    ghost use Rattle.bus_server.specs.Desk.{no_hall, no_seat};
+
+    ghost hall = { no_hall };
+
+    ghost seat = { no_seat };
+
+    ghost passes = { 0 };
+
+    ghost made = { 0 };
+
+    ghost before = { [] };
+}
+
+/// The book as the courier sees it, through a pass.
+#[derive(Drop)]
+struct Seated<'a, Rt, N> {
+    desk: Desk<'a, Rt>,
+    pass: &'a mut Pass<Book>,
+    of: PhantomData<N>,
+}
+
+impl<Rt: Wait, N: Naming> DutyBook for Seated<'_, Rt, N> {
+    ghost use Rattle.turn_book.specs.Passes.{IsFree};
+    ghost use Rattle.bus_server.specs.Book.{state_of, seen_book, IsBook, HasNamed};
     ghost use Rattle.bus_server.specs.Delivery.{IsOpen, IsIdle, IsFullAt, steps_in};
+    ghost use Rattle.bus_server.specs.Desk.{book_seen, seat_of, seen_by};
 
     type Held = Held;
 
     type Turn = Turn;
 
-    ghost turns = { λ s. recorded_in s.book.now.history };
+    ghost turns = { λ s. seen_by s.pass.now.seat };
 
-    ghost steps = { λ s. steps_in (book_of s.book.now) };
+    ghost steps = { λ s. steps_in N.seat.pass (book_seen s.pass.now.seat) };
 
-    ghost sound = { λ s. IsBook (book_of s.book.now) };
+    ghost sound = { λ s. (s.desk.hall.now.table.shared.table_id ≡ N.hall) × (s.pass.now.seat.table_id ≡ N.hall) × IsFree s.pass.now.seat
+        × (seat_of s.desk.connection s.pass.now.seat ≡ N.seat) × (s.pass.now.seat.me.0.passes ≡ N.passes) × (s.pass.now.seat.me.0.made ≡ N.made)
+        × IsBook (book_seen s.pass.now.seat)
+        × HasNamed N.seat (seen_book N.before) (book_seen s.pass.now.seat) };
 
-    ghost idle = { λ s reading. IsIdle (state_of (book_of s.book.now)) reading };
+    ghost idle = { λ s reading. IsIdle (state_of (book_seen s.pass.now.seat)) reading };
 
-    ghost is_open = { λ s c. IsOpen (state_of (book_of s.book.now)) s.seat.pass c };
+    ghost is_open = { λ s c. IsOpen (state_of (book_seen s.pass.now.seat)) N.seat.pass c };
 
     ghost broken = { λ s. ⊥ };
 
-    ghost full = { λ s reading. IsFullAt (state_of (book_of s.book.now)) reading };
+    ghost full = { λ s reading. IsFullAt (state_of (book_seen s.pass.now.seat)) reading };
 
-    ghost lender = { λ s. s.book.ghost_name };
+    ghost lender = { λ s. s.pass.ghost_name };
 
     fn claim(&mut self, moment: u64) -> Result<Option<Held>, BookFault> {
-        self.book.claim(self.alloc, self.seat, moment)
+        self.desk.claim(self.pass, moment)
     }
 
     fn record_of(&mut self, held: Held, outcome: Outcome, _moment: u64) -> Result<Fate, BookFault> {
-        self.book.record(self.seat, held, outcome)
+        self.desk.record(self.pass, held, outcome)
     }
 
     fn put_back(&mut self, held: Held) {
-        self.book.put_back(self.seat, held);
+        self.desk.put_back(self.pass, held);
     }
 }
 
-/// Makes delivery steps from the seat, each at a reading of its own, until no duty is due, `budget` steps were made, or a fault stops them.
-pub(crate) fn deliver<L: Link, C: Clock>(
-    book: &mut Book,
-    alloc: Global,
-    seat: Seat,
+/// Makes delivery steps, each at a reading of its own, until no duty is due, `budget` steps were made, or a fault stops them. Between the steps
+/// and during a send other passes can make turns.
+pub(crate) fn deliver<Rt: Wait, L: Link, C: Clock>(
+    desk: Desk<'_, Rt>,
+    pass: &mut Pass<Book>,
     link: &mut L,
     clock: &mut C,
     budget: u32,
 ) -> Result<Turned, TurnFault>
-    requires { IsBook (book_of book.old) }
-    ensures book { IsBook (book_of book.new) }
-    ensures delivers { Delivers budget (book_of book.old) (book_of book.new) (C.ahead clock.old) (C.ahead clock.new)
-        (L.answered link.old) (L.answered link.new) (L.faults link.old) (L.faults link.new) result }
+    requires here { pass.old.seat.table_id ≡ desk.hall.now.table.shared.table_id }
+    requires free { IsFree pass.old.seat }
+    requires book { IsBook (book_seen pass.old.seat) }
+    ensures pass { IsSamePass pass.old.seat pass.new.seat × IsFree pass.new.seat }
+    ensures book { IsBook (book_seen pass.new.seat) }
+    ensures more { SeesMore pass.old.seat pass.new.seat }
+    ensures delivers { Delivers (seat_of desk.entry.connection pass.old.seat) budget (book_seen pass.old.seat) (book_seen pass.new.seat)
+        (C.ahead clock.old) (C.ahead clock.new) (L.answered link.old) (L.answered link.new) (L.faults link.old) (L.faults link.new) result }
     ensures no_disk { (turned : Counted) → ¬ (result ≡ Err (TurnFault.DiskFault turned)) }
-    ensures closed { (state_of (book_of book.old)).open_claims ≡ [] → (state_of (book_of book.new)).open_claims ≡ [] }
+    ensures closed { claims_by (number_of pass.old.seat) (state_of (book_seen pass.old.seat)).open_claims ≡ []
+        → claims_by (number_of pass.old.seat) (state_of (book_seen pass.new.seat)).open_claims ≡ [] }
 {
-    let mut seated = Seated { book, alloc, seat };
+    deliver_by::<Brand, Rt, L, C>(desk, pass, link, clock, budget)
+}
+
+fn deliver_by<N: Naming, Rt: Wait, L: Link, C: Clock>(
+    desk: Desk<'_, Rt>,
+    pass: &mut Pass<Book>,
+    link: &mut L,
+    clock: &mut C,
+    budget: u32,
+) -> Result<Turned, TurnFault>
+    requires hall { (desk.hall.now.table.shared.table_id ≡ N.hall) × (pass.old.seat.table_id ≡ N.hall) }
+    requires free { IsFree pass.old.seat }
+    requires seat { seat_of desk.connection pass.old.seat ≡ N.seat }
+    requires passes { (pass.old.seat.me.0.passes ≡ N.passes) × (pass.old.seat.me.0.made ≡ N.made) }
+    requires before { seen_by pass.old.seat ≡ N.before }
+    requires book { IsBook (book_seen pass.old.seat) }
+    ensures hall { pass.new.seat.table_id ≡ N.hall }
+    ensures free { IsFree pass.new.seat }
+    ensures pass { IsSamePass pass.old.seat pass.new.seat }
+    ensures book { IsBook (book_seen pass.new.seat) }
+    ensures more { SeesMore pass.old.seat pass.new.seat }
+    ensures delivers { Delivers N.seat budget (seen_book N.before) (book_seen pass.new.seat)
+        (C.ahead clock.old) (C.ahead clock.new) (L.answered link.old) (L.answered link.new) (L.faults link.old) (L.faults link.new) result }
+    ensures no_disk { (turned : Counted) → ¬ (result ≡ Err (TurnFault.DiskFault turned)) }
+{
+    let mut seated: Seated<'_, Rt, N> = Seated {
+        desk,
+        pass,
+        of: PhantomData,
+    };
     turn(&mut seated, link, clock, budget)
 }

@@ -6,64 +6,94 @@ ghost use Rattle.router_core.specs.View.{action_of};
 ghost use Rattle.router_disk.specs.Faults.{CountsFaults};
 ghost use Rattle.router_disk.specs.Sink.{WritesAll};
 ghost use Rattle.api_replies.specs.Written.{reply_text};
-ghost use Rattle.bus_server.specs.Book.{book_of, state_of, IsBook};
+ghost use Rattle.turn_book.specs.Passes.{IsFree, IsSamePass};
+ghost use Rattle.bus_server.specs.History.{claims_by};
+ghost use Rattle.bus_server.specs.Book.{state_of, IsBook};
+ghost use Rattle.bus_server.specs.Desk.{book_seen, number_of, seat_of, SeesMore};
 ghost use Rattle.bus_server.specs.Exchange.{IsDeliveryReply};
 ghost use Rattle.bus_server.specs.Responses.{text_or, IsFaultText, AnswersDelivery};
 ghost use Rattle.bus_server.specs.Running.{ExchangeOf};
 ghost use Rattle.courier_run.specs.declared.turned.Turned.{Turned as Counted};
 ghost use Rattle.bus_server.specs.World.{world};
 
-use crate::book::{Book, Seat};
+use crate::book::Book;
 use crate::delivery::deliver;
+use crate::desk::Desk;
+use crate::gated::Gated;
 use crate::text::{reply_bytes, turn_bytes};
 use api_replies::{Cause, refused_reply};
 use api_wire::{
     CallFault, CountsReply, Message, Method, no_memory_reply, not_post_head, not_post_reply,
     read_call,
 };
+use bus_host::Gate;
 use courier_run::{TurnFault, Turned};
 use json_text::{Bytes, LAST_MOMENT, NoMemory};
 use router_core::{Action, limit_reply};
 use router_disk::{Clock, Failed, Link, Sink};
 use std::alloc::Global;
+use std::sync::Wait;
+use turn_book::Pass;
 
 /// Answers the message, and writes the reply. `close` is true if the session ends after it. A HEAD gets the reply's head alone.
 #[tactic(auto, using(crate::proofs::BoundLemmas::asked_askable))]
-pub(crate) fn answer_message<K: Sink, L: Link, C: Clock>(
-    alloc: Global,
-    book: &mut Book,
-    seat: Seat,
+pub(crate) fn answer_message<Rt: Wait, K: Sink, L: Link, C: Clock, G: Gate>(
+    desk: Desk<'_, Rt>,
+    pass: &mut Pass<Book>,
     message: &Message,
     close: bool,
+    gated: Gated<'_, Rt, G>,
     output: &mut K,
     link: &mut L,
     clock: &mut C,
 ) -> Result<(), Failed>
-    requires { IsBook (book_of book.old) }
-    ensures book { IsBook (book_of book.new) }
-    ensures closed { (state_of (book_of book.old)).open_claims ≡ [] → (state_of (book_of book.new)).open_claims ≡ [] }
-    ensures exchange { (left : Option (List ℕ)) → ExchangeOf message.now close
-        (world (book_of book.old) left (K.written output.old) (C.ahead clock.old) (L.answered link.old) (L.faults link.old))
-        (world (book_of book.new) left (K.written output.new) (C.ahead clock.new) (L.answered link.new) (L.faults link.new)) result }
+    requires here { pass.old.seat.table_id ≡ desk.hall.now.table.shared.table_id }
+    requires free { IsFree pass.old.seat }
+    requires book { IsBook (book_seen pass.old.seat) }
+    ensures pass { IsSamePass pass.old.seat pass.new.seat × IsFree pass.new.seat }
+    ensures book { IsBook (book_seen pass.new.seat) }
+    ensures more { SeesMore pass.old.seat pass.new.seat }
+    ensures closed { claims_by (number_of pass.old.seat) (state_of (book_seen pass.old.seat)).open_claims ≡ []
+        → claims_by (number_of pass.old.seat) (state_of (book_seen pass.new.seat)).open_claims ≡ [] }
+    ensures exchange { (left : Option (List ℕ)) → ExchangeOf (seat_of desk.entry.connection pass.old.seat) message.now close
+        (world (book_seen pass.old.seat) left (K.written output.old) (C.ahead clock.old) (L.answered link.old) (L.faults link.old))
+        (world (book_seen pass.new.seat) left (K.written output.new) (C.ahead clock.new) (L.answered link.new) (L.faults link.new)) result }
     ensures count { CountsFaults (K.faults output.old) (K.faults output.new) result }
 {
     let reading = clock.now();
     match message.method {
         Method::Post => {}
-        Method::Head => return output.write_all(not_post_head(close)),
-        Method::Other => return output.write_all(not_post_reply(close)),
+        Method::Head => {
+            gated.at_reply();
+            return output.write_all(not_post_head(close));
+        }
+        Method::Other => {
+            gated.at_reply();
+            return output.write_all(not_post_reply(close));
+        }
     }
-    match read_call(alloc, message, reading.min(LAST_MOMENT)) {
+    match read_call(desk.alloc, message, reading.min(LAST_MOMENT)) {
         Ok(request) => {
             if let Some(budget) = delivery_budget(&request.action) {
-                return answer_delivery(alloc, book, seat, budget, close, output, link, clock);
+                return answer_delivery(desk, pass, budget, close, gated, output, link, clock);
             }
-            match book.turn(alloc, seat, request, close) {
-                Ok(reply) => respond(turn_bytes(alloc, reply, close), close, output),
-                Err(NoMemory) => respond(Err(NoMemory), close, output),
+            match desk.turn(pass, request, close) {
+                Ok(reply) => {
+                    let bytes = turn_bytes(desk.alloc, reply, close);
+                    gated.at_reply();
+                    respond(bytes, close, output)
+                }
+                Err(NoMemory) => {
+                    gated.at_reply();
+                    respond(Err(NoMemory), close, output)
+                }
             }
         }
-        Err(fault) => respond(fault_bytes(alloc, fault, close), close, output),
+        Err(fault) => {
+            let bytes = fault_bytes(desk.alloc, fault, close);
+            gated.at_reply();
+            respond(bytes, close, output)
+        }
     }
 }
 
@@ -133,30 +163,39 @@ fn refused_bytes(alloc: Global, cause: &Cause, close: bool) -> Result<Bytes, NoM
 }
 
 /// Makes the steps of a DeliverDue, and writes its reply. The memory of the reply is allocated before the first step.
-fn answer_delivery<K: Sink, L: Link, C: Clock>(
-    alloc: Global,
-    book: &mut Book,
-    seat: Seat,
+fn answer_delivery<Rt: Wait, K: Sink, L: Link, C: Clock, G: Gate>(
+    desk: Desk<'_, Rt>,
+    pass: &mut Pass<Book>,
     budget: u32,
     close: bool,
+    gated: Gated<'_, Rt, G>,
     output: &mut K,
     link: &mut L,
     clock: &mut C,
 ) -> Result<(), Failed>
-    requires { IsBook (book_of book.old) }
-    ensures book { IsBook (book_of book.new) }
-    ensures closed { (state_of (book_of book.old)).open_claims ≡ [] → (state_of (book_of book.new)).open_claims ≡ [] }
-    ensures delivered { (left : Option (List ℕ)) → AnswersDelivery budget close
-        (world (book_of book.old) left (K.written output.old) (C.ahead clock.old) (L.answered link.old) (L.faults link.old))
-        (world (book_of book.new) left (K.written output.new) (C.ahead clock.new) (L.answered link.new) (L.faults link.new)) result }
+    requires here { pass.old.seat.table_id ≡ desk.hall.now.table.shared.table_id }
+    requires free { IsFree pass.old.seat }
+    requires book { IsBook (book_seen pass.old.seat) }
+    ensures pass { IsSamePass pass.old.seat pass.new.seat × IsFree pass.new.seat }
+    ensures book { IsBook (book_seen pass.new.seat) }
+    ensures more { SeesMore pass.old.seat pass.new.seat }
+    ensures closed { claims_by (number_of pass.old.seat) (state_of (book_seen pass.old.seat)).open_claims ≡ []
+        → claims_by (number_of pass.old.seat) (state_of (book_seen pass.new.seat)).open_claims ≡ [] }
+    ensures delivered { (left : Option (List ℕ)) → AnswersDelivery (seat_of desk.entry.connection pass.old.seat) budget close
+        (world (book_seen pass.old.seat) left (K.written output.old) (C.ahead clock.old) (L.answered link.old) (L.faults link.old))
+        (world (book_seen pass.new.seat) left (K.written output.new) (C.ahead clock.new) (L.answered link.new) (L.faults link.new)) result }
     ensures count { CountsFaults (K.faults output.old) (K.faults output.new) result }
 {
-    match delivery_room(alloc, close) {
+    match delivery_room(desk.alloc, close) {
         Ok((room, limit)) => {
-            let made = deliver(book, alloc, seat, link, clock, budget);
+            let made = deliver(desk, pass, link, clock, budget);
+            gated.at_reply();
             write_delivery(room, limit.as_slice(), made, close, output)
         }
-        Err(NoMemory) => output.write_all(no_memory_reply(close)),
+        Err(NoMemory) => {
+            gated.at_reply();
+            output.write_all(no_memory_reply(close))
+        }
     }
 }
 

@@ -56,7 +56,8 @@ impl History {
     ghost use Rattle.bus_server.specs.Book.{turn_of, turns_in, recorded_in};
 
     pub fn new() -> History
-        ensures { turns_in result ≡ [] }
+        ensures turns { turns_in result ≡ [] }
+        ensures recorded { recorded_in result ≡ [] }
     {
         History { log: Log::new() }
     }

@@ -3,7 +3,9 @@
 
 mod book;
 mod delivery;
+mod desk;
 mod exchange;
+mod gated;
 mod held;
 mod history;
 mod incoming;
@@ -11,10 +13,9 @@ mod laws;
 mod program;
 mod session;
 mod text;
-mod words;
 
 pub use book::{Book, Seat, TurnReply};
 pub use held::Held;
 pub use laws::one_session;
-pub use program::{Status, run};
-pub use session::{SessionEnd, run_session};
+pub use program::run;
+pub use session::{SessionEnd, serve_session};

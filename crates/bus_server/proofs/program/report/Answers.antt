@@ -3,4 +3,4 @@ use Rattle.router_disk.specs.Sink.{WritesAll}
 use Rattle.bus_server.proofs.program.report.Goals as goal
 
 pub returns : goal.returns
-returns g c = (c.write_all.result, subst (WritesAll _ _ c.write_all.result) c.line_of.ensures c.write_all.ensures.bytes, c.write_all.ensures.count)
+returns g c = (c.write_all.result, subst (WritesAll _ _ c.write_all.result) c.line.ensures c.write_all.ensures.bytes, c.write_all.ensures.count)
