@@ -1,11 +1,11 @@
 //! The program `ebusd`: an event router over standard input and output.
 #![tactic(auto)]
 
-use bus_host::TcpHost;
 use bus_server::run;
 use router_disk::{ReaderSource, SystemClock, WriterSink};
 use std::process::ExitCode;
 use std::{env, io};
+use tcp_host::TcpHost;
 
 fn main(rt: HostRuntime) -> io::Result<ExitCode> {
     let words = words(&rt)?;

@@ -4,8 +4,6 @@
 #[cfg(test)]
 mod first_run;
 #[cfg(test)]
-mod mem_host;
-#[cfg(test)]
 mod program;
 #[cfg(test)]
 mod tests;

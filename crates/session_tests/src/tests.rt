@@ -3,11 +3,14 @@ use crate::first_run::{
     LAST_MOMENT_REPLY, NO_MESSAGES_REPLY, PEEK_MESSAGES, PEEK_MESSAGES_REPLY, PUT_EVENTS,
     PUT_EVENTS_REPLY, PUT_RULE, PUT_RULE_REPLY, PUT_TARGETS, PUT_TARGETS_REPLY,
 };
-use bus_server::{Book, Seat, SessionEnd, run_session};
+use bus_host::NoGate;
+use bus_server::{Book, SessionEnd, serve_session};
 use json_text::NoMemory;
 use router_disk::{Clock, Failing, LinkFault, MemClock, MemLink, MemSink, MemSource, Sink, Source};
 use std::alloc::{AllocError, Global};
+use std::sync::Wait;
 use std::test::Fail;
+use turn_book::Hall;
 
 /// The reading of the first run's clock, in seconds: 2023-11-14T22:13:20Z.
 pub(crate) const NOW: u64 = 1_700_000_000;
@@ -51,20 +54,26 @@ pub(crate) fn replies(alloc: Global) -> Result<Vec<u8>, AllocError> {
     )
 }
 
-/// How a session over the first book ends. Its link gives no answer.
-fn session<S: Source, K: Sink, C: Clock>(
+/// How a session over the first book ends. Its link gives no answer, and its book has no other pass.
+fn session<Rt: Wait, S: Source, K: Sink, C: Clock>(
+    rt: &Rt,
     alloc: Global,
     input: &mut S,
     output: &mut K,
     clock: &mut C,
 ) -> Result<SessionEnd, NoMemory> {
-    let mut book = Book::first(alloc)?;
-    let seat = Seat {
-        pass: 0,
-        connection: Some(0),
-    };
+    let book = Book::first(alloc)?;
     let mut link = MemLink::always(alloc, Err(LinkFault::Failed));
-    Ok(run_session(alloc, &mut book, seat, input, output, &mut link, clock))
+    match Hall::make(alloc, book, 1) {
+        Ok((hall, mut pass)) => {
+            let end = serve_session(
+                rt, alloc, &hall, &mut pass, &mut link, input, output, clock, 0, &NoGate,
+            );
+            let _book = hall.close(pass, Vec::new(alloc));
+            Ok(end)
+        }
+        Err((_, _)) => Err(NoMemory),
+    }
 }
 
 #[test]
@@ -72,7 +81,7 @@ fn the_first_run_has_its_replies(rt: HostRuntime) -> Result<(), Fail> {
     let mut input = MemSource::new(messages(rt.alloc())?);
     let mut output = MemSink::new(rt.alloc());
     let mut clock = MemClock::always(rt.alloc(), NOW);
-    let end = session(rt.alloc(), &mut input, &mut output, &mut clock)?;
+    let end = session(&rt, rt.alloc(), &mut input, &mut output, &mut clock)?;
     assert_eq!(rt; end, SessionEnd::Closed);
     assert_eq!(rt; output.bytes(), replies(rt.alloc())?.as_slice());
     assert_eq!(rt; Sink::faults(&output), 0);
@@ -85,7 +94,7 @@ fn input_cut_inside_a_message_gets_the_replies_before_it(rt: HostRuntime) -> Res
     let mut input = MemSource::new(joined(rt.alloc(), &[CREATE_QUEUE, cut])?);
     let mut output = MemSink::new(rt.alloc());
     let mut clock = MemClock::always(rt.alloc(), NOW);
-    let end = session(rt.alloc(), &mut input, &mut output, &mut clock)?;
+    let end = session(&rt, rt.alloc(), &mut input, &mut output, &mut clock)?;
     assert_eq!(rt; end, SessionEnd::Cut);
     assert_eq!(rt; output.bytes(), CREATE_QUEUE_REPLY.as_bytes());
     Ok(())
@@ -98,7 +107,7 @@ fn a_failed_read_ends_the_session_after_the_replies(rt: HostRuntime) -> Result<(
     let mut input = Failing::after(1, pieces);
     let mut output = MemSink::new(rt.alloc());
     let mut clock = MemClock::always(rt.alloc(), NOW);
-    let end = session(rt.alloc(), &mut input, &mut output, &mut clock)?;
+    let end = session(&rt, rt.alloc(), &mut input, &mut output, &mut clock)?;
     assert_eq!(rt; end, SessionEnd::ReadFault);
     assert_eq!(rt; Source::faults(&input), 1);
     assert_eq!(rt; output.bytes(), CREATE_QUEUE_REPLY.as_bytes());
@@ -113,7 +122,7 @@ fn a_failed_first_write_ends_the_session_before_the_next_read(rt: HostRuntime) -
     let mut input = Failing::after(1, pieces);
     let mut output = Failing::after(0, MemSink::new(rt.alloc()));
     let mut clock = MemClock::always(rt.alloc(), NOW);
-    let end = session(rt.alloc(), &mut input, &mut output, &mut clock)?;
+    let end = session(&rt, rt.alloc(), &mut input, &mut output, &mut clock)?;
     assert_eq!(rt; end, SessionEnd::WriteFault);
     assert_eq!(rt; Source::faults(&input), 0);
     assert_eq!(rt; Sink::faults(&output), 1);
@@ -126,7 +135,7 @@ fn a_failed_third_write_leaves_two_replies(rt: HostRuntime) -> Result<(), Fail> 
     let mut input = MemSource::new(messages(rt.alloc())?);
     let mut output = Failing::after(2, MemSink::new(rt.alloc()));
     let mut clock = MemClock::always(rt.alloc(), NOW);
-    let end = session(rt.alloc(), &mut input, &mut output, &mut clock)?;
+    let end = session(&rt, rt.alloc(), &mut input, &mut output, &mut clock)?;
     assert_eq!(rt; end, SessionEnd::WriteFault);
     assert_eq!(rt; Sink::faults(&output), 1);
     let want = joined(rt.alloc(), &[CREATE_QUEUE_REPLY, PUT_RULE_REPLY])?;
@@ -140,7 +149,7 @@ fn an_event_has_the_reading_of_its_own_request(rt: HostRuntime) -> Result<(), Fa
     let mut output = MemSink::new(rt.alloc());
     // The fourth message puts the event.
     let mut clock = MemClock::new(0, [1, 2, NOW].to_vec(rt.alloc())?);
-    let end = session(rt.alloc(), &mut input, &mut output, &mut clock)?;
+    let end = session(&rt, rt.alloc(), &mut input, &mut output, &mut clock)?;
     assert_eq!(rt; end, SessionEnd::Closed);
     assert_eq!(rt; output.bytes(), replies(rt.alloc())?.as_slice());
     Ok(())
@@ -152,7 +161,7 @@ fn a_delivery_has_the_reading_of_its_own_step(rt: HostRuntime) -> Result<(), Fai
     let mut output = MemSink::new(rt.alloc());
     // The event is older than 86,400 seconds when its delivery is due, so it is dropped.
     let mut clock = MemClock::new(NOW, [NOW, NOW, NOW, NOW + 86_401].to_vec(rt.alloc())?);
-    let end = session(rt.alloc(), &mut input, &mut output, &mut clock)?;
+    let end = session(&rt, rt.alloc(), &mut input, &mut output, &mut clock)?;
     assert_eq!(rt; end, SessionEnd::Closed);
     let want = joined(
         rt.alloc(),
@@ -174,7 +183,7 @@ fn a_reading_past_the_last_moment_counts_as_the_last_moment(rt: HostRuntime) -> 
     let mut input = MemSource::new(messages(rt.alloc())?);
     let mut output = MemSink::new(rt.alloc());
     let mut clock = MemClock::always(rt.alloc(), 250_000_000_001);
-    let end = session(rt.alloc(), &mut input, &mut output, &mut clock)?;
+    let end = session(&rt, rt.alloc(), &mut input, &mut output, &mut clock)?;
     assert_eq!(rt; end, SessionEnd::Closed);
     let want = joined(
         rt.alloc(),
