@@ -99,7 +99,7 @@ pub record IsDelivered (budget : ℕ) (turns : List Placed) (readings : List ℕ
   -- the recorded attempts in order, and how the steps ended after them
   pub attempts : List Attempt
   pub last : End
-  -- a claim and its record for each attempt, and no other turn
+  -- a claim and its record for each attempt, then at most one claim that was put back
   pub steps : map step_of turns ≡ steps_of attempts ++ last_steps last
   -- one reading for each claim, or for the look that found no duty
   pub moments : map moment_of readings ≡ map (λ a. a.claim.reading) attempts ++ last_moments last
@@ -108,7 +108,7 @@ pub record IsDelivered (budget : ℕ) (turns : List Placed) (readings : List ℕ
   pub counts : reported result ≡ turned_of attempts
   pub reason : HasReason (IsIdle look) ⊥ (IsFullAt look) (length attempts ≡ budget) result last
 
--- the turns of one DeliverDue were added to what the seat's pass knows of the book, beside turns of other passes; and the link did what they did
+-- the turns of one DeliverDue were added to what the seat's pass knows of the book, beside turns of other passes; the link answered their tries
 pub record Delivers (seat : Seat) (budget : ℕ) (old new : BookState) (ahead ahead_new : Option (ℕ → ℕ)) (answered answered_new : Option (List Exchange))
     (faults faults_new : ℕ) (result : Result Turned TurnFault) : Type 0 where
   pub added : List Turn

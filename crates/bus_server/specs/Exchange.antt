@@ -80,7 +80,7 @@ pub data IsPosted (e : Exchange) : Type 0 where
   -- out of memory, before anything changed
   out_of_memory : IsWithoutTurn e no_memory → IsPosted e
 
--- A message and its reply. Which states the turns were made in, and what they changed, is said of the turns alone.
+-- A message and its reply. The turns themselves show in which states they were made, and what they changed.
 pub data IsExchange (e : Exchange) : Type 0 where
   -- the method is not POST
   unposted : is_post e.message.method ≡ false → IsWithoutTurn e not_post → IsExchange e

@@ -32,8 +32,8 @@ abbrev pub LookBetween : ℕ → State → List Turn → List Placed → List Ex
 LookBetween n s added made [] = Unit {0}
 LookBetween n s added made (e ∷ es) = All (IsLookAt n s added (made ++ e.turns)) e.looks × LookBetween n s added (made ++ e.turns) es
 
--- Each turn goes by a configuration version that is at least the `known` one; the next ones by at least that after this turn. That it is at
--- most that before its turn is said of the turn itself.
+-- Each turn goes by a configuration version that is at least the `known` one; the next ones by at least that after this turn.
+-- `IsAnsweredBy` bounds it from above.
 abbrev pub AreCurrent : ℕ → List Placed → Type 0
 AreCurrent known [] = Unit {0}
 AreCurrent known (p ∷ ps) = (known ≤ p.turn.k) × AreCurrent (length (after_turn p.turn p.before).controls) ps

@@ -31,7 +31,7 @@ pub(crate) trait Naming {
     // The pass, and the connection that the turns name.
     ghost seat: { Seat };
 
-    // How many passes the pass stands for, and how many it made.
+    // How many passes the pass represents, and how many it made.
     ghost passes: { ℕ };
 
     ghost made: { ℕ };

@@ -47,8 +47,8 @@ pub enum SessionEnd {
     NoMemory,
 }
 
-/// Serves the requests of `input` in order, until it ends or a message, a fault or a limit ends the session. Its turns are made through the pass,
-/// which holds no turn before and after, and name the connection. It begins by a look at the history, without a turn.
+/// Serves the requests of `input` in order, until it ends or a message, a fault or a limit ends the session. Its turns are made through the pass
+/// and name the connection. The pass holds no turn before and after. It begins by a look at the history, without a turn.
 pub fn serve_session<Rt: Wait, S: Source, K: Sink, L: Link, C: Clock, G: Gate>(
     rt: &Rt,
     alloc: Global,
