@@ -1,5 +1,6 @@
 -- Queues and their messages. This project's own rules.
-use Rattle.std.specs.Prelude.{◌≡◌, ℕ, ◌+◌, Bool, true, false, not, nat_le, if◌then◌else◌, List, [], ◌∷◌, ◌++◌, Option, Any, filter}
+use Rattle.std.specs.Prelude.{◌≡◌, ℕ, ◌+◌, Bool, true, false, not, nat_le, if◌then◌else◌, List, [], ◌∷◌, ◌++◌, Option, Any, filter, length}
+use Rattle.std.specs.List.{sum_by}
 use Rattle.std.specs.Str.{bytes_eq}
 use Rattle.event_shape.specs.Names.{queue_arn}
 use Rattle.name_rows.specs.Rows.{placed, without}
@@ -85,3 +86,7 @@ without_through through m = record m { messages = messages_after through m.messa
 -- the queue of this name loses its messages with numbers up to this one
 abbrev pub deleted_through : List ℕ → ℕ → List Queue → List Queue
 deleted_through queue through queues = changed_first (is_named queue) (without_through through) queues
+
+-- the number of messages of all queues
+abbrev pub message_count : List Queue → ℕ
+message_count queues = sum_by (λ (m : Queue). length m.messages) queues

@@ -8,7 +8,7 @@ ghost use Rattle.delivery_duties.specs.DeadLetter.{shown};
 ghost use Rattle.delivery_duties.specs.Retry.{after_attempt, dead_letter_queue, failed_fate, fate_of, waits};
 ghost use Rattle.delivery_duties.specs.Fate.{AreNumbered};
 ghost use Rattle.delivery_duties.specs.Places.{IsFirstAt};
-ghost use Rattle.delivery_duties.specs.Queues.{IsArnOfOne, has_arn, has_queue, messages_of, messages_through};
+ghost use Rattle.delivery_duties.specs.Queues.{IsArnOfOne, has_arn, has_queue, message_count, messages_of, messages_through};
 ghost use Rattle.delivery_duties.specs.Duties as spec;
 
 use crate::claim::Claim;
@@ -252,6 +252,14 @@ impl Duties {
             Some(found) => !found.is_empty(),
             None => false,
         }
+    }
+
+    /// The number of messages of all queues. Visits each queue once.
+    pub fn messages(&self) -> u64
+        requires { (length self.now.queues ≤ 1000) × (self.now.created < 2 ^ 53) }
+        ensures { result ≡ message_count self.now.queues }
+    {
+        self.queues.count()
     }
 
     /// Copies of the oldest messages of the queue, at most `limit`; none if there is no such queue.

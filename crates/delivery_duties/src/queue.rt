@@ -1,5 +1,5 @@
 //! Queues.
-ghost use Rattle.std.specs.Prelude.{◌≡◌, ◌+◌, ◌^◌, ◌<◌, [], ◌∷◌, ◌↔◌, IsTrue, IfOk, length, map, take};
+ghost use Rattle.std.specs.Prelude.{◌≡◌, ◌+◌, ◌^◌, ◌<◌, ◌≤◌, [], ◌∷◌, ◌↔◌, IsTrue, IfOk, length, map, take};
 ghost use Rattle.delivery_duties.specs.declared.stored.StoredMessage.{StoredMessage};
 ghost use Rattle.delivery_duties.specs.DeadLetter.{shown};
 ghost use Rattle.delivery_duties.specs.Queues as spec;
@@ -72,6 +72,14 @@ impl Queue {
         ensures { IsTrue result ↔ (self.now.messages ≡ []) }
     {
         self.messages.is_empty()
+    }
+
+    /// The number of messages.
+    pub(crate) fn count(&self) -> u64
+        ensures count { result ≡ length self.now.messages }
+        ensures few { result ≤ self.now.sent }
+    {
+        self.messages.len() as u64
     }
 
     /// The number of messages with numbers up to this one. Visits these messages alone.

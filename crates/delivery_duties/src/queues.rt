@@ -1,6 +1,7 @@
 //! All queues, in the byte order of their names.
 ghost use Rattle.std.specs.Prelude.{◌≡◌, ◌+◌, ◌^◌, ◌<◌, ◌≤◌, [], ◌∷◌};
 ghost use Rattle.std.specs.Prelude.{None, Some, IfOk, IfSome, Bool, All, MatchOption, MatchResult, length, slice_index_or, vec_capacity};
+ghost use Rattle.std.specs.List.{sum_by};
 ghost use Rattle.name_rows.specs.Rows.{AreSorted, named, placed, without};
 ghost use Rattle.name_rows.specs.Place.{IsHere, IsBefore};
 ghost use Rattle.delivery_duties.specs.declared.stored.StoredMessage.{StoredMessage};
@@ -92,6 +93,18 @@ impl Queues {
             },
             None => None,
         }
+    }
+
+    /// The number of messages of all queues.
+    pub(crate) fn count(&self) -> u64
+        requires { sum_by (λ (m : spec.Queue). m.sent) self.now < 2 ^ 64 }
+        ensures { result ≡ spec.message_count self.now }
+    {
+        let mut count = 0;
+        for queue in &self.rows {
+            count += queue.count();
+        }
+        count
     }
 
     /// Appends the message, which is a list of one, to the queue at this index. Without an index the message is dropped.

@@ -4,6 +4,7 @@ ghost use Rattle.std.specs.Option.{option_copied};
 ghost use Rattle.json_text.specs.Moment.{IsMoment};
 ghost use Rattle.delivery_duties.specs.declared.duty.DutyRow.{DutyRow};
 ghost use Rattle.delivery_duties.specs.declared.outcome.Outcome.{Outcome as Ended};
+ghost use Rattle.delivery_duties.specs.Queues.{message_count};
 ghost use Rattle.delivery_duties.specs.Duties.{NoneDue, IsOut, added, pending_row};
 ghost use Rattle.router_core.specs.Batch.{messages_deleted};
 ghost use Rattle.router_core.specs.View.{batch_of, entry_of};
@@ -101,6 +102,21 @@ impl Tables {
         ensures { result ≡ self.now.events }
     {
         self.events
+    }
+
+    /// The number of entries of all batches so far.
+    pub fn entries(&self) -> u64
+        ensures { result ≡ self.now.entries }
+    {
+        self.entries
+    }
+
+    /// The number of messages of all queues. Visits each queue once.
+    pub fn messages(&self) -> u64
+        ensures { result ≡ message_count self.now.duties.queues }
+    {
+        let _version = self.set.control_count();
+        self.duties.messages()
     }
 
     /// The number of batches so far.
