@@ -1,0 +1,22 @@
+use Rattle.std.proofs.Common.{◌≡◌, ◌+◌, All}
+use Rattle.std.specs.Prelude.{vec_len, vec_capacity}
+use Rattle.turn_book.specs.Rule.{Learns}
+use Rattle.turn_book.specs.Passes.{view, HasSameTurn}
+use Rattle.door_workers.specs.Serving.{IsIdlePass}
+use Rattle.door_workers.proofs.staff.hire.Given as goal
+
+abbrev pub invariant-loop-own : goal.invariant-loop-own
+invariant-loop-own g l = record {
+  here : l.pass.seat.table_id ≡ l.initial.pass.seat.table_id;
+  turn : HasSameTurn l.initial.pass.seat l.pass.seat;
+  number : (view l.pass.seat).number ≡ (view l.initial.pass.seat).number;
+  more : Learns g.V.Story.made_by (view l.initial.pass.seat) (view l.pass.seat).seen;
+  made : (view l.pass.seat).made ≡ (view l.initial.pass.seat).made + vec_len l.workers;
+  count : vec_len l.workers + vec_len l.owns ≡ vec_len l.initial.owns;
+  room : vec_capacity l.workers ≡ vec_capacity l.initial.workers;
+  owns_room : vec_capacity l.owns ≡ vec_capacity l.initial.owns;
+  idle : All (λ w. IsIdlePass l.initial.hall.table.shared.table_id w.pass.seat) l.workers.items;
+}
+
+abbrev pub decreases-loop-own : goal.decreases-loop-own
+decreases-loop-own g l = vec_len l.owns

@@ -1,0 +1,35 @@
+-- A door that workers served.
+use Rattle.std.specs.Prelude.{◌≡◌, ℕ, Bool, List, Option, Some, None}
+use Rattle.atomic_table.specs.Seated.{TableId}
+use Rattle.atomic_table.specs.declared.shared.Seat.{Seat}
+use Rattle.turn_book.specs.declared.view.View.{View}
+use Rattle.turn_book.specs.Passes.{IsFree}
+use Rattle.shared_door.specs.declared.connection.Standing.{Standing}
+use Rattle.shared_door.specs.declared.connection.Visit.{Visit}
+use Rattle.shared_door.specs.declared.connection.Over.{Over}
+use Rattle.shared_door.specs.declared.connection.Over.TheVariants as over
+use Rattle.shared_door.specs.Shown.{Shown}
+use Rattle.shared_door.specs.Visits.{Gave, Visited}
+use Rattle.door_workers.specs.declared.door.DoorEnd.{DoorEnd}
+use Rattle.door_workers.specs.declared.door.DoorEnd.TheVariants.{Done, DoorFault, NoMemory}
+
+-- a pass of this hall, which has no turn
+abbrev pub IsIdlePass : {V T : Type 0} → TableId → Seat (Option V) (View T) → Type 0
+IsIdlePass hall seat = (seat.table_id ≡ hall) × IsFree seat
+
+-- why the porch gives no more connections
+abbrev pub over_of : DoorEnd → Option Over
+over_of Done = Some over.Closed
+over_of DoorFault = Some over.Failed
+over_of NoMemory = None
+
+-- A door that showed `start`, of which at most `most` connections were asked for, gave some and shows `now`. Those that ended each
+-- fit a history with these turns, and each has its own number.
+pub record HasServed {I O T : Type 0} (most : Option ℕ) (start now : Shown I O)
+    (fits : ℕ → I × O → I × O → Bool → List T → Type 0) (turns : List T) (end : DoorEnd) : Type 0 where
+  pub standing : Standing
+  pub over_is : standing.over ≡ over_of end
+  pub given : List (I × O)
+  pub gave : Gave most start now standing given
+  pub visits : List (Visit I O)
+  pub visited : Visited start now fits turns given visits

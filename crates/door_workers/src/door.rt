@@ -1,0 +1,259 @@
+//! A door served by workers side by side.
+ghost use Rattle.std.specs.Prelude.{◌≡◌, ◌≢◌, ◌+◌, ◌<◌, ◌≤◌, List, All, [], length, vec_len, vec_capacity};
+ghost use Rattle.router_disk.specs.Faults.{Rose};
+ghost use Rattle.turn_book.specs.Rule.{Learns};
+ghost use Rattle.turn_book.specs.Passes.{view};
+ghost use Rattle.shared_door.specs.Shown.{shown_by};
+ghost use Rattle.shared_door.specs.Visits.{Gave, Visited, visits_of};
+ghost use Rattle.door_workers.specs.Serving.{over_of, IsIdlePass, HasServed};
+
+use crate::counts::Counts;
+use crate::site::{Site, attend};
+use crate::staff::{Room, gather, hire, room_for};
+use crate::worker::{Work, Worker};
+use bus_host::Door;
+use shared_door::{Naming, Over, Parts, Porch, Served, Tickets};
+use std::alloc::Global;
+use std::marker::Brand;
+use std::sync::{Mutex, Wait};
+use std::thread;
+use std::thread::Threads;
+use turn_book::{Hall, NoMemory, Pass, Story};
+
+/// Why a door was served no longer.
+#[derive(Clone, Copy, Debug, PartialEq, Eq)]
+pub enum DoorEnd {
+    /// The door gave no further connection, or it gave all that were asked for.
+    Done,
+    /// The door failed.
+    DoorFault,
+    /// Out of memory before any worker began. Nothing was served.
+    NoMemory,
+}
+
+/// What is left of a door that was served.
+#[derive(Drop)]
+pub struct Serving<V: Story, D, Own> {
+    pub door: D,
+    /// What the workers had, in any order.
+    pub owns: Vec<Own>,
+    /// The passes that were made: close the hall with them.
+    pub passes: Vec<Pass<V>>,
+    pub end: DoorEnd,
+}
+
+/// Serves the connections of a door, with a worker for each of `owns`. Returns once the door gives no further connection, or gave
+/// `connections`, and all given have ended. The passes of the workers and of the door are made by `pass`, which then has seen all
+/// that they saw.
+pub fn serve_door<
+    V: Served<D::In, D::Out> + Send,
+    Rt: Wait + Threads + Sync,
+    D: Door,
+    Own: Send,
+    W: Work<V, D::In, D::Out, Own> + Sync,
+>(
+    rt: &Rt,
+    alloc: Global,
+    hall: &Hall<V>,
+    pass: &mut Pass<V>,
+    owns: Vec<Own>,
+    door: D,
+    connections: Option<u64>,
+    work: &W,
+) -> Serving<V, D, Own>
+    requires works { W.works work.now }
+    requires here { IsIdlePass hall.now.table.shared.table_id pass.old.seat }
+    requires maker { 0 < (view pass.old.seat).made }
+    requires owns { (0 < vec_len owns) × (vec_len owns ≤ 16) }
+    requires seats { (view pass.old.seat).made + vec_len owns + 1 ≤ hall.now.seats }
+    ensures pass { IsIdlePass hall.now.table.shared.table_id pass.new.seat × ((view pass.new.seat).number ≡ (view pass.old.seat).number) }
+    ensures more { Learns V.made_by (view pass.old.seat) (view pass.new.seat).seen }
+    ensures made { (view pass.new.seat).made ≡ (view pass.old.seat).made + vec_len result.passes }
+    ensures passes { All (λ p. IsIdlePass hall.now.table.shared.table_id p.seat) result.passes.items }
+    ensures owns { vec_len result.owns ≡ vec_len owns }
+    ensures served { result.end ≢ DoorEnd.NoMemory → HasServed connections (shown_by D.faults D.ahead D.given D.ended door)
+        (shown_by D.faults D.ahead D.given D.ended result.door) V.fits (view pass.new.seat).seen result.end }
+    ensures door_fault { result.end ≡ DoorEnd.DoorFault → Rose (D.faults door) (D.faults result.door) }
+    ensures no_memory { result.end ≡ DoorEnd.NoMemory → (result.door ≡ door) × (result.owns.items ≡ owns.items)
+        × (result.passes.items ≡ []) × (pass.new ≡ pass.old) }
+{
+    match room_for::<V, (D::In, D::Out), Own>(alloc, owns.len()) {
+        Ok(room) => serve_in(rt, hall, pass, owns, door, connections, work, room),
+        Err(NoMemory) => Serving {
+            door,
+            owns,
+            passes: Vec::new(alloc),
+            end: DoorEnd::NoMemory,
+        },
+    }
+}
+
+/// Serves the connections of a door, once the memory is there.
+fn serve_in<
+    V: Served<D::In, D::Out> + Send,
+    Rt: Wait + Threads + Sync,
+    D: Door,
+    Own: Send,
+    W: Work<V, D::In, D::Out, Own> + Sync,
+>(
+    rt: &Rt,
+    hall: &Hall<V>,
+    pass: &mut Pass<V>,
+    owns: Vec<Own>,
+    door: D,
+    connections: Option<u64>,
+    work: &W,
+    room: Room<V, (D::In, D::Out), Own>,
+) -> Serving<V, D, Own>
+    requires works { W.works work.now }
+    requires here { IsIdlePass hall.now.table.shared.table_id pass.old.seat }
+    requires maker { 0 < (view pass.old.seat).made }
+    requires owns { 0 < vec_len owns }
+    requires seats { (view pass.old.seat).made + vec_len owns + 1 ≤ hall.now.seats }
+    requires tickets { (room.tickets.given ≡ 0) × (room.tickets.seat.me.0.back ≡ []) }
+    requires workers { (vec_len room.workers ≡ 0) × (vec_len owns ≤ vec_capacity room.workers) }
+    requires passes { (room.passes.items ≡ []) × (vec_len owns + 1 ≤ vec_capacity room.passes) }
+    ensures pass { IsIdlePass hall.now.table.shared.table_id pass.new.seat × ((view pass.new.seat).number ≡ (view pass.old.seat).number) }
+    ensures more { Learns V.made_by (view pass.old.seat) (view pass.new.seat).seen }
+    ensures made { (view pass.new.seat).made ≡ (view pass.old.seat).made + vec_len result.passes }
+    ensures passes { All (λ p. IsIdlePass hall.now.table.shared.table_id p.seat) result.passes.items }
+    ensures owns { vec_len result.owns ≡ vec_len owns }
+    ensures served { HasServed connections (shown_by D.faults D.ahead D.given D.ended door)
+        (shown_by D.faults D.ahead D.given D.ended result.door) V.fits (view pass.new.seat).seen result.end }
+    ensures door_fault { result.end ≡ DoorEnd.DoorFault → Rose (D.faults door) (D.faults result.door) }
+    ensures memory { result.end ≢ DoorEnd.NoMemory }
+{
+    let Room {
+        tickets,
+        workers,
+        mut passes,
+    } = room;
+    let mut owns = owns;
+    let last = hall.another(pass);
+    let mut workers = hire(hall, pass, &mut owns, workers);
+    let parts = open_by::<Brand, V, Rt, D, Own, W>(
+        rt,
+        hall,
+        last,
+        tickets,
+        door,
+        connections,
+        work,
+        workers.as_mut_slice(),
+    );
+    let Parts {
+        door,
+        pass: last,
+        standing,
+        visits: _,
+    } = parts;
+    gather(hall, pass, workers, last, &mut owns, &mut passes);
+    Serving {
+        door,
+        owns,
+        passes,
+        end: end_of(rt, standing.over),
+    }
+}
+
+/// Why the porch gives no more. A worker stops only if it does not, so one of the two is always there.
+fn end_of<Rt: Wait>(rt: &Rt, over: Option<Over>) -> DoorEnd
+    ensures over { over ≡ over_of result }
+    ensures served { result ≢ DoorEnd.NoMemory }
+{
+    match over {
+        Some(Over::Closed) => DoorEnd::Done,
+        Some(Over::Failed) => DoorEnd::DoorFault,
+        None => {
+            for _ in rt.forever() {}
+            unreachable!()
+        }
+    }
+}
+
+/// Opens the door, and lets the workers serve it.
+fn open_by<
+    N: Naming<D::In, D::Out> + Send,
+    V: Served<D::In, D::Out> + Send,
+    Rt: Wait + Threads + Sync,
+    D: Door,
+    Own: Send,
+    W: Work<V, D::In, D::Out, Own> + Sync,
+>(
+    rt: &Rt,
+    hall: &Hall<V>,
+    last: Pass<V>,
+    tickets: Tickets<(D::In, D::Out)>,
+    door: D,
+    connections: Option<u64>,
+    work: &W,
+    workers: &mut [Worker<V, Own>],
+) -> Parts<V, D>
+    requires works { W.works work.now }
+    requires hall { hall.now.table.shared.table_id ≡ N.hall }
+    requires last { IsIdlePass N.hall last.seat }
+    requires tickets { (tickets.seat.table_id ≡ N.tickets) × (tickets.given ≡ 0) × (tickets.seat.me.0.back ≡ []) }
+    requires door { shown_by D.faults D.ahead D.given D.ended door ≡ N.start }
+    requires most { connections ≡ N.most }
+    requires some { 0 < length workers.old }
+    requires workers { All (λ w. IsIdlePass N.hall w.pass.seat) workers.old }
+    ensures workers { All (λ w. IsIdlePass N.hall w.pass.seat) workers.new }
+    ensures count { length workers.new ≡ length workers.old }
+    ensures pass { IsIdlePass N.hall result.pass.seat }
+    ensures door { (given : List _)
+        × Gave N.most N.start (shown_by D.faults D.ahead D.given D.ended result.door) result.standing given
+        × Visited N.start (shown_by D.faults D.ahead D.given D.ended result.door)
+        V.fits (view result.pass.seat).seen given (visits_of result.visits.items) }
+{
+    let counts = Counts::new(workers.len());
+    let porch: Porch<'_, V, D, N> = Porch::open(door, hall, last, tickets, connections);
+    let porch = Mutex::new(porch);
+    work_all(rt, hall, &porch, &counts, work, workers);
+    porch.into_inner().into_parts()
+}
+
+/// Lets all workers work, each in a thread of its own. The caller is one.
+fn work_all<
+    N: Naming<D::In, D::Out> + Send,
+    V: Served<D::In, D::Out> + Send,
+    Rt: Wait + Threads + Sync,
+    D: Door,
+    Own: Send,
+    W: Work<V, D::In, D::Out, Own> + Sync,
+>(
+    rt: &Rt,
+    hall: &Hall<V>,
+    porch: &Mutex<Porch<'_, V, D, N>>,
+    counts: &Counts,
+    work: &W,
+    workers: &mut [Worker<V, Own>],
+)
+    requires works { W.works work.now }
+    requires hall { hall.now.table.shared.table_id ≡ N.hall }
+    requires some { 0 < length workers.old }
+    requires workers { All (λ w. IsIdlePass N.hall w.pass.seat) workers.old }
+    ensures workers { All (λ w. IsIdlePass N.hall w.pass.seat) workers.new }
+    ensures count { length workers.new ≡ length workers.old }
+{
+    let threads = workers.len();
+    thread::for_each_mut(
+        rt,
+        workers,
+        threads,
+        &|_, worker: &mut Worker<V, Own>|
+            requires works { W.works work.now }
+            requires hall { hall.now.table.shared.table_id ≡ N.hall }
+            requires idle { IsIdlePass N.hall worker.old.pass.seat }
+            ensures { IsIdlePass N.hall worker.new.pass.seat }
+        {
+            let site = Site {
+                rt,
+                hall,
+                porch,
+                counts,
+                work,
+            };
+            attend(site, worker)
+        },
+    );
+}

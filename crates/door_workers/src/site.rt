@@ -1,0 +1,140 @@
+//! What the workers of one door share, and what one of them does at it.
+ghost use Rattle.std.specs.Prelude.{◌≡◌};
+ghost use Rattle.turn_book.specs.Passes.{IsFree, IsSamePass};
+ghost use Rattle.shared_door.specs.Knocks.{tickets_of, came_of};
+
+use crate::counts::{Counts, may_leave};
+use crate::worker::{Work, Worker};
+use bus_host::Door;
+use shared_door::{Connection, Knocked, Naming, Porch, Served};
+use std::alloc::AllocError;
+use std::sync::atomic::Ordering;
+use std::sync::{Mutex, Wait};
+use turn_book::Hall;
+
+/// What the workers share. The porch is locked only for a knock, by one worker at a time, and to take a connection back.
+pub(crate) struct Site<'a, 'h, Rt, V: Served<D::In, D::Out>, D: Door, N: Naming<D::In, D::Out>, W> {
+    pub(crate) rt: &'a Rt,
+    pub(crate) hall: &'a Hall<V>,
+    pub(crate) porch: &'a Mutex<Porch<'h, V, D, N>>,
+    pub(crate) counts: &'a Counts,
+    pub(crate) work: &'a W,
+}
+
+impl<Rt, V: Served<D::In, D::Out>, D: Door, N: Naming<D::In, D::Out>, W> Clone
+    for Site<'_, '_, Rt, V, D, N, W> {
+    fn clone(&self) -> Result<Self, AllocError> {
+        Ok(*self)
+    }
+}
+
+impl<Rt, V: Served<D::In, D::Out>, D: Door, N: Naming<D::In, D::Out>, W> Copy
+    for Site<'_, '_, Rt, V, D, N, W> {}
+
+/// Knocks until the door gives no more connections. Serves each connection that comes, and does the rest of its work while none
+/// comes.
+pub(crate) fn attend<
+    Rt: Wait + Sync,
+    V: Served<D::In, D::Out>,
+    D: Door,
+    N: Naming<D::In, D::Out>,
+    Own,
+    W: Work<V, D::In, D::Out, Own>,
+>(site: Site<'_, '_, Rt, V, D, N, W>, worker: &mut Worker<V, Own>)
+    requires works { W.works site.work.now }
+    requires hall { site.hall.now.table.shared.table_id ≡ N.hall }
+    requires pass { (worker.old.pass.seat.table_id ≡ N.hall) × IsFree worker.old.pass.seat }
+    ensures pass { IsSamePass worker.old.pass.seat worker.new.pass.seat × IsFree worker.new.pass.seat }
+{
+    site.counts.begun.fetch_add(1, Ordering::SeqCst);
+    for _ in site.rt.forever() {
+        let knocking = site.counts.knocking.lock(site.rt);
+        let knocked = site.porch.lock(site.rt).knock();
+        drop(knocking);
+        match knocked {
+            Knocked::Conn(connection) => serve(site, worker, connection),
+            Knocked::Quiet => be_quiet(site, worker),
+            Knocked::NoMemory => be_quiet(site, worker),
+            Knocked::Closed => return,
+            Knocked::Failed => return,
+        }
+    }
+}
+
+/// Serves a connection, and takes it back to the porch.
+fn serve<
+    Rt: Wait + Sync,
+    V: Served<D::In, D::Out>,
+    D: Door,
+    N: Naming<D::In, D::Out>,
+    Own,
+    W: Work<V, D::In, D::Out, Own>,
+>(site: Site<'_, '_, Rt, V, D, N, W>, worker: &mut Worker<V, Own>, connection: Connection<D>)
+    requires works { W.works site.work.now }
+    requires hall { site.hall.now.table.shared.table_id ≡ N.hall }
+    requires pass { (worker.old.pass.seat.table_id ≡ N.hall) × IsFree worker.old.pass.seat }
+    requires own { tickets_of connection ≡ N.tickets }
+    requires came { came_of connection ≡ (connection.input, connection.output) }
+    ensures pass { IsSamePass worker.old.pass.seat worker.new.pass.seat × IsFree worker.new.pass.seat }
+{
+    site.counts.out.fetch_add(1, Ordering::SeqCst);
+    site.counts.busy.fetch_add(1, Ordering::SeqCst);
+    converse(site, worker, connection);
+    site.counts.busy.fetch_sub(1, Ordering::SeqCst);
+    site.counts.out.fetch_sub(1, Ordering::SeqCst);
+}
+
+fn converse<
+    Rt: Wait + Sync,
+    V: Served<D::In, D::Out>,
+    D: Door,
+    N: Naming<D::In, D::Out>,
+    Own,
+    W: Work<V, D::In, D::Out, Own>,
+>(site: Site<'_, '_, Rt, V, D, N, W>, worker: &mut Worker<V, Own>, connection: Connection<D>)
+    requires works { W.works site.work.now }
+    requires hall { site.hall.now.table.shared.table_id ≡ N.hall }
+    requires pass { (worker.old.pass.seat.table_id ≡ N.hall) × IsFree worker.old.pass.seat }
+    requires own { tickets_of connection ≡ N.tickets }
+    requires came { came_of connection ≡ (connection.input, connection.output) }
+    ensures pass { IsSamePass worker.old.pass.seat worker.new.pass.seat × IsFree worker.new.pass.seat }
+{
+    let mut connection = connection;
+    let number = connection.number();
+    let cut = site.work.serve(
+        &mut worker.own,
+        site.hall,
+        &mut worker.pass,
+        number,
+        &mut connection.input,
+        &mut connection.output,
+    );
+    site.porch
+        .lock(site.rt)
+        .back(connection, cut, &mut worker.pass);
+}
+
+/// Does for a while what there is to do without a connection, if this worker may.
+fn be_quiet<
+    Rt: Wait + Sync,
+    V: Served<D::In, D::Out>,
+    D: Door,
+    N: Naming<D::In, D::Out>,
+    Own,
+    W: Work<V, D::In, D::Out, Own>,
+>(site: Site<'_, '_, Rt, V, D, N, W>, worker: &mut Worker<V, Own>)
+    requires works { W.works site.work.now }
+    requires hall { site.hall.now.table.shared.table_id ≡ N.hall }
+    requires pass { (worker.old.pass.seat.table_id ≡ N.hall) × IsFree worker.old.pass.seat }
+    ensures pass { IsSamePass worker.old.pass.seat worker.new.pass.seat × IsFree worker.new.pass.seat }
+{
+    let counts: &Counts = site.counts;
+    let busy = counts.busy.fetch_add(1, Ordering::SeqCst).saturating_add(1);
+    let begun = counts.begun.load(Ordering::SeqCst);
+    let out = counts.out.load(Ordering::SeqCst);
+    if may_leave(busy, begun, out, counts.limit) {
+        site.work
+            .meanwhile(&mut worker.own, site.hall, &mut worker.pass);
+    }
+    counts.busy.fetch_sub(1, Ordering::SeqCst);
+}
