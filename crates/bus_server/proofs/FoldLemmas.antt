@@ -16,12 +16,12 @@ use Rattle.delivery_duties.specs.Duties.{Duties, pending_row, replaced, failed, 
 use Rattle.delivery_duties.specs.Duties.{settled, attempt_of}
 use Rattle.router_core.specs.Batch.{Batch, Entry, control, accepted, attempt, messages_deleted}
 use Rattle.router_core.specs.Tables.{Tables, first_tables, duties_after, after_entry, after_entries, after_batch, tables_after}
-use Rattle.bus_server.specs.History.{Ask, asked, claims, records, puts_back, Turn, State, after_written, after_turn, state_after}
-use Rattle.bus_server.specs.History.{IsTurnFor, IsLegal, batches_of, with_written, begun as state_begun}
+use Rattle.router_sessions.specs.History.{Ask, asked, claims, records, puts_back, Turn, State, after_written, after_turn, state_after}
+use Rattle.router_sessions.specs.History.{IsTurnFor, IsLegal, batches_of, with_written, begun as state_begun}
 use Rattle.bus_server.specs.Folds.{unclaimed_entry, without_claims}
-use Rattle.bus_server.specs.Book.{BookState, IsBook}
-use Rattle.bus_server.proofs.PendingLemmas.{AreNumbered, row_number, restored}
-use Rattle.bus_server.proofs.SteadyLemmas.{IsSteady, steady_turn, steady_begun}
+use Rattle.router_sessions.specs.Book.{BookState, IsBook}
+use Rattle.router_sessions.proofs.PendingLemmas.{AreNumbered, row_number, restored}
+use Rattle.router_sessions.proofs.SteadyLemmas.{IsSteady, steady_turn, steady_begun}
 
 -- the row, not claimed
 abbrev free : DutyRow → DutyRow

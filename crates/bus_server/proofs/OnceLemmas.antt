@@ -5,11 +5,11 @@ use Rattle.std.proofs.lemmas.Bool.{eq-eqb}
 use Rattle.std.proofs.lemmas.List.Elements.{All-nil, All-cons, All-head, All-tail, All-filter}
 use mathlib.Core.List.{IsPrefix}
 use Rattle.turn_book.specs.Rule.{IsUnmade}
-use Rattle.bus_server.specs.declared.history.Turn.{Turn as CodeTurn}
-use Rattle.bus_server.specs.History.{Ask, asked, claims, records, puts_back, Turn, State, OpenClaim, claims_by, after_ask, after_turn, state_after}
-use Rattle.bus_server.specs.Book.{turn_of}
-use Rattle.bus_server.proofs.SteadyLemmas.{open_written}
-use Rattle.bus_server.proofs.DeskLemmas.{maker}
+use Rattle.router_sessions.specs.declared.history.Turn.{Turn as CodeTurn}
+use Rattle.router_sessions.specs.History.{Ask, asked, claims, records, puts_back, Turn, State, OpenClaim, claims_by, after_ask, after_turn, state_after}
+use Rattle.router_sessions.specs.Book.{turn_of}
+use Rattle.router_sessions.proofs.SteadyLemmas.{open_written}
+use Rattle.router_sessions.proofs.DeskLemmas.{maker}
 
 -- if only one pass was made, all turns are its own
 only_one : (turns : List CodeTurn) → IsUnmade maker 1 turns → All (λ t. t.pass ≡ 0) turns

@@ -13,18 +13,18 @@ use Rattle.courier_run.specs.declared.fault.TurnFault.TheVariants.{DiskFault, Nu
 use Rattle.courier_run.specs.Claim.{Claim}
 use Rattle.courier_run.specs.Steps.{Attempt, claims, puts_back, steps_of, attempts_in, recorded_by}
 use Rattle.courier_run.specs.Turn.{End, at_budget, unclaimed, unsent, unrecorded, last_steps, HasReason}
-use Rattle.bus_server.specs.History.{State, Turn, Ask, IsClaimBy, IsTurnFor, IsTurnOf, after_turn, Placed}
-use Rattle.bus_server.specs.Sent.{Try, try_of, last_tries}
-use Rattle.bus_server.specs.Delivery.{step_for, step_of, attempts_of, IsIdle, IsFullAt}
-use Rattle.bus_server.specs.Exchange.{Exchange, IsExchange, IsWithoutTurn, IsOneTurn, IsDelivery, refused, answered, unrendered, delivered, out_of_memory}
-use Rattle.bus_server.specs.Exchange.{unposted, posted}
-use Rattle.bus_server.specs.Exchanges.{turns_of, tries_of}
-use Rattle.bus_server.proofs.SteadyLemmas.{IsSteady, steady_turn}
-use Rattle.bus_server.proofs.PlacedLemmas.{after_placed}
-use Rattle.bus_server.proofs.SentLemmas.{delivered_attempts}
-use Rattle.bus_server.proofs.OneStepLemmas.{claim_at, put_back_at}
-use Rattle.bus_server.proofs.OneDeliveryLemmas.{IsLegalFrom, legal_split, steady_placed}
-use Rattle.bus_server.proofs.AloneLemmas.{LookAfterTurns}
+use Rattle.router_sessions.specs.History.{State, Turn, Ask, IsClaimBy, IsTurnFor, IsTurnOf, after_turn, Placed}
+use Rattle.router_sessions.specs.Sent.{Try, try_of, last_tries}
+use Rattle.router_sessions.specs.Delivery.{step_for, step_of, attempts_of, IsIdle, IsFullAt}
+use Rattle.router_sessions.specs.Exchange.{Exchange, IsExchange, IsWithoutTurn, IsOneTurn, IsDelivery, refused, answered, unrendered, delivered, out_of_memory}
+use Rattle.router_sessions.specs.Exchange.{unposted, posted}
+use Rattle.router_sessions.specs.Exchanges.{turns_of, tries_of}
+use Rattle.router_sessions.proofs.SteadyLemmas.{IsSteady, steady_turn}
+use Rattle.router_sessions.proofs.PlacedLemmas.{after_placed}
+use Rattle.router_sessions.proofs.SentLemmas.{delivered_attempts}
+use Rattle.router_sessions.proofs.OneStepLemmas.{claim_at, put_back_at}
+use Rattle.router_sessions.proofs.OneDeliveryLemmas.{IsLegalFrom, legal_split, steady_placed}
+use Rattle.router_sessions.proofs.AloneLemmas.{LookAfterTurns}
 
 -- a claim is made only below the number limit
 claim_numbered : (s : State) (turn : Turn) (c : Claim) → IsTurnOf s turn → step_for s turn.ask ≡ claims c → is_full s.tables ≡ false

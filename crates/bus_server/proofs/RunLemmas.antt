@@ -9,18 +9,18 @@ use Rattle.router_disk.specs.Link.{Exchange}
 use Rattle.router_disk.proofs.ClockLemmas.{Gives-none}
 use Rattle.program_lines.specs.declared.status.Status.{Status}
 use Rattle.program_lines.specs.declared.status.Status.TheVariants as statuses
-use Rattle.bus_server.specs.declared.session.SessionEnd.{SessionEnd}
-use Rattle.bus_server.specs.declared.session.SessionEnd.TheVariants as ends
+use Rattle.router_sessions.specs.declared.session.SessionEnd.{SessionEnd}
+use Rattle.router_sessions.specs.declared.session.SessionEnd.TheVariants as ends
 use Rattle.router_core.specs.Tables.{first_tables}
-use Rattle.bus_server.specs.History.{State, begun, claims_by}
-use Rattle.bus_server.specs.Book.{BookState, state_of, IsBook}
-use Rattle.bus_server.specs.World.{World, world}
-use Rattle.bus_server.specs.Session.{IsSession}
-use Rattle.bus_server.specs.Run.{status_of, first_book, only_seat, RunsOnce, RunsBy, around, IsUnbegun, IsRun, FaultsMatch}
-use Rattle.bus_server.specs.Exchanges.{IsAlone}
+use Rattle.router_sessions.specs.History.{State, begun, claims_by}
+use Rattle.router_sessions.specs.Book.{first_book, BookState, state_of, IsBook}
+use Rattle.router_sessions.specs.World.{World, world}
+use Rattle.router_sessions.specs.Session.{IsSession}
+use Rattle.bus_server.specs.Run.{status_of, only_seat, RunsOnce, RunsBy, around, IsUnbegun, IsRun, FaultsMatch}
+use Rattle.router_sessions.specs.Exchanges.{IsAlone}
 use Rattle.bus_server.proofs.FoldLemmas.{folds_book}
-use Rattle.bus_server.proofs.SteadyLemmas.{IsSteady, steady_begun}
-use Rattle.bus_server.proofs.AloneLemmas.{added_alone}
+use Rattle.router_sessions.proofs.SteadyLemmas.{IsSteady, steady_begun}
+use Rattle.router_sessions.proofs.AloneLemmas.{added_alone}
 use Rattle.bus_server.proofs.RecordedLemmas.{all_recorded}
 use Rattle.bus_server.proofs.OnceLemmas.{is_alone, none_open}
 

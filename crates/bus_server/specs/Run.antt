@@ -10,17 +10,17 @@ use Rattle.program_lines.specs.declared.status.Status.{Status}
 use Rattle.program_lines.specs.declared.status.Status.TheVariants as statuses
 use Rattle.program_lines.specs.Status.{fault_line}
 use Rattle.router_core.specs.Tables.{first_tables, tables_after}
-use Rattle.bus_server.specs.declared.book.Seat.{Seat}
-use Rattle.bus_server.specs.declared.session.SessionEnd.{SessionEnd}
-use Rattle.bus_server.specs.declared.session.SessionEnd.TheVariants as ends
-use Rattle.bus_server.specs.History.{batches_of, begun}
+use Rattle.router_sessions.specs.declared.book.Seat.{Seat}
+use Rattle.router_sessions.specs.declared.session.SessionEnd.{SessionEnd}
+use Rattle.router_sessions.specs.declared.session.SessionEnd.TheVariants as ends
+use Rattle.router_sessions.specs.History.{batches_of}
 use Rattle.bus_server.specs.Folds.{without_claims}
-use Rattle.bus_server.specs.Book.{BookState, state_of, IsBook}
-use Rattle.bus_server.specs.World.{World, world}
-use Rattle.bus_server.specs.Sent.{try_of}
-use Rattle.bus_server.specs.Delivery.{attempts_of}
-use Rattle.bus_server.specs.Exchanges.{turns_of, tries_of, IsAlone}
-use Rattle.bus_server.specs.Session.{IsSession}
+use Rattle.router_sessions.specs.Book.{BookState, first_book, state_of, IsBook}
+use Rattle.router_sessions.specs.World.{World, world}
+use Rattle.router_sessions.specs.Sent.{try_of}
+use Rattle.router_sessions.specs.Delivery.{attempts_of}
+use Rattle.router_sessions.specs.Exchanges.{turns_of, tries_of, IsAlone}
+use Rattle.router_sessions.specs.Session.{IsSession}
 
 -- the status of a session's end
 abbrev pub status_of : SessionEnd → Status
@@ -44,10 +44,6 @@ pub record FaultsMatch (status : Status) (reads reads_new writes writes_new : �
   pub input_faultless : status ≢ statuses.ReadFault → reads_new ≡ reads
   pub write_fault : status ≡ statuses.WriteFault → Rose writes writes_new
   pub output_faultless : status ≢ statuses.WriteFault → writes_new ≡ writes
-
--- the book before any turn
-abbrev pub first_book : BookState
-first_book = record { opened = begun first_tables; tables = first_tables; turns = [] }
 
 -- the seat of the one session: pass 0, and no other connection is served
 abbrev pub only_seat : Seat

@@ -1,21 +1,12 @@
-//! A session over a connection. The bytes read determine which turns are made and which bytes are written.
+//! The program: one session over its streams, or workers that serve the connections of a port side by side.
 #![tactic(auto)]
 
-mod book;
-mod delivery;
-mod desk;
-mod exchange;
-mod gated;
-mod held;
-mod history;
-mod incoming;
-mod laws;
+mod clerk;
+mod door;
 mod program;
-mod session;
-mod text;
+mod serve;
 
-pub use book::{Book, Seat, TurnReply};
-pub use held::Held;
-pub use laws::one_session;
+pub use door::serve_door;
+pub use door_workers::{DoorEnd, Serving};
 pub use program::run;
-pub use session::{SessionEnd, serve_session};
+pub use router_sessions::{Book, SessionEnd, one_session, serve_quiet, serve_session};

@@ -1,21 +1,27 @@
 //! The program.
 ghost use Rattle.std.specs.Prelude.{◌≡◌, ◌≢◌, ℕ, List, [], Option, map, string_bytes};
+ghost use Rattle.std.specs.Io.KnownBytes.{Keeps};
 ghost use Rattle.program_lines.specs.Command.{IsCommand};
+ghost use Rattle.program_lines.specs.declared.command.Command.{Command as Action};
 ghost use Rattle.program_lines.specs.declared.command.Command.TheVariants as commands;
 ghost use Rattle.program_lines.specs.declared.status.Status.TheVariants as statuses;
 ghost use Rattle.turn_book.specs.Rule.{opener};
 ghost use Rattle.turn_book.specs.Passes.{view, IsFree};
 ghost use Rattle.bus_server.specs.Run.{IsRun, RunsBy, RunsOnce, IsUnbegun, IsReported, FaultsMatch, HostMatches};
-ghost use Rattle.bus_server.specs.Run.{around, first_book, status_of};
-ghost use Rattle.bus_server.specs.Book.{BookState};
-ghost use Rattle.bus_server.specs.World.{world};
+ghost use Rattle.bus_server.specs.Run.{around, status_of};
+ghost use Rattle.router_sessions.specs.Book.{BookState, first_book};
+ghost use Rattle.bus_host.specs.Host.{SameGiven};
+ghost use Rattle.shared_door.specs.Shown.{shown_by};
+ghost use Rattle.bus_server.specs.Serve.{around_door, IsServe};
+ghost use Rattle.router_sessions.specs.Visit.{IsVisit};
+ghost use Rattle.router_sessions.specs.World.{world};
 
-use crate::book::Book;
-use crate::session::{SessionEnd, serve_session};
+use crate::serve::serve;
 use bus_host::{Host, HostFault, NoGate};
 use json_text::NoMemory;
 use program_lines::{Command, Status, read_command};
 use router_disk::{Clock, Link, MemClock, Sink, Source};
+use router_sessions::{Book, SessionEnd, serve_session};
 use std::alloc::Global;
 use std::sync::Wait;
 use std::thread::Threads;
@@ -24,9 +30,10 @@ use turn_book::{Hall, Pass};
 /// The number of the connection in a program that serves one session.
 const ONLY_CONNECTION: u64 = 0;
 
-/// Runs the program on its arguments. The first is its name. `once` follows, and optionally `--now S`; then S is every
-/// reading of the clock, in seconds. `serve` is not built yet: it counts as bad arguments. Arguments are checked first; then
-/// memory is allocated, then the host gives a link.
+/// Runs the program on its arguments. The first is its name. With `once` it serves one session over its input and output; after
+/// `--now S`, S is every reading of the clock, in seconds. With `serve` it serves connections to a port, each as a session of
+/// its own. Arguments are checked first; then memory is allocated, then the host gives links and a door. A program that serves
+/// needs memory once more after it printed its port, and at its end.
 pub fn run<Rt: Wait + Threads + Sync, S: Source, K: Sink, E: Sink, H: Host, C: Clock>(
     rt: &Rt,
     alloc: Global,
@@ -40,13 +47,22 @@ pub fn run<Rt: Wait + Threads + Sync, S: Source, K: Sink, E: Sink, H: Host, C: C
     ensures run { (now : Option ℕ) → IsCommand (map string_bytes words.now) (commands.Once now) → IsRun H.Link.answered H.Link.faults now
         (around (S.left input.old) (K.written output.old) (C.ahead clock.old) (H.links_given host.old) (H.links_back host.old))
         (around (S.left input.new) (K.written output.new) (C.ahead clock.new) (H.links_given host.new) (H.links_back host.new)) result }
-    ensures usage { ((now : Option ℕ) → ¬ IsCommand (map string_bytes words.now) (commands.Once now))
+    ensures serve { (port workers : ℕ) (connections : Option ℕ) → IsCommand (map string_bytes words.now) (commands.Serve port workers connections)
+        → Keeps (S.left input.old) (S.left input.new) × IsServe (shown_by H.Door.faults H.Door.ahead H.Door.given H.Door.ended)
+        (IsVisit H.Door.In.left H.Door.Out.written H.Door.In.faults H.Door.Out.faults) port workers connections
+        (around_door (K.written output.old) (H.doors_given host.old) (H.doors_back host.old) (H.links_given host.old) (H.links_back host.old)
+        (H.door_faults host.old) (H.link_faults host.old))
+        (around_door (K.written output.new) (H.doors_given host.new) (H.doors_back host.new) (H.links_given host.new) (H.links_back host.new)
+        (H.door_faults host.new) (H.link_faults host.new)) result }
+    ensures usage { ((c : Action) → ¬ IsCommand (map string_bytes words.now) c)
         → (result ≡ statuses.Usage) × IsUnbegun
         (around (S.left input.old) (K.written output.old) (C.ahead clock.old) (H.links_given host.old) (H.links_back host.old))
         (around (S.left input.new) (K.written output.new) (C.ahead clock.new) (H.links_given host.new) (H.links_back host.new)) }
     ensures reported { IsReported result (E.written faults.old) (E.written faults.new) (E.faults faults.old) (E.faults faults.new) }
     ensures counts { FaultsMatch result (S.faults input.old) (S.faults input.new) (K.faults output.old) (K.faults output.new) }
-    ensures host { HostMatches H.disk_faults H.door_faults H.link_faults result host.old host.new }
+    ensures disk { H.disk_faults host.new ≡ H.disk_faults host.old }
+    ensures host { ((port workers : ℕ) (connections : Option ℕ) → ¬ IsCommand (map string_bytes words.now) (commands.Serve port workers connections))
+        → HostMatches H.disk_faults H.door_faults H.link_faults result host.old host.new × SameGiven H.doors_given H.doors_back host.old host.new }
 {
     match read_command(words) {
         Some(Command::Once { now }) => {
@@ -54,7 +70,17 @@ pub fn run<Rt: Wait + Threads + Sync, S: Source, K: Sink, E: Sink, H: Host, C: C
             report(faults, status);
             status
         }
-        Some(Command::Serve { .. }) => refuse(faults),
+        Some(
+            Command::Serve {
+                port,
+                workers,
+                connections,
+            },
+        ) => {
+            let status = serve(rt, alloc, port, workers, connections, output, host, clock);
+            report(faults, status);
+            status
+        }
         None => refuse(faults),
     }
 }
@@ -90,6 +116,7 @@ fn once<Rt: Wait, S: Source, K: Sink, H: Host, C: Clock>(
         (around (S.left input.new) (K.written output.new) (C.ahead clock.new) (H.links_given host.new) (H.links_back host.new)) result }
     ensures counts { FaultsMatch result (S.faults input.old) (S.faults input.new) (K.faults output.old) (K.faults output.new) }
     ensures host { HostMatches H.disk_faults H.door_faults H.link_faults result host.old host.new }
+    ensures doors { SameGiven H.doors_given H.doors_back host.old host.new }
 {
     match Book::first(alloc) {
         Ok(book) => match Hall::make(alloc, book, 1) {
@@ -120,6 +147,7 @@ fn linked<Rt: Wait, S: Source, K: Sink, H: Host, C: Clock>(
         (around (S.left input.new) (K.written output.new) (C.ahead clock.new) (H.links_given host.new) (H.links_back host.new)) result }
     ensures counts { FaultsMatch result (S.faults input.old) (S.faults input.new) (K.faults output.old) (K.faults output.new) }
     ensures host { HostMatches H.disk_faults H.door_faults H.link_faults result host.old host.new }
+    ensures doors { SameGiven H.doors_given H.doors_back host.old host.new }
 {
     match host.link() {
         Ok(mut link) => {

@@ -1,4 +1,4 @@
-//! The program `ebusd`: an event router over standard input and output.
+//! The program `ebusd`: an event router over standard input and output, or over connections to a port.
 #![tactic(auto)]
 
 use bus_server::run;

@@ -6,4 +6,6 @@ mod first_run;
 #[cfg(test)]
 mod program;
 #[cfg(test)]
+mod serve;
+#[cfg(test)]
 mod tests;

@@ -2,14 +2,14 @@ use Rattle.std.proofs.Common.{◌≡◌, ℕ, [], Some, ap, refl, subst, ◌∙�
 use Rattle.turn_book.specs.Rule.{IsUnmade}
 use Rattle.turn_book.specs.Passes.{view}
 use Rattle.turn_book.specs.declared.view.View.{View}
-use Rattle.bus_server.specs.declared.history.Turn.{Turn}
-use Rattle.bus_server.specs.History.{claims_by}
-use Rattle.bus_server.specs.Book.{BookState, state_of, seen_book, recorded_in}
-use Rattle.bus_server.specs.Desk.{book_seen, seen_by}
-use Rattle.bus_server.specs.World.{World, world}
-use Rattle.bus_server.specs.Session.{IsSession}
-use Rattle.bus_server.specs.Run.{first_book, only_seat}
-use Rattle.bus_server.proofs.DeskLemmas.{maker}
+use Rattle.router_sessions.specs.declared.history.Turn.{Turn}
+use Rattle.router_sessions.specs.History.{claims_by}
+use Rattle.router_sessions.specs.Book.{first_book, BookState, state_of, seen_book, recorded_in}
+use Rattle.router_sessions.specs.Desk.{book_seen, seen_by}
+use Rattle.router_sessions.specs.World.{World, world}
+use Rattle.router_sessions.specs.Session.{IsSession}
+use Rattle.bus_server.specs.Run.{only_seat}
+use Rattle.router_sessions.proofs.DeskLemmas.{maker}
 use Rattle.bus_server.proofs.OnceLemmas.{only_pass}
 use Rattle.bus_server.proofs.RunLemmas.{runs_once, end_faults, no_door_fault}
 use Rattle.bus_server.proofs.program.over.Goals as goal

@@ -1,9 +1,0 @@
-use Rattle.bus_server.specs.Desk.{book_seen, seat_of}
-use Rattle.bus_server.proofs.DeliveryLemmas.{closes}
-use Rattle.std.proofs.Common.{refl}
-use Rattle.bus_server.proofs.delivery.deliver.Goals as goal
-
-pub returns-clause-closed : goal.returns-clause-closed
-returns-clause-closed g c =
-    closes (seat_of c.args.desk.connection c.args.pass.now.seat) (book_seen c.args.pass.now.seat) (book_seen c.deliver_by.new.pass.seat) refl
-    c.deliver_by.ensures.book c.deliver_by.ensures.delivers

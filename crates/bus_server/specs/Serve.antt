@@ -1,0 +1,133 @@
+-- The program while it serves connections to a port.
+use Rattle.std.specs.Prelude.{◌≡◌, ◌≢◌, ℕ, ◌≤◌, ◌⊎◌, Bool, List, [], ◌∷◌, ◌++◌, length, map, Option}
+use Rattle.std.specs.Io.KnownBytes.{Appends, Keeps}
+use Rattle.router_disk.specs.Faults.{Rose}
+use Rattle.router_disk.specs.Sink.{AppendsPart}
+use Rattle.delivery_duties.specs.Duties.{delivered_of, dead_lettered_of, dropped_of}
+use Rattle.delivery_duties.specs.Queues.{message_count}
+use Rattle.program_lines.specs.declared.printed.Summary.{Summary}
+use Rattle.program_lines.specs.declared.status.Status.{Status}
+use Rattle.program_lines.specs.declared.status.Status.TheVariants as statuses
+use Rattle.program_lines.specs.Printed.{listening_text, summary_lines}
+use Rattle.shared_door.specs.Shown.{Shown}
+use Rattle.router_core.specs.Tables.{Tables}
+use Rattle.door_workers.specs.declared.door.DoorEnd.{DoorEnd}
+use Rattle.door_workers.specs.declared.door.DoorEnd.TheVariants as ends
+use Rattle.door_workers.specs.Serving.{HasServed}
+use Rattle.router_sessions.specs.declared.history.Turn.{Turn}
+use Rattle.router_sessions.specs.Book.{IsBook, seen_book}
+
+-- what is known around a program that serves: the bytes that were written, if they are known; the doors, each after its port, and the
+-- links that the host gave, and those that it took back; and how often it failed to give one
+pub record AroundDoor (D L : Type 0) : Type 0 where
+  pub written : Option (List ℕ)
+  pub doors : List (ℕ × D)
+  pub doors_back : List D
+  pub links : List L
+  pub links_back : List L
+  pub door_faults : ℕ
+  pub link_faults : ℕ
+
+abbrev pub around_door : {D L : Type 0} → Option (List ℕ) → List (ℕ × D) → List D → List L → List L → ℕ → ℕ → AroundDoor D L
+around_door written doors doors_back links links_back door_faults link_faults = record {
+  written = written;
+  doors = doors;
+  doors_back = doors_back;
+  links = links;
+  links_back = links_back;
+  door_faults = door_faults;
+  link_faults = link_faults;
+}
+
+-- what the tables count
+abbrev pub summary_of : Tables → Summary
+summary_of t = record {
+  records = t.batches;
+  entries = t.entries;
+  control = t.set.count;
+  events = t.events;
+  archived = 0;
+  replays = 0;
+  duties = t.duties.created;
+  pending = length t.duties.pending;
+  delivered = delivered_of t.duties.ended;
+  dead_lettered = dead_lettered_of t.duties.ended;
+  dropped = dropped_of t.duties.ended;
+  messages = message_count t.duties.queues;
+}
+
+-- the summary of the tables was written, or a first part of it, or there was no memory for it
+abbrev pub IsSummed : Tables → Option (List ℕ) → Option (List ℕ) → Status → Type 0
+IsSummed t old new status =
+    ((status ≡ statuses.Done) × Appends old new (summary_lines (summary_of t)))
+    ⊎ (((status ≡ statuses.WriteFault) × AppendsPart old new (summary_lines (summary_of t))) ⊎ ((status ≡ statuses.NoMemory) × Keeps old new))
+
+-- the status, and what was written after the workers had ended
+abbrev pub EndsServing : DoorEnd → Tables → Option (List ℕ) → Option (List ℕ) → Status → Type 0
+EndsServing ends.Done t old new status = IsSummed t old new status
+EndsServing ends.DoorFault t old new status = (status ≡ statuses.DoorFault) × Keeps old new
+EndsServing ends.NoMemory t old new status = ⊥
+
+-- The workers served the door. Their turns are one legal history from the first tables, and each connection that ended fits it; the summary is
+-- of the tables after it. `show` is what a door shows, and `fits` what an ended connection owes.
+pub record IsOpened {D I O : Type 0} (show : D → Shown I O) (fits : ℕ → I × O → I × O → Bool → List Turn → Type 0) (connections : Option ℕ)
+    (lent returned : D) (old new : Option (List ℕ)) (status : Status) : Type 0 where
+  pub turns : List Turn
+  pub book : IsBook (seen_book turns)
+  pub end : DoorEnd
+  pub served : HasServed connections (show lent) (show returned) fits turns end
+  pub ends : EndsServing end (seen_book turns).tables old new status
+
+-- The host gave a door at the port, and a link for each worker, and took all back. The port was printed, and then the workers served the door.
+pub record Serves {D L I O : Type 0} (show : D → Shown I O) (fits : ℕ → I × O → I × O → Bool → List Turn → Type 0) (port workers : ℕ)
+    (connections : Option ℕ) (old new : AroundDoor D L) (status : Status) : Type 0 where
+  -- the door as it was given, and as it was taken back
+  pub lent : D
+  pub returned : D
+  pub doors : new.doors ≡ old.doors ++ (port, lent) ∷ []
+  pub doors_back : new.doors_back ≡ old.doors_back ++ returned ∷ []
+  -- the links as they were given, and as they were taken back, in any order
+  pub links_lent : List L
+  pub links_returned : List L
+  pub links : new.links ≡ old.links ++ links_lent
+  pub links_back : new.links_back ≡ old.links_back ++ links_returned
+  pub each_worker : length links_lent ≡ workers
+  pub all_back : length links_returned ≡ workers
+  pub faultless : (new.door_faults ≡ old.door_faults) × (new.link_faults ≡ old.link_faults)
+  -- the output when the port was printed
+  pub printed : Option (List ℕ)
+  pub listening : Appends old.written printed (listening_text port)
+  pub opened : IsOpened show fits connections lent returned printed new.written status
+
+-- the host failed to give a door, or a link, and not both
+abbrev pub OneRose : {D L : Type 0} → AroundDoor D L → AroundDoor D L → Type 0
+OneRose old new =
+    (Rose old.door_faults new.door_faults × (new.link_faults ≡ old.link_faults)) ⊎ (Rose old.link_faults new.link_faults × (new.door_faults ≡ old.door_faults))
+
+-- why nothing was served, and what was written
+abbrev pub HasCause : {D L : Type 0} → ℕ → AroundDoor D L → AroundDoor D L → Status → Type 0
+HasCause port old new status =
+    ((status ≡ statuses.DoorFault) × Keeps old.written new.written × OneRose old new)
+    ⊎ (((status ≡ statuses.WriteFault) × AppendsPart old.written new.written (listening_text port))
+    ⊎ ((status ≡ statuses.NoMemory) × (Keeps old.written new.written ⊎ Appends old.written new.written (listening_text port))))
+
+-- Nothing was served. The host took back the door, if it gave one, and the links, each as it gave it. It gave a door before the port was
+-- to be printed.
+pub record IsUnserved {D L : Type 0} (port workers : ℕ) (old new : AroundDoor D L) (status : Status) : Type 0 where
+  pub cause : HasCause port old new status
+  pub lent : List D
+  pub one : length lent ≤ 1
+  pub opened_first : status ≡ statuses.WriteFault → length lent ≡ 1
+  pub doors : new.doors ≡ old.doors ++ map (λ (d : D). (port, d)) lent
+  pub doors_back : new.doors_back ≡ old.doors_back ++ lent
+  pub links_lent : List L
+  pub few : length links_lent ≤ workers
+  pub links : new.links ≡ old.links ++ links_lent
+  pub links_back : new.links_back ≡ old.links_back ++ links_lent
+  pub faultless : status ≢ statuses.DoorFault → (new.door_faults ≡ old.door_faults) × (new.link_faults ≡ old.link_faults)
+
+-- the run of a program that serves
+abbrev pub IsServe : {D L I O : Type 0} → (D → Shown I O) → (ℕ → I × O → I × O → Bool → List Turn → Type 0) → ℕ → ℕ → Option ℕ
+    → AroundDoor D L → AroundDoor D L → Status → Type 0
+IsServe show fits port workers connections old new status =
+    Serves show fits port workers connections old new status ⊎ IsUnserved port workers old new status

@@ -1,0 +1,123 @@
+//! What the workers of a door do for the router.
+ghost use Rattle.std.specs.Prelude.{◌≡◌};
+ghost use Rattle.turn_book.specs.Passes.{IsFree, IsSamePass};
+ghost use Rattle.router_sessions.specs.Desk.{seen_by};
+ghost use Rattle.router_sessions.specs.Visit.{IsVisit};
+
+use bus_host::Gate;
+use door_workers::Work;
+use router_disk::{Clock, Link, Sink, Source};
+use router_sessions::{Book, look, serve_quiet, serve_session, was_cut};
+use std::alloc::Global;
+use std::sync::{Mutex, Wait};
+use turn_book::{Hall, Pass};
+
+/// The number of delivery steps that a worker makes before it knocks again.
+const STEPS: u32 = 1_000;
+
+/// Serves a session by one closure, and does the other work by another. In a method of a trait the check does not cover a call of
+/// a function whose bounds are `Send`, as those of `converse` are; in a function that makes a closure it does.
+#[derive(Drop)]
+pub(crate) struct Clerk<S, M> {
+    pub(crate) serve: S,
+    pub(crate) meanwhile: M,
+}
+
+impl<
+    L,
+    I: Source,
+    O: Sink,
+    S: Fn(&mut L, &Hall<Book>, &mut Pass<Book>, u64, &mut I, &mut O) -> bool,
+    M: Fn(&mut L, &Hall<Book>, &mut Pass<Book>),
+> Work<Book, I, O, L> for Clerk<S, M> {
+    ghost use Rattle.bus_server.specs.Clerk.{IsClerk};
+
+    ghost works = { λ c. IsClerk I.left O.written I.faults O.faults S.Fn c.serve M.Fn c.meanwhile };
+
+    fn serve(
+        &self,
+        own: &mut L,
+        hall: &Hall<Book>,
+        pass: &mut Pass<Book>,
+        number: u64,
+        input: &mut I,
+        output: &mut O,
+    ) -> bool {
+        (self.serve)(own, hall, pass, number, input, output)
+    }
+
+    fn meanwhile(&self, own: &mut L, hall: &Hall<Book>, pass: &mut Pass<Book>) {
+        (self.meanwhile)(own, hall, pass)
+    }
+}
+
+/// Serves the session of the connection with this number. Returns whether out of memory ended it.
+pub(crate) fn converse<I: Source, O: Sink, Rt: Wait + Sync, L: Link, C: Clock, G: Gate>(
+    rt: &Rt,
+    alloc: Global,
+    clock: &Mutex<&mut C>,
+    gate: &G,
+    link: &mut L,
+    hall: &Hall<Book>,
+    pass: &mut Pass<Book>,
+    number: u64,
+    input: &mut I,
+    output: &mut O,
+) -> bool
+    requires here { pass.old.seat.table_id ≡ hall.now.table.shared.table_id }
+    requires free { IsFree pass.old.seat }
+    ensures pass { IsSamePass pass.old.seat pass.new.seat × IsFree pass.new.seat }
+    ensures visit { IsVisit I.left O.written I.faults O.faults number (input.old, output.old) (input.new, output.new) result (seen_by pass.new.seat) }
+{
+    let mut clock = Reader { rt, clock };
+    let end = serve_session(
+        rt, alloc, hall, pass, link, input, output, &mut clock, number, gate,
+    );
+    was_cut(end)
+}
+
+/// Makes delivery steps until none is made, a fault comes, `STEPS` were made, or the second in which it began is over. So it waits for
+/// one endpoint at most that does not answer.
+pub(crate) fn deliver_for_a_while<Rt: Wait + Sync, L: Link, C: Clock>(
+    rt: &Rt,
+    alloc: Global,
+    clock: &Mutex<&mut C>,
+    link: &mut L,
+    hall: &Hall<Book>,
+    pass: &mut Pass<Book>,
+)
+    requires here { pass.old.seat.table_id ≡ hall.now.table.shared.table_id }
+    requires free { IsFree pass.old.seat }
+    ensures pass { IsSamePass pass.old.seat pass.new.seat × IsFree pass.new.seat }
+{
+    look(rt, alloc, hall, pass);
+    let mut clock = Reader { rt, clock };
+    let begun = clock.now();
+    for _ in 0..STEPS {
+        let turned = serve_quiet(rt, alloc, hall, pass, link, &mut clock, 1);
+        match turned {
+            Ok(turned) if turned.attempts != 0 => (),
+            _ => return,
+        }
+        if clock.now() != begun {
+            return;
+        }
+    }
+}
+
+/// One worker's view of the clock that all share. Its readings are not known ahead.
+#[derive(Drop)]
+struct Reader<'a, 'c, C: Clock, Rt: Wait + Sync> {
+    rt: &'a Rt,
+    clock: &'a Mutex<&'c mut C>,
+}
+
+impl<C: Clock, Rt: Wait + Sync> Clock for Reader<'_, '_, C, Rt> {
+    ghost use Rattle.std.specs.Prelude.{None};
+
+    ghost ahead = { λ _. None };
+
+    fn now(&mut self) -> u64 {
+        self.clock.lock(self.rt).now()
+    }
+}

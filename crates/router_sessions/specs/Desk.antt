@@ -1,0 +1,48 @@
+-- What a pass knows of the book, and the turns that it makes at a desk.
+use Rattle.std.specs.Prelude.{◌≡◌, ℕ, List, [], ◌++◌, Option, None}
+use Rattle.atomic_table.specs.Seated.{TableId}
+use Rattle.atomic_table.specs.declared.shared.Seat.{Seat as PassSeat}
+use Rattle.turn_book.specs.declared.view.View.{View}
+use Rattle.turn_book.specs.Passes.{view}
+use Rattle.router_sessions.specs.declared.book.Book.{Book}
+use Rattle.router_sessions.specs.declared.book.Seat.{Seat}
+use Rattle.router_sessions.specs.declared.history.Turn.{Turn}
+use Rattle.router_sessions.specs.Book.{BookState, IsBook, HasLearned, seen_book}
+
+-- what is known of a pass, by its seat at the hall's table
+abbrev pub Known : Type 0
+Known = PassSeat (Option Book) (View Turn)
+
+-- the turns that the pass has seen
+abbrev pub seen_by : Known → List Turn
+seen_by known = (view known).seen
+
+-- the book as the pass knows it
+abbrev pub book_seen : Known → BookState
+book_seen known = seen_book (seen_by known)
+
+-- the number of the pass
+abbrev pub number_of : Known → ℕ
+number_of known = (view known).number
+
+-- the seat of the pass, for turns that name this connection
+abbrev pub seat_of : Option ℕ → Known → Seat
+seat_of connection known = record { pass = number_of known; connection = connection }
+
+-- the names of no hall and of no seat
+abbrev pub no_hall : TableId
+no_hall = record { words = 0; slots = 0; views_name = 0; atom = 0; block = 0; offset = 0; slot_names = [] }
+
+abbrev pub no_seat : Seat
+no_seat = record { pass = 0; connection = None }
+
+-- the pass has seen all that it had seen, and perhaps more
+abbrev pub SeesMore : Known → Known → Type 0
+SeesMore old new = (more : List Turn) × (seen_by new ≡ seen_by old ++ more)
+
+-- the pass learned what others had made, and from then on this was done
+pub record AfterLearning (n : ℕ) (IsDone : BookState → BookState → Type 0) (old new : BookState) : Type 0 where
+  pub mid : BookState
+  pub learned : HasLearned n old mid
+  pub book : IsBook mid
+  pub done : IsDone mid new

@@ -1,0 +1,292 @@
+//! The router's guarded state: its tables, and the history of its turns.
+ghost use Rattle.std.specs.Prelude.{◌≡◌, ◌++◌, ◌∷◌, [], Bool, Some, None, IfOk, IfSome, IfNone, IfErr, OnErr, true};
+ghost use Rattle.json_text.specs.Moment.{IsMoment};
+ghost use Rattle.router_core.specs.View.{request_of};
+ghost use Rattle.router_core.specs.Tables.{moment_at};
+ghost use Rattle.router_core.specs.Steps.{putting_back};
+ghost use Rattle.courier_run.specs.Claim.{FitsClaim};
+ghost use Rattle.router_sessions.specs.History.{claims, puts_back, IsTurnOf};
+ghost use Rattle.router_sessions.specs.Book.{book_of, first_book, state_of, recorded_in, IsBook, HasGrown};
+ghost use Rattle.router_sessions.specs.Answered.{IsAskable, IsDecided, IsAnswered, IsRenderable, IsFrom};
+ghost use Rattle.router_sessions.specs.Delivery.{held_claim, IsOpen, IsIdle};
+ghost use Rattle.router_sessions.specs.Turns.{IsLimited, IsAdded, IsClaimedBy, IsUnclaimed, IsRecordedBy};
+
+use crate::held::Held;
+use crate::history::{Ask, History, Turn, Written};
+use crate::text::reply_bytes;
+use courier_run::BookFault;
+use delivery_duties::{Fate, Outcome};
+use json_text::{Bytes, NoMemory};
+use router_calls::decide;
+use router_core::{Ready, Reply, Request, Tables, see_plain};
+use std::alloc::Global;
+use std::snapshot::Snapshot;
+use turn_book::Story;
+
+/// The router's guarded state.
+#[derive(Drop)]
+pub struct Book {
+    pub(crate) tables: Tables,
+    pub(crate) history: History,
+}
+
+/// Whose turns they are.
+#[derive(Clone, Copy, Debug, PartialEq, Eq)]
+pub struct Seat {
+    /// The number of the pass.
+    pub pass: u64,
+    /// The number of the connection that is served, if one is.
+    pub connection: Option<u64>,
+}
+
+/// The reply of a turn.
+#[derive(Drop)]
+pub enum TurnReply {
+    /// Its bytes. The turn changed the tables, and the bytes were made before it.
+    Rendered(Bytes),
+    /// The reply. The turn changed nothing, and the bytes are made after it.
+    Unrendered(Reply),
+}
+
+impl Story for Book {
+    ghost use Rattle.std.specs.Prelude.{Some};
+    ghost use Rattle.router_sessions.specs.Book.{book_of, recorded_in, IsBook};
+
+    type Turn = Turn;
+
+    ghost turns = { λ b. recorded_in b.history };
+
+    ghost made_by = { λ t. Some t.pass };
+
+    ghost sound = { λ b. IsBook (book_of b) };
+}
+
+impl Book {
+    /// The book before any turn.
+    pub fn first(alloc: Global) -> Result<Book, NoMemory>
+        ensures first { IfOk result (λ b. book_of b ≡ first_book) }
+        ensures unturned { IfOk result (λ b. recorded_in b.history ≡ []) }
+        ensures book { IfOk result (λ b. IsBook (book_of b)) }
+    {
+        Ok(Book {
+            tables: Tables::first(alloc)?,
+            history: History::new(),
+        })
+    }
+
+    /// The tables after all turns.
+    pub fn tables(&self) -> &Tables
+        ensures { result.now ≡ (book_of self.now).tables }
+    {
+        &self.tables
+    }
+
+    /// Makes the turn of the request, and returns its reply. If the tables change, the memory of the reply's bytes is allocated
+    /// before, so an `Err` changes nothing.
+    pub fn turn(
+        &mut self,
+        alloc: Global,
+        seat: Seat,
+        request: Request,
+        close: bool,
+    ) -> Result<TurnReply, NoMemory>
+        requires book { IsBook (book_of self.old) }
+        requires askable { IsAskable (request_of request) }
+        ensures book { IsBook (book_of self.new) }
+        ensures grows { HasGrown seat self.old self.new }
+        ensures answered { IfOk result (λ reply. IsAnswered seat (book_of self.old) (book_of self.new) (request_of request) close reply) }
+        ensures renderable { IfOk result (λ reply. IsRenderable reply) }
+        ensures unchanged { OnErr result (book_of self.new ≡ book_of self.old) }
+    {
+        self.turn_of(alloc, seat, &request, close)
+    }
+
+    fn turn_of(
+        &mut self,
+        alloc: Global,
+        seat: Seat,
+        request: &Request,
+        close: bool,
+    ) -> Result<TurnReply, NoMemory>
+        requires book { IsBook (book_of self.old) }
+        requires askable { IsAskable (request_of request.now) }
+        ensures book { IsBook (book_of self.new) }
+        ensures grows { HasGrown seat self.old self.new }
+        ensures answered { IfOk result (λ reply. IsAnswered seat (book_of self.old) (book_of self.new) (request_of request.now) close reply) }
+        ensures renderable { IfOk result (λ reply. IsRenderable reply) }
+        ensures unchanged { OnErr result (book_of self.new ≡ book_of self.old) }
+    {
+        let (ready, reply) = self.decided(alloc, request)?;
+        match ready {
+            Some(ready) => self.write(alloc, seat, request, ready, reply, close),
+            None => Ok(self.show(seat, request, reply)),
+        }
+    }
+
+    /// Makes the turn of a request that changes the tables. The reply's bytes are made before.
+    fn write(
+        &mut self,
+        alloc: Global,
+        seat: Seat,
+        request: &Request,
+        ready: Ready,
+        reply: Reply,
+        close: bool,
+    ) -> Result<TurnReply, NoMemory>
+        requires book { IsBook (book_of self.old) }
+        requires decided { IsDecided self.old.tables (request_of request.now) (Some ready, reply) }
+        ensures book { IsBook (book_of self.new) }
+        ensures grows { HasGrown seat self.old self.new }
+        ensures answered { IfOk result (λ reply. IsAnswered seat (book_of self.old) (book_of self.new) (request_of request.now) close reply) }
+        ensures renderable { IfOk result (λ reply. IsRenderable reply) }
+        ensures unchanged { OnErr result (book_of self.new ≡ book_of self.old) }
+    {
+        let bytes = reply_bytes(alloc, &reply, close)?;
+        self.history.push(&Turn {
+            pass: seat.pass,
+            connection: seat.connection,
+            ask: Ask::Asked(Snapshot::of(request)),
+            k: self.tables.set().control_count(),
+            written: Written::Changes(Snapshot::of(ready.batch())),
+        });
+        self.tables.apply(ready);
+        Ok(TurnReply::Rendered(bytes))
+    }
+
+    /// Makes the turn of a request that changes nothing.
+    fn show(&mut self, seat: Seat, request: &Request, reply: Reply) -> TurnReply
+        requires book { IsBook (book_of self.old) }
+        requires decided { IsDecided self.old.tables (request_of request.now) (None, reply) }
+        ensures book { IsBook (book_of self.new) }
+        ensures grows { HasGrown seat self.old self.new }
+        ensures answered { (close : Bool) → IsAnswered seat (book_of self.old) (book_of self.new) (request_of request.now) close result }
+        ensures renderable { IsRenderable result }
+    {
+        self.history.push(&Turn {
+            pass: seat.pass,
+            connection: seat.connection,
+            ask: Ask::Asked(Snapshot::of(request)),
+            k: self.tables.set().control_count(),
+            written: Written::Nothing,
+        });
+        TurnReply::Unrendered(reply)
+    }
+
+    /// The batch that the request writes, if any, and its reply. Events are matched on the tables' own rule set.
+    fn decided(&self, alloc: Global, request: &Request) -> Result<(Option<Ready>, Reply), NoMemory>
+        requires { IsAskable (request_of request.now) }
+        ensures { IfOk result (λ p. IsDecided self.now.tables (request_of request.now) p) }
+    {
+        let moment = turn_moment(&self.tables, request.reading);
+        let set = self.tables.set();
+        let _version = set.control_count();
+        let seen = see_plain(alloc, set, request)?;
+        let (ready, reply) = decide(alloc, &self.tables, request, moment, seen)?;
+        Ok((ready, reply))
+    }
+
+    /// Claims the duty that is due first at this reading of the clock: one turn. If none is due, or at the number limit, or out of memory, there
+    /// is no turn.
+    pub fn claim(
+        &mut self,
+        alloc: Global,
+        seat: Seat,
+        reading: u64,
+    ) -> Result<Option<Held>, BookFault>
+        requires book { IsBook (book_of self.old) }
+        requires reading { IsMoment reading }
+        ensures book { IsBook (book_of self.new) }
+        ensures grows { HasGrown seat self.old self.new }
+        ensures held { IfOk result (λ found. IfSome found (λ held. IsClaimedBy seat reading (book_of self.old) (book_of self.new) (held_claim held))) }
+        ensures idle { IfOk result (λ found. IfNone found (IsIdle (state_of (book_of self.old)) reading × (book_of self.new ≡ book_of self.old))) }
+        ensures refused { IfErr result (λ fault. IsUnclaimed (book_of self.old) reading fault × (book_of self.new ≡ book_of self.old)) }
+    {
+        let moment = turn_moment(&self.tables, reading);
+        let full = self.tables.full();
+        let errand = match self.tables.claim(alloc, moment) {
+            Ok(Some(errand)) => errand,
+            Ok(None) => return Ok(None),
+            Err(NoMemory) => return Err(BookFault::NoMemory),
+        };
+        if full {
+            self.tables.put_back(errand);
+            return Err(BookFault::NumberLimit);
+        }
+        self.history.push(&Turn {
+            pass: seat.pass,
+            connection: seat.connection,
+            ask: Ask::Claims {
+                duty: errand.number(),
+                reading,
+            },
+            k: self.tables.set().control_count(),
+            written: Written::Nothing,
+        });
+        Ok(Some(Held { errand, reading }))
+    }
+
+    /// Records the outcome of an attempt of the held duty: one turn, and one batch. If a queue accepted the text, the turn decides whether the queue
+    /// exists. At the number limit the claim is put back instead. Returns the duty's fate.
+    pub fn record(&mut self, seat: Seat, held: Held, outcome: Outcome) -> Result<Fate, BookFault>
+        requires book { IsBook (book_of self.old) }
+        requires is_open { IsOpen (state_of (book_of self.old)) seat.pass (held_claim held) }
+        requires fits { FitsClaim (held_claim held) outcome }
+        ensures book { IsBook (book_of self.new) }
+        ensures grows { HasGrown seat self.old self.new }
+        ensures recorded { IfOk result (λ fate. IsRecordedBy seat (held_claim held) outcome fate (book_of self.old) (book_of self.new)) }
+        ensures refused { IfErr result (λ fault. (fault ≡ BookFault.NumberLimit) × IsLimited (book_of self.new) held.reading
+            × IsAdded seat (puts_back (held_claim held).number) (book_of self.old) (book_of self.new)) }
+    {
+        if self.tables.full() {
+            self.put_back(seat, held);
+            return Err(BookFault::NumberLimit);
+        }
+        let Held {
+            mut errand,
+            reading,
+        } = held;
+        let moment = turn_moment(&self.tables, reading);
+        let outcome = self.tables.record_outcome(&mut errand, outcome, moment);
+        self.history.push(&Turn {
+            pass: seat.pass,
+            connection: seat.connection,
+            ask: Ask::Records {
+                duty: errand.number(),
+                reading,
+                outcome,
+            },
+            k: self.tables.set().control_count(),
+            written: Written::Changes(Snapshot::of(errand.batch())),
+        });
+        Ok(self.tables.finish(errand))
+    }
+
+    /// Releases the claim of the held duty: one turn.
+    pub fn put_back(&mut self, seat: Seat, held: Held)
+        requires book { IsBook (book_of self.old) }
+        requires is_open { IsOpen (state_of (book_of self.old)) seat.pass (held_claim held) }
+        ensures book { IsBook (book_of self.new) }
+        ensures grows { HasGrown seat self.old self.new }
+        ensures added { IsAdded seat (puts_back (held_claim held).number) (book_of self.old) (book_of self.new) }
+        ensures tables { (book_of self.new).tables ≡ putting_back (held_claim held).number (book_of self.old).tables }
+    {
+        let Held { errand, reading: _ } = held;
+        self.history.push(&Turn {
+            pass: seat.pass,
+            connection: seat.connection,
+            ask: Ask::PutsBack {
+                duty: errand.number(),
+            },
+            k: self.tables.set().control_count(),
+            written: Written::Nothing,
+        });
+        self.tables.put_back(errand);
+    }
+}
+
+/// The moment of a turn at this reading of the clock.
+fn turn_moment(tables: &Tables, reading: u64) -> u64
+    ensures { result ≡ moment_at tables.now reading }
+{
+    reading.max(tables.moment())
+}

@@ -1,0 +1,71 @@
+//! The history of turns. Only contracts see it, and it takes no memory.
+ghost use Rattle.std.specs.Prelude.{◌≡◌, ◌++◌, ◌∷◌, []};
+ghost use Rattle.router_sessions.specs.Book.{turn_of, turns_in, recorded_in};
+
+use delivery_duties::Outcome;
+use http_server::Log;
+use router_core::{Batch, Request};
+use std::snapshot::Snapshot;
+
+/// What a turn was made for.
+#[derive(Drop)]
+pub enum Ask {
+    Asked(Snapshot<Request>),
+    Claims {
+        duty: u64,
+        reading: u64,
+    },
+    Records {
+        duty: u64,
+        reading: u64,
+        outcome: Outcome,
+    },
+    PutsBack {
+        duty: u64,
+    },
+}
+
+/// What a turn wrote.
+#[derive(Drop)]
+pub enum Written {
+    Nothing,
+    Changes(Snapshot<Batch>),
+}
+
+/// One turn.
+#[derive(Drop)]
+pub struct Turn {
+    /// The number of the pass that made it.
+    pub pass: u64,
+    /// The number of the connection that it served, if it served one.
+    pub connection: Option<u64>,
+    pub ask: Ask,
+    /// The configuration version by which it went.
+    pub k: u64,
+    pub written: Written,
+}
+
+/// All turns, oldest first.
+#[derive(Drop)]
+pub struct History {
+    pub log: Log<Turn, ()>,
+}
+
+impl History {
+    ghost use Rattle.std.specs.Prelude.{◌≡◌, ◌++◌, ◌∷◌, []};
+    ghost use Rattle.router_sessions.specs.Book.{turn_of, turns_in, recorded_in};
+
+    pub fn new() -> History
+        ensures turns { turns_in result ≡ [] }
+        ensures recorded { recorded_in result ≡ [] }
+    {
+        History { log: Log::new() }
+    }
+
+    pub fn push(&mut self, turn: &Turn)
+        ensures turns { turns_in self.new ≡ turns_in self.old ++ turn_of turn.now ∷ [] }
+        ensures recorded { recorded_in self.new ≡ recorded_in self.old ++ turn.now ∷ [] }
+    {
+        self.log = self.log.and(turn, &());
+    }
+}

@@ -1,0 +1,97 @@
+//! The next message of an input.
+ghost use Rattle.std.specs.Prelude.{◌≡◌, ◌≢◌, ◌<◌, ◌≤◌, None, length};
+ghost use Rattle.router_disk.specs.Faults.{CountsFaults, Rose};
+ghost use Rattle.std.specs.Prelude.{ℕ, List, Option};
+ghost use Rattle.std.specs.Io.{ReadsAtMost};
+ghost use Rattle.std.specs.Io.KnownBytes.{IsAtEnd, ReadConsumes};
+ghost use Rattle.api_messages.specs.Messages.{IsAwaited};
+ghost use Rattle.router_sessions.specs.Session.{piece_size};
+ghost use Rattle.router_sessions.specs.Incoming.{LackOf, NextOf, StaysOpen};
+
+use api_wire::{Message, Refusal, WireFault, WireIn, awaited_is_short};
+use json_text::NoMemory;
+use router_disk::{Failed, Source};
+
+/// Why there is no message.
+#[derive(Clone, Copy, Debug, PartialEq, Eq)]
+pub(crate) enum Lack {
+    /// The input ended between messages.
+    Closed,
+    /// The input ended inside a message.
+    Cut,
+    /// No message begins with the bytes.
+    Refused(Refusal),
+    /// The input failed.
+    ReadFault,
+    /// Out of memory. `head` is true if a whole head is buffered.
+    NoMemory { head: bool },
+}
+
+pub(crate) enum Incoming {
+    Message(Message),
+    Lack(Lack),
+}
+
+/// Reads until a message is whole, or returns why there is none.
+pub(crate) fn next_message<S: Source>(
+    wire: &mut WireIn,
+    input: &mut S,
+    piece: &mut [u8],
+) -> Incoming
+    requires room { 0 < length piece.old }
+    requires one_piece { length piece.old ≤ piece_size }
+    requires few { length wire.old.rest ≤ piece_size }
+    requires open { wire.old.refused ≡ None }
+    ensures next { NextOf (S.left input.old) (S.left input.new) wire.old.rest wire.new.rest result }
+    ensures open { StaysOpen result wire.new.refused }
+    ensures read_fault { result ≡ Incoming.Lack Lack.ReadFault → Rose (S.faults input.old) (S.faults input.new) }
+    ensures faultless { result ≢ Incoming.Lack Lack.ReadFault → S.faults input.new ≡ S.faults input.old }
+{
+    awaited_is_short();
+    loop {
+        match wire.next() {
+            Ok(Some(message)) => return Incoming::Message(message),
+            Ok(None) => {}
+            Err(WireFault::Refused(why)) => return Incoming::Lack(Lack::Refused(why)),
+            Err(WireFault::NoMemory) => return Incoming::Lack(Lack::NoMemory { head: true }),
+        }
+        // Memory is allocated before the bytes are read, so that every byte taken is in the buffer.
+        if let Err(NoMemory) = wire.reserve(piece.len()) {
+            let head = wire.has_head();
+            return Incoming::Lack(Lack::NoMemory { head });
+        }
+        match read_piece(wire, input, piece) {
+            Ok(0) => return Incoming::Lack(lack_at_end(wire)),
+            Ok(count) => match wire.feed(&piece[..count]) {
+                Ok(()) => {}
+                Err(NoMemory) => unreachable!(),
+            },
+            Err(Failed) => return Incoming::Lack(Lack::ReadFault),
+        }
+    }
+}
+
+/// Reads once. Between messages it first calls `rests` of the source.
+fn read_piece<S: Source>(wire: &WireIn, input: &mut S, piece: &mut [u8]) -> Result<usize, Failed>
+    ensures within { ReadsAtMost result piece.new }
+    ensures bytes { ReadConsumes (S.left input.old) (S.left input.new) result piece.new }
+    ensures count { CountsFaults (S.faults input.old) (S.faults input.new) result }
+{
+    if wire.is_between() {
+        input.rests();
+    }
+    input.read(piece)
+}
+
+/// Why there is no message if the input ends here.
+fn lack_at_end(wire: &WireIn) -> Lack
+    requires { IsAwaited wire.now.rest }
+    ensures lack { (left : Option (List ℕ)) → IsAtEnd left → LackOf wire.now.rest left result }
+    ensures no_fault { result ≢ Lack.ReadFault }
+{
+    if wire.is_between() {
+        Lack::Closed
+    } else {
+        Lack::Cut
+    }
+}

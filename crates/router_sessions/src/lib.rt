@@ -1,0 +1,24 @@
+//! Sessions that share one book in turns. The bytes that a session reads determine which turns it makes and which bytes are written.
+#![tactic(auto)]
+
+mod book;
+mod delivery;
+mod desk;
+mod exchange;
+mod gated;
+mod held;
+mod history;
+mod incoming;
+mod laws;
+mod quiet;
+mod refused;
+mod session;
+mod text;
+mod visit;
+
+pub use book::{Book, Seat, TurnReply};
+pub use held::Held;
+pub use laws::one_session;
+pub use quiet::{look, serve_quiet};
+pub use session::{SessionEnd, serve_session};
+pub use visit::was_cut;

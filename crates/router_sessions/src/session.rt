@@ -1,0 +1,184 @@
+//! Sessions.
+ghost use Rattle.std.specs.Prelude.{◌≡◌, ◌≢◌, ◌||◌, [], Some};
+ghost use Rattle.router_disk.specs.Faults.{Rose};
+ghost use Rattle.turn_book.specs.Passes.{IsFree, IsSamePass};
+ghost use Rattle.router_sessions.specs.History.{claims_by};
+ghost use Rattle.router_sessions.specs.Book.{state_of, IsBook};
+ghost use Rattle.router_sessions.specs.Desk.{book_seen, number_of, seat_of, SeesMore};
+ghost use Rattle.router_sessions.specs.World.{world};
+ghost use Rattle.router_sessions.specs.Session.{IsSession};
+ghost use Rattle.router_sessions.specs.Incoming.{IsFinish};
+
+use crate::book::Book;
+use crate::desk::Desk;
+use crate::exchange::answer_message;
+use crate::gated::Gated;
+use crate::incoming::{Incoming, Lack, next_message};
+use crate::refused::refusal_bytes;
+use api_wire::{Message, WireIn, no_memory_reply};
+use bus_host::Gate;
+use router_disk::{Clock, Failed, Link, Sink, Source};
+use std::alloc::Global;
+use std::sync::Wait;
+use turn_book::{Hall, Pass};
+
+/// The number of requests that one session serves.
+const REQUEST_LIMIT: u64 = 1_048_576;
+
+/// The number of bytes that one read takes at most.
+const PIECE: usize = 16_384;
+
+/// Why a session ended.
+#[derive(Clone, Copy, Debug, PartialEq, Eq)]
+pub enum SessionEnd {
+    /// The input ended between messages, or a message asked to close.
+    Closed,
+    /// The input ended inside a message.
+    Cut,
+    /// No message begins with the bytes. The rest of the input is unread.
+    Refused,
+    /// The request limit of a session is reached.
+    Long,
+    /// The input failed.
+    ReadFault,
+    /// The output failed.
+    WriteFault,
+    /// Out of memory while a message was read.
+    NoMemory,
+}
+
+/// Serves the requests of `input` in order, until it ends or a message, a fault or a limit ends the session. Its turns are made through the pass
+/// and name the connection. The pass holds no turn before and after. It begins by a look at the history, without a turn.
+pub fn serve_session<Rt: Wait, S: Source, K: Sink, L: Link, C: Clock, G: Gate>(
+    rt: &Rt,
+    alloc: Global,
+    hall: &Hall<Book>,
+    pass: &mut Pass<Book>,
+    link: &mut L,
+    input: &mut S,
+    output: &mut K,
+    clock: &mut C,
+    connection: u64,
+    gate: &G,
+) -> SessionEnd
+    requires here { pass.old.seat.table_id ≡ hall.now.table.shared.table_id }
+    requires free { IsFree pass.old.seat }
+    ensures pass { IsSamePass pass.old.seat pass.new.seat × IsFree pass.new.seat }
+    ensures book { IsBook (book_seen pass.new.seat) }
+    ensures more { SeesMore pass.old.seat pass.new.seat }
+    ensures closed { claims_by (number_of pass.old.seat) (state_of (book_seen pass.old.seat)).open_claims ≡ []
+        → claims_by (number_of pass.old.seat) (state_of (book_seen pass.new.seat)).open_claims ≡ [] }
+    ensures session { IsSession (seat_of (Some connection) pass.old.seat)
+        (world (book_seen pass.old.seat) (S.left input.old) (K.written output.old) (C.ahead clock.old) (L.answered link.old) (L.faults link.old))
+        (world (book_seen pass.new.seat) (S.left input.new) (K.written output.new) (C.ahead clock.new) (L.answered link.new) (L.faults link.new)) result }
+    ensures read_fault { result ≡ SessionEnd.ReadFault → Rose (S.faults input.old) (S.faults input.new) }
+    ensures input_faultless { result ≢ SessionEnd.ReadFault → S.faults input.new ≡ S.faults input.old }
+    ensures write_fault { result ≡ SessionEnd.WriteFault → Rose (K.faults output.old) (K.faults output.new) }
+    ensures output_faultless { result ≢ SessionEnd.WriteFault → K.faults output.new ≡ K.faults output.old }
+{
+    let desk = Desk {
+        rt,
+        alloc,
+        hall,
+        connection: Some(connection),
+    };
+    desk.look(pass);
+    converse(desk, pass, link, input, output, clock, connection, gate)
+}
+
+/// Serves the requests of `input`, once the pass knows a history that is legal.
+fn converse<Rt: Wait, S: Source, K: Sink, L: Link, C: Clock, G: Gate>(
+    desk: Desk<'_, Rt>,
+    pass: &mut Pass<Book>,
+    link: &mut L,
+    input: &mut S,
+    output: &mut K,
+    clock: &mut C,
+    connection: u64,
+    gate: &G,
+) -> SessionEnd
+    requires here { pass.old.seat.table_id ≡ desk.hall.now.table.shared.table_id }
+    requires free { IsFree pass.old.seat }
+    requires book { IsBook (book_seen pass.old.seat) }
+    ensures pass { IsSamePass pass.old.seat pass.new.seat × IsFree pass.new.seat }
+    ensures book { IsBook (book_seen pass.new.seat) }
+    ensures more { SeesMore pass.old.seat pass.new.seat }
+    ensures closed { claims_by (number_of pass.old.seat) (state_of (book_seen pass.old.seat)).open_claims ≡ []
+        → claims_by (number_of pass.old.seat) (state_of (book_seen pass.new.seat)).open_claims ≡ [] }
+    ensures session { IsSession (seat_of desk.entry.connection pass.old.seat)
+        (world (book_seen pass.old.seat) (S.left input.old) (K.written output.old) (C.ahead clock.old) (L.answered link.old) (L.faults link.old))
+        (world (book_seen pass.new.seat) (S.left input.new) (K.written output.new) (C.ahead clock.new) (L.answered link.new) (L.faults link.new)) result }
+    ensures read_fault { result ≡ SessionEnd.ReadFault → Rose (S.faults input.old) (S.faults input.new) }
+    ensures input_faultless { result ≢ SessionEnd.ReadFault → S.faults input.new ≡ S.faults input.old }
+    ensures write_fault { result ≡ SessionEnd.WriteFault → Rose (K.faults output.old) (K.faults output.new) }
+    ensures output_faultless { result ≢ SessionEnd.WriteFault → K.faults output.new ≡ K.faults output.old }
+{
+    let mut wire = WireIn::new(desk.alloc);
+    let mut piece = [0u8; PIECE];
+    let mut served: u64 = 0;
+    loop {
+        let gated = Gated {
+            rt: desk.rt,
+            gate,
+            connection,
+            call: served + 1,
+        };
+        let message = match next_message(&mut wire, input, &mut piece) {
+            Incoming::Message(message) => message,
+            Incoming::Lack(lack) => return finish(lack, gated, output),
+        };
+        served += 1;
+        let last = served == REQUEST_LIMIT;
+        let close = closes_after(&message, last);
+        match answer_message(desk, pass, &message, close, gated, output, link, clock) {
+            Ok(()) => {}
+            Err(Failed) => return SessionEnd::WriteFault,
+        }
+        if last {
+            return SessionEnd::Long;
+        }
+        if message.close {
+            return SessionEnd::Closed;
+        }
+    }
+}
+
+/// Whether the session ends after the reply to the message.
+fn closes_after(message: &Message, last: bool) -> bool
+    ensures { result ≡ (message.now.close || last) }
+{
+    message.close || last
+}
+
+/// Writes the last reply, if there is one, when there is no further message.
+fn finish<Rt: Wait, K: Sink, G: Gate>(
+    lack: Lack,
+    gated: Gated<'_, Rt, G>,
+    output: &mut K,
+) -> SessionEnd
+    ensures finish { IsFinish lack (K.written output.old) (K.written output.new) result }
+    ensures write_fault { result ≡ SessionEnd.WriteFault → Rose (K.faults output.old) (K.faults output.new) }
+    ensures output_faultless { result ≢ SessionEnd.WriteFault → K.faults output.new ≡ K.faults output.old }
+    ensures read_fault { result ≡ SessionEnd.ReadFault → lack ≡ Lack.ReadFault }
+{
+    match lack {
+        Lack::Closed => SessionEnd::Closed,
+        Lack::Cut => SessionEnd::Cut,
+        Lack::ReadFault => SessionEnd::ReadFault,
+        Lack::NoMemory { head: false } => SessionEnd::NoMemory,
+        Lack::NoMemory { head: true } => {
+            gated.at_reply();
+            match output.write_all(no_memory_reply(true)) {
+                Ok(()) => SessionEnd::NoMemory,
+                Err(Failed) => SessionEnd::WriteFault,
+            }
+        }
+        Lack::Refused(why) => {
+            gated.at_reply();
+            match output.write_all(refusal_bytes(why)) {
+                Ok(()) => SessionEnd::Refused,
+                Err(Failed) => SessionEnd::WriteFault,
+            }
+        }
+    }
+}

@@ -1,0 +1,31 @@
+//! What a connection that ended owes to the history.
+ghost use Rattle.std.specs.Prelude.{◌≡◌};
+ghost use Rattle.router_sessions.specs.Visit.{is_cut};
+
+use crate::book::Book;
+use crate::session::SessionEnd;
+use router_disk::{Sink, Source};
+use shared_door::Served;
+
+impl<I: Source, O: Sink> Served<I, O> for Book {
+    ghost use Rattle.router_sessions.specs.Visit.{IsVisit, visit_lasts};
+
+    ghost fits = { IsVisit I.left O.written I.faults O.faults };
+
+    ghost lasts = { visit_lasts I.left O.written I.faults O.faults };
+}
+
+/// Whether out of memory ended the session.
+pub fn was_cut(end: SessionEnd) -> bool
+    ensures { result ≡ is_cut end }
+{
+    match end {
+        SessionEnd::NoMemory => true,
+        SessionEnd::Closed
+        | SessionEnd::Cut
+        | SessionEnd::Refused
+        | SessionEnd::Long
+        | SessionEnd::ReadFault
+        | SessionEnd::WriteFault => false,
+    }
+}
