@@ -19,7 +19,8 @@ use std::time::{Clock, Instant};
 
 /// A door at a port of 127.0.0.1. `next` waits at most 5 ms. Only EBADF, EINVAL and ENOTSOCK of accept(2) are its fault.
 /// `done` ends the sending side; each `next` then drops what such clients still send, at most 256 KiB of each of 16
-/// connections, and closes them at the client's end or after 1 s, so that a client refused while it sends gets its reply.
+/// connections, and closes them at the client's end or after 1 s, so that a client refused while it sends gets its reply as
+/// long as `next` is called.
 #[derive(Drop)]
 pub struct TcpDoor<N> {
     alloc: Global,
