@@ -9,7 +9,6 @@ use crate::story::Story;
 use crate::view::{Another, Ask, Come, Give, Learn, Look, Note, Turns, View};
 use atomic_table::{Seat, Table};
 use std::alloc::Global;
-use std::array;
 use std::hint::spin_loop;
 use std::snapshot::Snapshot;
 use std::sync::Wait;
@@ -23,17 +22,17 @@ const SERVING: usize = 1;
 const SLOT: usize = 0;
 /// From here on a pass waits forever, so that no ticket comes twice.
 const LAST_TICKET: u64 = 1 << 63;
-/// How often a pass looks for its turn before it sleeps.
-const LOOKS: u32 = 200;
-/// The number of words that passes sleep on.
-const BELLS: usize = 16;
+/// How often a pass looks whether the turn is free before it sleeps.
+const LOOKS: u32 = 100;
 
 /// One value that threads change in turns.
 #[derive(Drop)]
 pub struct Hall<V: Story> {
     table: Table<Option<V>, View<V::Turn>, Snapshot<V>, Turns<V>, Global>,
-    sleepers: AtomicU64,
-    bells: [AtomicU64; BELLS],
+    /// 1 if a pass may sleep that nobody was told to wake.
+    asleep: AtomicU64,
+    /// How often a pass was to be woken. Passes sleep on it.
+    bell: AtomicU64,
     seats: u32,
     pub ghost shape: { (table.shared.table_id.words ≡ 2) × (table.shared.table_id.slots ≡ 1) },
 }
@@ -78,8 +77,8 @@ impl<V: Story> Hall<V> {
             Ok((table, seat)) => {
                 let hall = Hall {
                     table,
-                    sleepers: AtomicU64::new(0),
-                    bells: array::from_fn(|_| AtomicU64::new(0)),
+                    asleep: AtomicU64::new(0),
+                    bell: AtomicU64::new(0),
                     seats,
                 };
                 let pass = Pass {
@@ -123,25 +122,81 @@ impl<V: Story> Hall<V> {
         }
     }
 
-    // Draws a ticket.
+    // Draws a ticket, if no pass has the turn.
+    fn draw(&self, pass: &mut Pass<V>) -> Option<u64>
+        requires here { pass.old.seat.table_id ≡ self.now.table.shared.table_id }
+        requires free { IsFree pass.old.seat }
+        ensures same { pass.new.seat.table_id ≡ pass.old.seat.table_id }
+        ensures none { IfNone result (pass.new.seat.me ≡ pass.old.seat.me) }
+        ensures drawn { IfSome result (λ t. pass.new.seat.me ≡ (waiting (view pass.old.seat) t, [])) }
+    {
+        let shared = &self.table.shared;
+        let ticket = shared.peek(TICKET);
+        if ticket < LAST_TICKET && shared.peek(SERVING) == ticket {
+            let found = shared.compare_exchange::<Ask>(&mut pass.seat, TICKET, ticket, ticket + 1);
+            if found == ticket {
+                return Some(ticket);
+            }
+        }
+        None
+    }
+
+    // Looks a bounded number of times whether no pass has the turn, and then draws a ticket.
+    fn watch(&self, pass: &mut Pass<V>) -> Option<u64>
+        requires here { pass.old.seat.table_id ≡ self.now.table.shared.table_id }
+        requires free { IsFree pass.old.seat }
+        ensures same { pass.new.seat.table_id ≡ pass.old.seat.table_id }
+        ensures none { IfNone result (pass.new.seat.me ≡ pass.old.seat.me) }
+        ensures drawn { IfSome result (λ t. pass.new.seat.me ≡ (waiting (view pass.old.seat) t, [])) }
+    {
+        for _ in 0..LOOKS {
+            match self.draw(pass) {
+                Some(ticket) => return Some(ticket),
+                None => spin_loop(),
+            }
+        }
+        None
+    }
+
+    // Waits until no pass has the turn, and draws a ticket.
     fn ask<R: Wait>(&self, rt: &R, pass: &mut Pass<V>) -> u64
         requires here { pass.old.seat.table_id ≡ self.now.table.shared.table_id }
         requires free { IsFree pass.old.seat }
         ensures same { pass.new.seat.table_id ≡ pass.old.seat.table_id }
         ensures drawn { pass.new.seat.me ≡ (waiting (view pass.old.seat) result, []) }
     {
-        for _ in rt.forever() {
-            let ticket = self.table.shared.peek(TICKET);
-            if ticket < LAST_TICKET {
-                let found = self
-                    .table
-                    .shared
-                    .compare_exchange::<Ask>(&mut pass.seat, TICKET, ticket, ticket + 1);
-                if found == ticket {
-                    return ticket;
-                }
+        match self.watch(pass) {
+            Some(ticket) => ticket,
+            None => {
+                let ticket = self.sleep(rt, pass);
+                // The wake that ended the sleep took the mark. Others may sleep still, so the end of this turn has to wake one.
+                self.asleep.store(1, Ordering::SeqCst);
+                ticket
             }
-            spin_loop();
+        }
+    }
+
+    // Sleeps until no pass has the turn, and draws a ticket.
+    fn sleep<R: Wait>(&self, rt: &R, pass: &mut Pass<V>) -> u64
+        requires here { pass.old.seat.table_id ≡ self.now.table.shared.table_id }
+        requires free { IsFree pass.old.seat }
+        ensures same { pass.new.seat.table_id ≡ pass.old.seat.table_id }
+        ensures drawn { pass.new.seat.me ≡ (waiting (view pass.old.seat) result, []) }
+    {
+        for _ in rt.forever() {
+            // A ring after this load ends the sleep. After the store each turn that ends finds the mark and rings, or another one took it and
+            // rings. So no turn ends between the look and the sleep without a ring.
+            let rings = self.bell.load(Ordering::SeqCst);
+            self.asleep.store(1, Ordering::SeqCst);
+            match self.draw(pass) {
+                Some(ticket) => return ticket,
+                None => (),
+            }
+            self.bell.park(rt, (rings % (1 << 32)) as u32);
+            match self.watch(pass) {
+                Some(ticket) => return ticket,
+                None => (),
+            }
         }
         unreachable!()
     }
@@ -172,42 +227,13 @@ impl<V: Story> Hall<V> {
         ensures sound { V.sound result }
     {
         let ticket = self.ask(rt, pass);
-        for _ in 0..LOOKS {
-            match self.enter(pass, ticket) {
-                Some(value) => return value,
-                None => (),
-            }
-            spin_loop();
-        }
-        self.sleepers.fetch_add(1, Ordering::SeqCst);
-        let value = self.sleep(rt, pass, ticket);
-        self.sleepers.fetch_sub(1, Ordering::SeqCst);
-        value
-    }
-
-    // Sleeps until the turn of this ticket has come.
-    fn sleep<R: Wait>(&self, rt: &R, pass: &mut Pass<V>, ticket: u64) -> V
-        requires here { pass.old.seat.table_id ≡ self.now.table.shared.table_id }
-        requires waits { ((view pass.old.seat).stage ≡ 1) × ((view pass.old.seat).ticket ≡ ticket) × (pass.old.seat.me.1 ≡ []) }
-        ensures same { pass.new.seat.table_id ≡ pass.old.seat.table_id }
-        ensures some { (pass.new.seat.me ≡ (holding (view pass.old.seat) (V.turns result), (0, None) ∷ [])) × V.sound result × Learns V.made_by (view pass.old.seat) (V.turns result) }
-    {
-        let bell = self.bell(ticket);
         for _ in rt.forever() {
-            // A ring after this load ends the sleep.
-            let rings = bell.load(Ordering::SeqCst);
             match self.enter(pass, ticket) {
                 Some(value) => return value,
-                None => (),
+                None => spin_loop(),
             }
-            bell.park(rt, (rings % (1 << 32)) as u32);
         }
         unreachable!()
-    }
-
-    // What a pass with this ticket sleeps on. Few passes share one, since the tickets of those that wait are adjoining.
-    fn bell(&self, ticket: u64) -> &AtomicU64 {
-        &self.bells[(ticket % BELLS as u64) as usize]
     }
 
     /// Ends the turn. The value's list is the one taken, and then turns that each name this pass or no pass.
@@ -222,11 +248,15 @@ impl<V: Story> Hall<V> {
         let shared = &self.table.shared;
         let before = shared.exchange(&mut pass.seat, SLOT, Some(value));
         let None = before else { unreachable!() };
-        let ticket = shared.fetch_add::<Give>(&mut pass.seat, SERVING, 1);
-        if self.sleepers.load(Ordering::SeqCst) != 0 {
-            let bell = self.bell(ticket.wrapping_add(1));
-            bell.fetch_add(1, Ordering::SeqCst);
-            bell.wake_all();
+        shared.fetch_add::<Give>(&mut pass.seat, SERVING, 1);
+        self.wake();
+    }
+
+    // Wakes a pass, if one may sleep.
+    fn wake(&self) {
+        if self.asleep.load(Ordering::SeqCst) != 0 && self.asleep.swap(0, Ordering::SeqCst) != 0 {
+            self.bell.fetch_add(1, Ordering::SeqCst);
+            self.bell.wake_one();
         }
     }
 
@@ -286,8 +316,8 @@ impl<V: Story> Hall<V> {
     {
         let Hall {
             table,
-            sleepers: _,
-            bells: _,
+            asleep: _,
+            bell: _,
             seats: _,
         } = self;
         let mut closed = table.close_with(seat);

@@ -6,8 +6,8 @@ use Rattle.turn_book.specs.Rule.{Holds, gave}
 use Rattle.turn_book.proofs.Steps.{gives_back}
 use Rattle.turn_book.proofs.hall.Hall.give.Goals as goal
 
-pub fetch_add-ticket-requires : goal.fetch_add-ticket-requires
-fetch_add-ticket-requires g c = let old = c.args.pass.now.seat in let new = c.exchange-before.new.seat in let x = c.args.value in
+pub fetch_add-requires : goal.fetch_add-requires
+fetch_add-requires g c = let old = c.args.pass.now.seat in let new = c.exchange-before.new.seat in let x = c.args.value in
     let words = c.args.self.now.shape.0 in let one = c.args.pass.now.is_pass.1 in
     let (here, _, _, changed) = c.exchange-before.ensures in
     let (added, story, only) = c.requires.longer in

@@ -1,5 +1,5 @@
 use Rattle.std.proofs.Common.{◌≡◌}
-use Rattle.turn_book.proofs.hall.Hall.ask.Given as goal
+use Rattle.turn_book.proofs.hall.Hall.watch.Given as goal
 
 abbrev pub invariant-loop : goal.invariant-loop
 invariant-loop g l = (l.pass.seat.table_id ≡ l.initial.pass.seat.table_id) × (l.pass.seat.me ≡ l.initial.pass.seat.me)
