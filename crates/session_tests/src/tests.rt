@@ -1,3 +1,6 @@
+ghost use Rattle.std.specs.Prelude.{◌≡◌};
+ghost use Rattle.turn_book.specs.Passes.{IsFree, IsSamePass};
+
 use crate::first_run::{
     CREATE_QUEUE, CREATE_QUEUE_REPLY, DELIVER_DUE, DELIVER_DUE_REPLY, DROPPED_REPLY,
     LAST_MOMENT_REPLY, NO_MESSAGES_REPLY, PEEK_MESSAGES, PEEK_MESSAGES_REPLY, PUT_EVENTS,
@@ -10,7 +13,7 @@ use router_disk::{Clock, Failing, LinkFault, MemClock, MemLink, MemSink, MemSour
 use std::alloc::{AllocError, Global};
 use std::sync::Wait;
 use std::test::Fail;
-use turn_book::Hall;
+use turn_book::{Hall, Pass};
 
 /// The reading of the first run's clock, in seconds: 2023-11-14T22:13:20Z.
 pub(crate) const NOW: u64 = 1_700_000_000;
@@ -74,6 +77,28 @@ fn session<Rt: Wait, S: Source, K: Sink, C: Clock>(
         }
         Err((_, _)) => Err(NoMemory),
     }
+}
+
+/// Serves the texts in a session of this pass.
+fn serve<Rt: Wait>(
+    rt: &Rt,
+    alloc: Global,
+    hall: &Hall<Book>,
+    pass: &mut Pass<Book>,
+    connection: u64,
+    texts: &[&str],
+    output: &mut MemSink,
+) -> Result<SessionEnd, AllocError>
+    requires here { pass.old.seat.table_id ≡ hall.now.table.shared.table_id }
+    requires free { IsFree pass.old.seat }
+    ensures pass { IsSamePass pass.old.seat pass.new.seat × IsFree pass.new.seat }
+{
+    let mut input = MemSource::new(joined(alloc, texts)?);
+    let mut link = MemLink::always(alloc, Err(LinkFault::Failed));
+    let mut clock = MemClock::always(alloc, NOW);
+    Ok(serve_session(
+        rt, alloc, hall, pass, &mut link, &mut input, output, &mut clock, connection, &NoGate,
+    ))
 }
 
 #[test]
@@ -197,5 +222,52 @@ fn a_reading_past_the_last_moment_counts_as_the_last_moment(rt: HostRuntime) -> 
         ],
     )?;
     assert_eq!(rt; output.bytes(), want.as_slice());
+    Ok(())
+}
+
+#[test]
+fn two_passes_go_on_from_what_the_other_did(rt: HostRuntime) -> Result<(), Fail> {
+    let alloc = rt.alloc();
+    let book = Book::first(alloc)?;
+    let Ok((hall, mut one)) = Hall::make(alloc, book, 2) else {
+        return Err("out of memory".into());
+    };
+    let mut others = Vec::with_capacity(alloc, 1)?;
+    let mut two = hall.another(&mut one);
+    let mut output = MemSink::new(alloc);
+    // The first pass makes the queue and the rule. The second puts the event, so it matches that rule.
+    serve(
+        &rt,
+        alloc,
+        &hall,
+        &mut one,
+        0,
+        &[CREATE_QUEUE, PUT_RULE],
+        &mut output,
+    )?;
+    serve(
+        &rt,
+        alloc,
+        &hall,
+        &mut two,
+        1,
+        &[PUT_TARGETS, PUT_EVENTS],
+        &mut output,
+    )?;
+    // The first pass has the version of its own rule still, and looks for deliveries at a history that has gone on.
+    serve(&rt, alloc, &hall, &mut one, 2, &[DELIVER_DUE], &mut output)?;
+    serve(
+        &rt,
+        alloc,
+        &hall,
+        &mut two,
+        3,
+        &[PEEK_MESSAGES],
+        &mut output,
+    )?;
+    others.push_reserved(two);
+    let book = hall.close(one, others);
+    assert_eq!(rt; book.tables().events(), 1);
+    assert_eq!(rt; output.bytes(), replies(alloc)?.as_slice());
     Ok(())
 }
