@@ -15,7 +15,7 @@ use Rattle.courier_run.specs.Steps.{Attempt, claims, puts_back, steps_of, attemp
 use Rattle.courier_run.specs.Turn.{End, at_budget, unclaimed, unsent, unrecorded, last_steps, HasReason}
 use Rattle.router_sessions.specs.History.{State, Turn, Ask, IsClaimBy, IsTurnFor, IsTurnOf, after_turn, Placed}
 use Rattle.router_sessions.specs.Sent.{Try, try_of, last_tries}
-use Rattle.router_sessions.specs.Delivery.{step_for, step_of, attempts_of, IsIdle, IsFullAt}
+use Rattle.router_sessions.specs.Delivery.{step_for, step_of, attempts_of, IsIdle, IsFullAt, IsLastAtLimit}
 use Rattle.router_sessions.specs.Exchange.{Exchange, IsExchange, IsWithoutTurn, IsOneTurn, IsDelivery, refused, answered, unrendered, delivered, out_of_memory}
 use Rattle.router_sessions.specs.Exchange.{unposted, posted}
 use Rattle.router_sessions.specs.Exchanges.{turns_of, tries_of}
@@ -53,12 +53,12 @@ numbered_after s (p ∷ q ∷ ps) (a ∷ attempts) c steady legal is =
     (steady_turn q.turn (after_turn p.turn s) (steady_turn p.turn s steady)) legal.2.2 rest
 
 -- an attempt is not recorded only if the number limit is reached
-unrecorded_full : (idle full : ℕ → Type 0) (spent : Type 0) (result : Result Turned TurnFault) (c : Claim) (outcome : Outcome)
-    → HasReason idle ⊥ full spent result (unrecorded c outcome) → full c.reading
-unrecorded_full idle full spent (Ok turned) c outcome reason = absurd reason
-unrecorded_full idle full spent (Err (DiskFault turned)) c outcome reason = absurd reason
-unrecorded_full idle full spent (Err (NumberLimit turned)) c outcome reason = reason
-unrecorded_full idle full spent (Err (NoMemory turned)) c outcome reason = absurd reason
+unrecorded_full : (idle full : ℕ → Type 0) (limited : Claim → Type 0) (spent : Type 0) (result : Result Turned TurnFault) (c : Claim) (outcome : Outcome)
+    → HasReason idle ⊥ full limited spent result (unrecorded c outcome) → full c.reading
+unrecorded_full idle full limited spent (Ok turned) c outcome reason = absurd reason
+unrecorded_full idle full limited spent (Err (DiskFault turned)) c outcome reason = absurd reason
+unrecorded_full idle full limited spent (Err (NumberLimit turned)) c outcome reason = reason.0
+unrecorded_full idle full limited spent (Err (NoMemory turned)) c outcome reason = absurd reason
 
 -- the end of the steps sends nothing
 none_last : (last : End) → ((c : Claim) (outcome : Outcome) → ¬ (last ≡ unrecorded c outcome)) → last_tries last ≡ []
@@ -75,9 +75,10 @@ delivery_recorded s e budget steady legal looks d =
     let at : d.look ≡ after_placed e.turns s = All-head (λ (look : State). look ≡ after_placed e.turns s) d.look []
     (subst (All (λ (look : State). look ≡ after_placed e.turns s)) d.looks looks) in
     let never : (c : Claim) (outcome : Outcome) → ¬ (is.last ≡ unrecorded c outcome) = λ c outcome unrecorded_is.
-    let reason = subst (λ (last : End). HasReason (IsIdle d.look) ⊥ (IsFullAt d.look) (length is.attempts ≡ budget) d.result last) unrecorded_is is.reason in
+    let reason = subst (λ (last : End). HasReason (IsIdle d.look) ⊥ (IsFullAt d.look) (λ z. IsLastAtLimit e.turns)
+    (length is.attempts ≡ budget) d.result last) unrecorded_is is.reason in
     let full : is_full d.look.tables ≡ true =
-    (unrecorded_full (IsIdle d.look) (IsFullAt d.look) (length is.attempts ≡ budget) d.result c outcome reason).0 in
+    (unrecorded_full (IsIdle d.look) (IsFullAt d.look) (λ z. IsLastAtLimit e.turns) (length is.attempts ≡ budget) d.result c outcome reason).0 in
     let free : is_full (after_placed e.turns s).tables ≡ false = numbered_after s e.turns is.attempts c steady legal
     (is.steps ∙ ap (λ (last : End). steps_of is.attempts ++ last_steps last) unrecorded_is) in
     let same : is_full d.look.tables ≡ is_full (after_placed e.turns s).tables = ap (λ (z : State). is_full z.tables) at in

@@ -134,10 +134,10 @@ length_of_moments readings moments is = sym (length-map readings moment_of) ∙ 
 
 -- attempts and then an end are a turn
 pub ended : (budget : ℕ) (first middle last : Outside) (idle : ℕ → Type 0) (broken : Type 0) (full : ℕ → Type 0)
-    (result : Result Turned TurnFault) (attempts : List Attempt) (end : End) → Progress first middle attempts → Ending middle last end →
+    (limited : Claim → Type 0) (result : Result Turned TurnFault) (attempts : List Attempt) (end : End) → Progress first middle attempts → Ending middle last end →
     length attempts + length (last_moments end) ≤ budget → reported result ≡ turned_of attempts →
-    HasReason idle broken full (length attempts ≡ budget) result end → IsTurn budget first last idle broken full result
-ended budget first middle last idle broken full result attempts end p e within counts reason =
+    HasReason idle broken full limited (length attempts ≡ budget) result end → IsTurn budget first last idle broken full limited result
+ended budget first middle last idle broken full limited result attempts end p e within counts reason =
     let made = length_of_moments p.readings (map (λ a. a.claim.reading) attempts) p.moments ∙ length-map attempts (λ a. a.claim.reading) in
     let more = length_of_moments e.readings (last_moments end) e.moments in
     let all = length-append p.readings e.readings in record {
@@ -168,23 +168,25 @@ last_moments-le (unsent c) = lit≤ tt
 last_moments-le (unrecorded c outcome) = lit≤ tt
 
 -- the budget was used up, without a fault
-pub turned_at_budget : (budget : ℕ) (first last : Outside) (idle : ℕ → Type 0) (broken : Type 0) (full : ℕ → Type 0) (turned : Turned)
+pub turned_at_budget : (budget : ℕ) (first last : Outside) (idle : ℕ → Type 0) (broken : Type 0) (full : ℕ → Type 0)
+    (limited : Claim → Type 0) (turned : Turned)
     (attempts : List Attempt) →
     Progress first last attempts → turned ≡ turned_of attempts → turned.attempts ≤ budget → budget ≤ turned.attempts →
-    IsTurn budget first last idle broken full (Ok turned)
-turned_at_budget budget first last idle broken full turned attempts p counted within all =
+    IsTurn budget first last idle broken full limited (Ok turned)
+turned_at_budget budget first last idle broken full limited turned attempts p counted within all =
     let count : turned.attempts ≡ length attempts = ap (λ t. t.attempts) counted in
-    ended budget first last last idle broken full (Ok turned) attempts at_budget p (Ending-at_budget last) (omega (arith, count, within))
+    ended budget first last last idle broken full limited (Ok turned) attempts at_budget p (Ending-at_budget last) (omega (arith, count, within))
     counted (omega (arith, count, within, all))
 
 -- no duty was due
-pub turned_idle : (budget : ℕ) (first middle last : Outside) (idle : ℕ → Type 0) (broken : Type 0) (full : ℕ → Type 0) (turned : Turned)
+pub turned_idle : (budget : ℕ) (first middle last : Outside) (idle : ℕ → Type 0) (broken : Type 0) (full : ℕ → Type 0)
+    (limited : Claim → Type 0) (turned : Turned)
     (attempts : List Attempt)
     (moment : ℕ) → Progress first middle attempts → turned ≡ turned_of attempts → turned.attempts < budget → idle moment →
-    Ending middle last (unclaimed moment) → IsTurn budget first last idle broken full (Ok turned)
-turned_idle budget first middle last idle broken full turned attempts moment p counted within none e =
+    Ending middle last (unclaimed moment) → IsTurn budget first last idle broken full limited (Ok turned)
+turned_idle budget first middle last idle broken full limited turned attempts moment p counted within none e =
     let count : turned.attempts ≡ length attempts = ap (λ t. t.attempts) counted in
-    ended budget first middle last idle broken full (Ok turned) attempts (unclaimed moment) p e (omega (arith, count, within)) counted none
+    ended budget first middle last idle broken full limited (Ok turned) attempts (unclaimed moment) p e (omega (arith, count, within)) counted none
 
 reported_after : (fault : BookFault) (turned : Turned) → reported (Err (fault_after fault turned)) ≡ turned
 reported_after DiskFault turned = refl
@@ -197,14 +199,15 @@ cause_after NumberLimit turned = refl
 cause_after NoMemory turned = refl
 
 -- a fault stopped the turn
-pub turned_stopped : (budget : ℕ) (first middle last : Outside) (idle : ℕ → Type 0) (broken : Type 0) (full : ℕ → Type 0) (turned : Turned)
+pub turned_stopped : (budget : ℕ) (first middle last : Outside) (idle : ℕ → Type 0) (broken : Type 0) (full : ℕ → Type 0)
+    (limited : Claim → Type 0) (turned : Turned)
     (attempts : List Attempt)
     (fault : BookFault) (reply : TurnFault) (end : End) → Progress first middle attempts → turned ≡ turned_of attempts → turned.attempts < budget →
-    reply ≡ fault_after fault turned → IsStopped broken full fault end → Ending middle last end →
-    IsTurn budget first last idle broken full (Err reply)
-turned_stopped budget first middle last idle broken full turned attempts fault reply end p counted within is stopped e =
+    reply ≡ fault_after fault turned → IsStopped broken full limited fault end → Ending middle last end →
+    IsTurn budget first last idle broken full limited (Err reply)
+turned_stopped budget first middle last idle broken full limited turned attempts fault reply end p counted within is stopped e =
     let count : turned.attempts ≡ length attempts = ap (λ t. t.attempts) counted in
-    let P : BookFault → Type 0 = λ f. IsStopped broken full f end in
-    ended budget first middle last idle broken full (Err reply) attempts end p e (omega (arith, count, within, last_moments-le end))
+    let P : BookFault → Type 0 = λ f. IsStopped broken full limited f end in
+    ended budget first middle last idle broken full limited (Err reply) attempts end p e (omega (arith, count, within, last_moments-le end))
     (ap (λ r. reported (Err r)) is ∙ reported_after fault turned ∙ counted)
     (subst P (sym (ap cause_of is ∙ cause_after fault turned)) stopped)

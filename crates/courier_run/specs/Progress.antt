@@ -4,7 +4,7 @@ use Rattle.router_disk.specs.Clock.{Gives}
 use Rattle.router_disk.specs.Link.{Exchange, Answered}
 use Rattle.courier_run.specs.declared.attempt.Ended.{Ended}
 use Rattle.courier_run.specs.declared.attempt.Ended.TheVariants.{Recorded, Idle, Stopped}
-use Rattle.courier_run.specs.Claim.{moment_of}
+use Rattle.courier_run.specs.Claim.{Claim, moment_of}
 use Rattle.courier_run.specs.Steps.{Attempt, steps_of}
 use Rattle.courier_run.specs.Link.{AreTried}
 use Rattle.courier_run.specs.Turn.{Outside, End, unclaimed, last_steps, last_moments, IsLastTry, IsStopped}
@@ -30,7 +30,7 @@ pub record Ending (before after : Outside) (last : End) : Type 0 where
   pub last_try : IsLastTry before.faults last answers after.faults
 
 -- what one attempt did, by how it ended
-abbrev pub IsAttempt : (before after : Outside) (idle : ℕ → Type 0) (broken : Type 0) (full : ℕ → Type 0) → Ended → Type 0
-IsAttempt before after idle broken full (Recorded fate) = (a : Attempt) × (a.fate ≡ fate) × Progress before after (a ∷ [])
-IsAttempt before after idle broken full Idle = (moment : ℕ) × idle moment × Ending before after (unclaimed moment)
-IsAttempt before after idle broken full (Stopped fault) = (last : End) × IsStopped broken full fault last × Ending before after last
+abbrev pub IsAttempt : (before after : Outside) (idle : ℕ → Type 0) (broken : Type 0) (full : ℕ → Type 0) (limited : Claim → Type 0) → Ended → Type 0
+IsAttempt before after idle broken full limited (Recorded fate) = (a : Attempt) × (a.fate ≡ fate) × Progress before after (a ∷ [])
+IsAttempt before after idle broken full limited Idle = (moment : ℕ) × idle moment × Ending before after (unclaimed moment)
+IsAttempt before after idle broken full limited (Stopped fault) = (last : End) × IsStopped broken full limited fault last × Ending before after last

@@ -74,12 +74,12 @@ IsLastTry before (unclaimed moment) answers now = (answers ≡ []) × (now ≡ b
 IsLastTry before (unsent c) answers now = (answers ≡ []) × (now ≡ before)
 IsLastTry before (unrecorded c outcome) answers now = IsTried c before outcome answers now
 
--- why a turn ended with this fault
-abbrev pub IsStopped : (broken : Type 0) (full : ℕ → Type 0) → BookFault → End → Type 0
-IsStopped broken full fault at_budget = ⊥
-IsStopped broken full fault (unclaimed moment) = HasCause broken (full moment) ⊤ fault
-IsStopped broken full fault (unsent c) = (fault ≡ book.NoMemory) × NeedsSend c
-IsStopped broken full fault (unrecorded c outcome) = HasCause broken (full c.reading) ⊥ fault
+-- why a turn ended with this fault; `limited c` says that the limit was reached when `c` was put back
+abbrev pub IsStopped : (broken : Type 0) (full : ℕ → Type 0) (limited : Claim → Type 0) → BookFault → End → Type 0
+IsStopped broken full limited fault at_budget = ⊥
+IsStopped broken full limited fault (unclaimed moment) = HasCause broken (full moment) ⊤ fault
+IsStopped broken full limited fault (unsent c) = (fault ≡ book.NoMemory) × NeedsSend c
+IsStopped broken full limited fault (unrecorded c outcome) = HasCause broken (full c.reading × limited c) ⊥ fault
 
 -- why a turn ended without a fault: its budget was spent, or no duty was due at the last moment
 abbrev pub IsDone : (idle : ℕ → Type 0) (spent : Type 0) → End → Type 0
@@ -89,13 +89,14 @@ IsDone idle spent (unsent c) = ⊥
 IsDone idle spent (unrecorded c outcome) = ⊥
 
 -- why a turn ended with this result
-abbrev pub HasReason : (idle : ℕ → Type 0) (broken : Type 0) (full : ℕ → Type 0) (spent : Type 0) → Result Turned TurnFault → End → Type 0
-HasReason idle broken full spent (Ok turned) last = IsDone idle spent last
-HasReason idle broken full spent (Err fault) last = IsStopped broken full (cause_of fault) last
+abbrev pub HasReason : (idle : ℕ → Type 0) (broken : Type 0) (full : ℕ → Type 0) (limited : Claim → Type 0) (spent : Type 0)
+    → Result Turned TurnFault → End → Type 0
+HasReason idle broken full limited spent (Ok turned) last = IsDone idle spent last
+HasReason idle broken full limited spent (Err fault) last = IsStopped broken full limited (cause_of fault) last
 
 -- A turn with this budget, from the outside `before` to `after`, with this result.
 pub record IsTurn (budget : ℕ) (before after : Outside) (idle : ℕ → Type 0) (broken : Type 0) (full : ℕ → Type 0)
-    (result : Result Turned TurnFault) : Type 0 where
+    (limited : Claim → Type 0) (result : Result Turned TurnFault) : Type 0 where
   -- its recorded attempts in order, and how it ended after them
   pub attempts : List Attempt
   pub last : End
@@ -117,4 +118,4 @@ pub record IsTurn (budget : ℕ) (before after : Outside) (idle : ℕ → Type 0
   pub rose : RoseBy (unanswered_in attempts) before.faults after.faults
   -- the result counts the attempts
   pub counts : reported result ≡ turned_of attempts
-  pub reason : HasReason idle broken full (length attempts ≡ budget) result last
+  pub reason : HasReason idle broken full limited (length attempts ≡ budget) result last

@@ -37,7 +37,7 @@ pub(crate) fn attempt<B: DutyBook, L: Link, C: Clock>(
     ensures made { IsAttempt
         (outside (B.steps book.old) (C.ahead clock.old) (L.answered link.old) (L.faults link.old))
         (outside (B.steps book.new) (C.ahead clock.new) (L.answered link.new) (L.faults link.new))
-        (B.idle book.new) (B.broken book.new) (B.full book.new) result }
+        (B.idle book.new) (B.broken book.new) (B.full book.new) (B.limited book.new) result }
 {
     let moment = read_clock(clock);
     match book.claim(moment) {

@@ -53,6 +53,9 @@ pub trait DutyBook {
     /// The book is at its number limit, which stops a call at this moment.
     ghost full: { Self → ℕ → Type 0 };
 
+    /// The book was at its number limit when its last turn put this claim back.
+    ghost limited: { Self → Claim → Type 0 };
+
     /// The ghost name of the value that the book borrows. No call changes it, so the lender of the book knows what it
     /// ends as.
     ghost lender: { Self → ℕ };
@@ -86,7 +89,7 @@ pub trait DutyBook {
         ensures lender { lender self.new ≡ lender self.old }
         ensures grows { (more : List Self.Turn) × (turns self.new ≡ turns self.old ++ more) }
         ensures steps { IsRecorded (steps self.old) (steps self.new) (Self.Held.shows held) outcome result }
-        ensures cause { IfErr result (HasCause (broken self.new) (full self.new moment) ⊥) };
+        ensures cause { IfErr result (HasCause (broken self.new) (full self.new moment × limited self.new (Self.Held.shows held)) ⊥) };
 
     /// Puts a claim back, so that the duty can be claimed again.
     fn put_back(&mut self, held: Self::Held)

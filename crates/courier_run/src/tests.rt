@@ -63,6 +63,8 @@ enum Did {
     Claimed,
     Recorded(Outcome, Fate),
     PutBack,
+    // The record was refused at the number limit, and the claim put back.
+    Refused,
 }
 
 #[derive(Clone, Copy)]
@@ -71,8 +73,8 @@ struct Entry {
     did: Did,
 }
 
-// A book in memory. Each of its duties is due until it is claimed. If `full`, no duty can be claimed; if `broken`, no
-// attempt can be recorded. It stops the test if it is out of memory.
+// A book in memory. Each of its duties is due until it is claimed. If `full`, no duty can be claimed. No attempt can be
+// recorded if `broken`, nor if `refuses`: then a record is at the number limit. It stops the test if it is out of memory.
 #[derive(Drop)]
 struct PlainBook<R: Abort> {
     rt: R,
@@ -80,6 +82,7 @@ struct PlainBook<R: Abort> {
     log: Vec<Entry>,
     has_queues: bool,
     full: bool,
+    refuses: bool,
     broken: bool,
 }
 
@@ -91,6 +94,7 @@ impl<R: Abort> PlainBook<R> {
         ensures log { self.new.log.items ≡ self.old.log.items ++ record { duty = duty; did = did } ∷ [] }
         ensures duties { self.new.duties ≡ self.old.duties }
         ensures full { self.new.full ≡ self.old.full }
+        ensures refuses { self.new.refuses ≡ self.old.refuses }
         ensures broken { self.new.broken ≡ self.old.broken }
     {
         match self.log.push(Entry { duty, did }) {
@@ -99,16 +103,16 @@ impl<R: Abort> PlainBook<R> {
         }
     }
 
-    // Puts the duty back at the front.
-    fn restore(&mut self, duty: PlainDuty)
-        ensures log { self.new.log.items ≡ self.old.log.items ++ record { duty = duty; did = Did.PutBack } ∷ [] }
+    // Puts the duty back at the front, and notes what did so.
+    fn restore(&mut self, duty: PlainDuty, did: Did)
+        ensures log { self.new.log.items ≡ self.old.log.items ++ record { duty = duty; did = did } ∷ [] }
         ensures broken { self.new.broken ≡ self.old.broken }
     {
         match self.duties.insert(0, duty) {
             Ok(()) => (),
             Err(_) => panic!(self.rt; "out of memory"),
         }
-        self.note(duty, Did::PutBack);
+        self.note(duty, did);
     }
 
     // The outcome in the record: a queue may be missing.
@@ -134,8 +138,10 @@ fn fate_of(outcome: Outcome) -> Fate {
 }
 
 impl<R: Abort> DutyBook for PlainBook<R> {
-    ghost use Rattle.std.specs.Prelude.{◌≡◌, [], ⊤, true, map};
-    ghost use Rattle.courier_run.specs.declared.tests.Did.TheVariants.{Claimed, Recorded, PutBack};
+    ghost use Rattle.std.specs.Prelude.{◌≡◌, List, [], ◌∷◌, ◌++◌, ⊤, true, map};
+    ghost use Rattle.courier_run.specs.declared.tests.Did.TheVariants.{Claimed, Recorded, PutBack, Refused};
+    ghost use Rattle.courier_run.specs.declared.tests.Entry.{Entry};
+    ghost use Rattle.courier_run.specs.declared.tests.PlainDuty.{PlainDuty};
     ghost use Rattle.courier_run.specs.Steps.{claims, records, puts_back};
 
     type Held = PlainDuty;
@@ -148,6 +154,7 @@ impl<R: Abort> DutyBook for PlainBook<R> {
       | Claimed ↦ claims (⟦<PlainDuty as HeldDuty>⟧.shows e.duty)
       | Recorded outcome fate ↦ records (record { claim = ⟦<PlainDuty as HeldDuty>⟧.shows e.duty; outcome = outcome; fate = fate })
       | PutBack ↦ puts_back (⟦<PlainDuty as HeldDuty>⟧.shows e.duty)
+      | Refused ↦ puts_back (⟦<PlainDuty as HeldDuty>⟧.shows e.duty)
     ]) b.log.items };
 
     ghost idle = { λ b moment. b.duties.items ≡ [] };
@@ -159,6 +166,9 @@ impl<R: Abort> DutyBook for PlainBook<R> {
     ghost sound = { λ b. ⊤ };
 
     ghost full = { λ b moment. b.full ≡ true };
+
+    ghost limited = { λ b c. (before : List Entry) × (duty : PlainDuty)
+        × (b.log.items ≡ before ++ record { duty = duty; did = Refused } ∷ []) × (⟦<PlainDuty as HeldDuty>⟧.shows duty ≡ c) };
 
     ghost lender = { λ b. 0 };
 
@@ -183,8 +193,13 @@ impl<R: Abort> DutyBook for PlainBook<R> {
         _moment: u64,
     ) -> Result<Fate, BookFault> {
         if self.broken {
-            self.restore(held);
+            self.restore(held, Did::PutBack);
             return Err(BookFault::DiskFault);
+        }
+        if self.refuses {
+            self.restore(held, Did::Refused);
+            self.full = true;
+            return Err(BookFault::NumberLimit);
         }
         let outcome = self.recorded(&held, outcome);
         let fate = fate_of(outcome);
@@ -193,7 +208,7 @@ impl<R: Abort> DutyBook for PlainBook<R> {
     }
 
     fn put_back(&mut self, held: PlainDuty) {
-        self.restore(held);
+        self.restore(held, Did::PutBack);
     }
 }
 
@@ -222,6 +237,7 @@ fn book_of<R: Abort>(rt: R, alloc: Global, duties: Vec<PlainDuty>) -> PlainBook<
         log: Vec::new(alloc),
         has_queues: true,
         full: false,
+        refuses: false,
         broken: false,
     }
 }
@@ -342,11 +358,13 @@ fn stopped_turn<R: Abort + Drop>(
     rt: R,
     alloc: Global,
     full: bool,
+    refuses: bool,
     broken: bool,
     mut link: MemLink,
 ) -> Result<(Result<Turned, TurnFault>, Vec<Entry>, usize), Fail> {
     let mut book = book_of(rt, alloc, four_duties(alloc)?);
     book.full = full;
+    book.refuses = refuses;
     book.broken = broken;
     let mut clock = MemClock::always(alloc, 1000);
     let result = turn(&mut book, &mut link, &mut clock, 9);
@@ -354,12 +372,12 @@ fn stopped_turn<R: Abort + Drop>(
     Ok((result, log, link.answers.len()))
 }
 
-// Whether the last step of the book put a claim back.
-fn ends_with_put_back(log: &[Entry]) -> bool {
+// Whether the last step of the book put a claim back: `did` is what the step did.
+fn ends_with(log: &[Entry], did: Did) -> bool {
     match log {
         [.., claimed, back] => {
             claimed.did == Did::Claimed
-                && back.did == Did::PutBack
+                && back.did == did
                 && claimed.duty.number == back.duty.number
         }
         _ => false,
@@ -379,12 +397,27 @@ fn a_fault_leaves_no_claim_open(rt: HostRuntime) -> Result<(), Fail> {
     ];
     for (is_full, is_broken, want, steps, put_back, answers) in cases {
         let link = MemLink::new(rt.alloc(), Ok(503), out.to_vec(rt.alloc())?);
-        let (result, log, sent) = stopped_turn(rt, rt.alloc(), is_full, is_broken, link)?;
+        let (result, log, sent) = stopped_turn(rt, rt.alloc(), is_full, false, is_broken, link)?;
         assert_eq!(rt; result, want, "{is_full} {is_broken}");
         assert_eq!(rt; log.len(), steps, "{is_full} {is_broken}");
-        assert_eq!(rt; ends_with_put_back(&log), put_back, "{is_full} {is_broken}");
+        assert_eq!(rt;
+            ends_with(&log, Did::PutBack),
+            put_back,
+            "{is_full} {is_broken}"
+        );
         assert_eq!(rt; sent, answers, "{is_full} {is_broken}");
     }
+    Ok(())
+}
+
+#[test]
+fn a_refused_record_puts_its_claim_back(rt: HostRuntime) -> Result<(), Fail> {
+    let link = MemLink::new(rt.alloc(), Ok(503), [Ok(200)].to_vec(rt.alloc())?);
+    let (result, log, sent) = stopped_turn(rt, rt.alloc(), false, true, false, link)?;
+    assert_eq!(rt; result, Err(TurnFault::NumberLimit(counts(0, 0, 0, 0))));
+    assert_eq!(rt; log.len(), 2);
+    assert!(rt; ends_with(&log, Did::Refused));
+    assert_eq!(rt; sent, 0);
     Ok(())
 }
 

@@ -1,14 +1,15 @@
--- Messages of a queue: the next one (`numbered_next`), and those up to a number (`after_front`, `after_all`, `through_count`, `numbered_after`).
-use Rattle.std.proofs.Common.{◌≡◌, ℕ, ◌+◌, ◌<◌, ◌≤◌, Bool, true, false, not, cond, List, [], ◌∷◌, ◌++◌, length, refl, sym, ap, ◌∙◌, subst, arith, length-append}
+-- Messages of a queue: the next one (`numbered_next`), and those up to a number (`through_front`, `through_taken`, `after_dropped`,
+-- `through_count`, `numbered_after`).
+use Rattle.std.proofs.Common.{◌≡◌, ℕ, ◌+◌, ◌<◌, ◌≤◌, Bool, true, false, not, cond, List, [], ◌∷◌, ◌++◌, length, take, drop, refl, sym, ap, ◌∙◌, subst, arith, length-append}
 use Rattle.std.specs.Prelude.{All, filter, nat_le}
 use Rattle.std.proofs.lemmas.Bool.{leb-false}
 use Rattle.std.proofs.lemmas.Bool.Decides.{nat_tests}
 use Rattle.std.specs.List.{take_while}
 use Rattle.std.proofs.lemmas.List.Sums.{take_while-cons}
-use Rattle.std.proofs.lemmas.List.Elements.{All-nil, All-cons, All-head, All-tail, All-push, All-weaker, All-filter}
+use Rattle.std.proofs.lemmas.List.Elements.{All-nil, All-head, All-tail, All-push, All-weaker, All-filter}
 use Rattle.delivery_duties.specs.declared.stored.StoredMessage.{StoredMessage}
 use Rattle.delivery_duties.specs.Queues.{Queue, messages_after, messages_through}
-use Rattle.delivery_duties.specs.Sound.{AreRising, IsNumbered, starts_by}
+use Rattle.delivery_duties.specs.Sound.{AreRising, IsNumbered}
 
 pub single : {X : Type 0} (xs : List X) → length xs ≡ 1 → (x : X) × (xs ≡ x ∷ [])
 single [] h = absurd (omega (arith, h))
@@ -43,16 +44,6 @@ numbered_next q letter numbered messages h one is e =
     } in
     subst F (sym all) made
 
--- the first message goes
-pub after_front : (through : ℕ) (xs ms : List StoredMessage) (front : StoredMessage) → xs ≡ front ∷ ms → starts_by through xs ≡ true
-    → messages_after through ms ≡ messages_after through xs
-after_front through xs ms front e test =
-    let first : nat_le front.number through ≡ true = subst (λ ys. starts_by through ys ≡ true) e test in
-    subst (λ ys. messages_after through ms ≡ messages_after through ys) (sym e) (rw first refl)
-
-pub rising_rest : (xs ms : List StoredMessage) (front : StoredMessage) → xs ≡ front ∷ ms → AreRising xs → AreRising ms
-rising_rest xs ms front e r = (subst AreRising e r).1
-
 greater_test : (a b : ℕ) → b < a → nat_le a b ≡ false
 greater_test a b h = grind (arith, nat_tests)
 
@@ -63,14 +54,6 @@ after_greater through (m ∷ ms) a =
     let above = All-head P m ms a in
     let test : nat_le m.number through ≡ false = greater_test m.number through above in
     rw test (ap (λ ys. m ∷ ys) (after_greater through ms (All-tail P m ms a)))
-
--- no message is up to the number
-pub after_all : (through : ℕ) (xs : List StoredMessage) → AreRising xs → starts_by through xs ≡ false → messages_after through xs ≡ xs
-after_all through [] r e = refl
-after_all through (m ∷ ms) r e =
-    let above : through < m.number = leb-false m.number through e in
-    after_greater through (m ∷ ms) (All-cons (λ (o : StoredMessage). through < o.number) m ms above
-    (All-weaker (Below m) (λ o. through < o.number) (λ o lt. omega (arith, above, lt)) ms r.0))
 
 none_through : (through : ℕ) (xs : List StoredMessage) → All (λ o. through < o.number) xs → messages_through through xs ≡ []
 none_through through [] a = refl
@@ -93,6 +76,35 @@ through_front through (m ∷ ms) r =
           let above : through < m.number = leb-false m.number through e in
           sym (ap (length {A = StoredMessage})
           (none_through through ms (All-weaker (Below m) (λ o. through < o.number) (λ o lt. omega (arith, above, lt)) ms r.0)))
+    ]) refl
+
+-- the number of the first message is greater, and so are those after it
+rising_above : (through : ℕ) (m : StoredMessage) (ms : List StoredMessage) → AreRising (m ∷ ms) → nat_le m.number through ≡ false
+    → All (λ o. through < o.number) ms
+rising_above through m ms r e =
+    let above : through < m.number = leb-false m.number through e in
+    All-weaker (Below m) (λ o. through < o.number) (λ o lt. omega (arith, above, lt)) ms r.0
+
+pub through_taken : (through : ℕ) (xs : List StoredMessage) → AreRising xs → take (length (messages_through through xs)) xs ≡ messages_through through xs
+through_taken through [] r = refl
+through_taken through (m ∷ ms) r =
+    let T : List StoredMessage = messages_through through ms in
+    (elim (nat_le m.number through) as (λ b. nat_le m.number through ≡ b → take (length (cond b (m ∷ T) T)) (m ∷ ms) ≡ cond b (m ∷ T) T) [
+      | true ↦ λ _. ap (λ ys. m ∷ ys) (through_taken through ms r.1)
+      | false ↦ λ e. let none : T ≡ [] = none_through through ms (rising_above through m ms r e) in rw none refl
+    ]) refl
+
+pub after_dropped : (through : ℕ) (xs : List StoredMessage) → AreRising xs → drop (length (messages_through through xs)) xs ≡ messages_after through xs
+after_dropped through [] r = refl
+after_dropped through (m ∷ ms) r =
+    let T : List StoredMessage = messages_through through ms in
+    let A : List StoredMessage = messages_after through ms in
+    (elim (nat_le m.number through) as (λ b. nat_le m.number through ≡ b → drop (length (cond b (m ∷ T) T)) (m ∷ ms) ≡ cond (not b) (m ∷ A) A) [
+      | true ↦ λ _. after_dropped through ms r.1
+      | false ↦ λ e.
+          let above = rising_above through m ms r e in
+          let none : T ≡ [] = none_through through ms above in
+          ap (λ ys. drop (length ys) (m ∷ ms)) none ∙ ap (λ ys. m ∷ ys) (sym (after_greater through ms above))
     ]) refl
 
 -- both parts together

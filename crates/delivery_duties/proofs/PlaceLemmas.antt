@@ -1,5 +1,5 @@
 -- Places of queues: where a name is (`first_at`, `none_named`, `arn_first`, `none_with_arn`, `no_arn`), and a queue that changes in its place
--- (`here_is`, `set_changed`, `changed_none`, `sorted_set`, `names_changed`, `messages_at`, `messages_none`).
+-- (`here_is`, `set_changed`, `changed_none`, `sorted_set`, `names_changed`, `messages_at`, `messages_none`, `has_none`).
 use Rattle.std.proofs.Common.{◌≡◌, ℕ, zero, suc, ◌<◌, Bool, true, false, cond, List, [], ◌∷◌, ◌++◌, length, map, refl, sym, ap, ◌∙◌, subst, arith, codes, slice_index_or, slice_set, length-append}
 use Rattle.std.specs.Prelude.{All}
 use Rattle.std.specs.Str.{bytes_eq}
@@ -15,7 +15,7 @@ use Rattle.name_rows.specs.Rows.{AreSorted}
 use Rattle.name_rows.specs.Place.{IsHere, IsBefore, IsSmaller}
 use Rattle.name_rows.proofs.NameOrder.{same_name, bytes_eq_itself}
 use Rattle.name_rows.proofs.RowLemmas.{Other, smaller_other, none_greater, sorted_back}
-use Rattle.delivery_duties.specs.Queues.{Queue, name_of, is_named, has_arn, changed_first, messages_of}
+use Rattle.delivery_duties.specs.Queues.{Queue, name_of, is_named, has_arn, changed_first, has_queue, messages_of}
 use Rattle.delivery_duties.specs.Places.{IsFirstAt}
 
 pub first_at : (name : List ℕ) (rows : List Queue) (at : ℕ) → IsHere name_of name rows at → IsFirstAt (is_named name) rows at
@@ -173,6 +173,13 @@ messages_none name (m ∷ ms) a =
     let P : Queue → Type 0 = λ m. is_named name m ≡ false in
     let e = All-head P m ms a in
     rw e (messages_none name ms (All-tail P m ms a))
+
+pub has_none : (name : List ℕ) (rows : List Queue) → All (λ m. is_named name m ≡ false) rows → has_queue name rows ≡ false
+has_none name [] a = refl
+has_none name (m ∷ ms) a =
+    let P : Queue → Type 0 = λ m. is_named name m ≡ false in
+    let e = All-head P m ms a in
+    rw e (has_none name ms (All-tail P m ms a))
 
 pub place_within : {test : Queue → Bool} {rows : List Queue} {at : ℕ} → IsFirstAt test rows at → at < length rows
 place_within {test} {rows} {at} h = omega (arith, h.at, ap (length {A = Queue}) h.parts, length-append h.front (h.here ∷ h.back))

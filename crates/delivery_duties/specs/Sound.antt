@@ -1,5 +1,5 @@
 -- For private clauses alone: the invariants of `Duties` and of its parts.
-use Rattle.std.specs.Prelude.{◌≡◌, ℕ, ◌+◌, ◌<◌, ◌≤◌, ◌^◌, ◌⊎◌, nat_le, Bool, false, List, [], ◌∷◌, All, Contains, length, Some}
+use Rattle.std.specs.Prelude.{◌≡◌, ℕ, ◌+◌, ◌<◌, ◌≤◌, ◌^◌, ◌⊎◌, List, [], ◌∷◌, All, Contains, length, Some}
 use Rattle.key_tree.specs.Entries.{value_at, AreSorted}
 use Rattle.delivery_duties.specs.declared.duty.DutyRow.{DutyRow}
 use Rattle.delivery_duties.specs.declared.outcome.SettledDuty.{SettledDuty}
@@ -47,8 +47,3 @@ pub record AreCounted (delivered dead_lettered dropped : ℕ) (ended : List Sett
   pub dead_lettered_so : dead_lettered ≡ dead_lettered_of ended
   pub dropped_so : dropped ≡ dropped_of ended
   pub all : length ended ≡ delivered + dead_lettered + dropped
-
--- the number of the first message is at most this one
-abbrev pub starts_by : ℕ → List StoredMessage → Bool
-starts_by through [] = false
-starts_by through (m ∷ ms) = nat_le m.number through

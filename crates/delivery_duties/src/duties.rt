@@ -22,6 +22,7 @@ use crate::new_queue::NewQueue;
 use crate::outcome::{Fate, Outcome, SettledDuty};
 use crate::owed::Owed;
 use crate::queues::Queues;
+use crate::removed::{DeletedMessages, RemovedQueue};
 use crate::retry::judge;
 use crate::schedule::Schedule;
 use crate::verdict::Verdict;
@@ -80,12 +81,19 @@ impl Duties {
         self.queues.create(queue.into_queue());
     }
 
-    /// Deletes the queue with its messages. A queue that is created later with this name numbers its messages from 1. Takes no memory.
-    pub fn forget(&mut self, queue: &str)
+    /// Deletes the queue, and returns it with its messages; `None` only if there is no such queue. A queue that is created later with this
+    /// name numbers its messages from 1. Takes no memory.
+    pub fn forget(&mut self, queue: &str) -> Option<RemovedQueue>
         ensures forgotten { self.new ≡ spec.forgotten queue.now self.old }
+        ensures removed { MatchOption result
+            (has_queue queue.now self.old.queues ≡ false)
+            (λ removed. removed.messages ≡ messages_of queue.now self.old.queues) }
         ensures still_out { (n : ℕ) → spec.IsOut n self.old → spec.IsOut n self.new }
     {
-        self.queues.remove(queue);
+        match self.queues.remove(queue) {
+            Some(queue) => Some(RemovedQueue::new(queue)),
+            None => None,
+        }
     }
 
     /// Whether a queue has this name.
@@ -287,15 +295,20 @@ impl Duties {
         }
     }
 
-    /// Deletes the messages of the queue with numbers up to this one. Returns how many they were; 0 if there is no such queue. Later
-    /// messages go on with the numbers. Takes no memory.
-    pub fn delete_through(&mut self, queue: &str, through: u64) -> u64
+    /// Deletes the messages of the queue with numbers up to this one, and returns them; `None` only if there is no such queue. Later messages
+    /// go on with the numbers. Takes no memory.
+    pub fn delete_through(&mut self, queue: &str, through: u64) -> Option<DeletedMessages>
         ensures deleted { self.new ≡ spec.with_deleted queue.now through self.old }
-        ensures count { result ≡ length (messages_through through (messages_of queue.now self.old.queues)) }
+        ensures messages { MatchOption result
+            (has_queue queue.now self.old.queues ≡ false)
+            (λ messages. messages ≡ messages_through through (messages_of queue.now self.old.queues)) }
         ensures queues { map (λ m. m.name) self.new.queues ≡ map (λ m. m.name) self.old.queues }
         ensures still_out { (n : ℕ) → spec.IsOut n self.old → spec.IsOut n self.new }
     {
-        self.queues.delete_through(queue, through)
+        match self.queues.delete_through(queue, through) {
+            Some(messages) => Some(DeletedMessages::new(messages)),
+            None => None,
+        }
     }
 }
 

@@ -3,15 +3,15 @@ ghost use Rattle.std.specs.Prelude.{◌≡◌, ◌+◌, ◌^◌, ◌<◌, ◌≤
 ghost use Rattle.delivery_duties.specs.declared.stored.StoredMessage.{StoredMessage};
 ghost use Rattle.delivery_duties.specs.DeadLetter.{shown};
 ghost use Rattle.delivery_duties.specs.Queues as spec;
-ghost use Rattle.delivery_duties.specs.Sound.{AreRising, starts_by};
 
-use crate::lists::join;
+use crate::lists::{cut, join};
 use crate::message::{QueueMessage, first_shown};
 use crate::stored::StoredMessage;
 use json_text::{NoMemory, Text};
 use std::alloc::Global;
 use std::collections::LinkedList;
 use std::marker::Model;
+use std::mem;
 
 /// A queue with its messages, oldest first.
 #[derive(Debug, Drop)]
@@ -92,14 +92,14 @@ impl Queue {
             .count() as u64
     }
 
-    /// Deletes the messages with numbers up to this one. Returns how many they were.
-    pub(crate) fn delete_through(&mut self, through: u64) -> u64
+    /// Deletes the messages with numbers up to this one, and returns them. Visits these messages alone, and frees nothing.
+    pub(crate) fn delete_through(&mut self, through: u64) -> LinkedList<StoredMessage>
         ensures left { self.new ≡ spec.without_through through self.old }
-        ensures count { result ≡ length (spec.messages_through through self.old.messages) }
+        ensures deleted { result ≡ spec.messages_through through self.old.messages }
     {
-        let before = self.messages.len();
-        drop_through(&mut self.messages, through);
-        (before - self.messages.len()) as u64
+        let count = self.count_through(through) as usize;
+        let left = cut(&mut self.messages, count);
+        mem::replace(&mut self.messages, left)
     }
 }
 
@@ -111,25 +111,5 @@ fn number(letter: &mut LinkedList<StoredMessage>, number: u64)
     match letter.front_mut() {
         Some(message) => message.number = number,
         None => unreachable!(),
-    }
-}
-
-/// Drops the messages with numbers up to this one.
-fn drop_through(messages: &mut LinkedList<StoredMessage>, through: u64)
-    requires { AreRising messages.old }
-    ensures { messages.new ≡ spec.messages_after through messages.old }
-{
-    while starts_by(messages, through) {
-        messages.pop_front();
-    }
-}
-
-/// Whether the number of the first message is at most this one.
-fn starts_by(messages: &LinkedList<StoredMessage>, through: u64) -> bool
-    ensures { result ≡ starts_by through messages.now }
-{
-    match messages.front() {
-        Some(message) => message.number <= through,
-        None => false,
     }
 }

@@ -1,6 +1,6 @@
 //! All queues, in the byte order of their names.
 ghost use Rattle.std.specs.Prelude.{◌≡◌, ◌+◌, ◌^◌, ◌<◌, ◌≤◌, [], ◌∷◌};
-ghost use Rattle.std.specs.Prelude.{None, Some, IfOk, IfSome, Bool, All, MatchOption, MatchResult, length, slice_index_or, vec_capacity};
+ghost use Rattle.std.specs.Prelude.{None, Some, false, IfOk, IfSome, Bool, All, MatchOption, MatchResult, length, slice_index_or, vec_capacity};
 ghost use Rattle.std.specs.List.{sum_by};
 ghost use Rattle.name_rows.specs.Rows.{AreSorted, named, placed, without};
 ghost use Rattle.name_rows.specs.Place.{IsHere, IsBefore};
@@ -72,13 +72,16 @@ impl Queues {
         }
     }
 
-    /// Removes the queue of this name with its messages.
-    pub(crate) fn remove(&mut self, name: &str)
-        ensures { self.new ≡ without spec.name_of name.now self.old }
+    /// Removes the queue of this name, and returns it with its messages; none if there is no such queue.
+    pub(crate) fn remove(&mut self, name: &str) -> Option<Queue>
+        ensures left { self.new ≡ without spec.name_of name.now self.old }
+        ensures removed { MatchOption result
+            (spec.has_queue name.now self.old ≡ false)
+            (λ queue. queue.messages ≡ spec.messages_of name.now self.old) }
     {
         match place_of(&self.rows, name) {
-            Ok(at) => drop(self.rows.remove(at)),
-            Err(_) => (),
+            Ok(at) => Some(self.rows.remove(at)),
+            Err(_) => None,
         }
     }
 
@@ -121,14 +124,20 @@ impl Queues {
         }
     }
 
-    /// Deletes the queue's messages with numbers up to this one. Returns how many they were.
-    pub(crate) fn delete_through(&mut self, name: &str, through: u64) -> u64
+    /// Deletes the queue's messages with numbers up to this one, and returns them; none if there is no such queue.
+    pub(crate) fn delete_through(
+        &mut self,
+        name: &str,
+        through: u64,
+    ) -> Option<LinkedList<StoredMessage>>
         ensures left { self.new ≡ spec.deleted_through name.now through self.old }
-        ensures count { result ≡ length (spec.messages_through through (spec.messages_of name.now self.old)) }
+        ensures deleted { MatchOption result
+            (spec.has_queue name.now self.old ≡ false)
+            (λ messages. messages ≡ spec.messages_through through (spec.messages_of name.now self.old)) }
     {
         match place_of(&self.rows, name) {
-            Ok(at) => self.rows[at].delete_through(through),
-            Err(_) => 0,
+            Ok(at) => Some(self.rows[at].delete_through(through)),
+            Err(_) => None,
         }
     }
 }

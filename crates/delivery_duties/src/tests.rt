@@ -102,16 +102,19 @@ fn apply(
             "counted",
             duties.count_through("q", through),
         ),
-        Act::Delete(through) => push_count(
-            alloc,
-            said,
-            "deleted",
-            duties.delete_through("q", through),
-        ),
+        Act::Delete(through) => push_count(alloc, said, "deleted", delete(duties, through)),
         Act::Forget => {
-            duties.forget("d");
+            drop(duties.forget("d"));
             Ok(())
         }
+    }
+}
+
+/// Deletes the messages of `q` with numbers up to this one. Returns their number.
+fn delete(duties: &mut Duties, through: u64) -> u64 {
+    match duties.delete_through("q", through) {
+        Some(messages) => messages.count(),
+        None => 0,
     }
 }
 

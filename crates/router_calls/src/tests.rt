@@ -624,7 +624,7 @@ fn applied(tables: &mut Tables, ready: Option<Ready>)
     requires { IfSome ready (λ r. IsReadyFor tables.old r) }
 {
     if let Some(ready) = ready {
-        tables.apply(ready);
+        drop(tables.apply(ready));
     }
 }
 
@@ -662,7 +662,8 @@ fn recorded(tables: &mut Tables, mut errand: Errand, outcome: Outcome, moment: u
     requires due { errand.moment ≤ moment }
 {
     let _outcome = tables.record_outcome(&mut errand, outcome, moment);
-    tables.finish(errand)
+    let (fate, _released) = tables.finish(errand);
+    fate
 }
 
 /// Claims the next duty and releases the claim. Returns its number.

@@ -20,14 +20,16 @@ ghost use Rattle.router_core.specs.Steps.{IsErrandOf, IsClaimed, IsRecordedAs, r
 use crate::batch::{Batch, Entry};
 use crate::errand::Errand;
 use crate::ready::{Part, Ready};
+use crate::released::Released;
 use config_changes::Control;
-use delivery_duties::{Duties, Fate, NewDuties, NewQueue, Outcome};
+use delivery_duties::{Duties, Fate, NewDuties, NewQueue, Outcome, RemovedQueue};
 use event_shape::queue_of;
 use json_text::NoMemory;
 use rule_table::RuleSet;
 use shared_text::{SharedRow, SharedText};
 use std::alloc::Global;
 use std::marker::Model;
+use std::mem;
 
 /// No further batch is made once there are this many entries or duties.
 const NUMBER_LIMIT: u64 = 1 << 48;
@@ -133,26 +135,32 @@ impl Tables {
         self.moment
     }
 
-    /// Applies the batch. Takes no memory.
-    pub fn apply(&mut self, ready: Ready)
+    /// Applies the batch, and returns what it leaves over. Takes no memory.
+    pub fn apply(&mut self, ready: Ready) -> Released
         requires ready { IsReadyFor self.old ready }
         ensures { self.new ≡ after_batch (batch_of ready.batch) self.old }
     {
         let Ready { batch, mut parts } = ready;
         let moment = batch.moment;
         let batches = self.batches + 1;
+        // An admitted batch is one entry, or only events. If a batch had several changes, `released` would keep what the last one of each kind
+        // leaves over, and the rest would be dropped here. No call makes such a batch.
+        let mut released = Released::nothing();
         for entry in &batch.entries {
             match parts.pop_front() {
-                Some(part) => self.join(entry, part, moment),
+                Some(part) => self.join(entry, part, moment, &mut released),
                 None => unreachable!(),
             }
         }
         self.batches = batches;
         self.moment = moment;
+        released.batch = Some(batch);
+        released.parts = Some(parts);
+        released
     }
 
-    /// Applies one entry, whose part this is.
-    fn join(&mut self, entry: &Entry, part: Part, moment: u64)
+    /// Applies one entry, whose part this is. `released` receives what it leaves over.
+    fn join(&mut self, entry: &Entry, part: Part, moment: u64, released: &mut Released)
         requires part { IsPartOf self.old.set (entry_of entry.now) part }
         requires admitted { IsEntryAdmitted moment (entry_of entry.now) self.old }
         requires entries { self.old.entries + 1 < number_limit + 2 ^ 20 }
@@ -162,23 +170,30 @@ impl Tables {
     {
         match part {
             Part::Configuration { set, new_queue } => {
-                self.configure(set, new_queue, deleted_queue(entry));
+                self.configure(set, new_queue, deleted_queue(entry), released);
             }
             Part::Event { duties } => self.publish(duties, moment),
-            Part::Nothing => self.delete_messages(entry),
+            Part::Nothing => self.delete_messages(entry, released),
         }
     }
 
-    /// Applies a change, with the rule set after it, and the queue that it creates or deletes, if there is one.
-    fn configure(&mut self, set: RuleSet, new_queue: Option<NewQueue>, deleted: Option<&str>)
+    /// Applies a change, with the rule set after it, and the queue that it creates or deletes, if there is one. `released` receives the rule set
+    /// before it and the deleted queue.
+    fn configure(
+        &mut self,
+        set: RuleSet,
+        new_queue: Option<NewQueue>,
+        deleted: Option<&str>,
+        released: &mut Released,
+    )
         requires change { (c : Change) × (set ≡ applied c self.old.set) × HasPlace c new_queue × (option_copied deleted ≡ deleted_by c)
             × IsAllowed c self.old.set }
         requires entries { self.old.entries + 1 < number_limit + 2 ^ 20 }
         ensures { self.new ≡ with_set set new_queue (option_copied deleted.entry) self.old }
     {
-        self.set = set;
+        released.set = Some(mem::replace(&mut self.set, set));
         create_queue(&mut self.duties, new_queue);
-        forget_queue(&mut self.duties, deleted);
+        released.queue = forget_queue(&mut self.duties, deleted);
         self.entries += 1;
     }
 
@@ -194,8 +209,8 @@ impl Tables {
         self.entries += 1;
     }
 
-    /// Applies the deletion of messages that is this entry.
-    fn delete_messages(&mut self, entry: &Entry)
+    /// Applies the deletion of messages that is this entry. `released` receives the messages.
+    fn delete_messages(&mut self, entry: &Entry, released: &mut Released)
         requires deletion { (queue : List ℕ) × (through : ℕ) × (entry_of entry.now ≡ messages_deleted queue through) }
         requires entries { self.old.entries + 1 < number_limit + 2 ^ 20 }
         ensures deleted { (moment : ℕ) → self.new ≡ after_entry moment (entry_of entry.now) self.old }
@@ -203,7 +218,7 @@ impl Tables {
     {
         match entry {
             Entry::MessagesDeleted { queue, through } => {
-                self.duties.delete_through(queue.as_str(), *through);
+                released.messages = self.duties.delete_through(queue.as_str(), *through);
                 self.entries += 1;
             }
             Entry::Control(_) | Entry::Accepted(_) | Entry::Attempt { .. } => unreachable!(),
@@ -307,20 +322,20 @@ impl Tables {
         }
     }
 
-    /// Applies the batch that records the errand's attempt, and returns the duty's fate. Takes no memory.
-    pub fn finish(&mut self, errand: Errand) -> Fate
+    /// Applies the batch that records the errand's attempt. Returns the duty's fate, and what the errand leaves over. Takes no memory.
+    pub fn finish(&mut self, errand: Errand) -> (Fate, Released)
         requires errand { IsErrandOf self.old errand }
         requires admitted { IsAdmitted self.old (batch_of errand.batch) }
         requires recorded { (outcome : Ended) × (batch_of errand.batch ≡ record_of errand.batch.moment errand.claim.number outcome) }
         ensures fate { (row : DutyRow) (outcome : Ended) → pending_row errand.claim.number self.old.duties ≡ Some row
             → batch_of errand.batch ≡ record_of errand.batch.moment errand.claim.number outcome
-            → result ≡ fate_after self.old.duties.queues errand.batch.moment row outcome }
+            → result.0 ≡ fate_after self.old.duties.queues errand.batch.moment row outcome }
         ensures tables { self.new ≡ after_batch (batch_of errand.batch) self.old }
     {
         let Errand {
             claim,
-            target: _target,
-            text: _text,
+            target,
+            text,
             accepted: _,
             moment: _,
             batch: Batch {
@@ -328,13 +343,17 @@ impl Tables {
                 mut entries,
             },
         } = errand;
+        let mut released = Released::nothing();
         match entries.pop() {
             Some(Entry::Attempt { duty: _, outcome }) => {
                 let fate = self.duties.settle(claim, outcome, moment);
                 self.entries += 1;
                 self.batches += 1;
                 self.moment = moment;
-                fate
+                released.batch = Some(Batch { moment, entries });
+                released.target = Some(target);
+                released.text = Some(text);
+                (fate, released)
             }
             Some(_) | None => unreachable!(),
         }
@@ -374,12 +393,13 @@ fn create_queue(duties: &mut Duties, new_queue: Option<NewQueue>)
     }
 }
 
-/// Deletes the queue of this name with its messages, if there is one to delete.
-fn forget_queue(duties: &mut Duties, deleted: Option<&str>)
+/// Deletes the queue of this name, if there is one to delete, and returns it with its messages.
+fn forget_queue(duties: &mut Duties, deleted: Option<&str>) -> Option<RemovedQueue>
     ensures { duties.new ≡ with_forgotten (option_copied deleted.entry) duties.old }
 {
-    if let Some(queue) = deleted {
-        duties.forget(queue);
+    match deleted {
+        Some(queue) => duties.forget(queue),
+        None => None,
     }
 }
 

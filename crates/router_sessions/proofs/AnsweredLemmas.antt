@@ -1,7 +1,7 @@
 -- From a decision on the tables to what was decided (`has_value`, `matched_on`, `decided_by`), and from there, with the book after it, to the
 -- answered turn (`answered`, `answered_book`).
-use Rattle.std.proofs.Common.{◌≡◌, Bool, [], ◌∷◌, ◌++◌, length, refl, sym, ap, ◌∙◌, subst, arith}
-use Rattle.std.specs.Prelude.{Option, None, Some, IfSome}
+use Rattle.std.proofs.Common.{◌≡◌, ℕ, Bool, [], ◌∷◌, ◌++◌, length, refl, sym, ap, ◌∙◌, subst, arith}
+use Rattle.std.specs.Prelude.{Option, None, Some, IsSome, IfSome}
 use Rattle.std.specs.Option.{option_map}
 use Rattle.api_replies.specs.View.{reply_of}
 use Rattle.api_replies.specs.Written.{reply_text}
@@ -117,11 +117,12 @@ written_tables None s = refl
 written_tables (Some b) s = refl
 
 pub answered_book : (seat : Seat) (old new : BookState) (request : Request) (p : Option Ready × CodeReply) (turn : Turn) → old.opened ≡ begun first_tables
-    → IsBook old → IsDecided old.tables request p → IsTurnAt seat old new request p turn → new.opened ≡ old.opened
+    → IsSome seat.connection → IsBook old → IsDecided old.tables request p → IsTurnAt seat old new request p turn → new.opened ≡ old.opened
     → new.tables ≡ tables_after (with_written (decided_batch p) []) old.tables → IsBook new
-answered_book seat old new request p turn first h decided at opened tables =
+answered_book seat old new request p turn first named h decided at opened tables =
     let s = state_of old in
-    let is = turn_of_ask s turn (asked request) at.from.made_for (reply_of p.1, answered_by old request p turn h decided at.k at.batch) in
+    let is = turn_of_ask s turn (asked request) at.from.made_for
+    (subst (λ (n : Option ℕ). IsSome n) (sym at.from.connection) named, (reply_of p.1, answered_by old request p turn h decided at.k at.batch)) in
     book_more old new turn first h is opened at.turns
     (tables
     ∙ ap (λ b. tables_after (with_written b []) old.tables) (sym at.batch)

@@ -1,7 +1,7 @@
 -- The steps of a delivery in the book. Other files cite `learned_steps`, `claim_step`, `record_step`,
 -- `put_back_step`, `delivers` and `closes`.
-use Rattle.std.proofs.Common.{◌≡◌, ◌≢◌, ◌⊎◌, inl, inr, ℕ, Bool, true, false, cond, List, [], ◌∷◌, ◌++◌, map, Option, Some, None, Result, refl, sym, ap}
-use Rattle.std.proofs.Common.{◌∙◌, subst, append-nil}
+use Rattle.std.proofs.Common.{◌≡◌, ◌≢◌, ◌⊎◌, inl, inr, ℕ, Bool, true, false, cond, List, [], ◌∷◌, ◌++◌, map, length, Option, Some, None, Result, Ok, Err, refl, sym}
+use Rattle.std.proofs.Common.{ap, ◌∙◌, subst, append-nil}
 use Rattle.std.proofs.lemmas.Bool.{eq-eqb, eqb-true, eqb-false, ne_eqb}
 use Rattle.std.proofs.lemmas.List.Elements.{All-nil, All-cons, All-head, All-tail}
 use Rattle.std.proofs.lemmas.List.{map-append, append_cancel_left}
@@ -12,21 +12,23 @@ use Rattle.delivery_duties.specs.declared.outcome.Outcome.{Outcome}
 use Rattle.delivery_duties.specs.declared.outcome.Fate.{Fate}
 use Rattle.delivery_duties.specs.Duties.{Duties, pending_row, claimed as claimed_duties, marked_row}
 use Rattle.router_disk.specs.Link.{Exchange}
-use Rattle.router_core.specs.Tables.{Tables, first_tables, moment_at}
+use Rattle.router_core.specs.Tables.{Tables, is_full, first_tables, moment_at}
 use Rattle.courier_run.specs.declared.turned.Turned.{Turned}
 use Rattle.courier_run.specs.declared.fault.TurnFault.{TurnFault}
 use Rattle.courier_run.specs.Claim.{Claim}
 use Rattle.courier_run.specs.Steps.{Attempt, Step, other, steps_of}
 use Rattle.courier_run.specs.Steps as step
-use Rattle.courier_run.specs.Turn.{End, at_budget, unclaimed, unsent, unrecorded, last_steps, IsTurn, outside}
+use Rattle.courier_run.specs.declared.fault.TurnFault.TheVariants.{DiskFault, NumberLimit, NoMemory}
+use Rattle.courier_run.specs.Turn.{End, at_budget, unclaimed, unsent, unrecorded, last_steps, HasReason, IsTurn, outside}
 use Rattle.router_sessions.specs.declared.book.Seat.{Seat}
 use Rattle.router_sessions.specs.History.{Ask, asked, claims, records, puts_back, Turn, State, OpenClaim, open_claim, closed_claims, after_turn, after_ask}
 use Rattle.router_sessions.specs.History.{state_after, Placed, placed, placed_by, claims_by, begun, IsLegal, IsTurnFor}
 use Rattle.router_sessions.specs.Book.{BookState, state_of, IsBook, HasLearned, HasNamed}
-use Rattle.router_sessions.specs.Delivery.{claim_of, claim_in, attempt_in, step_for, step_of, steps_in, IsOpen, IsIdle, IsFullAt, Delivers}
+use Rattle.router_sessions.specs.Delivery.{claim_of, claim_in, attempt_in, step_for, step_of, steps_in, IsOpen, IsIdle, IsFullAt, EndsAtLimit}
+use Rattle.router_sessions.specs.Delivery.{IsLastAtLimit, Delivers}
 use Rattle.router_sessions.specs.Turns.{IsAdded, IsClaimedBy, IsRecordedBy}
 use Rattle.router_sessions.proofs.PendingLemmas.{AreNumbered, marked_row_there}
-use Rattle.router_sessions.proofs.HistoryLemmas.{legal_back}
+use Rattle.router_sessions.proofs.HistoryLemmas.{legal_back, state_append}
 use Rattle.router_sessions.proofs.SteadyLemmas.{open_written}
 use Rattle.router_sessions.proofs.PassLemmas.{placed_by_append, placed_none}
 use Rattle.router_sessions.proofs.PlacedLemmas.{state_added, only_placed}
@@ -117,12 +119,72 @@ named_placed n connection s (t ∷ ts) all =
       | false ↦ λ is. later
     ]) refl
 
+nothing_added : {A : Type 0} (xs added : List A) → xs ++ added ≡ [] → added ≡ []
+nothing_added [] added is = is
+nothing_added (x ∷ xs) added is = absurd (cc)
+
+-- if something was added, then the last element is the last one that was added
+last_added : {A : Type 0} (xs added before : List A) (x : A) → ¬ (added ≡ []) → xs ++ added ≡ before ++ x ∷ []
+    → (front : List A) × (added ≡ front ++ x ∷ []) × (before ≡ xs ++ front)
+last_added [] added before x some is = (before, is, refl)
+last_added (y ∷ xs) added [] x some is = let rest : xs ++ added ≡ [] = cc in absurd (some (nothing_added xs added rest))
+last_added (y ∷ xs) added (z ∷ before) x some is =
+    let rest : xs ++ added ≡ before ++ x ∷ [] = cc in
+    let same : z ≡ y = cc in
+    let later = last_added xs added before x some rest in (later.0, later.1, ap (λ w. w ∷ before) same ∙ ap (λ ws. y ∷ ws) later.2)
+
+-- if the last turn of the book is the pass's own and was made at the number limit, so was the last of the pass's turns that were added
+ended_at_limit : (n : ℕ) (c : Claim) (old new : BookState) (added : List Turn) → new.opened ≡ old.opened → new.turns ≡ old.turns ++ added
+    → ¬ (added ≡ []) → EndsAtLimit n c new → IsLastAtLimit (placed_by n (placed (state_of old) added))
+ended_at_limit n c old new added opened turns some e =
+    let (front, all, before) = last_added old.turns added e.before e.turn some (sym turns ∙ e.turns) in
+    let s : State = state_of old in
+    let at : state_after e.before new.opened ≡ state_after front s =
+    ap (λ (z : State). state_after e.before z) opened ∙ ap (λ (ts : List Turn). state_after ts old.opened) before ∙ state_append old.opened old.turns front in (
+      placed_by n (placed s front),
+      record { before = state_after front s; turn = e.turn },
+      ap (λ (ts : List Turn). placed_by n (placed s ts)) all ∙ placed_by_append n s front (e.turn ∷ [])
+          ∙ ap (λ b. placed_by n (placed s front) ++ cond b (record { before = state_after front s; turn = e.turn } ∷ []) []) (eq-eqb e.turn.pass n e.pass),
+      ap (λ (z : State). is_full z.tables) (sym at) ∙ e.full,
+    )
+
+-- an attempt that is not recorded has turns
+unrecorded_added : (n : ℕ) (s : State) (added : List Turn) (attempts : List Attempt) (c : Claim) (outcome : Outcome)
+    → map step_of (placed_by n (placed s added)) ≡ steps_of attempts ++ last_steps (unrecorded c outcome) → ¬ (added ≡ [])
+unrecorded_added n s added attempts c outcome is none =
+    some_steps attempts (sym is ∙ ap (λ (ts : List Turn). map step_of (placed_by n (placed s ts))) none)
+  where
+    some_steps : (attempts : List Attempt) → ¬ (steps_of attempts ++ last_steps (unrecorded c outcome) ≡ [])
+    some_steps [] is = cc
+    some_steps (a ∷ attempts) is = cc
+
+-- the steps of the pass's turns that were added
+own_steps : (n : ℕ) (old new : BookState) (added : List Turn) (steps : List Step) → new.opened ≡ old.opened → new.turns ≡ old.turns ++ added
+    → steps_in n new ≡ steps_in n old ++ steps → map step_of (placed_by n (placed (state_of old) added)) ≡ steps
+own_steps n old new added steps opened turns is = append_cancel_left (steps_in n old) _ _ (sym (steps_added n old new added opened turns) ∙ is)
+
+-- the reason, by the pass's turns that were added
+own_reason : (n : ℕ) (old new : BookState) (added : List Turn) (attempts : List Attempt) (spent : Type 0) (result : Result Turned TurnFault) (last : End)
+    → new.opened ≡ old.opened → new.turns ≡ old.turns ++ added
+    → map step_of (placed_by n (placed (state_of old) added)) ≡ steps_of attempts ++ last_steps last
+    → HasReason (IsIdle (state_of new)) ⊥ (IsFullAt (state_of new)) (λ c. EndsAtLimit n c new) spent result last
+    → HasReason (IsIdle (state_of new)) ⊥ (IsFullAt (state_of new))
+    (λ c. IsLastAtLimit (placed_by n (placed (state_of old) added))) spent result last
+own_reason n old new added attempts spent (Ok turned) last opened turns steps reason = reason
+own_reason n old new added attempts spent (Err fault) at_budget opened turns steps reason = reason
+own_reason n old new added attempts spent (Err fault) (unclaimed moment) opened turns steps reason = reason
+own_reason n old new added attempts spent (Err fault) (unsent c) opened turns steps reason = reason
+own_reason n old new added attempts spent (Err (DiskFault turned)) (unrecorded c outcome) opened turns steps reason = reason
+own_reason n old new added attempts spent (Err (NoMemory turned)) (unrecorded c outcome) opened turns steps reason = reason
+own_reason n old new added attempts spent (Err (NumberLimit turned)) (unrecorded c outcome) opened turns steps reason =
+    (reason.0, ended_at_limit n c old new added opened turns (unrecorded_added n (state_of old) added attempts c outcome steps) reason.1)
+
 -- the steps of a turn of the courier are those of the turns that its pass added
 pub delivers : {budget : ℕ} {ahead ahead_new : Option (ℕ → ℕ)} {answered answered_new : Option (List Exchange)} {faults faults_new : ℕ}
     {result : Result Turned TurnFault}
     (seat : Seat) (old new : BookState) → new.opened ≡ old.opened → HasNamed seat old new
     → IsTurn budget (outside (steps_in seat.pass old) ahead answered faults) (outside (steps_in seat.pass new) ahead_new answered_new faults_new)
-    (IsIdle (state_of new)) ⊥ (IsFullAt (state_of new)) result
+    (IsIdle (state_of new)) ⊥ (IsFullAt (state_of new)) (λ c. EndsAtLimit seat.pass c new) result
     → Delivers seat budget old new ahead ahead_new answered answered_new faults faults_new result
 delivers {budget} {ahead} {ahead_new} {answered} {answered_new} {faults} {faults_new} {result} seat old new opened h t = record {
   added = h.more;
@@ -133,11 +195,12 @@ delivers {budget} {ahead} {ahead_new} {answered} {answered_new} {faults} {faults
   delivered = record {
     attempts = t.attempts;
     last = t.last;
-    steps = append_cancel_left (steps_in seat.pass old) _ _ (sym (steps_added seat.pass old new h.more opened h.turns) ∙ t.steps);
+    steps = own_steps seat.pass old new h.more _ opened h.turns t.steps;
     moments = t.moments;
     within = t.within;
     counts = t.counts;
-    reason = t.reason;
+    reason = own_reason seat.pass old new h.more t.attempts (length t.attempts ≡ budget) result t.last opened h.turns
+        (own_steps seat.pass old new h.more _ opened h.turns t.steps) t.reason;
   };
   sent = turn_sent t;
 }

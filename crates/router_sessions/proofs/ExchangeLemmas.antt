@@ -31,7 +31,6 @@ use Rattle.router_sessions.specs.Sublist.{IsSublist}
 use Rattle.router_sessions.specs.Book.{BookState, state_of, IsBook, HasLearned}
 use Rattle.router_sessions.specs.Desk.{AfterLearning}
 use Rattle.router_sessions.specs.Exchange.{Exchange, IsExchange, IsWithoutTurn, refused, answered, unrendered, delivered, out_of_memory, unposted, posted, sent_text}
-use Rattle.router_sessions.specs.Exchanges.{IsLookAt}
 use Rattle.router_sessions.specs.Answered.{IsAnswered, IsUnrendered, turn_text}
 use Rattle.router_sessions.specs.Sent.{AreSent, tries_with}
 use Rattle.router_sessions.specs.Responses.{text_or, IsFaultText, AnswersDelivery}
@@ -72,7 +71,7 @@ nothing_made : (seat : Seat) (m : Message) (reading : ℕ) (reply : Reply) (old 
     → AreMade seat old new (unturned m reading reply ∷ [])
 nothing_made seat m reading reply old new is l gave unsent =
     one_made seat old new (unturned m reading reply) l.more is l.opened l.turns (sym (placed_none seat.pass (state_of old.book) l.more l.by_others))
-    (All-nil (λ (p : Placed). p.turn.connection ≡ seat.connection)) (All-nil (IsLookAt seat.pass (state_of old.book) l.more [])) gave
+    (All-nil (λ (p : Placed). p.turn.connection ≡ seat.connection)) (All-nil (λ (look : State). look ≡ state_after l.more (state_of old.book))) gave
     (subst (λ (ts : List Turn). IsSublist (asked_readings ts) (moment_of reading ∷ [])) (sym l.by_others) tt) tt unsent
 
 -- the method is not POST
@@ -235,13 +234,12 @@ delivery_exchange seat m close old new ahead_mid result reading r budget post op
     })) in
     let legal : IsLegal s added = legal_back old.book.opened old.book.turns added
     (subst (λ (ts : List Turn). IsLegal old.book.opened ts) d.steps.turns (subst (λ (x : State). IsLegal x new.book.turns) opened book.legal)) in
-    let look : IsLookAt n s added turns (state_of new.book) =
-    (added, [], sym (append-nil added), refl, state_added old.book new.book added opened d.steps.turns) in
+    let look : state_of new.book ≡ state_after added s = state_added old.book new.book added opened d.steps.turns in
     record {
       exchanged = e;
       message_is = refl;
       made = one_made seat old new e added is opened d.steps.turns refl d.steps.named
-          (All-cons (IsLookAt n s added turns) (state_of new.book) [] look (All-nil (IsLookAt n s added turns)))
+          (All-cons (λ (at : State). at ≡ state_after added s) (state_of new.book) [] look (All-nil (λ (at : State). at ≡ state_after added s)))
           (Gives-append gave d.steps.gives)
           (sublist_skip (asked_readings (turns_by n added)) (map moment_of d.steps.readings) (moment_of reading)
           (delivered_read budget n s (state_of new.book) added d.steps.readings d.made d.steps.delivered))

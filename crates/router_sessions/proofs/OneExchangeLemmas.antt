@@ -19,12 +19,12 @@ use Rattle.api_wire.proofs.CallLemmas.{one_request, one_refusal, never_both}
 use Rattle.courier_run.specs.declared.turned.Turned.{Turned}
 use Rattle.courier_run.specs.declared.fault.TurnFault.{TurnFault}
 use Rattle.courier_run.specs.declared.fault.TurnFault.TheVariants.{DiskFault, NumberLimit, NoMemory}
-use Rattle.courier_run.specs.Claim.{moment_of}
+use Rattle.courier_run.specs.Claim.{Claim, moment_of}
 use Rattle.courier_run.specs.Steps.{Attempt, records}
 use Rattle.courier_run.specs.Turn.{End, at_budget, unclaimed, unsent, unrecorded, last_moments, HasReason, reported}
 use Rattle.courier_run.specs.Turned.{turned_of}
 use Rattle.router_sessions.specs.History.{State, Ask, controls_in, after_ask, after_written, Placed, IsLatest}
-use Rattle.router_sessions.specs.Delivery.{step_of, IsIdle, IsFullAt}
+use Rattle.router_sessions.specs.Delivery.{step_of, IsIdle, IsFullAt, IsLastAtLimit}
 use Rattle.router_sessions.specs.Exchange.{Exchange, IsExchange, IsPosted, IsOneTurn, IsWithoutTurn, IsDelivery, IsDeliveryReply, counts_of, exchange_text}
 use Rattle.router_sessions.specs.Exchange.{sent_text}
 use Rattle.router_sessions.specs.Exchange.{refused, answered, unrendered, delivered, out_of_memory, unposted, posted}
@@ -146,26 +146,26 @@ record PlainDelivery (budget : ℕ) (s : State) (e : Exchange) : Type 0 where
   pub are : Attempts budget s e.turns attempts last limited
 
 -- how a DeliverDue ended that was not out of memory
-ended_over : (idle full : ℕ → Type 0) (spent : Type 0) (result : Result Turned TurnFault) (reply : Reply) (last : End) → IsDeliveryReply result reply
-    → ¬ (reply ≡ no_memory) → HasReason idle ⊥ full spent result last
+ended_over : (idle full : ℕ → Type 0) (limited : Claim → Type 0) (spent : Type 0) (result : Result Turned TurnFault) (reply : Reply) (last : End) → IsDeliveryReply result reply
+    → ¬ (reply ≡ no_memory) → HasReason idle ⊥ full limited spent result last
     → (limited : Bool) × Over idle full spent limited (last_moments last) × (reply ≡ delivery_reply limited (reported result))
-ended_over idle full spent (Ok turned) reply at_budget is remembered reason = (false, used reason, is)
-ended_over idle full spent (Ok turned) reply (unclaimed moment) is remembered reason = (false, none_due moment reason, is)
-ended_over idle full spent (Ok turned) reply (unsent c) is remembered reason = absurd reason
-ended_over idle full spent (Ok turned) reply (unrecorded c outcome) is remembered reason = absurd reason
-ended_over idle full spent (Err (NumberLimit turned)) reply at_budget is remembered reason = absurd reason
-ended_over idle full spent (Err (NumberLimit turned)) reply (unclaimed moment) is remembered reason = (true, at_limit moment reason, is)
-ended_over idle full spent (Err (NumberLimit turned)) reply (unsent c) is remembered reason = let why = reason.0 in cc
-ended_over idle full spent (Err (NumberLimit turned)) reply (unrecorded c outcome) is remembered reason = (true, at_limit c.reading reason, is)
-ended_over idle full spent (Err (NoMemory turned)) reply last is remembered reason = absurd (remembered is)
-ended_over idle full spent (Err (DiskFault turned)) reply last is remembered reason = absurd is
+ended_over idle full limited spent (Ok turned) reply at_budget is remembered reason = (false, used reason, is)
+ended_over idle full limited spent (Ok turned) reply (unclaimed moment) is remembered reason = (false, none_due moment reason, is)
+ended_over idle full limited spent (Ok turned) reply (unsent c) is remembered reason = absurd reason
+ended_over idle full limited spent (Ok turned) reply (unrecorded c outcome) is remembered reason = absurd reason
+ended_over idle full limited spent (Err (NumberLimit turned)) reply at_budget is remembered reason = absurd reason
+ended_over idle full limited spent (Err (NumberLimit turned)) reply (unclaimed moment) is remembered reason = (true, at_limit moment reason, is)
+ended_over idle full limited spent (Err (NumberLimit turned)) reply (unsent c) is remembered reason = let why = reason.0 in cc
+ended_over idle full limited spent (Err (NumberLimit turned)) reply (unrecorded c outcome) is remembered reason = (true, at_limit c.reading reason.0, is)
+ended_over idle full limited spent (Err (NoMemory turned)) reply last is remembered reason = absurd (remembered is)
+ended_over idle full limited spent (Err (DiskFault turned)) reply last is remembered reason = absurd is
 
 plain_delivery : (budget : ℕ) (s : State) (e : Exchange) → ExchangeAt s e → IsDelivery e budget → PlainDelivery budget s e
 plain_delivery budget s e x d =
     let at : d.look ≡ after_placed e.turns s = All-head (λ (look : State). look ≡ after_placed e.turns s) d.look []
     (subst (All (λ (look : State). look ≡ after_placed e.turns s)) d.looks x.looks) in
     let is = d.delivered in
-    let over = ended_over (IsIdle d.look) (IsFullAt d.look) (length is.attempts ≡ budget) d.result e.reply is.last d.replies x.remembered is.reason in
+    let over = ended_over (IsIdle d.look) (IsFullAt d.look) (λ c. IsLastAtLimit e.turns) (length is.attempts ≡ budget) d.result e.reply is.last d.replies x.remembered is.reason in
     record {
       attempts = is.attempts;
       last = is.last;

@@ -1,21 +1,26 @@
 -- From the clauses of the desk to what the courier's trait promises. Other files cite `IsClaimResult`, `claim_steps`, `claim_named`,
--- `IsRecordResult`, `record_steps`, `record_named`, `release_steps`, `release_named`, `named_again` and `named_none`.
-use Rattle.std.proofs.Common.{◌≡◌, ℕ, List, [], ◌∷◌, ◌++◌, Option, Some, None, Result, Ok, Err, sym, ap, ◌∙◌, append-nil, append_assoc}
-use Rattle.std.specs.Prelude.{IfOk, IfErr, IfSome, IfNone, All}
-use Rattle.std.proofs.lemmas.List.Elements.{All-nil, All-cons, All-append}
-use Rattle.router_core.specs.Tables.{first_tables}
+-- `IsRecordResult`, `record_steps`, `record_named`, `record_cause`, `release_steps`, `release_named`, `named_learned`, `named_again`, `named_none` and
+-- `delivers_named`.
+use Rattle.std.proofs.Common.{◌≡◌, ℕ, true, false, cond, List, [], ◌∷◌, ◌++◌, Option, Some, None, Result, Ok, Err, refl, sym, ap, ◌∙◌, subst, append-nil, append_assoc}
+use Rattle.std.specs.Prelude.{◌==◌, IfOk, IfErr, IfSome, IfNone, All}
+use Rattle.std.proofs.lemmas.Bool.{eqb-false}
+use Rattle.std.proofs.lemmas.List.Elements.{All-nil, All-cons, All-append, All-head, All-tail}
+use Rattle.router_core.specs.Tables.{is_full, first_tables}
 use Rattle.delivery_duties.specs.declared.outcome.Outcome.{Outcome}
 use Rattle.delivery_duties.specs.declared.outcome.Fate.{Fate}
 use Rattle.courier_run.specs.declared.book.BookFault.{BookFault}
 use Rattle.courier_run.specs.declared.book.BookFault.TheVariants.{NumberLimit}
+use Rattle.router_disk.specs.Link.{Exchange}
+use Rattle.courier_run.specs.declared.turned.Turned.{Turned}
+use Rattle.courier_run.specs.declared.fault.TurnFault.{TurnFault}
 use Rattle.courier_run.specs.Claim.{Claim}
-use Rattle.courier_run.specs.Steps.{Step, records, claims_of, puts_back as step_back, IsRecorded}
+use Rattle.courier_run.specs.Steps.{Step, records, claims_of, puts_back as step_back, IsRecorded, HasCause}
 use Rattle.router_sessions.specs.declared.book.Seat.{Seat}
 use Rattle.router_sessions.specs.declared.held.Held.{Held}
-use Rattle.router_sessions.specs.History.{Ask, Turn, puts_back, turns_by, begun}
+use Rattle.router_sessions.specs.History.{State, Ask, Turn, Placed, puts_back, placed, placed_by, after_turn, turns_by, begun, state_after}
 use Rattle.router_sessions.specs.Book.{BookState, state_of, HasLearned, HasNamed}
-use Rattle.router_sessions.specs.Delivery.{held_claim, IsOpen, IsIdle, steps_in}
-use Rattle.router_sessions.specs.Turns.{IsAdded, IsClaimedBy, IsUnclaimed, IsRecordedBy, IsLimited}
+use Rattle.router_sessions.specs.Delivery.{held_claim, IsOpen, IsIdle, EndsAtLimit, steps_in, Delivers}
+use Rattle.router_sessions.specs.Turns.{IsAdded, IsClaimedBy, IsPutBackAtLimit, IsUnclaimed, IsRecordedBy, IsLimited}
 use Rattle.router_sessions.specs.Desk.{AfterLearning}
 use Rattle.router_sessions.proofs.PassLemmas.{first_other}
 use Rattle.router_sessions.proofs.StaysOpenLemmas.{book_stays_open}
@@ -31,7 +36,7 @@ others_named seat (t ∷ ts) none =
     let both = first_other seat.pass t ts none in
     All-cons (Names seat) t ts (λ own. absurd (both.0 own)) (others_named seat ts both.1)
 
-named_learned : (seat : Seat) (old new : BookState) → HasLearned seat.pass old new → HasNamed seat old new
+pub named_learned : (seat : Seat) (old new : BookState) → HasLearned seat.pass old new → HasNamed seat old new
 named_learned seat old new l = record { more = l.more; turns = l.turns; named = others_named seat l.more l.by_others }
 
 named_trans : (seat : Seat) (old mid new : BookState) → HasNamed seat old mid → HasNamed seat mid new → HasNamed seat old new
@@ -105,11 +110,29 @@ release_steps seat c old new first opened is a =
 pub release_named : (seat : Seat) (c : Claim) (old new : BookState) → IsReleased seat c old new → HasNamed seat old new
 release_named seat c old new a = named_done old new a
 
+-- the claim is put back from the seat, at the number limit
+abbrev pub IsRefused : Seat → Claim → BookState → BookState → Type 0
+IsRefused seat c old new = AfterLearning seat.pass (λ mid now. IsPutBackAtLimit seat c mid now) old new
+
+refused_released : (seat : Seat) (c : Claim) (old new : BookState) → IsRefused seat c old new → IsReleased seat c old new
+refused_released seat c old new a = record { mid = a.mid; learned = a.learned; book = a.book; done = a.done.added }
+
+-- the limit was reached before the last turn
+refused_ends : (seat : Seat) (c : Claim) (old new : BookState) → new.opened ≡ old.opened → IsRefused seat c old new → EndsAtLimit seat.pass c new
+refused_ends seat c old new opened a = record {
+  before = a.mid.turns;
+  turn = a.done.added.turn;
+  turns = a.done.added.turns;
+  pass = a.done.added.from.pass;
+  made_for = a.done.added.from.made_for;
+  full = ap (λ (s : State). is_full (state_after a.mid.turns s).tables) (opened ∙ sym a.learned.opened) ∙ ap is_full a.book.tables ∙ a.done.full;
+}
+
 -- what a record from the seat returns
 pub record IsRecordResult (seat : Seat) (held : Held) (had : Outcome) (old new : BookState) (result : Result Fate BookFault) : Type 0 where
   pub is_open : IsOpen (state_of old) seat.pass (held_claim held)
   pub recorded : IfOk result (λ fate. AfterLearning seat.pass (λ mid now. IsRecordedBy seat (held_claim held) had fate mid now) old new)
-  pub refused : IfErr result (λ fault. (fault ≡ NumberLimit) × IsLimited new held.reading × IsReleased seat (held_claim held) old new)
+  pub refused : IfErr result (λ fault. (fault ≡ NumberLimit) × IsLimited new held.reading × IsRefused seat (held_claim held) old new)
 
 pub record_steps : (seat : Seat) (held : Held) (had : Outcome) (old new : BookState) (result : Result Fate BookFault) → old.opened ≡ begun first_tables
     → new.opened ≡ old.opened → IsRecordResult seat held had old new result
@@ -122,15 +145,45 @@ record_steps seat held had old new (Ok fate) first opened r =
       steps_before a (records (record { claim = held_claim held; outcome = is.recorded; fate = fate }) ∷ [])
           (record_step seat a.mid new (held_claim held) had fate (opened ∙ sym a.learned.opened) is),
     )
-record_steps seat held had old new (Err fault) first opened r = release_steps seat (held_claim held) old new first opened r.is_open r.refused.2
+record_steps seat held had old new (Err fault) first opened r =
+    release_steps seat (held_claim held) old new first opened r.is_open (refused_released seat (held_claim held) old new r.refused.2)
 
 pub record_named : (seat : Seat) (held : Held) (had : Outcome) (old new : BookState) (result : Result Fate BookFault)
     → IsRecordResult seat held had old new result → HasNamed seat old new
 record_named seat held had old new (Ok fate) r =
     let a = r.recorded in
     named_trans seat old a.mid new (named_learned seat old a.mid a.learned) (named_added a.mid new a.done.added)
-record_named seat held had old new (Err fault) r = named_done old new r.refused.2
+record_named seat held had old new (Err fault) r = named_done old new (refused_released seat (held_claim held) old new r.refused.2)
+
+-- a record is refused only at the number limit
+pub record_cause : (seat : Seat) (held : Held) (had : Outcome) (old new : BookState) (result : Result Fate BookFault) → new.opened ≡ old.opened
+    → IsRecordResult seat held had old new result
+    → IfErr result (HasCause ⊥ (IsLimited new held.reading × EndsAtLimit seat.pass (held_claim held) new) ⊥)
+record_cause seat held had old new (Ok fate) opened r = tt
+record_cause seat held had old new (Err fault) opened r =
+    subst (λ (f : BookFault). HasCause ⊥ (IsLimited new held.reading × EndsAtLimit seat.pass (held_claim held) new) ⊥ f) (sym r.refused.0)
+    (r.refused.1, refused_ends seat (held_claim held) old new opened r.refused.2)
 
 -- after earlier turns
 pub named_again : (seat : Seat) (before old new : BookState) → HasNamed seat before old → HasNamed seat old new → HasNamed seat before new
 named_again seat before old new first later = named_trans seat before old new first later
+
+named_placed : (seat : Seat) (s : State) (turns : List Turn) → All (λ p. p.turn.connection ≡ seat.connection) (placed_by seat.pass (placed s turns))
+    → All (Names seat) turns
+named_placed seat s [] all = All-nil (Names seat)
+named_placed seat s (t ∷ ts) all =
+    let p : Placed = record { before = s; turn = t } in
+    let rest : List Placed = placed_by seat.pass (placed (after_turn t s) ts) in
+    let Named : Placed → Type 0 = λ q. q.turn.connection ≡ seat.connection in
+    (elim (t.pass == seat.pass) as (λ b. t.pass == seat.pass ≡ b → All Named (cond b (p ∷ rest) rest) → All (Names seat) (t ∷ ts)) [
+      | true ↦ λ is own. All-cons (Names seat) t ts (λ e. All-head Named p rest own)
+          (named_placed seat (after_turn t s) ts (All-tail Named p rest own))
+      | false ↦ λ is own. All-cons (Names seat) t ts (λ e. absurd (eqb-false t.pass seat.pass is e)) (named_placed seat (after_turn t s) ts own)
+    ]) refl all
+
+-- the turns of delivery steps
+pub delivers_named : (seat : Seat) (budget : ℕ) (old new : BookState) (ahead ahead_new : Option (ℕ → ℕ)) (answered answered_new : Option (List Exchange))
+    (faults faults_new : ℕ) (result : Result Turned TurnFault) → Delivers seat budget old new ahead ahead_new answered answered_new faults faults_new result
+    → HasNamed seat old new
+delivers_named seat budget old new ahead ahead_new answered answered_new faults faults_new result d =
+    record { more = d.added; turns = d.turns; named = named_placed seat (state_of old) d.added d.named }

@@ -4,6 +4,7 @@ use Rattle.router_disk.specs.Link.{Exchange as Sending}
 use Rattle.courier_run.specs.declared.turned.Turned.{Turned}
 use Rattle.courier_run.specs.declared.fault.TurnFault.{TurnFault}
 use Rattle.courier_run.specs.Link as courier
+use Rattle.courier_run.specs.Claim.{Claim}
 use Rattle.courier_run.specs.Steps.{Attempt, Step, steps_of, attempts_in}
 use Rattle.courier_run.specs.Turn.{End, at_budget, unclaimed, unsent, unrecorded, last_steps, outside, IsLastTry, IsTurn}
 use Rattle.courier_run.proofs.LinkLemmas.{Answered-none, Answered-append}
@@ -55,10 +56,10 @@ ended before now (unrecorded c outcome) answers is = (now, answers, [], is, (ref
 
 -- what a turn of the courier sent
 pub turn_sent : {budget : ℕ} {steps steps_new : List Step} {ahead ahead_new : Option (ℕ → ℕ)} {answered answered_new : Option (List Sending)}
-    {faults faults_new : ℕ} {idle full : ℕ → Type 0} {result : Result Turned TurnFault}
-    (t : IsTurn budget (outside steps ahead answered faults) (outside steps_new ahead_new answered_new faults_new) idle ⊥ full result)
+    {faults faults_new : ℕ} {idle full : ℕ → Type 0} {limited : Claim → Type 0} {result : Result Turned TurnFault}
+    (t : IsTurn budget (outside steps ahead answered faults) (outside steps_new ahead_new answered_new faults_new) idle ⊥ full limited result)
     → AreSent answered answered_new faults faults_new (tries_with t.attempts t.last)
-turn_sent {budget} {steps} {steps_new} {ahead} {ahead_new} {answered} {answered_new} {faults} {faults_new} {idle} {full} {result} t = record {
+turn_sent {budget} {steps} {steps_new} {ahead} {ahead_new} {answered} {answered_new} {faults} {faults_new} {idle} {full} {limited} {result} t = record {
   answers = t.answers ++ t.further;
   in_order = t.answered;
   tried = tried_append faults t.faults faults_new (map try_of t.attempts) (last_tries t.last) t.answers t.further

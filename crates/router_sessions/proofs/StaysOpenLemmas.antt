@@ -176,7 +176,7 @@ still_open n s t c opened rows o = record {
 
 open_asked : (n : ℕ) (s : State) (turn : Turn) (ask : Ask) (c : Claim) → IsSteady s → IsTurnFor s turn ask → turn.pass ≢ n → IsOpen s n c
     → IsOpen (after_ask turn ask s) n c
-open_asked n s turn (asked request) c h (reply, is) other o =
+open_asked n s turn (asked request) c h (named, (reply, is)) other o =
     let known : c.number ≤ s.tables.duties.created =
     key_has (λ k. k ≤ s.tables.duties.created) c.number o.row s.tables.duties.pending h.numbered.known o.pending in
     still_open n s (after_written turn.batch s) c (ap (open_claim c.number) (open_written turn.batch s))

@@ -1,5 +1,5 @@
 -- Delivery steps on the book, as the courier sees them.
-use Rattle.std.specs.Prelude.{◌≡◌, ℕ, ◌≤◌, true, List, ◌++◌, length, map, Option, Some, unwrap_or, Result, All}
+use Rattle.std.specs.Prelude.{◌≡◌, ℕ, ◌≤◌, true, List, [], ◌∷◌, ◌++◌, length, map, Option, Some, unwrap_or, Result, All}
 use Rattle.std.specs.Option.{option_map, option_and_then}
 use Rattle.delivery_duties.specs.declared.duty.DutyRow.{DutyRow}
 use Rattle.delivery_duties.specs.declared.outcome.Outcome.{Outcome}
@@ -17,7 +17,7 @@ use Rattle.courier_run.specs.Turned.{turned_of}
 use Rattle.router_sessions.specs.declared.book.Seat.{Seat}
 use Rattle.router_sessions.specs.declared.held.Held.{Held}
 use Rattle.router_sessions.specs.History as history
-use Rattle.router_sessions.specs.History.{State, Turn, Ask, OpenClaim, open_claim, Placed, placed, placed_by}
+use Rattle.router_sessions.specs.History.{State, Turn, Ask, OpenClaim, open_claim, state_after, Placed, placed, placed_by}
 use Rattle.router_sessions.specs.Book.{BookState, state_of}
 use Rattle.router_sessions.specs.Sent.{AreSent, tries_with}
 
@@ -94,6 +94,19 @@ IsIdle s reading = NoneDue s.tables.duties (moment_at s.tables reading)
 abbrev pub IsFullAt : State → ℕ → Type 0
 IsFullAt s reading = (is_full s.tables ≡ true) × (¬ IsIdle s reading)
 
+-- the last turn of the book is the one in which pass n put this claim back, and the number limit was reached before it
+pub record EndsAtLimit (n : ℕ) (c : Claim) (b : BookState) : Type 0 where
+  pub before : List Turn
+  pub turn : Turn
+  pub turns : b.turns ≡ before ++ turn ∷ []
+  pub pass : turn.pass ≡ n
+  pub made_for : turn.ask ≡ history.puts_back c.number
+  pub full : is_full (state_after before b.opened).tables ≡ true
+
+-- the number limit was reached before the last of these turns
+abbrev pub IsLastAtLimit : List Placed → Type 0
+IsLastAtLimit turns = (before : List Placed) × (p : Placed) × (turns ≡ before ++ p ∷ []) × (is_full p.before.tables ≡ true)
+
 -- The steps of one DeliverDue: these turns, at these readings, with this result. At the last look the state was `look`.
 pub record IsDelivered (budget : ℕ) (turns : List Placed) (readings : List ℕ) (look : State) (result : Result Turned TurnFault) : Type 0 where
   -- the recorded attempts in order, and how the steps ended after them
@@ -104,9 +117,9 @@ pub record IsDelivered (budget : ℕ) (turns : List Placed) (readings : List ℕ
   -- one reading for each claim, or for the look that found no duty
   pub moments : map moment_of readings ≡ map (λ a. a.claim.reading) attempts ++ last_moments last
   pub within : length readings ≤ budget
-  -- the result counts the attempts, and has its reason; no disk fails
+  -- the result counts the attempts, and has its reason; no disk fails. An attempt is not recorded only if its claim was put back at the limit.
   pub counts : reported result ≡ turned_of attempts
-  pub reason : HasReason (IsIdle look) ⊥ (IsFullAt look) (length attempts ≡ budget) result last
+  pub reason : HasReason (IsIdle look) ⊥ (IsFullAt look) (λ c. IsLastAtLimit turns) (length attempts ≡ budget) result last
 
 -- the turns of one DeliverDue were added to what the seat's pass knows of the book, beside turns of other passes; the link answered their tries
 pub record Delivers (seat : Seat) (budget : ℕ) (old new : BookState) (ahead ahead_new : Option (ℕ → ℕ)) (answered answered_new : Option (List Exchange))

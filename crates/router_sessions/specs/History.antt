@@ -1,5 +1,5 @@
 -- The history: the turns of the router, oldest first, from the state that it began with.
-use Rattle.std.specs.Prelude.{◌≡◌, ℕ, ◌+◌, ◌<◌, ◌≤◌, false, true, ◌==◌, List, [], ◌∷◌, ◌++◌, length, Option, Some, None, filter, find, flat_map, not}
+use Rattle.std.specs.Prelude.{◌≡◌, ℕ, ◌+◌, ◌<◌, ◌≤◌, false, true, ◌==◌, List, [], ◌∷◌, ◌++◌, length, Option, Some, None, IsSome, filter, find, flat_map, not}
 use Rattle.event_shape.specs.Names.{IsQueueArn}
 use Rattle.config_changes.specs.Control.{Control}
 use Rattle.rule_table.specs.RuleSet.{rule_set_at}
@@ -101,9 +101,9 @@ pub record IsRecordBy (s : State) (turn : Turn) (duty reading : ℕ) (outcome : 
   pub fits : IsOutcome s.tables.duties.queues row moment outcome
   pub written : turn.batch ≡ Some (record_of (moment_at s.tables reading) duty outcome)
 
--- a turn that may be made in this state, by what it was made for
+-- a turn that may be made in this state, by what it was made for; a request came by a connection
 abbrev pub IsTurnFor : State → Turn → Ask → Type 0
-IsTurnFor s turn (asked request) = (reply : Reply) × IsAnsweredBy s turn request reply
+IsTurnFor s turn (asked request) = IsSome turn.connection × ((reply : Reply) × IsAnsweredBy s turn request reply)
 IsTurnFor s turn (claims duty reading) = IsClaimBy s turn duty reading
 IsTurnFor s turn (records duty reading outcome) = IsRecordBy s turn duty reading outcome
 IsTurnFor s turn (puts_back duty) = (turn.batch ≡ None) × ((claim : OpenClaim) × (claim.duty ≡ duty) × EndsClaim s turn claim)

@@ -1,5 +1,5 @@
 //! The router's guarded state: its tables, and the history of its turns.
-ghost use Rattle.std.specs.Prelude.{◌≡◌, ◌++◌, ◌∷◌, [], Bool, Some, None, IfOk, IfSome, IfNone, IfErr, OnErr, true};
+ghost use Rattle.std.specs.Prelude.{◌≡◌, ◌++◌, ◌∷◌, [], Bool, Some, None, IsSome, IfOk, IfSome, IfNone, IfErr, OnErr, true};
 ghost use Rattle.json_text.specs.Moment.{IsMoment};
 ghost use Rattle.router_core.specs.View.{request_of};
 ghost use Rattle.router_core.specs.Tables.{moment_at};
@@ -9,7 +9,7 @@ ghost use Rattle.router_sessions.specs.History.{claims, puts_back, IsTurnOf};
 ghost use Rattle.router_sessions.specs.Book.{book_of, first_book, state_of, recorded_in, IsBook, HasGrown};
 ghost use Rattle.router_sessions.specs.Answered.{IsAskable, IsDecided, IsAnswered, IsRenderable, IsFrom};
 ghost use Rattle.router_sessions.specs.Delivery.{held_claim, IsOpen, IsIdle};
-ghost use Rattle.router_sessions.specs.Turns.{IsLimited, IsAdded, IsClaimedBy, IsUnclaimed, IsRecordedBy};
+ghost use Rattle.router_sessions.specs.Turns.{IsLimited, IsAdded, IsClaimedBy, IsPutBackAtLimit, IsUnclaimed, IsRecordedBy};
 
 use crate::held::Held;
 use crate::history::{Ask, History, Turn, Written};
@@ -18,7 +18,7 @@ use courier_run::BookFault;
 use delivery_duties::{Fate, Outcome};
 use json_text::{Bytes, NoMemory};
 use router_calls::decide;
-use router_core::{Ready, Reply, Request, Tables, see_plain};
+use router_core::{Ready, Released, Reply, Request, Tables, see_plain};
 use std::alloc::Global;
 use std::snapshot::Snapshot;
 use turn_book::Story;
@@ -46,6 +46,27 @@ pub enum TurnReply {
     Rendered(Bytes),
     /// The reply. The turn changed nothing, and the bytes are made after it.
     Unrendered(Reply),
+}
+
+/// A turn that was made for a request.
+#[derive(Drop)]
+pub struct MadeTurn {
+    pub reply: TurnReply,
+    /// What applying its batch left over; none if it has no batch. Drop it once the book is given back.
+    pub released: Option<Released>,
+}
+
+impl MadeTurn {
+    /// The reply. What the turn released is dropped.
+    pub(crate) fn into_reply(self) -> TurnReply
+        ensures { result ≡ self.reply }
+    {
+        let MadeTurn {
+            reply,
+            released: _released,
+        } = self;
+        reply
+    }
 }
 
 impl Story for Book {
@@ -81,39 +102,22 @@ impl Book {
         &self.tables
     }
 
-    /// Makes the turn of the request, and returns its reply. If the tables change, the memory of the reply's bytes is allocated
-    /// before, so an `Err` changes nothing.
+    /// Makes the turn of the request, and returns its reply with what the turn released. The seat names the connection by which the request
+    /// came. If the tables change, the memory of the reply's bytes is allocated before, so an `Err` changes nothing.
     pub fn turn(
-        &mut self,
-        alloc: Global,
-        seat: Seat,
-        request: Request,
-        close: bool,
-    ) -> Result<TurnReply, NoMemory>
-        requires book { IsBook (book_of self.old) }
-        requires askable { IsAskable (request_of request) }
-        ensures book { IsBook (book_of self.new) }
-        ensures grows { HasGrown seat self.old self.new }
-        ensures answered { IfOk result (λ reply. IsAnswered seat (book_of self.old) (book_of self.new) (request_of request) close reply) }
-        ensures renderable { IfOk result (λ reply. IsRenderable reply) }
-        ensures unchanged { OnErr result (book_of self.new ≡ book_of self.old) }
-    {
-        self.turn_of(alloc, seat, &request, close)
-    }
-
-    fn turn_of(
         &mut self,
         alloc: Global,
         seat: Seat,
         request: &Request,
         close: bool,
-    ) -> Result<TurnReply, NoMemory>
+    ) -> Result<MadeTurn, NoMemory>
         requires book { IsBook (book_of self.old) }
         requires askable { IsAskable (request_of request.now) }
+        requires named { IsSome seat.connection }
         ensures book { IsBook (book_of self.new) }
         ensures grows { HasGrown seat self.old self.new }
-        ensures answered { IfOk result (λ reply. IsAnswered seat (book_of self.old) (book_of self.new) (request_of request.now) close reply) }
-        ensures renderable { IfOk result (λ reply. IsRenderable reply) }
+        ensures answered { IfOk result (λ made. IsAnswered seat (book_of self.old) (book_of self.new) (request_of request.now) close made.reply) }
+        ensures renderable { IfOk result (λ made. IsRenderable made.reply) }
         ensures unchanged { OnErr result (book_of self.new ≡ book_of self.old) }
     {
         let (ready, reply) = self.decided(alloc, request)?;
@@ -132,13 +136,14 @@ impl Book {
         ready: Ready,
         reply: Reply,
         close: bool,
-    ) -> Result<TurnReply, NoMemory>
+    ) -> Result<MadeTurn, NoMemory>
         requires book { IsBook (book_of self.old) }
         requires decided { IsDecided self.old.tables (request_of request.now) (Some ready, reply) }
+        requires named { IsSome seat.connection }
         ensures book { IsBook (book_of self.new) }
         ensures grows { HasGrown seat self.old self.new }
-        ensures answered { IfOk result (λ reply. IsAnswered seat (book_of self.old) (book_of self.new) (request_of request.now) close reply) }
-        ensures renderable { IfOk result (λ reply. IsRenderable reply) }
+        ensures answered { IfOk result (λ made. IsAnswered seat (book_of self.old) (book_of self.new) (request_of request.now) close made.reply) }
+        ensures renderable { IfOk result (λ made. IsRenderable made.reply) }
         ensures unchanged { OnErr result (book_of self.new ≡ book_of self.old) }
     {
         let bytes = reply_bytes(alloc, &reply, close)?;
@@ -149,18 +154,22 @@ impl Book {
             k: self.tables.set().control_count(),
             written: Written::Changes(Snapshot::of(ready.batch())),
         });
-        self.tables.apply(ready);
-        Ok(TurnReply::Rendered(bytes))
+        let released = self.tables.apply(ready);
+        Ok(MadeTurn {
+            reply: TurnReply::Rendered(bytes),
+            released: Some(released),
+        })
     }
 
     /// Makes the turn of a request that changes nothing.
-    fn show(&mut self, seat: Seat, request: &Request, reply: Reply) -> TurnReply
+    fn show(&mut self, seat: Seat, request: &Request, reply: Reply) -> MadeTurn
         requires book { IsBook (book_of self.old) }
         requires decided { IsDecided self.old.tables (request_of request.now) (None, reply) }
+        requires named { IsSome seat.connection }
         ensures book { IsBook (book_of self.new) }
         ensures grows { HasGrown seat self.old self.new }
-        ensures answered { (close : Bool) → IsAnswered seat (book_of self.old) (book_of self.new) (request_of request.now) close result }
-        ensures renderable { IsRenderable result }
+        ensures answered { (close : Bool) → IsAnswered seat (book_of self.old) (book_of self.new) (request_of request.now) close result.reply }
+        ensures renderable { IsRenderable result.reply }
     {
         self.history.push(&Turn {
             pass: seat.pass,
@@ -169,7 +178,10 @@ impl Book {
             k: self.tables.set().control_count(),
             written: Written::Nothing,
         });
-        TurnReply::Unrendered(reply)
+        MadeTurn {
+            reply: TurnReply::Unrendered(reply),
+            released: None,
+        }
     }
 
     /// The batch that the request writes, if any, and its reply. Events are matched on the tables' own rule set.
@@ -226,16 +238,21 @@ impl Book {
     }
 
     /// Records the outcome of an attempt of the held duty: one turn, and one batch. If a queue accepted the text, the turn decides whether the queue
-    /// exists. At the number limit the claim is put back instead. Returns the duty's fate.
-    pub fn record(&mut self, seat: Seat, held: Held, outcome: Outcome) -> Result<Fate, BookFault>
+    /// exists. At the number limit the claim is put back instead. Returns the duty's fate, and what the turn released.
+    pub fn record(
+        &mut self,
+        seat: Seat,
+        held: Held,
+        outcome: Outcome,
+    ) -> Result<(Fate, Released), BookFault>
         requires book { IsBook (book_of self.old) }
         requires is_open { IsOpen (state_of (book_of self.old)) seat.pass (held_claim held) }
         requires fits { FitsClaim (held_claim held) outcome }
         ensures book { IsBook (book_of self.new) }
         ensures grows { HasGrown seat self.old self.new }
-        ensures recorded { IfOk result (λ fate. IsRecordedBy seat (held_claim held) outcome fate (book_of self.old) (book_of self.new)) }
+        ensures recorded { IfOk result (λ made. IsRecordedBy seat (held_claim held) outcome made.0 (book_of self.old) (book_of self.new)) }
         ensures refused { IfErr result (λ fault. (fault ≡ BookFault.NumberLimit) × IsLimited (book_of self.new) held.reading
-            × IsAdded seat (puts_back (held_claim held).number) (book_of self.old) (book_of self.new)) }
+            × IsPutBackAtLimit seat (held_claim held) (book_of self.old) (book_of self.new)) }
     {
         if self.tables.full() {
             self.put_back(seat, held);

@@ -66,7 +66,7 @@ struct Seated<'a, Rt, N> {
 impl<Rt: Wait, N: Naming> DutyBook for Seated<'_, Rt, N> {
     ghost use Rattle.turn_book.specs.Passes.{IsFree};
     ghost use Rattle.router_sessions.specs.Book.{state_of, seen_book, IsBook, HasNamed};
-    ghost use Rattle.router_sessions.specs.Delivery.{IsOpen, IsIdle, IsFullAt, steps_in};
+    ghost use Rattle.router_sessions.specs.Delivery.{IsOpen, IsIdle, IsFullAt, EndsAtLimit, steps_in};
     ghost use Rattle.router_sessions.specs.Desk.{book_seen, seat_of, seen_by};
 
     type Held = Held;
@@ -89,6 +89,8 @@ impl<Rt: Wait, N: Naming> DutyBook for Seated<'_, Rt, N> {
     ghost broken = { λ s. ⊥ };
 
     ghost full = { λ s reading. IsFullAt (state_of (book_seen s.pass.now.seat)) reading };
+
+    ghost limited = { λ s c. EndsAtLimit N.seat.pass c (book_seen s.pass.now.seat) };
 
     ghost lender = { λ s. s.pass.ghost_name };
 

@@ -1,5 +1,5 @@
 //! Turns of a pass: each takes the book from the hall, makes at most one turn, and gives the book back.
-ghost use Rattle.std.specs.Prelude.{◌≡◌, IfOk, IfErr, IfSome, IfNone, OnErr};
+ghost use Rattle.std.specs.Prelude.{◌≡◌, IsSome, IfOk, IfErr, IfSome, IfNone, OnErr};
 ghost use Rattle.json_text.specs.Moment.{IsMoment};
 ghost use Rattle.turn_book.specs.Passes.{IsFree, IsSamePass};
 ghost use Rattle.router_core.specs.View.{request_of};
@@ -10,10 +10,10 @@ ghost use Rattle.router_sessions.specs.History.{puts_back};
 ghost use Rattle.router_sessions.specs.Book.{state_of, IsBook, HasLearned};
 ghost use Rattle.router_sessions.specs.Answered.{IsAskable, IsAnswered, IsRenderable};
 ghost use Rattle.router_sessions.specs.Delivery.{held_claim, IsOpen, IsIdle};
-ghost use Rattle.router_sessions.specs.Turns.{IsLimited, IsAdded, IsClaimedBy, IsUnclaimed, IsRecordedBy};
+ghost use Rattle.router_sessions.specs.Turns.{IsLimited, IsAdded, IsClaimedBy, IsPutBackAtLimit, IsUnclaimed, IsRecordedBy};
 ghost use Rattle.router_sessions.specs.Desk.{book_seen, number_of, seat_of, SeesMore, AfterLearning};
 
-use crate::book::{Book, Seat, TurnReply};
+use crate::book::{Book, MadeTurn, Seat, TurnReply};
 use crate::held::Held;
 use courier_run::BookFault;
 use delivery_duties::{Fate, Outcome};
@@ -63,7 +63,7 @@ impl<Rt: Wait> Desk<'_, Rt> {
         self.hall.give(pass, book);
     }
 
-    /// Makes the turn of the request, as `Book::turn`.
+    /// Makes the turn of the request, as `Book::turn`. The request and what the turn released are freed once other passes can have the book.
     pub(crate) fn turn(
         self,
         pass: &mut Pass<Book>,
@@ -73,6 +73,7 @@ impl<Rt: Wait> Desk<'_, Rt> {
         requires here { pass.old.seat.table_id ≡ self.hall.now.table.shared.table_id }
         requires free { IsFree pass.old.seat }
         requires askable { IsAskable (request_of request) }
+        requires named { IsSome self.connection }
         ensures pass { IsSamePass pass.old.seat pass.new.seat × IsFree pass.new.seat }
         ensures book { IsBook (book_seen pass.new.seat) }
         ensures more { SeesMore pass.old.seat pass.new.seat }
@@ -82,11 +83,37 @@ impl<Rt: Wait> Desk<'_, Rt> {
         ensures renderable { IfOk result (λ reply. IsRenderable reply) }
         ensures unchanged { OnErr result (HasLearned (number_of pass.old.seat) (book_seen pass.old.seat) (book_seen pass.new.seat)) }
     {
+        match self.make_turn(pass, &request, close) {
+            Ok(made) => Ok(made.into_reply()),
+            Err(NoMemory) => Err(NoMemory),
+        }
+    }
+
+    /// The same; what the turn released is not freed yet.
+    fn make_turn(
+        self,
+        pass: &mut Pass<Book>,
+        request: &Request,
+        close: bool,
+    ) -> Result<MadeTurn, NoMemory>
+        requires here { pass.old.seat.table_id ≡ self.hall.now.table.shared.table_id }
+        requires free { IsFree pass.old.seat }
+        requires askable { IsAskable (request_of request.now) }
+        requires named { IsSome self.connection }
+        ensures pass { IsSamePass pass.old.seat pass.new.seat × IsFree pass.new.seat }
+        ensures book { IsBook (book_seen pass.new.seat) }
+        ensures more { SeesMore pass.old.seat pass.new.seat }
+        ensures answered { IfOk result (λ made. AfterLearning (number_of pass.old.seat)
+            (λ old new. IsAnswered (seat_of self.entry.connection pass.old.seat) old new (request_of request.now) close made.reply)
+            (book_seen pass.old.seat) (book_seen pass.new.seat)) }
+        ensures renderable { IfOk result (λ made. IsRenderable made.reply) }
+        ensures unchanged { OnErr result (HasLearned (number_of pass.old.seat) (book_seen pass.old.seat) (book_seen pass.new.seat)) }
+    {
         let seat = self.seat(pass);
         let mut book = self.hall.take(self.rt, pass);
-        let reply = book.turn(self.alloc, seat, request, close);
+        let made = book.turn(self.alloc, seat, request, close);
         self.hall.give(pass, book);
-        reply
+        made
     }
 
     /// Claims the duty that is due first at this reading of the clock, as `Book::claim`.
@@ -136,14 +163,18 @@ impl<Rt: Wait> Desk<'_, Rt> {
             (book_seen pass.old.seat) (book_seen pass.new.seat)) }
         ensures refused { IfErr result (λ fault. (fault ≡ BookFault.NumberLimit) × IsLimited (book_seen pass.new.seat) held.reading
             × AfterLearning (number_of pass.old.seat)
-            (λ old new. IsAdded (seat_of self.entry.connection pass.old.seat) (puts_back (held_claim held).number) old new)
+            (λ old new. IsPutBackAtLimit (seat_of self.entry.connection pass.old.seat) (held_claim held) old new)
             (book_seen pass.old.seat) (book_seen pass.new.seat)) }
     {
         let seat = self.seat(pass);
         let mut book = self.hall.take(self.rt, pass);
-        let fate = book.record(seat, held, outcome);
+        let recorded = book.record(seat, held, outcome);
         self.hall.give(pass, book);
-        fate
+        // Other passes have the book from here on, so none waits while what the turn released is freed.
+        match recorded {
+            Ok((fate, _released)) => Ok(fate),
+            Err(fault) => Err(fault),
+        }
     }
 
     /// Releases the claim of the held duty, as `Book::put_back`.

@@ -1,5 +1,5 @@
 //! One message and its reply.
-ghost use Rattle.std.specs.Prelude.{◌≡◌, ℕ, List, [], Option, IfOk, MatchOption};
+ghost use Rattle.std.specs.Prelude.{◌≡◌, ℕ, List, [], Option, IsSome, IfOk, MatchOption};
 ghost use Rattle.api_replies.specs.Reply as replies;
 ghost use Rattle.router_core.specs.Request.{deliver_due, IsOneTurn};
 ghost use Rattle.router_core.specs.View.{action_of};
@@ -48,6 +48,7 @@ pub(crate) fn answer_message<Rt: Wait, K: Sink, L: Link, C: Clock, G: Gate>(
     clock: &mut C,
 ) -> Result<(), Failed>
     requires here { pass.old.seat.table_id ≡ desk.hall.now.table.shared.table_id }
+    requires named { IsSome desk.connection }
     requires free { IsFree pass.old.seat }
     requires book { IsBook (book_seen pass.old.seat) }
     ensures pass { IsSamePass pass.old.seat pass.new.seat × IsFree pass.new.seat }

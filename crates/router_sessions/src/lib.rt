@@ -16,7 +16,7 @@ mod session;
 mod text;
 mod visit;
 
-pub use book::{Book, Seat, TurnReply};
+pub use book::{Book, MadeTurn, Seat, TurnReply};
 pub use held::Held;
 pub use laws::one_session;
 pub use quiet::{look, serve_quiet};

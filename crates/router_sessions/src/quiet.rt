@@ -3,7 +3,7 @@ ghost use Rattle.std.specs.Prelude.{◌≡◌, [], Err, None};
 ghost use Rattle.turn_book.specs.Passes.{IsFree, IsSamePass};
 ghost use Rattle.courier_run.specs.declared.turned.Turned.{Turned as Counted};
 ghost use Rattle.router_sessions.specs.History.{claims_by};
-ghost use Rattle.router_sessions.specs.Book.{state_of, IsBook};
+ghost use Rattle.router_sessions.specs.Book.{state_of, IsBook, HasLearned};
 ghost use Rattle.router_sessions.specs.Delivery.{Delivers};
 ghost use Rattle.router_sessions.specs.Desk.{book_seen, number_of, seat_of, SeesMore};
 
@@ -55,6 +55,7 @@ pub fn look<Rt: Wait>(rt: &Rt, alloc: Global, hall: &Hall<Book>, pass: &mut Pass
     ensures pass { IsSamePass pass.old.seat pass.new.seat × IsFree pass.new.seat }
     ensures book { IsBook (book_seen pass.new.seat) }
     ensures more { SeesMore pass.old.seat pass.new.seat }
+    ensures learned { HasLearned (number_of pass.old.seat) (book_seen pass.old.seat) (book_seen pass.new.seat) }
 {
     let desk = Desk {
         rt,

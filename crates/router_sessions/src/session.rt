@@ -1,5 +1,5 @@
 //! Sessions.
-ghost use Rattle.std.specs.Prelude.{◌≡◌, ◌≢◌, ◌||◌, [], Some};
+ghost use Rattle.std.specs.Prelude.{◌≡◌, ◌≢◌, ◌||◌, [], Some, IsSome};
 ghost use Rattle.router_disk.specs.Faults.{Rose};
 ghost use Rattle.turn_book.specs.Passes.{IsFree, IsSamePass};
 ghost use Rattle.router_sessions.specs.History.{claims_by};
@@ -98,6 +98,7 @@ fn converse<Rt: Wait, S: Source, K: Sink, L: Link, C: Clock, G: Gate>(
     gate: &G,
 ) -> SessionEnd
     requires here { pass.old.seat.table_id ≡ desk.hall.now.table.shared.table_id }
+    requires named { IsSome desk.connection }
     requires free { IsFree pass.old.seat }
     requires book { IsBook (book_seen pass.old.seat) }
     ensures pass { IsSamePass pass.old.seat pass.new.seat × IsFree pass.new.seat }

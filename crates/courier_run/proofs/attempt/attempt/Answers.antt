@@ -28,9 +28,9 @@ returns-in-Err-record_of-clause-made g c =
     let claimed : g.B.DutyBook.steps c.claim.new.self ≡ g.B.DutyBook.steps c.args.book.now ++ claims claim ∷ [] = search rules in
     let at : claim.reading ≡ c.read_clock-moment.result = search rules in
     let book = c.record_of.new.self in
-    let P : ℕ → Type 0 = λ m. HasCause (g.B.DutyBook.broken book) (g.B.DutyBook.full book m) ⊥ c.in-Err-record_of.fault in (
+    let Cause : ℕ → Type 0 = λ m. HasCause (g.B.DutyBook.broken book) (g.B.DutyBook.full book m × g.B.DutyBook.limited book claim) ⊥ c.in-Err-record_of.fault in (
       unrecorded claim c.in-Ok.outcome,
-      subst P (sym at) c.in-Err-record_of.ensures.cause,
+      subst Cause (sym at) c.in-Err-record_of.ensures.cause,
       ended_unrecorded _ _ (g.B.DutyBook.steps c.record_of.new.self) _ _ _ _ _ _ reading _ claim _ answers gave claimed at cut
           c.in-Err-record_of.ensures.steps answered tried,
     )

@@ -31,16 +31,16 @@ loop-turned-preserved g c =
 pub returns-clause-turned : goal.returns-clause-turned
 returns-clause-turned g c =
     let (attempts, counted, within, lender, grown, sound, made) = c.loop-turned.invariant in
-    turned_at_budget _ _ _ _ _ _ _ attempts made counted within c.loop-turned-test.false
+    turned_at_budget _ _ _ _ _ _ _ _ attempts made counted within c.loop-turned-test.false
 
 pub returns-in-Idle-clause-turned : goal.returns-in-Idle-clause-turned
 returns-in-Idle-clause-turned g c =
     let (attempts, counted, within, lender, grown, sound, made) = c.loop-turned.invariant in
     let (moment, none, ending) = c.in-Idle.ensures.made in
-    turned_idle _ _ _ _ _ _ _ _ attempts moment made counted c.loop-turned-test.true none ending
+    turned_idle _ _ _ _ _ _ _ _ _ attempts moment made counted c.loop-turned-test.true none ending
 
 pub returns-in-Stopped-clause-turned : goal.returns-in-Stopped-clause-turned
 returns-in-Stopped-clause-turned g c =
     let (attempts, counted, within, lender, grown, sound, made) = c.loop-turned.invariant in
     let (last, stopped, ending) = c.in-Stopped.ensures.made in
-    turned_stopped _ _ _ _ _ _ _ _ attempts _ _ last made counted c.loop-turned-test.true c.after.ensures stopped ending
+    turned_stopped _ _ _ _ _ _ _ _ _ attempts _ _ last made counted c.loop-turned-test.true c.after.ensures stopped ending

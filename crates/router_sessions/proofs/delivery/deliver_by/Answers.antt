@@ -3,7 +3,7 @@ use Rattle.router_sessions.specs.declared.book.Seat.{Seat}
 use Rattle.router_sessions.specs.declared.history.Turn.{Turn}
 use Rattle.router_sessions.specs.Book.{BookState, state_of, seen_book}
 use Rattle.courier_run.specs.Turn.{outside, IsTurn}
-use Rattle.router_sessions.specs.Delivery.{Delivers, steps_in, IsIdle, IsFullAt}
+use Rattle.router_sessions.specs.Delivery.{Delivers, steps_in, IsIdle, IsFullAt, EndsAtLimit}
 use Rattle.router_sessions.specs.Desk.{book_seen}
 use Rattle.router_sessions.proofs.DeliveryLemmas.{delivers}
 use Rattle.router_sessions.proofs.delivery.deliver_by.Goals as goal
@@ -35,5 +35,6 @@ returns-clause-delivers g c =
     (outside (steps_in g.N.Naming.seat.pass b) (g.C.Clock.ahead c.args.clock.now) (g.L.Link.answered c.args.link.now) (g.L.Link.faults c.args.link.now))
     (outside (steps_in g.N.Naming.seat.pass (book_seen c.turn.new.book.pass.now.seat)) (g.C.Clock.ahead c.turn.new.clock)
     (g.L.Link.answered c.turn.new.link) (g.L.Link.faults c.turn.new.link))
-    (IsIdle (state_of (book_seen c.turn.new.book.pass.now.seat))) ⊥ (IsFullAt (state_of (book_seen c.turn.new.book.pass.now.seat))) c.turn.result)
+    (IsIdle (state_of (book_seen c.turn.new.book.pass.now.seat))) ⊥ (IsFullAt (state_of (book_seen c.turn.new.book.pass.now.seat)))
+    (λ claim. EndsAtLimit g.N.Naming.seat.pass claim (book_seen c.turn.new.book.pass.now.seat)) c.turn.result)
     before c.turn.ensures.turned))

@@ -1,9 +1,9 @@
-use Rattle.std.proofs.Common.{ℕ, List, length, sym, subst, ap, ◌∙◌}
+use Rattle.std.proofs.Common.{List, sym, subst, ap, ◌∙◌}
 use Rattle.name_rows.specs.Rows.{AreSorted}
 use Rattle.name_rows.specs.Place.{IsHere, IsBefore}
 use Rattle.delivery_duties.specs.declared.stored.StoredMessage.{StoredMessage}
 use Rattle.delivery_duties.specs.Queues.{Queue, name_of, is_named, without_through, changed_first, messages_through, messages_of}
-use Rattle.delivery_duties.proofs.PlaceLemmas.{first_at, none_named, here_is, set_changed, changed_none, sorted_set, messages_at, messages_none, place_within}
+use Rattle.delivery_duties.proofs.PlaceLemmas.{first_at, none_named, here_is, set_changed, changed_none, sorted_set, messages_at, has_none, place_within}
 use Rattle.delivery_duties.proofs.queues.Queues.delete_through.Goals as goal
 
 pub invariant_of-self : goal.invariant_of-self
@@ -25,14 +25,14 @@ returns-in-Ok-clause-left c =
     c.index_mut.ensures.value c.delete_through.ensures.left
     ∙ ap (changed_first (is_named c.args.name.now) (without_through c.args.through)) c.self.view_is
 
-pub returns-in-Ok-clause-count : goal.returns-in-Ok-clause-count
-returns-in-Ok-clause-count c =
+pub returns-in-Ok-clause-deleted : goal.returns-in-Ok-clause-deleted
+returns-in-Ok-clause-deleted c =
     let rows = c.self.inside.rows.items in
     let here = subst (λ rs. IsHere name_of c.args.name.now rs c.in-Ok.at) c.deref.ensures.value c.in-Ok.ensures in
     let first = first_at c.args.name.now rows c.in-Ok.at here in
-    let count : List StoredMessage → ℕ = λ ms. length (messages_through c.args.through ms) in
-    c.delete_through.ensures.count ∙ ap (λ (m : Queue). count m.messages) (here_is c.index_mut.result.now first c.index_mut.ensures.value)
-    ∙ ap count (sym (messages_at c.args.name.now rows c.in-Ok.at first)) ∙ ap (λ rs. count (messages_of c.args.name.now rs)) c.self.view_is
+    let through : List StoredMessage → List StoredMessage = messages_through c.args.through in
+    c.delete_through.ensures.deleted ∙ ap (λ (m : Queue). through m.messages) (here_is c.index_mut.result.now first c.index_mut.ensures.value)
+    ∙ ap through (sym (messages_at c.args.name.now rows c.in-Ok.at first)) ∙ ap (λ rs. through (messages_of c.args.name.now rs)) c.self.view_is
 
 pub returns-in-Err-clause-left : goal.returns-in-Err-clause-left
 returns-in-Err-clause-left c =
@@ -40,9 +40,8 @@ returns-in-Err-clause-left c =
     let none = none_named c.args.name.now c.args.self.now c.in-Err.field-0 (subst (AreSorted name_of) c.self.view_is c.self.invariant.0) before in
     sym (changed_none (is_named c.args.name.now) (without_through c.args.through) c.args.self.now none)
 
-pub returns-in-Err-clause-count : goal.returns-in-Err-clause-count
-returns-in-Err-clause-count c =
+pub returns-in-Err-clause-deleted : goal.returns-in-Err-clause-deleted
+returns-in-Err-clause-deleted c =
     let before = subst (λ rs. IsBefore name_of c.args.name.now rs c.in-Err.field-0) (c.deref.ensures.value ∙ c.self.view_is) c.in-Err.ensures in
-    let none = none_named c.args.name.now c.args.self.now c.in-Err.field-0 (subst (AreSorted name_of) c.self.view_is c.self.invariant.0) before in
-    let count : List StoredMessage → ℕ = λ ms. length (messages_through c.args.through ms) in
-    ap count (sym (messages_none c.args.name.now c.args.self.now none))
+    has_none c.args.name.now c.args.self.now
+    (none_named c.args.name.now c.args.self.now c.in-Err.field-0 (subst (AreSorted name_of) c.self.view_is c.self.invariant.0) before)

@@ -11,7 +11,7 @@ loop-entry-init c =
     (subst (λ (t : Tables). t.batches ≤ t.entries) c.self.view_is fewer)
 
 -- the entry that is applied is left, with the parts
-here : (c : goal.After-join-arg-1) → IsLeft c.args.ready.batch.moment (batch_of c.args.ready.batch).entries
+here : (c : goal.After-released-1) → IsLeft c.args.ready.batch.moment (batch_of c.args.ready.batch).entries
     (entry_of c.entry-item.result ∷ map entry_of (drop (c.loop-entry.entry-index + 1) c.args.ready.batch.entries.items)) c.args.self.now
     c.loop-entry.self (c.in-Some.part ∷ c.pop_front.new.self.items)
 here c =
@@ -47,7 +47,7 @@ loop-entry-preserved c =
     left_next _ _ _ _ _ _ _ _ _ (here c.before) c.join.ensures.joined c.join.ensures.created
 
 -- no entry is left at the end of the loop
-at_end : (c : goal.After-drop-batch) → IsLeft c.args.ready.batch.moment (batch_of c.args.ready.batch).entries [] c.args.self.now c.loop-entry.self
+at_end : (c : goal.Joined-released-2) → IsLeft c.args.ready.batch.moment (batch_of c.args.ready.batch).entries [] c.args.self.now c.loop-entry.self
     c.loop-entry.parts.items
 at_end c =
     left_end c.args.ready.batch.entries.items c.deref-entry-items.result.now c.loop-entry.entry-index c.deref-entry-items.ensures.value

@@ -1,3 +1,4 @@
+use Rattle.std.proofs.Common.{◌∙◌}
 use Rattle.router_core.specs.Tables.{Tables}
 use Rattle.std.specs.Option.{option_copied}
 use Rattle.router_core.proofs.TablesLemmas.{room_for, with_change}
@@ -15,5 +16,5 @@ invariant_of-self c =
     let i = c.self.inside in
     let t : Tables = record { set = i.set; duties = i.duties; events = i.events; entries = i.entries; batches = i.batches; moment = i.moment } in
     let change = c.requires.change in
-    with_change change.0 c.args.new_queue (option_copied c.args.deleted) t c.args.self.now c.args.set c.create_queue.new.duties c.forget_queue.new.duties
-    c.self.view_is change.1 change.2 change.3 c.create_queue.ensures c.forget_queue.ensures c.self.invariant c.requires.entries
+    with_change change.0 c.args.new_queue (option_copied c.args.deleted) t c.args.self.now c.replace.new.dest c.create_queue.new.duties c.forget_queue.new.duties
+    c.self.view_is (c.replace.ensures.after ∙ change.1) change.2 change.3 c.create_queue.ensures c.forget_queue.ensures c.self.invariant c.requires.entries

@@ -14,7 +14,7 @@ returns-then-full-clause-refused c = (
   refl,
   put_back_limited c.args.seat (book_of c.args.self.now) (book_of c.put_back.new.self) c.args.held refl refl c.put_back.ensures.book
       (sym c.full.ensures.full ∙ c.if-full.true) c.put_back.ensures.tables c.put_back.ensures.added c.requires.is_open,
-  c.put_back.ensures.added,
+  record { added = c.put_back.ensures.added; full = sym c.full.ensures.full ∙ c.if-full.true },
 )
 
 pub record_outcome-outcome-requires-clause-due : goal.record_outcome-outcome-requires-clause-due
@@ -61,7 +61,7 @@ returns-clause-recorded c =
     let same = c.record_outcome-outcome.ensures.same in
     let n : ℕ = c.args.held.errand.claim.number in
     let moment = ap (λ (b : Batch). b.moment) made.1 in
-    recorded c.finish.result
+    recorded c.finish.result.0
     (recording c.args.seat c.args.held c.args.outcome outcome c.turn_moment-moment.result old new now now.room
     c.of.result.value
     c.number.result c.control_count.result c.set.result.now refl c.requires.book c.requires.is_open c.turn_moment-moment.ensures c.requires.fits

@@ -19,7 +19,8 @@ returns-clause-book c =
       k = c.control_count.result;
       batch = None;
     } in
-    answered_book c.args.seat (book_of c.args.self.now) new (request_of c.args.request.now) (None, c.args.reply) turn refl c.requires.book c.requires.decided
+    answered_book c.args.seat (book_of c.args.self.now) new (request_of c.args.request.now) (None, c.args.reply) turn refl c.requires.named
+    c.requires.book c.requires.decided
     (record {
       from = record { pass = refl; connection = refl; made_for = ap (λ r. asked (request_of r)) c.of.ensures };
       k = c.control_count.ensures.count ∙ ap (λ (set : RuleSet). set.count) c.set.ensures;

@@ -10,7 +10,7 @@ use Rattle.router_sessions.proofs.book.Book.write.Goals as goal
 
 pub returns-clause-book : goal.returns-clause-book
 returns-clause-book c =
-    let new : BookState = record { opened = begun first_tables; tables = c.apply.new.self; turns = turns_in c.push.new.self } in
+    let new : BookState = record { opened = begun first_tables; tables = c.apply-released.new.self; turns = turns_in c.push.new.self } in
     let turn : Turn = record {
       pass = c.args.seat.pass;
       connection = c.args.seat.connection;
@@ -19,11 +19,11 @@ returns-clause-book c =
       batch = Some (batch_of c.of-2.result.value);
     } in
     answered_book c.args.seat (book_of c.args.self.now) new (request_of c.args.request.now) (Some c.args.ready, c.args.reply) turn refl
-    c.requires.book c.requires.decided
+    c.requires.named c.requires.book c.requires.decided
     (record {
       from = record { pass = refl; connection = refl; made_for = ap (λ r. asked (request_of r)) c.of.ensures };
       k = c.control_count.ensures.count ∙ ap (λ (set : RuleSet). set.count) c.set.ensures;
       batch = ap (λ b. Some (batch_of b)) (c.of-2.ensures ∙ c.batch.ensures);
       turns = c.push.ensures.turns;
     })
-    refl c.apply.ensures
+    refl c.apply-released.ensures

@@ -1,26 +1,15 @@
-use Rattle.std.proofs.Common.{subst}
+use Rattle.std.proofs.Common.{sym, subst}
 use Rattle.router_core.specs.View.{request_of}
-use Rattle.router_sessions.specs.declared.book.Seat.{Seat}
-use Rattle.router_sessions.specs.Book.{book_of}
-use Rattle.router_sessions.specs.Answered.{IsAnswered}
-use Rattle.router_sessions.proofs.DeskLemmas.{after_learning, learned_alone, extends, pass_of, map_ok, map_on_err}
+use Rattle.router_sessions.specs.declared.book.TurnReply.{TurnReply}
+use Rattle.router_sessions.specs.Answered.{IsAnswered, IsRenderable}
+use Rattle.router_sessions.specs.Desk.{AfterLearning, book_seen, number_of, seat_of}
 use Rattle.router_sessions.proofs.desk.Desk.turn.Goals as goal
 
-pub give-requires-clause-longer : goal.give-requires-clause-longer
-give-requires-clause-longer g c =
-    extends c.seat-seat.result c.take-book.new.pass.seat c.take-book.result c.turn-reply.new.self c.turn-reply.ensures.grows c.take-book.ensures.seen
-    (pass_of c.args.self.connection c.args.pass.now.seat c.take-book.new.pass.seat c.seat-seat.result c.seat-seat.ensures c.take-book.ensures.pass.0)
+pub returns-in-Ok-clause-answered : goal.returns-in-Ok-clause-answered
+returns-in-Ok-clause-answered g c =
+    subst (λ (r : TurnReply). AfterLearning (number_of c.args.pass.now.seat)
+    (λ old new. IsAnswered (seat_of c.args.self.connection c.args.pass.now.seat) old new (request_of c.args.request) c.args.close r)
+    (book_seen c.args.pass.now.seat) (book_seen c.make_turn.new.pass.seat)) (sym c.into_reply.ensures) c.in-Ok.ensures.answered
 
-pub returns-clause-answered : goal.returns-clause-answered
-returns-clause-answered g c = map_ok c.turn-reply.result _ _
-    (λ reply is. after_learning c.args.pass.now.seat c.give.new.pass.seat c.take-book.result c.turn-reply.new.self c.take-book.ensures.history
-    c.take-book.ensures.sound c.turn-reply.ensures.book c.give.ensures.seen
-    (subst (λ (s : Seat). IsAnswered s (book_of c.take-book.result) (book_of c.turn-reply.new.self) (request_of c.args.request) c.args.close reply)
-    c.seat-seat.ensures is))
-    c.turn-reply.ensures.answered
-
-pub returns-clause-unchanged : goal.returns-clause-unchanged
-returns-clause-unchanged g c = map_on_err c.turn-reply.result _ _
-    (λ same. learned_alone c.args.pass.now.seat c.give.new.pass.seat c.take-book.result c.turn-reply.new.self c.take-book.ensures.history
-    c.turn-reply.ensures.book c.give.ensures.seen same)
-    c.turn-reply.ensures.unchanged
+pub returns-in-Ok-clause-renderable : goal.returns-in-Ok-clause-renderable
+returns-in-Ok-clause-renderable g c = subst IsRenderable (sym c.into_reply.ensures) c.in-Ok.ensures.renderable
