@@ -22,7 +22,7 @@ use Rattle.router_sessions.specs.declared.book.Book.{Book}
 use Rattle.router_sessions.specs.declared.history.Turn.{Turn}
 use Rattle.router_sessions.specs.History.{begun}
 use Rattle.router_sessions.specs.Book.{BookState, IsBook, book_of, recorded_in, seen_book, turns_in}
-use Rattle.bus_server.specs.Serve.{AroundDoor, EndsServing, HasCause, IsOpened, IsUnserved, IsServe, around_door}
+use Rattle.bus_server.specs.Serve.{AroundDoor, EndsServing, EndsUnserved, IsOpened, IsUnserved, IsServe, around_door}
 use Rattle.bus_server.specs.Opened.{status_of_host, CountsHost, IsUnopened, IsAnnounced, IsUnannounced, ServesBy, IsUnservedBy}
 
 -- the book by its turns
@@ -120,7 +120,7 @@ module _ {D L I O : Type 0} (show : D → Shown I O) (fits : ℕ → I × O → 
     faultless = λ _. (door_same, link_same);
   }) where
     causes : ((status ≡ statuses.WriteFault) × AppendsPart old.written new.written (listening_text port))
-        ⊎ ((status ≡ statuses.NoMemory) × Appends old.written new.written (listening_text port)) → HasCause port old new status
+        ⊎ ((status ≡ statuses.NoMemory) × Appends old.written new.written (listening_text port)) → EndsUnserved port old new status
     causes (inl fault) = inr (inl fault)
     causes (inr (none, printed)) = inr (inr (none, inr printed))
 
@@ -147,7 +147,7 @@ module _ {D L I O : Type 0} (show : D → Shown I O) (fits : ℕ → I × O → 
     opened = s.announced.opened;
   })
   serves port workers connections links old mid new status w d db l lb df lf count (inr s) = inr (record {
-    cause = subst (λ (a : Option (List ℕ)). HasCause port (around_door a old.doors old.doors_back old.links old.links_back old.door_faults old.link_faults) new status) w
+    cause = subst (λ (a : Option (List ℕ)). EndsUnserved port (around_door a old.doors old.doors_back old.links old.links_back old.door_faults old.link_faults) new status) w
         (causes s.cause);
     lent = s.lent;
     one = s.one;
@@ -160,8 +160,8 @@ module _ {D L I O : Type 0} (show : D → Shown I O) (fits : ℕ → I × O → 
     links_back = s.links_back ∙ ap (λ (ls : List L). ls ++ links) lb;
     faultless = λ other. ((s.faultless other).0 ∙ df, (s.faultless other).1 ∙ lf);
   }) where
-    causes : HasCause port mid new status
-        → HasCause port (around_door mid.written old.doors old.doors_back old.links old.links_back old.door_faults old.link_faults) new status
+    causes : EndsUnserved port mid new status
+        → EndsUnserved port (around_door mid.written old.doors old.doors_back old.links old.links_back old.door_faults old.link_faults) new status
     causes (inl (is, kept, inl (rose, same))) = inl (is, kept, inl (subst (λ (n : ℕ). Rose n new.door_faults) df rose, same ∙ lf))
     causes (inl (is, kept, inr (rose, same))) = inl (is, kept, inr (subst (λ (n : ℕ). Rose n new.link_faults) lf rose, same ∙ df))
     causes (inr other) = inr other
@@ -182,7 +182,7 @@ no_door port fault links old new status is w d db l lb rose same lf = record {
   links_back = lb;
   faultless = λ other. (same (λ e. other (is ∙ ap status_of_host e)), lf);
 } where
-  causes : (f : HostFault) → status ≡ status_of_host f → (f ≡ host.Failed → Rose old.door_faults new.door_faults) → HasCause port old new status
+  causes : (f : HostFault) → status ≡ status_of_host f → (f ≡ host.Failed → Rose old.door_faults new.door_faults) → EndsUnserved port old new status
   causes host.Failed at r = inl (at, subst (Keeps old.written) (sym w) (Keeps-refl old.written), inl (r refl, lf))
   causes host.NoMemory at r = inr (inr (at, inl (subst (Keeps old.written) (sym w) (Keeps-refl old.written))))
 
@@ -209,7 +209,7 @@ no_links port workers fault links old new status is w d db l lb few df rose same
   links_back = lb;
   faultless = λ other. (df, same (λ e. other (is ∙ ap status_of_host e)));
 } where
-  causes : (f : HostFault) → status ≡ status_of_host f → (f ≡ host.Failed → Rose old.link_faults new.link_faults) → HasCause port old new status
+  causes : (f : HostFault) → status ≡ status_of_host f → (f ≡ host.Failed → Rose old.link_faults new.link_faults) → EndsUnserved port old new status
   causes host.Failed at r = inl (at, subst (Keeps old.written) (sym w) (Keeps-refl old.written), inr (r refl, df))
   causes host.NoMemory at r = inr (inr (at, inl (subst (Keeps old.written) (sym w) (Keeps-refl old.written))))
 

@@ -1,5 +1,5 @@
 -- What a worker of a door calls for the router.
-use Rattle.std.specs.Prelude.{◌≡◌, ℕ, ◌<◌, ◌^◌, Bool, List, Option}
+use Rattle.std.specs.Prelude.{◌≡◌, ℕ, ◌<◌, ◌^◌, Bool, List, Option, None}
 use denote.Ref.{Bor, MutBor}
 use denote.Param.Members.{Shared}
 use Rattle.turn_book.specs.declared.story.Story as story
@@ -8,12 +8,13 @@ use Rattle.turn_book.specs.declared.hall.Pass.{Pass}
 use Rattle.turn_book.specs.Passes.{IsFree, IsSamePass}
 use Rattle.router_sessions.specs.declared.book.Book.{Book}
 use Rattle.router_sessions.specs.declared.history.Turn.{Turn}
-use Rattle.router_sessions.specs.Desk.{seen_by}
+use Rattle.router_sessions.specs.Book.{HasNamed}
+use Rattle.router_sessions.specs.Desk.{book_seen, seat_of, seen_by}
 use Rattle.router_sessions.specs.Visit.{IsVisit}
 
 module _ {S M L I O : Type 0} {s : story.Ghosts Book Turn} where
   -- `serve` may be called with an idle pass, a hall that it is of, and the number and the streams of a connection, and serves its session.
-  -- `meanwhile` may be called with such a pass and its hall. The pass is idle before and after.
+  -- `meanwhile` may be called with such a pass and its hall, and the turns that it makes name no connection. The pass is idle before and after.
   pub record IsClerk (left : I → Option (List ℕ)) (written : O → Option (List ℕ)) (reads : I → ℕ) (writes : O → ℕ)
       (f : Shared S (MutBor L × (Bor (Hall Book Turn) × (MutBor (Pass Book Turn s) × (ℕ × (MutBor I × (MutBor O × Unit {0}))))))
       (Bool × (MutBor L × (MutBor (Pass Book Turn s) × (MutBor I × (MutBor O × Unit {0})))))) (serve : S)
@@ -32,3 +33,4 @@ module _ {S M L I O : Type 0} {s : story.Ghosts Book Turn} where
     pub waits : (link link' : MutBor L) (hall : Bor (Hall Book Turn)) (pass pass' : MutBor (Pass Book Turn s))
         → pass.now.seat.table_id ≡ hall.now.table.shared.table_id → IsFree pass.now.seat
         → g.post meanwhile (link, (hall, (pass, tt))) (tt, (link', (pass', tt))) → IsSamePass pass.now.seat pass'.now.seat × IsFree pass'.now.seat
+        × HasNamed (seat_of None pass.now.seat) (book_seen pass.now.seat) (book_seen pass'.now.seat)

@@ -10,7 +10,7 @@ use Rattle.program_lines.specs.declared.status.Status.TheVariants as statuses
 use Rattle.program_lines.specs.Printed.{listening_text}
 use Rattle.shared_door.specs.Shown.{Shown}
 use Rattle.router_sessions.specs.declared.history.Turn.{Turn}
-use Rattle.bus_server.specs.Serve.{AroundDoor, HasCause, IsOpened}
+use Rattle.bus_server.specs.Serve.{AroundDoor, EndsUnserved, IsOpened}
 
 -- the status of a host that gave no link or no door
 abbrev pub status_of_host : HostFault → Status
@@ -61,7 +61,7 @@ pub record ServesBy {D L I O : Type 0} (show : D → Shown I O) (fits : ℕ → 
 
 -- `IsUnserved`, with links that the host had given
 pub record IsUnservedBy {D L : Type 0} (port : ℕ) (links : List L) (old new : AroundDoor D L) (status : Status) : Type 0 where
-  pub cause : HasCause port old new status
+  pub cause : EndsUnserved port old new status
   pub lent : List D
   pub one : length lent ≤ 1
   pub opened_first : status ≡ statuses.WriteFault → length lent ≡ 1

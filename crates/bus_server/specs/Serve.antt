@@ -105,8 +105,8 @@ OneRose old new =
     (Rose old.door_faults new.door_faults × (new.link_faults ≡ old.link_faults)) ⊎ (Rose old.link_faults new.link_faults × (new.door_faults ≡ old.door_faults))
 
 -- why nothing was served, and what was written
-abbrev pub HasCause : {D L : Type 0} → ℕ → AroundDoor D L → AroundDoor D L → Status → Type 0
-HasCause port old new status =
+abbrev pub EndsUnserved : {D L : Type 0} → ℕ → AroundDoor D L → AroundDoor D L → Status → Type 0
+EndsUnserved port old new status =
     ((status ≡ statuses.DoorFault) × Keeps old.written new.written × OneRose old new)
     ⊎ (((status ≡ statuses.WriteFault) × AppendsPart old.written new.written (listening_text port))
     ⊎ ((status ≡ statuses.NoMemory) × (Keeps old.written new.written ⊎ Appends old.written new.written (listening_text port))))
@@ -114,7 +114,7 @@ HasCause port old new status =
 -- Nothing was served. The host took back the door, if it gave one, and the links, each as it gave it. It gave a door before the port was
 -- to be printed.
 pub record IsUnserved {D L : Type 0} (port workers : ℕ) (old new : AroundDoor D L) (status : Status) : Type 0 where
-  pub cause : HasCause port old new status
+  pub cause : EndsUnserved port old new status
   pub lent : List D
   pub one : length lent ≤ 1
   pub opened_first : status ≡ statuses.WriteFault → length lent ≡ 1

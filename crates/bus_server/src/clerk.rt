@@ -1,7 +1,8 @@
 //! What the workers of a door do for the router.
-ghost use Rattle.std.specs.Prelude.{◌≡◌};
+ghost use Rattle.std.specs.Prelude.{◌≡◌, None};
 ghost use Rattle.turn_book.specs.Passes.{IsFree, IsSamePass};
-ghost use Rattle.router_sessions.specs.Desk.{seen_by};
+ghost use Rattle.router_sessions.specs.Book.{IsBook, HasNamed};
+ghost use Rattle.router_sessions.specs.Desk.{book_seen, seat_of, seen_by};
 ghost use Rattle.router_sessions.specs.Visit.{IsVisit};
 
 use bus_host::Gate;
@@ -77,7 +78,7 @@ pub(crate) fn converse<I: Source, O: Sink, Rt: Wait + Sync, L: Link, C: Clock, G
 }
 
 /// Makes delivery steps until none is made, a fault comes, `STEPS` were made, or the second in which it began is over. So it waits for
-/// one endpoint at most that does not answer.
+/// one endpoint at most that does not answer. Its turns name no connection.
 pub(crate) fn deliver_for_a_while<Rt: Wait + Sync, L: Link, C: Clock>(
     rt: &Rt,
     alloc: Global,
@@ -89,19 +90,38 @@ pub(crate) fn deliver_for_a_while<Rt: Wait + Sync, L: Link, C: Clock>(
     requires here { pass.old.seat.table_id ≡ hall.now.table.shared.table_id }
     requires free { IsFree pass.old.seat }
     ensures pass { IsSamePass pass.old.seat pass.new.seat × IsFree pass.new.seat }
+    ensures named { HasNamed (seat_of None pass.old.seat) (book_seen pass.old.seat) (book_seen pass.new.seat) }
 {
     look(rt, alloc, hall, pass);
     let mut clock = Reader { rt, clock };
     let begun = clock.now();
     for _ in 0..STEPS {
-        let turned = serve_quiet(rt, alloc, hall, pass, link, &mut clock, 1);
-        match turned {
-            Ok(turned) if turned.attempts != 0 => (),
-            _ => return,
-        }
-        if clock.now() != begun {
+        if !deliver_once(rt, alloc, &mut clock, begun, link, hall, pass) {
             return;
         }
+    }
+}
+
+/// Makes at most one delivery step. Returns whether it made one and the clock still reads `begun`.
+fn deliver_once<Rt: Wait + Sync, L: Link, C: Clock>(
+    rt: &Rt,
+    alloc: Global,
+    clock: &mut C,
+    begun: u64,
+    link: &mut L,
+    hall: &Hall<Book>,
+    pass: &mut Pass<Book>,
+) -> bool
+    requires here { pass.old.seat.table_id ≡ hall.now.table.shared.table_id }
+    requires free { IsFree pass.old.seat }
+    requires book { IsBook (book_seen pass.old.seat) }
+    ensures pass { IsSamePass pass.old.seat pass.new.seat × IsFree pass.new.seat }
+    ensures book { IsBook (book_seen pass.new.seat) }
+    ensures named { HasNamed (seat_of None pass.old.seat) (book_seen pass.old.seat) (book_seen pass.new.seat) }
+{
+    match serve_quiet(rt, alloc, hall, pass, link, clock, 1) {
+        Ok(turned) => turned.attempts != 0 && clock.now() == begun,
+        Err(_) => false,
     }
 }
 

@@ -1,11 +1,11 @@
 //! A door served by workers side by side.
-ghost use Rattle.std.specs.Prelude.{◌≡◌, ◌≢◌, ◌+◌, ◌<◌, ◌≤◌, All, [], vec_len};
+ghost use Rattle.std.specs.Prelude.{◌≡◌, ◌≢◌, ◌+◌, ◌<◌, ◌≤◌, All, None, [], vec_len};
 ghost use Rattle.router_disk.specs.Faults.{Rose};
 ghost use Rattle.turn_book.specs.Passes.{view, IsFree, IsSamePass};
 ghost use Rattle.shared_door.specs.Shown.{shown_by};
 ghost use Rattle.door_workers.specs.Serving.{IsIdlePass, HasServed};
-ghost use Rattle.router_sessions.specs.Book.{IsBook};
-ghost use Rattle.router_sessions.specs.Desk.{book_seen, number_of, seen_by, SeesMore};
+ghost use Rattle.router_sessions.specs.Book.{IsBook, HasNamed};
+ghost use Rattle.router_sessions.specs.Desk.{book_seen, number_of, seat_of, seen_by, SeesMore};
 ghost use Rattle.router_sessions.specs.Visit.{IsVisit};
 
 use crate::clerk::{Clerk, converse, deliver_for_a_while};
@@ -67,6 +67,7 @@ pub fn serve_door<Rt: Wait + Threads + Sync, D: Door, L: Link, C: Clock, G: Gate
             requires here { pass.old.seat.table_id ≡ hall.now.table.shared.table_id }
             requires free { IsFree pass.old.seat }
             ensures pass { IsSamePass pass.old.seat pass.new.seat × IsFree pass.new.seat }
+            ensures named { HasNamed (seat_of None pass.old.seat) (book_seen pass.old.seat) (book_seen pass.new.seat) }
         { deliver_for_a_while(rt, alloc, &clock, link, hall, pass) },
     };
     let serving = door_workers::serve_door(rt, alloc, hall, pass, links, door, connections, &clerk);
