@@ -35,7 +35,7 @@ WORKERS = [3, 8]
 PAIRS = [(16, 8), (4, 3), (16, 3), (16, 15), (1, 1)]  # of workers and clients, for the second table
 LIMIT = 300  # seconds that one piece may take
 IDLE = 5  # seconds in which an idle process is watched
-EVENTS, ROUNDS, FIRST = 100_000, 10, 3  # events of a round, all delivered and deleted at its end; the first rounds fill the heaps of the threads
+EVENTS, ROUNDS, FIRST = 100_000, 10, 8  # events of a round, all delivered and deleted at its end; the first rounds fill the heaps of the threads
 PORTS = range(12_000, 32_000)  # outside the ports that the system gives to connections
 LAST = 2**48 - 1
 
@@ -197,9 +197,10 @@ def targets(command, folder, found, events):
     processors = os.cpu_count()
     table("measured", "result", "target", "met")
     rate, times = found["ebusd, W 16", 8]
-    base = max(found[f"C, threads {it}", 8][0] for it in (1, processors))
-    result = f"{rate / base:.2f} ({rate:,.0f} to {base:,.0f} a second)"
-    shown("rate to that of the C server, W 16, 8 clients", result, "at least 0.5", rate >= 0.5 * base)
+    for threads in (1, processors):
+        base = found[f"C, threads {threads}", 8][0]
+        result = f"{rate / base:.2f} ({rate:,.0f} to {base:,.0f} a second)"
+        shown(f"rate to that of the C server, threads {threads}; W 16, 8 clients", result, "at least 0.5", rate >= 0.5 * base)
     shown("99 of 100 replies, W 16, 8 clients", f"{times[1] / 1_000:.2f} ms", "at most 5 ms", times[1] <= 5_000)
     few, many = found["ebusd, W 4", 3][0], found["ebusd, W 16", 3][0]
     shown("3 clients at W 16 to W 4", f"{many / few:.2f}", "0.8 to 1.25", 0.8 <= many / few <= 1.25)
