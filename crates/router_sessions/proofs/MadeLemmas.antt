@@ -1,5 +1,5 @@
--- Exchanges that were made, among turns of other passes. Other files cite `sublist_same`, `sublist_skip`, `current_latest`, `learned_made`,
--- `one_made`, `made_append` and `made_later`.
+-- Exchanges that were made, among turns of other passes. Other files cite `sublist_same`, `sublist_skip`, `order_own`, `current_latest`,
+-- `learned_made`, `one_made`, `made_append` and `made_later`.
 use Rattle.std.proofs.Common.{◌≡◌, ℕ, ◌≤◌, true, false, cond, inl, inr, List, [], ◌∷◌, ◌++◌, length, map, Option, sym, refl, ap, ◌∙◌, subst, append-nil}
 use Rattle.std.proofs.Common.{append_assoc, arith}
 use Rattle.std.specs.Prelude.{◌==◌, All}
