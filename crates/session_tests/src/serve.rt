@@ -344,15 +344,18 @@ fn bad_words_open_no_port(rt: HostRuntime) -> Result<(), Fail> {
 /// How often the gate looks before it gives up.
 const LOOKS: u32 = 1_000_000_000;
 
-/// Holds the first reply of connection 1 until the first reply of connection 2 was written. It says if that took too long.
+/// Holds the first reply of connection 1 until the first reply of connection 2 was written. It says how often it was asked, and if that took
+/// too long.
 #[derive(Drop)]
 struct Behind {
+    asked: AtomicU64,
     answered: AtomicU64,
     late: AtomicU64,
 }
 
 impl Gate for Behind {
     fn hold<Rt: Wait>(&self, _rt: &Rt, conn: u64, call: u64, _at: Point) {
+        self.asked.fetch_add(1, Ordering::SeqCst);
         if conn == 2 && call == 2 {
             self.answered.store(1, Ordering::SeqCst);
         }
@@ -404,6 +407,7 @@ fn a_held_reply_holds_no_other_connection(rt: HostRuntime) -> Result<(), Fail> {
     plans.push_back(connection(alloc, &[CREATE_QUEUE, DELIVER_DUE])?)?;
     plans.push_back(connection(alloc, &[PUT_RULE, PUT_RULE])?)?;
     let gate = Behind {
+        asked: AtomicU64::new(0),
         answered: AtomicU64::new(0),
         late: AtomicU64::new(0),
     };
@@ -413,6 +417,7 @@ fn a_held_reply_holds_no_other_connection(rt: HostRuntime) -> Result<(), Fail> {
         0,
         "connection 2 was answered meanwhile"
     );
+    assert_eq!(rt; gate.asked.load(Ordering::SeqCst), 4, "once for each reply");
     assert_eq!(rt; door.back.len(), 2, "both connections end");
     for ended in &door.back {
         assert!(rt; !ended.cut);
