@@ -4,13 +4,14 @@ Each failure is one line, the place and the reason. The last line is `N passed, 
 """
 import os
 import re
+import subprocess
 import sys
 from pathlib import Path
 
 NAME = r"[^\W\d][\w'-]*"
-PAGES = "DEFINITIONS CLAIMS ARCHITECTURE DECISIONS GLOSSARY PROOF_NOTES".split()
-# Pages that tell of names that are gone.
-HISTORY = {"DECISIONS"}
+# Pages that have to be there. Every other page of docs/ is checked too.
+PAGES = "DEFINITIONS CLAIMS ARCHITECTURE DECISIONS".split()
+LONGEST_SENTENCE = 35
 
 passed = 0
 failures = []
@@ -76,7 +77,8 @@ class Source:
         self.modules = {}  # a name before a point in a clause, and its module
         for line in re.findall(r"\bghost use ([^;]*);", self.code):
             self.read_use(line)
-        self.is_test = path.name == "tests.rt" or "tests" in path.parts
+        crate = path.parts[len(path.parts) - path.parts[::-1].index("src") - 2]
+        self.is_test = path.name == "tests.rt" or "tests" in path.parts or crate.endswith("_tests")
         self.read_items(0, len(self.code), "", True)
 
     def read_use(self, line):
@@ -162,15 +164,18 @@ class Crate:
         self.name, self.folder = name, root / "crates" / name
         self.sources = [Source(it) for it in sorted(self.folder.glob("src/**/*.rt"))]
         self.functions = [it for source in self.sources for it in source.functions]
-        self.edits = {it.name for it in self.folder.glob("must-fail/*.edit")}
+        self.edits = {it.name for folder in ("must-fail", "edits") for it in self.folder.glob(f"{folder}/*.edit")}
         self.exported = set()
         for source in self.sources:
             if source.path.name == "lib.rt" and source.path.parent.name == "src":
                 for names in re.findall(r"\bpub use [\w:]*::(\{[^}]*\}|\w+)", source.code):
                     self.exported.update(re.findall(r"\w+", names))
         self.definitions = {}  # a file of specs/, and its definitions, each constructor with its type
+        self.comments = {}  # a file of specs/, and the comments above its definitions
         for file in sorted(self.folder.glob("specs/**/*.antt")):
-            self.definitions[str(file.relative_to(self.folder))] = definitions_of(file)
+            name = str(file.relative_to(self.folder))
+            self.definitions[name] = definitions_of(file)
+            self.comments[name] = comments_of(file, set(self.definitions[name].values()))
 
     def public_functions(self):
         for source in self.sources:
@@ -188,6 +193,34 @@ class Crate:
             if file in self.definitions:
                 return file
         return None
+
+
+class Comment:
+    """What is above a definition: its words, and what follows `Shown by:`."""
+
+    def __init__(self, line, text):
+        self.line = line
+        self.words, mark, shown = text.partition("Shown by:")
+        self.words, self.shown = self.words.strip(), shown.strip() if mark else None
+
+
+def comments_of(file, names):
+    """The comment directly above the declaration of each name. A comment above `mutual` is that of the first declaration in it."""
+    found = {}
+    lines = file.read_text(encoding="utf-8").split("\n")
+    for at, line in enumerate(lines):
+        declared = re.match(rf"(?:  )?(?:(?:abbrev|unfoldable|pub|opaque|total|record|data)\s+)*({NAME})\b", line)
+        if not declared or declared[1] not in names or declared[1] in found:
+            continue
+        first = at
+        if lines[at - 1].startswith(("mutual", "abbrev mutual")):
+            first -= 1
+        last = first
+        while first > 0 and lines[first - 1].lstrip().startswith("--"):
+            first -= 1
+        text = " ".join(it.strip().lstrip("-").strip() for it in lines[first:last])
+        found[declared[1]] = Comment(at + 1, text)
+    return found
 
 
 def definitions_of(file):
@@ -235,20 +268,22 @@ class Line:
 
     @property
     def place(self):
-        return f"docs/{self.page}.md:{self.number}"
+        return f"{self.page}:{self.number}"
 
 
 def lines_of(root, page, crates):
-    """Each line, with the crate of its part; in a block of code there are none."""
-    part, block = None, False
-    for number, text in enumerate((root / "docs" / f"{page}.md").read_text(encoding="utf-8").split("\n"), 1):
+    """Each line outside blocks of code, with the crate of its part. Of docs/DECISIONS.md, only entries that hold today."""
+    part, block, holds = None, False, True
+    for number, text in enumerate((root / page).read_text(encoding="utf-8").split("\n"), 1):
         if text.startswith("```"):
             block = not block
-        if text.startswith("## "):
-            part = text[3:].strip().strip("`")
-            part = part if part in crates else None
-        if not block:
-            yield Line(page, number, text, part)
+        elif not block:
+            if text.startswith("## "):
+                part = text[3:].strip().strip("`")
+                part = part if part in crates else None
+                holds = page != "docs/DECISIONS.md" or not re.search(r"· (replaced|gone)\b[^·]*$", text)
+            if holds:
+                yield Line(page, number, text, part)
 
 
 def cells_of(text):
@@ -256,53 +291,83 @@ def cells_of(text):
     return [it.strip() for it in cells[1:-1]] if text.startswith("|") else []
 
 
-def check_definitions(root, crates, lines):
-    rows = {}  # a crate and a name, and the line of the row
-    is_table = False
-    for line in lines:
-        cells = cells_of(line.text)
-        if not cells:
-            is_table = False
-        elif cells[:2] == ["Name", "File"]:
-            is_table = True
-        elif is_table and not set(cells[0]) <= set("-: "):
-            check_row(root, crates, line, cells, rows)
+# ---- The definitions that public clauses name
+
+
+def named_definitions(crates):
+    """Each definition of specs/ that a public clause names: its crate, file and name, and the first clause that names it."""
+    found = {}
     for crate in crates.values():
         for source, function in crate.public_functions():
             for clause in function.clauses:
                 for module, name in source.definitions_in(clause.text):
                     owner = crates.get(module.split(".")[1] if module.startswith("Rattle.") else "")
                     file = owner and owner.file_of(module)
-                    if not file:
-                        continue
-                    name = owner.definitions[file].get(name, name)
-                    where = f"{source.path.relative_to(root)}:{clause.line}"
-                    row = rows.get((owner.name, name, file))
-                    reason = f"{function.full_name}: {clause.kind} {clause.label or 'without a label'} names {name} ({owner.name} {file}), which has no row in docs/DEFINITIONS.md"
-                    check(row, where, reason)
+                    if file:
+                        key = (owner.name, file, owner.definitions[file].get(name, name))
+                        found.setdefault(key, f"{crate.name} {function.full_name}: {clause.kind} {clause.label or 'without a label'}")
+    return found
 
 
-def check_row(root, crates, line, cells, rows):
-    names, files = re.findall(r"`([^`]+)`", cells[0]), re.findall(r"`([^`]+)`", cells[1])
-    if not line.part:
-        check(False, line.place, "the row is in no part of a crate of crates.txt")
-    elif len(names) != 1 or len(files) != 1 or len(cells) != 4:
-        check(False, line.place, "a row has four cells: one name and one file in backticks, plain words, and what shows it")
-    elif files[0] not in crates[line.part].definitions:
-        check(False, line.place, f"{line.part} has no file {files[0]}")
-    elif names[0] not in crates[line.part].definitions[files[0]]:
-        check(False, line.place, f"{line.part} {files[0]} has no definition {names[0]}")
-    else:
-        key = (line.part, crates[line.part].definitions[files[0]][names[0]], files[0])
-        check(key not in rows or names[0] != key[1], line.place, f"{names[0]} has another row, in line {rows.get(key)}")
-        rows[key] = line.number
-        for run in re.findall(r"`([a-z0-9]+(?:-[a-z0-9]+)+)`", cells[3]):
-            check((root / "examples" / f"{run}.http").is_file(), line.place, f"there is no stored run {run}")
+def check_definitions(root, crates):
+    for (crate, file, name), clause in named_definitions(crates).items():
+        comment = crates[crate].comments[file].get(name)
+        place = f"crates/{crate}/{file}:{comment.line if comment else 1}"
+        check(comment, place, f"{clause} names {name}, which is not declared here")
+        if comment:
+            check(comment.words, place, f"{name} has no comment directly above it; {clause} names it")
+            check(comment.shown, place, f"the comment of {name} has no line `Shown by:`; {clause} names it")
+    laws = laws_of(root)
+    for crate in crates.values():
+        for file, comments in crate.comments.items():
+            for name, comment in comments.items():
+                if comment.shown is not None:
+                    check_shown(root, crates, laws, f"crates/{crate.name}/{file}:{comment.line}", comment.shown, comments)
+
+
+def laws_of(root):
+    """The names of the theorems: functions of src/ that are `pub` and take nothing, and what proofs/ declares at the left edge."""
+    laws = set()
+    for file in root.glob("crates/*/src/**/*.rt"):
+        laws.update(re.findall(r"\bpub (?:ghost )?fn (\w+)\(\)\s*(?:requires|ensures)", file.read_text(encoding="utf-8")))
+    for file in root.glob("crates/*/proofs/**/*.antt"):
+        laws.update(re.findall(rf"^(?:(?:pub|abbrev|opaque|total)\s+)*({NAME})\s*:", file.read_text(encoding="utf-8"), flags=re.M))
+    return laws
+
+
+SHOWN_TEST = re.compile(r"([a-z0-9_]+) ([\w/]+\.rt): (\w+(?:, \w+)*)$")
+
+
+def check_shown(root, crates, laws, place, shown, others):
+    """What follows `Shown by:`, apart by semicolons. The form is at the head of docs.sh."""
+    check(shown.endswith("."), place, "what follows `Shown by:` ends in a full stop")
+    for item in shown.rstrip(".").split("; "):
+        if found := SHOWN_TEST.match(item):
+            crate, file, names = found.groups()
+            check(crate in crates, place, f"there is no crate {crate}")
+            sources = [it for it in crates[crate].sources if it.path == crates[crate].folder / "src" / file] if crate in crates else []
+            check(sources and sources[0].is_test, place, f"{crate} has no file of tests {file}")
+            for name in names.split(", ") if sources else ():
+                check(any(it.name == name for it in sources[0].functions), place, f"{crate} {file} has no test {name}")
+        elif item.endswith(".edit"):
+            check(any(item in it.edits for it in crates.values()), place, f"there is no edit {item}")
+        elif item.startswith("law "):
+            check(item[4:] in laws, place, f"there is no law {item[4:]}")
+        elif item.startswith("as "):
+            check(item[3:] in others and others[item[3:]].shown, place, f"the file has no {item[3:]} with a line `Shown by:`")
+        elif item.startswith(".ci/checks/"):
+            check((root / item).is_file(), place, f"there is no check {item}")
+        elif item != "proofs alone":
+            check((root / "examples" / f"{item}.http").is_file(), place, f"there is no stored run {item}")
+
+
+# ---- The names in pages
 
 
 TICKED = r"`[^`]+`"
 PAIR = re.compile(rf"(?:(?<!\w)`?([a-z][a-z0-9_]*)`? )?`([\w/]+\.rt)`(?:: ({TICKED}(?:(?:,| and|, and) (?!`[\w/]+\.rt`){TICKED})*))?")
 PATH = re.compile(r"^(crates|docs|examples|bench|bin|specs|proofs|\.ci)/[\w./-]+$")
+LINK = re.compile(r"\]\(([^)\s#]+)[^)]*\)")
 
 
 def check_names(root, crates, line):
@@ -314,16 +379,24 @@ def check_names(root, crates, line):
                 crate = found[1]
             check_pair(crates, line, crate or line.part, found[2], re.findall(r"`([^`]+)`", found[3] or ""))
     for word in re.findall(r"`([^`]+)`", line.text):
-        if word.endswith(".edit"):
-            check(any(word in it.edits for it in crates.values()), line.place, f"there is no must-fail edit {word}")
+        if re.fullmatch(r"[\w-]+\.edit", word):
+            check(any(word in it.edits for it in crates.values()), line.place, f"there is no edit {word}")
         elif PATH.match(word):
-            word = word.rstrip("/")
-            within = [root / word]
-            if word.startswith(("specs/", "proofs/")):
-                within = [it.folder / word for it in ([crates[line.part]] if line.part else crates.values())]
-                if not any(it.exists() for it in within):
-                    within = [it.folder / word for it in crates.values() if re.search(rf"(?<!\w){it.name}(?!\w)", line.text)]
-            check(any(it.exists() for it in within), line.place, f"there is no {word}")
+            check(is_path(root, crates, line, word.rstrip("/")), line.place, f"there is no {word}")
+    for link in LINK.findall(line.text):
+        if not re.match(r"[a-z]+:", link):
+            check((root / line.page).parent.joinpath(link).exists(), line.place, f"there is no {link}")
+
+
+def is_path(root, crates, line, word):
+    if re.match(r"crates/\w+/out\b", word):  # is there after a build
+        return True
+    if "NAME" in word.split("/"):  # the name of any crate, run or edit
+        return any(root.glob("/".join("*" if it == "NAME" else it for it in word.split("/"))))
+    if not word.startswith(("specs/", "proofs/")):
+        return (root / word).exists()
+    within = [crates[line.part]] if line.part else crates.values()
+    return any((it.folder / word).exists() for it in [*within, *(it for it in crates.values() if re.search(rf"(?<!\w){it.name}(?!\w)", line.text))])
 
 
 def check_pair(crates, line, crate, file, names):
@@ -337,6 +410,156 @@ def check_pair(crates, line, crate, file, names):
         owner = name.split("::")[0]
         has = has and ("::" not in name or any(owner in s.items or any(it.owner == owner for it in s.functions) for s in sources))
         check(has, line.place, f"{where} {file} has no {name}")
+
+
+def printed(root, *words):
+    """What a script of bin/ prints; nothing if it does not run."""
+    try:
+        return subprocess.run([root / "bin" / words[0], *words[1:]], capture_output=True, text=True, check=True).stdout
+    except (OSError, subprocess.CalledProcessError):
+        return ""
+
+
+def check_example(root):
+    """The example of docs/DEFINITIONS.md is what bin/definitions prints."""
+    page = "docs/DEFINITIONS.md"
+    text = (root / page).read_text(encoding="utf-8") if (root / page).is_file() else ""
+    example = re.search(r"```text\n\$ bin/definitions (\w+)\n(.*?)```", text, flags=re.S)
+    check(example and example[2] == printed(root, "definitions", example[1]), page, "the example is not what bin/definitions prints")
+
+
+def check_defined(crates, line):
+    """A row of docs/DEFINITIONS.md whose second cell has a crate and a file of specs/: the names of the first cell are in it."""
+    cells = cells_of(line.text)
+    where = re.match(r"([a-z0-9_]+) `(specs/[\w/]+\.antt)`$", cells[1]) if len(cells) > 1 else None
+    for name in re.findall(r"`([^`]+)`", cells[0]) if where else ():
+        crate, file = where.groups()
+        has = crate in crates and name in crates[crate].definitions.get(file, ())
+        check(has, line.place, f"{crate} {file} has no definition {name}")
+
+
+CODE_NAME = re.compile(r"(?:[A-Z]\w*::)*(?:[a-z]\w*_\w+|[A-Z][a-z0-9]+(?:[A-Z][a-z0-9]+)+|Is[A-Z]\w*)$")
+
+
+def check_current_names(line, words_of_repository):
+    """An entry of docs/DECISIONS.md that holds today: each name of code in backticks is somewhere outside docs/."""
+    for word in re.findall(r"`([^`]+)`", line.text):
+        if CODE_NAME.match(word):
+            check(set(word.split("::")) <= words_of_repository, line.place, f"nothing is named {word}")
+
+
+def words_outside_docs(root):
+    words = set()
+    for folder in ("crates/*/src", "crates/*/specs", "crates/*/proofs", "crates/*/must-fail", "crates/*/edits", ".ci", "bin", "bench", "examples"):
+        for base in root.glob(folder):
+            for file in base.rglob("*"):
+                words.add(file.stem)
+                if file.is_file() and file.suffix in (".rt", ".antt", ".py", ".sh", ".edit", ".http", ".replies", ""):
+                    words.update(re.findall(r"\w+", file.read_text(encoding="utf-8", errors="replace")))
+    return words
+
+
+# ---- Sentences
+
+
+BREAK = re.compile(r"\s*(?:[-*] |\d+\. |(?:Open point|Choice|Why|Cost|Shown by)\s{2,})")
+
+
+def blocks_of(lines):
+    """Text that belongs together: a paragraph, an item of a list, or a line of an entry. No headings and no tables."""
+    block, start, last = [], None, 0
+    for line in [*lines, None]:
+        text = line.text if line else ""
+        starts = BREAK.match(text)
+        if block and (not text.strip() or starts or text.startswith(("|", "#")) or line.number != last + 1):
+            yield start, " ".join(block)
+            block = []
+        if line and text.strip() and not text.startswith(("|", "#")):
+            start = start if block else line
+            block.append(text[starts.end() :] if starts else text.strip())
+        last = line.number if line else 0
+
+
+JOINED = str.maketrans({" ": "_", ".": "․", "!": "ǃ", "?": "ʔ"})
+
+
+def sentences_of(text):
+    """The sentences of a block. Code in backticks is one word, and no full stop in it ends a sentence."""
+    text = re.sub(r"<!--.*?-->", "", text)
+    text = re.sub(r"`[^`]+`", lambda found: found[0].translate(JOINED), text)
+    return re.split(r"(?<=[.!?])[\"*)]*\s+(?=[^a-z\s])", text)
+
+
+def check_sentences(lines):
+    for start, text in blocks_of(lines):
+        for sentence in sentences_of(text):
+            count = len(sentence.split())
+            begin = " ".join(sentence.split()[:6]).replace("․", ".")
+            check(count <= LONGEST_SENTENCE, start.place, f"a sentence of {count} words, more than {LONGEST_SENTENCE}: {begin} ..")
+
+
+# ---- docs/ARCHITECTURE.md
+
+
+# For each kind of thing that "To add" has a list of: one that is there, by the names of its cases in code, and the crates
+# where these names mean something else.
+SAMPLES = {
+    "A kind of pattern test": (r"suffix|Suffix|suffix_ignoring_case|SuffixIgnoringCase", ()),
+    "A kind of configuration change": (r"queue_deleted|QueueDeleted", ()),
+    "An API call": (r"delete_queue|DeleteQueue", ("rule_table",)),
+    "A refusal": (r"HasTargets|has_targets", ()),
+}
+
+
+def naming(crates, names, but):
+    """The files that name one of these, outside comments and tests."""
+    found = set()
+    for crate in crates.values():
+        if crate.name in but or crate.name.endswith("_tests"):
+            continue
+        for file in [*(it.path for it in crate.sources if not it.is_test), *crate.folder.glob("specs/**/*.antt"), *crate.folder.glob("proofs/**/*.antt")]:
+            if "tests" in file.parts:
+                continue
+            text = re.sub(r"--.*|//.*", "", file.read_text(encoding="utf-8"))
+            if re.search(rf"\b({names})\b", text):
+                found.add(f"{crate.name} {str(file.relative_to(crate.folder)).removeprefix('src/')}")
+    return found
+
+
+def listed_in(lines, crates, kind):
+    """The files that the list of a kind names: the crate of an item comes first, and its files follow, in backticks."""
+    found, is_kind, crate = set(), False, None
+    for line in lines:
+        if line.text.startswith(("**", "#")):
+            is_kind = line.text.startswith(f"**{kind}")
+        if not is_kind:
+            continue
+        if BREAK.match(line.text):
+            crate = None
+        for word in re.findall(r"`[^`]+`|\b[a-z][a-z0-9_]*\b", line.text):
+            name = word.strip("`")
+            if name in crates:
+                crate = name
+            elif word[0] == "`" and re.fullmatch(r"[\w/]+\.(rt|antt)", name) and crate:
+                found.add(f"{crate} {name}")
+    return found
+
+
+def check_architecture(root, crates, lines):
+    page = "docs/ARCHITECTURE.md"
+    text = (root / page).read_text(encoding="utf-8")
+    for crate in crates:
+        check(re.search(rf"`{crate}`|\|\s*{crate}\s*\|", text), page, f"crate {crate} of crates.txt is missing")
+    layers = printed(root, "layers")
+    check(layers and layers in text, page, "the picture of the crates is not what bin/layers prints")
+    for kind, (names, but) in SAMPLES.items():
+        listed = listed_in(lines, crates, kind)
+        check(listed, page, f"there is no list of {kind}")
+        for file in sorted(naming(crates, names, but) - listed):
+            check(False, page, f"{kind}: the list lacks {file}, which names {names}")
+
+
+# ---- docs/CLAIMS.md
 
 
 CALL = r"`[\w:]+`"
@@ -371,21 +594,24 @@ def check_claim(crates, line, crate, call, labels):
 def main():
     root = Path(sys.argv[1] if len(sys.argv) > 1 else os.curdir).resolve()
     crates = crates_of(root)
+    check_definitions(root, crates)
     for page in PAGES:
-        if not (root / "docs" / f"{page}.md").is_file():
-            check(False, f"docs/{page}.md", "there is no such page")
-            continue
+        check((root / "docs" / f"{page}.md").is_file(), f"docs/{page}.md", "there is no such page")
+    check_example(root)
+    words = words_outside_docs(root)
+    for page in ["README.md", *sorted(f"docs/{it.name}" for it in root.glob("docs/*.md"))]:
         lines = list(lines_of(root, page, crates))
-        if page == "DEFINITIONS":
-            check_definitions(root, crates, lines)
-        if page == "ARCHITECTURE":
-            text = "\n".join(it.text for it in lines)
-            for crate in crates:
-                check(re.search(rf"`{crate}`|\|\s*{crate}\s*\|", text), "docs/ARCHITECTURE.md", f"crate {crate} of crates.txt is missing")
-        for line in lines if page not in HISTORY else ():
+        check_sentences(lines)
+        if page == "docs/ARCHITECTURE.md":
+            check_architecture(root, crates, lines)
+        for line in lines:
             check_names(root, crates, line)
-            if page == "CLAIMS":
+            if page == "docs/DEFINITIONS.md":
+                check_defined(crates, line)
+            if page == "docs/CLAIMS.md":
                 check_claims(root, crates, line)
+            if page == "docs/DECISIONS.md":
+                check_current_names(line, words)
     for line in sorted(set(failures)):
         print(line)
     print(f"{passed} passed, {len(set(failures))} failed")
