@@ -16,11 +16,14 @@ abbrev pub are_event_members : Members → Bool
 are_event_members ms = has_member ms (codes "id") && has_member ms (codes "account") && has_member ms (codes "source")
     && has_member ms (codes "time") && has_member ms (codes "region") && has_member ms (codes "resources") && has_member ms (codes "detail-type")
 
--- an object with the members of an event but `version` and `detail`, whatever their values
+-- An object with the members `id`, `account`, `source`, `time`, `region`, `resources` and `detail-type`, whatever their values; null counts
+-- as there. `version` and `detail` may be absent.
+-- Shown by: an_event_without_an_id_is_read.edit.
 abbrev pub is_event : Tree → Bool
 is_event tree = must_pass are_event_members (object_in tree)
 
--- the text is JSON of at most 100 levels, of this event; a repeated key keeps its last value
+-- The text is JSON within 100 levels, of this event. A repeated key keeps its last value.
+-- Shown by: api_wire tests.rt: a_pattern_is_refused_before_its_event.
 abbrev pub IsEventGiven : List ℕ → Tree → Type 0
 IsEventGiven t event = (node : Node) × IsText 100 t node × (value_of node ≡ event) × IsTrue (is_event event)
 

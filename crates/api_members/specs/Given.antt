@@ -11,19 +11,23 @@ abbrev pub unless_null : Tree → Option Tree
 unless_null null = None
 unless_null t = Some t
 
--- the value of the first member with this key
+-- The value of the first member with this key; null counts as absent.
+-- Shown by: a_null_member_counts.edit.
 abbrev pub value_at : List ℕ → Members → Option Tree
 value_at key members = option_and_then unless_null (member_in key members)
 
--- the value of the member
+-- The `value_at` of the key of a member of the API (`member_name`).
+-- Shown by: a_null_member_counts.edit.
 abbrev pub given : Member → Members → Option Tree
 given m members = value_at (member_name m) members
 
--- the member's text, if it is given as a text
+-- The member's text, if it is given as a text.
+-- Shown by: api_wire tests/requests.rt: a_request_has_what_the_message_gives.
 abbrev pub text_given : Member → Members → Option (List ℕ)
 text_given m members = option_and_then text_in (given m members)
 
--- the same, empty if there is none
+-- The member's text, empty if no text is given.
+-- Shown by: api_wire tests/requests.rt: a_request_has_what_the_message_gives.
 abbrev pub text_of : Member → Members → List ℕ
 text_of m members = unwrap_or (text_given m members) []
 
@@ -42,10 +46,12 @@ abbrev pub list_in : Tree → Option (List Tree)
 list_in (list items) = Some (values_of items)
 list_in _ = None
 
--- the values of the member's list; none if no list is given
+-- The values of a member's list; none if no list is given.
+-- Shown by: api_wire tests/requests.rt: a_request_has_what_the_message_gives.
 abbrev pub values_in : Member → Members → List Tree
 values_in m members = unwrap_or (option_and_then list_in (given m members)) []
 
--- the members of an object; none if the value is no object
+-- The members of an object; none if the value is no object.
+-- Shown by: api_wire tests/requests.rt: a_request_has_what_the_message_gives.
 abbrev pub members_in : Tree → Members
 members_in tree = unwrap_or (object_in tree) no_members

@@ -28,23 +28,30 @@ are_target_members ms = must_be is.Text (given Id ms) && must_be is.Text (given 
     && may_be is.Text (given Input ms) && may_be is.Text (given InputPath ms) && may_pass is_transformer (given InputTransformer ms)
     && may_pass is_retry_policy (given RetryPolicy ms) && may_pass is_dead_letter_config (given DeadLetterConfig ms)
 
--- an object with an Id and an Arn, whose members have their types
+-- An object with an Id and an Arn, whose members have the JSON types of a target.
+-- Shown by: api_wire tests.rt: targets_have_their_json_types.
 abbrev pub is_target : Tree → Bool
 is_target tree = must_pass are_target_members (object_in tree)
 
--- a number of a retry policy, whose type has this greatest value: `default` if it is absent, none if it is no whole number that fits
+-- A number of a retry policy, whose type has this greatest value: `default` if it is absent, none if it is no whole number that fits.
+-- Shown by: an_absent_age_is_zero.edit.
 abbrev pub number_or : ℕ → ℕ → Option Tree → Option ℕ
 number_or default greatest None = Some default
 number_or default greatest (Some tree) = count_of 0 greatest tree
 
--- the number of retries that the policy allows
+-- `MaximumRetryAttempts` of a retry policy; 185 if it is absent. None if it is no whole number, or above 65,535, the greatest value of its
+-- type.
+-- Shown by: api_members tests.rt: a_retry_policy_has_plain_numbers_or_defaults.
 abbrev pub attempts_given : Members → Option ℕ
 attempts_given policy = number_or 185 65535 (value_at (codes "MaximumRetryAttempts") policy)
 
--- the age in seconds up to which the policy allows attempts
+-- `MaximumEventAgeInSeconds` of a retry policy; 86,400 if it is absent. None if it is no whole number, or above 4,294,967,295, the greatest
+-- value of its type.
+-- Shown by: an_age_is_read_as_attempts.edit.
 abbrev pub age_given : Members → Option ℕ
 age_given policy = number_or 86400 4294967295 (value_at (codes "MaximumEventAgeInSeconds") policy)
 
--- the ARN of the dead-letter queue, if the target's members give one
+-- The Arn of a target's DeadLetterConfig, if one is given.
+-- Shown by: api_members tests.rt: a_dead_letter_queue_is_that_of_the_config.
 abbrev pub dead_letter_given : Members → Option (List ℕ)
 dead_letter_given ms = option_and_then (λ config. text_given Arn (members_in config)) (given DeadLetterConfig ms)

@@ -51,11 +51,13 @@ abbrev pub is_truth : Tree → Bool
 is_truth (truth b) = true
 is_truth _ = false
 
--- what is given, or else `default`
+-- What is given, or else the default.
+-- Shown by: api_wire tests/requests.rt: a_request_has_what_the_message_gives.
 abbrev pub GivesOr : {X : Type 0} → (X → Type 0) → X → X → Type 0
 GivesOr {X} Gives default x = Gives x ⊎ ((x ≡ default) × ((other : X) → ¬ Gives other))
 
--- the member gives this bus
+-- The member gives this bus, by its name or its ARN.
+-- Shown by: api_wire tests.rt: a_rule_is_refused_for_its_first_member.
 abbrev pub HasBus : Option (List ℕ) → List ℕ → Type 0
 HasBus None bus = ⊥
 HasBus (Some t) bus = IsBusGiven t bus
@@ -68,7 +70,11 @@ are_few test most values = nat_le 1 (length values) && nat_le (length values) mo
 abbrev pub is_list_of : (Tree → Bool) → ℕ → Tree → Bool
 is_list_of test most tree = must_pass (are_few test most) (list_in tree)
 
--- The value is valid for this syntax: a line for each. A member that is not served (`Unserved`) has no valid value.
+-- Which values are valid, a line for each syntax: a queue's, a rule's or a bus's name, a bus's name or ARN, any text, a target's ARN, a
+-- pattern's text, an event's text, a state, a whole number within limits, a list of 1 to 10 entries, of 1 to 100 targets or of 1 to 100
+-- targets' ids, a policy's text, a StatementId, `events:PutEvents`, an account or `*`, a truth value. A member that is not served is never
+-- valid.
+-- Shown by: api_members tests.rt: a_value_is_valid.
 abbrev pub IsValid : Syntax → Tree → Type 0
 IsValid syntax.QueueName tree = IsTextThat IsQueueName tree
 IsValid syntax.RuleName tree = IsTextThat IsShortName tree

@@ -5,7 +5,8 @@ use Rattle.pattern_read.specs.declared.fault.Why.TheVariants as why
 use Rattle.bus_policy.specs.declared.fault.PolicyCause.{PolicyCause}
 use Rattle.bus_policy.specs.declared.fault.PolicyCause.TheVariants as policy
 
--- the name of the reason
+-- The name of the reason why a text is no pattern, as a message has it.
+-- Shown by: api_wire tests.rt: a_rule_is_refused_for_its_first_member.
 abbrev pub why_name : Why → List ℕ
 why_name why.TooLong = codes "TooLong"
 why_name why.NotJson = codes "NotJson"
@@ -23,7 +24,8 @@ why_name why.BadCidr = codes "BadCidr"
 why_name why.BadWildcard = codes "BadWildcard"
 why_name why.TooMany = codes "TooMany"
 
--- the name of the reason why a text is no policy
+-- The name of the reason why a text is no policy, as a message has it.
+-- Shown by: api_members tests.rt: a_text_is_no_policy_for_its_reason.
 abbrev pub policy_why_name : PolicyCause → List ℕ
 policy_why_name policy.TooLong = codes "TooLong"
 policy_why_name policy.NotJson = codes "NotJson"

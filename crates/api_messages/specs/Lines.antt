@@ -4,15 +4,17 @@ use Rattle.httparse.specs.Ascii.{line_feed}
 use Rattle.httparse.specs.Grammar.{RequestHead, lf, print_end, ReadsRequest, is_token_byte}
 use Rattle.httparse.specs.Pieces.{is_newline}
 
--- with an empty line, which is a line feed alone, the bytes are a head with 64 fields
+-- With an empty line, which is a single LF, the bytes are a head with 64 fields.
+-- Shown by: api_messages tests.rt: a_65th_field_is_refused_at_its_first_byte.
 pub record IsFull (front : List ℕ) : Type 0 where
   pub head : RequestHead
   pub reads : ReadsRequest (front ++ print_end lf) head []
   pub last : head.last ≡ lf
   pub full : length head.fields ≡ 64
 
--- the bytes show a 65th field: at their front are 64 field lines, which an empty line would end as a head, and after them a byte
--- that begins a field's name
+-- The bytes show a 65th field: at their front are 64 field lines, which an empty line would end as a head, and after them a byte that
+-- begins a field's name. What follows does not matter.
+-- Shown by: the_65th_line_is_awaited.edit.
 pub record Begins65th (bytes : List ℕ) : Type 0 where
   pub front : List ℕ
   pub first : ℕ

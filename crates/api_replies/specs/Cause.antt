@@ -1,12 +1,13 @@
--- Why a request, an entry of a PutEvents or a target of a PutTargets is refused, and what reports it. Types are those of the public API
--- where it has one for the cause; messages and the use of each type are this project's own.
+-- Why a request, an entry of a PutEvents or a target of a PutTargets is refused, and what reports it. Types are those of the Amazon
+-- EventBridge API Reference where it has one for the cause; messages and the use of each type are this project's own.
 use Rattle.std.specs.Prelude.{ℕ, List, [], ◌∷◌, ◌++◌, codes, decimal}
 use Rattle.json_text.specs.Tree.{Tree, text}
 use Rattle.api_replies.specs.Name.{kind_word, kind_limit, member_name}
 use Rattle.api_replies.specs.declared.cause.Cause.{Cause}
 use Rattle.api_replies.specs.declared.cause.Cause.TheVariants as cause
 
--- the type of the error: `__type` of a refusal, `ErrorCode` of a failed entry or target
+-- The type of the error that reports a cause: `__type` of a refusal, `ErrorCode` of a failed entry or target.
+-- Shown by: api_replies tests.rt: each_refusal_has_its_status_and_its_text, each_refused_deletion_has_its_type_and_message.
 abbrev pub type_of : Cause → List ℕ
 type_of cause.UnknownOperation = codes "UnknownOperationException"
 type_of cause.NoObject = codes "SerializationException"
@@ -32,7 +33,8 @@ type_of cause.NotAuthorized = codes "NotAuthorizedForSourceException"
 type_of (cause.DeniedBy statement) = codes "AccessDeniedException"
 type_of cause.NotAllowed = codes "AccessDeniedException"
 
--- the message: `message` of a refusal, `ErrorMessage` of a failed entry or target
+-- The message that reports a cause: `message` of a refusal, `ErrorMessage` of a failed entry or target.
+-- Shown by: api_replies tests.rt: each_refusal_has_its_status_and_its_text, each_refused_change_of_a_policy_has_its_type_and_message.
 abbrev pub message_of : Cause → List ℕ
 message_of cause.UnknownOperation = codes "Unknown operation."
 message_of cause.NoObject = codes "The body is not a JSON object."
@@ -58,6 +60,7 @@ message_of cause.NotAuthorized = codes "Not authorized for the source."
 message_of (cause.DeniedBy statement) = codes "Denied by statement " ++ (statement ++ codes ".")
 message_of cause.NotAllowed = codes "No statement allows it."
 
--- the members of a failed entry or target that say why it failed
+-- The members `ErrorCode` and `ErrorMessage` of an entry or target that failed for a cause.
+-- Shown by: api_replies tests.rt: each_cause_of_a_failed_item_has_its_members.
 abbrev pub failed_members : Cause → List (List ℕ × Tree)
 failed_members c = (codes "ErrorCode", text (type_of c)) ∷ (codes "ErrorMessage", text (message_of c)) ∷ []

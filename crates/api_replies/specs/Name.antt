@@ -5,21 +5,25 @@ use Rattle.api_replies.specs.declared.kind.Kind.TheVariants as kind
 use Rattle.api_replies.specs.declared.member.Member.{Member}
 use Rattle.api_replies.specs.declared.member.Member.TheVariants as member
 
--- the kind's word, as a message begins with it (this project's own)
+-- The word of a kind of things, as a message begins with it (this project's own): `Event bus`, `Rule`, `Target`, `Queue`.
+-- Shown by: api_replies tests.rt: each_refusal_has_its_status_and_its_text.
 abbrev pub kind_word : Kind → List ℕ
 kind_word kind.EventBus = codes "Event bus"
 kind_word kind.Rule = codes "Rule"
 kind_word kind.Target = codes "Target"
 kind_word kind.Queue = codes "Queue"
 
--- how many there may be: event buses, rules of a bus, targets of a rule, queues
+-- How many there may be: 100 event buses, 300 rules of a bus and 5 targets of a rule, which are EventBridge quotas, and 1,000 queues (this
+-- project's own limit).
+-- Shown by: api_replies tests.rt: each_kind_has_its_limit.
 abbrev pub kind_limit : Kind → ℕ
 kind_limit kind.EventBus = 100
 kind_limit kind.Rule = 300
 kind_limit kind.Target = 5
 kind_limit kind.Queue = 1000
 
--- the member's name, as requests spell it
+-- The name of a member, as requests spell it, or of the header field `x-caller-account`.
+-- Shown by: api_replies tests.rt: each_refusal_has_its_status_and_its_text, each_refused_caller_has_its_type_and_message.
 abbrev pub member_name : Member → List ℕ
 member_name member.Action = codes "Action"
 member_name member.Arn = codes "Arn"

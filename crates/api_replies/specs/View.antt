@@ -3,6 +3,7 @@ use Rattle.json_text.specs.View.{tree_of}
 use Rattle.api_replies.specs.declared.reply.Reply.{Reply}
 use Rattle.api_replies.specs.Reply as replies
 
--- the reply, with its body as a tree
+-- What contracts see of the code's `Reply`, with its body as a tree.
+-- Shown by: api_replies tests.rt: each_refusal_has_its_status_and_its_text.
 abbrev pub reply_of : Reply → replies.Reply
 reply_of r = record { status = r.status; body = tree_of r.body }

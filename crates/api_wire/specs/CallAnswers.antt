@@ -7,7 +7,8 @@ use Rattle.api_members.specs.declared.fault.CallFault.TheVariants.{Refused, NoMe
 use Rattle.api_messages.specs.declared.message.Message.{Message}
 use Rattle.api_wire.specs.Call.{IsBody, IsCallRefused}
 
--- the fault is the message's first refusal, or out of memory
+-- The fault is the message's first refusal, or out of memory.
+-- Shown by: api_wire tests.rt: a_message_has_its_first_refusal.
 abbrev pub IsFault : Message → CallFault → Type 0
 IsFault m (Refused c) = IsCallRefused m c
 IsFault m NoMemory = Unit {0}

@@ -3,27 +3,32 @@ use Rattle.std.specs.Prelude.{◌≡◌, List, [], ◌∷◌, ◌++◌, ⊤, Opt
 use Rattle.bus_host.specs.declared.door.Knock.{Knock}
 use Rattle.bus_host.specs.declared.door.Knock.TheVariants.{Conn, Quiet, Closed, Failed, NoMemory}
 
--- if the entries of a list were known before, these came after them
+-- `Lengthened` by what was known: if the entries of a list were known before, these came after them.
+-- Shown by: a_connection_that_ended_is_forgotten.edit.
 abbrev pub LongerBy : {A : Type 0} → Option (List A) → Option (List A) → List A → Type 0
 LongerBy None new more = ⊤
 LongerBy (Some old) None more = ⊥
 LongerBy (Some old) (Some new) more = new ≡ old ++ more
 
--- a list with the entries `old` got these, in order, and has the entries `new` now
+-- If the list was known before, it is known now, and these entries came after it.
+-- Shown by: a_connection_that_ended_is_forgotten.edit.
 pub record Lengthened {A : Type 0} (old new : Option (List A)) (more : List A) : Type 0 where
   pub in_order : LongerBy old new more
 
--- if the entries of a list were known before, it began with these
+-- `Shortened` by what was known: if the entries of a list were known before, it began with these.
+-- Shown by: bus_host tests/mem_door.rt: a_door_in_memory_gives_what_it_plans.
 abbrev pub ShorterBy : {A : Type 0} → Option (List A) → Option (List A) → List A → Type 0
 ShorterBy None new taken = ⊤
 ShorterBy (Some old) None taken = ⊥
 ShorterBy (Some old) (Some new) taken = old ≡ taken ++ new
 
--- a list with the entries `old` gave these, in order, and has the entries `new` left
+-- If the list was known before, it is known now, and these entries were its first.
+-- Shown by: bus_host tests/mem_door.rt: a_door_in_memory_gives_what_it_plans.
 pub record Shortened {A : Type 0} (old new : Option (List A)) (taken : List A) : Type 0 where
   pub in_order : ShorterBy old new taken
 
--- the connection that a call of `next` gave; none if it gave none
+-- The connection that a call of `next` gave, as a list; empty if it gave none.
+-- Shown by: bus_host tests/mem_door.rt: a_door_in_memory_gives_what_it_plans.
 abbrev pub given_by : {I O : Type 0} → Knock I O → List (I × O)
 given_by (Conn input output) = (input, output) ∷ []
 given_by Quiet = []
@@ -31,7 +36,8 @@ given_by Closed = []
 given_by Failed = []
 given_by NoMemory = []
 
--- a door that says that no connection will come has none to come, if that is known
+-- A door that says that no connection will come has none to come, if that is known.
+-- Shown by: bus_host tests/mem_door.rt: a_door_in_memory_gives_what_it_plans.
 abbrev pub HasNone : {A : Type 0} → Option (List A) → Type 0
 HasNone None = ⊤
 HasNone (Some ahead) = ahead ≡ []

@@ -3,7 +3,8 @@ use Rattle.std.specs.Prelude.{List, [], ◌∷◌}
 use Rattle.bus_host.specs.declared.mem_door.Plan.{Plan}
 use Rattle.bus_host.specs.declared.mem_door.Plan.TheVariants.{Conn, Quiet, Failed, NoMemory}
 
--- the connections among these plans, in order
+-- The connections among the plans of a door in memory, in order.
+-- Shown by: bus_host tests/mem_door.rt: a_door_in_memory_gives_what_it_plans.
 abbrev pub connections_of : {I O : Type 0} → List (Plan I O) → List (I × O)
 connections_of [] = []
 connections_of (Conn input output ∷ plans) = (input, output) ∷ connections_of plans

@@ -9,7 +9,8 @@ use Rattle.bus_policy.specs.declared.fault.PolicyFault.TheVariants.{Bad, NoMemor
 use Rattle.bus_policy.specs.Grammar.{fault_of}
 use Rattle.bus_policy.specs.Text.{IsTextFault}
 
--- the text's first fault, or out of memory
+-- The code's fault is the first fault of the text, at its place, or out of memory.
+-- Shown by: bus_policy tests.rt: the_first_fault_is_reported_at_its_place.
 abbrev pub IsFirstFaultOrMemory : List ℕ → PolicyFault → Type 0
 IsFirstFaultOrMemory bytes (Bad cause place) = IsTextFault bytes cause place
 IsFirstFaultOrMemory bytes NoMemory = Unit {0}

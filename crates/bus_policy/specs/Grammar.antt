@@ -1,4 +1,5 @@
--- Which JSON values are policies, and the first fault of any other.
+-- Which JSON values are policies, and the first fault of any other. The grammar is that of policies in the AWS IAM User Guide, with the
+-- differences that docs/CLAIMS.md lists.
 use Rattle.std.specs.Prelude.{◌≡◌, ℕ, ◌+◌, Bool, true, false, not, ◌&&◌, ◌||◌, List, [], ◌∷◌, ◌++◌, length, take, drop, find, Option, Some}
 use Rattle.std.specs.Prelude.{None, codes, if◌then◌else◌}
 use Rattle.std.specs.List.{list_any}
@@ -114,7 +115,8 @@ abbrev pub is_statement_key : List ℕ → Bool
 is_statement_key key =
     list_any (bytes_eq key) (codes "Sid" ∷ codes "Effect" ∷ codes "Principal" ∷ codes "Action" ∷ codes "Resource" ∷ codes "Condition" ∷ [])
 
--- which members of a statement are faulty, the statements before it given
+-- The statement, after the statements before it, has a fault of this cause.
+-- Shown by: bus_policy tests.rt: the_first_fault_is_reported_at_its_place.
 abbrev pub has_fault : List Tree → Tree → PolicyCause → Bool
 has_fault earlier s BadSid = not (member_is true (text_passes (is_new_sid earlier)) (member_of (codes "Sid") s))
 has_fault earlier s BadEffect = not (member_is false (text_passes is_effect) (member_of (codes "Effect") s))
@@ -130,7 +132,8 @@ has_fault earlier s KeyTwice = false
 has_fault earlier s NotObject = false
 has_fault earlier s BadVersion = false
 
--- the first of them, in the order in which they are reported
+-- The first fault of a statement, in the order Sid, Effect, Principal, Action, Resource, Condition, any other member.
+-- Shown by: bus_policy tests.rt: the_first_fault_is_reported_at_its_place.
 abbrev pub statement_fault : List Tree → Tree → Option PolicyCause
 statement_fault earlier s =
     find (has_fault earlier s) (BadSid ∷ BadEffect ∷ BadPrincipal ∷ BadAction ∷ BadResource ∷ BadCondition ∷ UnknownMember ∷ [])
@@ -146,13 +149,15 @@ first_fault earlier no_items = None
 first_fault earlier (item s statements) =
     fault_or (length earlier + 1) (statement_fault earlier s) (first_fault (earlier ++ s ∷ []) statements)
 
--- The first fault of a policy, with the place of the statement, counted from 1, or 0 if the fault is the whole policy's.
+-- The first fault of a policy's value with the place of its statement from 1, or 0 for the whole policy.
+-- Shown by: bus_policy tests.rt: the_first_fault_is_reported_at_its_place.
 abbrev pub fault_of : Tree → Option (PolicyCause × ℕ)
 fault_of policy =
     if not (member_is false are_statements (member_of (codes "Statement") policy)) then Some (NotObject, 0) else
     if not (member_is true (text_passes is_version) (member_of (codes "Version") policy)) then Some (BadVersion, 0) else
     first_fault [] (statements_of policy)
 
--- a policy has no fault
+-- The value has no fault.
+-- Shown by: bus_policy tests.rt: the_first_fault_is_reported_at_its_place.
 abbrev pub IsPolicy : Tree → Type 0
 IsPolicy policy = fault_of policy ≡ None

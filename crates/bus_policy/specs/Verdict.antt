@@ -1,4 +1,5 @@
--- Who may put events on a bus: the verdict of a policy's statements for an asker.
+-- Who may put events on a bus: the verdict of a policy's statements for an asker. The rules are those of resource-based policies in the
+-- Amazon EventBridge User Guide and the AWS IAM User Guide, with the differences that docs/CLAIMS.md lists.
 use Rattle.std.specs.Prelude.{◌≡◌, ◌⊎◌, ℕ, ◌+◌, List, [], ◌∷◌, ◌++◌, Option, Some, None, codes, if◌then◌else◌, IsTrue}
 use Rattle.std.specs.Fmt.{decimal}
 use Rattle.std.specs.Str.{bytes_eq}
@@ -9,13 +10,16 @@ use Rattle.event_shape.specs.Names.{is_account, owner, bus_arn}
 use Rattle.json_text.specs.Access.{member_of}
 use Rattle.bus_policy.specs.Parts.{has_effect, root_arn, statements_of}
 
--- who asks to put which event on which bus, each by its text; the bus is its name
+-- Who asks to put which event on which bus, each by its text; the bus by its name.
+-- Shown by: bus_policy tests.rt: source_and_detail_type_have_to_fit.
 pub record Asker : Type 0 where
   pub account : List ℕ
   pub bus : List ℕ
   pub source : List ℕ
   pub detail_type : List ℕ
 
+-- Allowed, denied by the statement of a name, or not allowed.
+-- Shown by: bus_policy tests.rt: the_first_deny_is_reported.
 pub data Verdict : Type 0 where
   allowed : Verdict
   denied_by : List ℕ → Verdict
@@ -48,11 +52,13 @@ abbrev pub HasText : (List ℕ → Type 0) → Option Tree → Type 0
 HasText P None = ⊥
 HasText P (Some t) = SomeText P t
 
--- an account by its twelve digits or by its root's ARN; `*` names everyone
+-- A word names an account: `*`, the account's twelve digits, or its root's ARN.
+-- Shown by: bus_policy tests.rt: what_is_not_known_applies_to_nothing.
 abbrev pub Names : List ℕ → List ℕ → Type 0
 Names account word = (word ≡ codes "*") ⊎ (IsTrue (is_account account) × ((word ≡ account) ⊎ (word ≡ root_arn account)))
 
--- the Principal is `"*"`, or names the account in its member `AWS`
+-- The Principal is `"*"`, or its member `AWS` has a word that names the account.
+-- Shown by: bus_policy tests.rt: one_of_a_list_is_enough.
 abbrev pub IsPrincipal : List ℕ → Option Tree → Type 0
 IsPrincipal account None = ⊥
 IsPrincipal account (Some (text t)) = t ≡ codes "*"
@@ -62,15 +68,19 @@ IsPrincipal account (Some (truth b)) = ⊥
 IsPrincipal account (Some (number spelling)) = ⊥
 IsPrincipal account (Some (list items)) = ⊥
 
--- PutEvents, by its own name or by either of the wildcards that are known here (this project's own rule: other wildcards are not)
+-- An action word that means PutEvents: `*`, `events:*` or `events:PutEvents`. `events:Put*` does not (this project's own rule: no other
+-- wildcard is known).
+-- Shown by: bus_policy tests.rt: what_is_not_known_applies_to_nothing.
 abbrev pub IsPutEvents : List ℕ → Type 0
 IsPutEvents word = (word ≡ codes "*") ⊎ (word ≡ codes "events:*") ⊎ (word ≡ codes "events:PutEvents")
 
--- every bus, or this one by its ARN
+-- A resource word that means the bus: `*`, or the bus's ARN.
+-- Shown by: bus_policy tests.rt: what_is_not_known_applies_to_nothing.
 abbrev pub IsBus : List ℕ → List ℕ → Type 0
 IsBus bus word = (word ≡ codes "*") ⊎ (word ≡ bus_arn bus)
 
--- the text fits by StringEquals if it is the same, by StringLike if it fits the pattern
+-- By StringEquals the text is the same; by StringLike leaf_match's `Fits` holds of its `like_pieces`.
+-- Shown by: bus_policy tests.rt: source_and_detail_type_have_to_fit.
 abbrev pub FitsBy : List ℕ → List ℕ → List ℕ → Type 0
 FitsBy operator wanted asked =
     ((operator ≡ codes "StringEquals") × (wanted ≡ asked)) ⊎ ((operator ≡ codes "StringLike") × Fits (like_pieces wanted) asked)
@@ -102,7 +112,9 @@ abbrev pub EachOperator : Asker → Members → Type 0
 EachOperator asker no_members = Unit {0}
 EachOperator asker (member operator t members) = OperatorHolds asker operator t × EachOperator asker members
 
--- every operator holds for each of its keys; no Condition asks for nothing
+-- Every operator holds for each of its keys: one of the key's texts fits the asker's. A statement without a Condition asks for nothing
+-- here.
+-- Shown by: bus_policy tests.rt: each_key_of_an_operator_has_to_hold.
 abbrev pub ConditionHolds : Asker → Option Tree → Type 0
 ConditionHolds asker None = Unit {0}
 ConditionHolds asker (Some (object inside)) = EachOperator asker inside
@@ -112,7 +124,8 @@ ConditionHolds asker (Some (number spelling)) = ⊥
 ConditionHolds asker (Some (text t)) = ⊥
 ConditionHolds asker (Some (list items)) = ⊥
 
--- The statement is about this asker.
+-- Principal, action, resource and condition of the statement are about the asker.
+-- Shown by: bus_policy tests.rt: a_policy_of_the_guides_form_is_decided_by_all_its_statements.
 pub record Applies (asker : Asker) (statement : Tree) : Type 0 where
   pub principal : IsPrincipal asker.account (member_of (codes "Principal") statement)
   pub action : HasText IsPutEvents (member_of (codes "Action") statement)
@@ -143,6 +156,8 @@ name_by place (Some (number spelling)) = codes "#" ++ decimal place
 name_by place (Some (list items)) = codes "#" ++ decimal place
 name_by place (Some (object inside)) = codes "#" ++ decimal place
 
+-- A statement's name: its Sid, or `#` and its place from 1 (this project's own rule).
+-- Shown by: bus_policy tests.rt: names_follow_the_places_after_a_removal.
 abbrev pub name_of : ℕ → Tree → List ℕ
 name_of place statement = name_by place (member_of (codes "Sid") statement)
 
@@ -162,17 +177,21 @@ FirstDenies asker place (item statement statements) name =
 abbrev pub IsOwnerOrAllowed : Asker → Items → Type 0
 IsOwnerOrAllowed asker statements = (asker.account ≡ owner) ⊎ SomeAllows asker statements
 
--- The first Deny that applies, in order, denies by its name. Else the owner is allowed, and whom an Allow that applies allows.
+-- The verdict of statements, in order. The first Deny that applies denies by its name. Else the owner is allowed, and so is each account
+-- that an applying Allow names. Else nobody is.
+-- Shown by: bus_policy tests.rt: one_account_is_allowed_but_for_one_source.
 abbrev pub IsVerdictOf : Items → Asker → Verdict → Type 0
 IsVerdictOf statements asker (denied_by name) = FirstDenies asker 1 statements name
 IsVerdictOf statements asker allowed = NoneDenies asker statements × IsOwnerOrAllowed asker statements
 IsVerdictOf statements asker no_allow = NoneDenies asker statements × (¬ IsOwnerOrAllowed asker statements)
 
--- of a policy by its JSON value, as it was given or as it is stored
+-- The verdict of a policy by its JSON value, as it was given or as it is stored.
+-- Shown by: bus_policy tests.rt: a_deny_binds_the_owner_too.
 abbrev pub IsVerdict : Tree → Asker → Verdict → Type 0
 IsVerdict policy asker verdict = IsVerdictOf (statements_of policy) asker verdict
 
--- of a bus, which has a policy or none; without one it has no statement
+-- The verdict of a bus, which has a policy or none. Without one it has no statement.
+-- Shown by: bus_policy tests.rt: a_bus_without_a_policy_is_the_owners.
 abbrev pub IsBusVerdict : Option Tree → Asker → Verdict → Type 0
 IsBusVerdict None asker verdict = IsVerdictOf no_items asker verdict
 IsBusVerdict (Some policy) asker verdict = IsVerdict policy asker verdict

@@ -22,7 +22,8 @@ use Rattle.router_sessions.specs.Delivery.{attempts_of}
 use Rattle.router_sessions.specs.Exchanges.{turns_of, tries_of, IsAlone}
 use Rattle.router_sessions.specs.Session.{IsSession}
 
--- the status of a session's end
+-- The status of a session's end. `Closed` is `Done`; each other end has the status of its own name.
+-- Shown by: cut-message.
 abbrev pub status_of : SessionEnd → Status
 status_of ends.Closed = statuses.Done
 status_of ends.Cut = statuses.Cut
@@ -32,25 +33,29 @@ status_of ends.ReadFault = statuses.ReadFault
 status_of ends.WriteFault = statuses.WriteFault
 status_of ends.NoMemory = statuses.NoMemory
 
--- the line of the status was written; if the write failed, which the count of faults shows, a first part of it
+-- The status's line was written, or a first part of it if the write failed, which the count of faults shows.
+-- Shown by: bad-arguments.
 abbrev pub IsReported : Status → Option (List ℕ) → Option (List ℕ) → ℕ → ℕ → Type 0
 IsReported status old new faults faults_new =
     (result : Result (Unit {0}) Failed) × WritesAll old new result (fault_line status) × CountsFaults faults faults_new result
 
--- The status and the counts of faults of the input and the output: the input fails only with `ReadFault` and the output only
--- with `WriteFault`; a count is unchanged with each other status.
+-- The source's count of faults rose, or was at its last value, if the status is `ReadFault`, and is unchanged at every other status. The
+-- same holds of the sink's count and `WriteFault`.
+-- Shown by: always_answers_read_fault.edit.
 pub record FaultsMatch (status : Status) (reads reads_new writes writes_new : ℕ) : Type 0 where
   pub read_fault : status ≡ statuses.ReadFault → Rose reads reads_new
   pub input_faultless : status ≢ statuses.ReadFault → reads_new ≡ reads
   pub write_fault : status ≡ statuses.WriteFault → Rose writes writes_new
   pub output_faultless : status ≢ statuses.WriteFault → writes_new ≡ writes
 
--- the seat of the one session: pass 0, and no other connection is served
+-- The seat of the one session of a run: pass 0, connection 0.
+-- Shown by: proofs alone.
 abbrev pub only_seat : Seat
 only_seat = record { pass = 0; connection = Some 0 }
 
--- One session from the first book: its turns are a legal history that leaves no claim open, and the tables are the fold of its batches, claims
--- set aside. No other pass made a turn, and each attempt whose text was sent is recorded.
+-- One session from the first book, with the status of its end. No other pass made a turn, and each attempt whose text was sent is recorded.
+-- Its turns are a legal history (`IsBook`), no claim is open after them, and the tables, claims set aside, are the fold of their batches.
+-- Shown by: first-run.
 pub record RunsOnce (old new : World) (status : Status) : Type 0 where
   pub end : SessionEnd
   pub session : IsSession only_seat old new end
@@ -62,8 +67,9 @@ pub record RunsOnce (old new : World) (status : Status) : Type 0 where
   pub none_open : (state_of new.book).open_claims ≡ []
   pub tables : without_claims new.book.tables ≡ tables_after (batches_of new.book.turns) first_tables
 
--- what is known around a run: the bytes that are left to read, and the bytes that were written, each if they are known; the readings of the clock to
--- come, if they are; and the links that the host gave, and those that it took back
+-- What is known around a run: the bytes left to read, the bytes written and the readings to come, each if it is known; the links that the
+-- host gave, and those that it took back.
+-- Shown by: session_tests program.rt: a_run_gives_its_link_back.
 pub record Around (L : Type 0) : Type 0 where
   pub left : Option (List ℕ)
   pub written : Option (List ℕ)
@@ -71,10 +77,13 @@ pub record Around (L : Type 0) : Type 0 where
   pub given : List L
   pub back : List L
 
+-- The `Around` with these parts.
+-- Shown by: session_tests program.rt: a_run_gives_its_link_back.
 abbrev pub around : {L : Type 0} → Option (List ℕ) → Option (List ℕ) → Option (ℕ → ℕ) → List L → List L → Around L
 around left written ahead given back = record { left = left; written = written; ahead = ahead; given = given; back = back }
 
--- nothing was read and nothing written, the clock was not read, and no link was given or taken back
+-- Known input and output are as they were, no reading was taken, and no link was given or taken back.
+-- Shown by: bad-arguments.
 pub record IsUnbegun {L : Type 0} (old new : Around L) : Type 0 where
   pub unread : Keeps old.left new.left
   pub unwritten : Keeps old.written new.written
@@ -82,13 +91,15 @@ pub record IsUnbegun {L : Type 0} (old new : Around L) : Type 0 where
   pub none_given : new.given ≡ old.given
   pub none_back : new.back ≡ old.back
 
--- the session of a run: by the clock, or with every reading the given moment while the clock is not read
+-- `RunsOnce` by the clock, or with every reading the given one while the clock is not read.
+-- Shown by: the_clock_is_read_beside_now.edit.
 abbrev pub RunsBy : Option ℕ → World → World → Status → Type 0
 RunsBy None old new status = RunsOnce old new status
 RunsBy (Some moment) old new status = (later : Option (ℕ → ℕ))
     × RunsOnce (record old { ahead = Some (repeating moment []) }) (record new { ahead = later }) status × Gives old.ahead new.ahead []
 
--- The host gave a link, one session had it, and the host took it back. `answered` and `faults` are what a link shows.
+-- The host gave one link, a session had it (`RunsBy`), and the host took it back. `answered` and `faults` are what a link shows.
+-- Shown by: the_link_is_not_given_back.edit.
 pub record RunsLinked {L : Type 0} (answered : L → Option (List Exchange)) (faults : L → ℕ) (now : Option ℕ) (old new : Around L) (status : Status)
     : Type 0 where
   -- the link as it was given, and as it was taken back
@@ -100,12 +111,15 @@ pub record RunsLinked {L : Type 0} (answered : L → Option (List Exchange)) (fa
   pub runs : RunsBy now (world first_book old.left old.written old.ahead (answered lent) (faults lent))
       (world book new.left new.written new.ahead (answered returned) (faults returned)) status
 
--- the run of a program: one session over a link of the host; or out of memory, or no link, before it
+-- `RunsLinked`; or `NoMemory` or `DoorFault` and nothing begun.
+-- Shown by: first-run.
 abbrev pub IsRun : {L : Type 0} → (answered : L → Option (List Exchange)) (faults : L → ℕ) → Option ℕ → Around L → Around L → Status → Type 0
 IsRun answered faults now old new status =
     RunsLinked answered faults now old new status ⊎ (((status ≡ statuses.NoMemory) ⊎ (status ≡ statuses.DoorFault)) × IsUnbegun old new)
 
--- The status and the counts of faults of the host: a link failed only with `DoorFault`; a count is unchanged otherwise.
+-- The host's count of faults of links rose, or was at its last value, if the status is `DoorFault`, and is unchanged at every other status;
+-- the other two counts are unchanged.
+-- Shown by: a_link_fault_is_no_fault.edit.
 pub record HostMatches {H : Type 0} (disk door link : H → ℕ) (status : Status) (old new : H) : Type 0 where
   pub same_disk : disk new ≡ disk old
   pub same_door : door new ≡ door old

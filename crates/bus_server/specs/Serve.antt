@@ -17,8 +17,9 @@ use Rattle.door_workers.specs.Serving.{HasServed}
 use Rattle.router_sessions.specs.declared.history.Turn.{Turn}
 use Rattle.router_sessions.specs.Book.{IsBook, seen_book}
 
--- what is known around a program that serves: the bytes that were written, if they are known; the doors, each after its port, and the
--- links that the host gave, and those that it took back; and how often it failed to give one
+-- What is known around a program that serves: the bytes written, if they are known; the doors, each after its port, and the links that the
+-- host gave, and those that it took back; and the host's counts of faults of doors and of links.
+-- Shown by: session_tests serve.rt: a_port_that_is_not_open_serves_nothing.
 pub record AroundDoor (D L : Type 0) : Type 0 where
   pub written : Option (List ℕ)
   pub doors : List (ℕ × D)
@@ -28,6 +29,8 @@ pub record AroundDoor (D L : Type 0) : Type 0 where
   pub door_faults : ℕ
   pub link_faults : ℕ
 
+-- The `AroundDoor` with these parts.
+-- Shown by: session_tests serve.rt: a_port_that_is_not_open_serves_nothing.
 abbrev pub around_door : {D L : Type 0} → Option (List ℕ) → List (ℕ × D) → List D → List L → List L → ℕ → ℕ → AroundDoor D L
 around_door written doors doors_back links links_back door_faults link_faults = record {
   written = written;
@@ -39,7 +42,9 @@ around_door written doors doors_back links links_back door_faults link_faults = 
   link_faults = link_faults;
 }
 
--- what the tables count
+-- What the tables count: batches, their operations and configuration changes, events, deliveries by their states, and messages in queues.
+-- Archived events and replays are 0.
+-- Shown by: session_tests serve.rt: two_workers_serve_the_first_run; the_summary_counts_all_duties_as_pending.edit.
 abbrev pub summary_of : Tables → Summary
 summary_of t = record {
   records = t.batches;
@@ -56,20 +61,24 @@ summary_of t = record {
   messages = message_count t.duties.queues;
 }
 
--- the summary of the tables was written, or a first part of it, or there was no memory for it
+-- The summary was written, with `Done`; a first part of it, with `WriteFault`; or nothing, with `NoMemory`.
+-- Shown by: session_tests serve.rt: a_rule_of_one_connection_holds_for_the_next; nothing_is_summed_up.edit.
 abbrev pub IsSummed : Tables → Option (List ℕ) → Option (List ℕ) → Status → Type 0
 IsSummed t old new status =
     ((status ≡ statuses.Done) × Appends old new (summary_lines (summary_of t)))
     ⊎ (((status ≡ statuses.WriteFault) × AppendsPart old new (summary_lines (summary_of t))) ⊎ ((status ≡ statuses.NoMemory) × Keeps old new))
 
--- the status, and what was written after the workers had ended
+-- The status, and what was written after the workers had ended: `IsSummed` if the door is done; `DoorFault` and nothing if it failed.
+-- Shown by: session_tests serve.rt: a_door_that_fails_ends_the_run; a_failed_door_is_done.edit.
 abbrev pub EndsServing : DoorEnd → Tables → Option (List ℕ) → Option (List ℕ) → Status → Type 0
 EndsServing ends.Done t old new status = IsSummed t old new status
 EndsServing ends.DoorFault t old new status = (status ≡ statuses.DoorFault) × Keeps old new
 EndsServing ends.NoMemory t old new status = ⊥
 
--- The workers served the door. Their turns are one legal history from the first tables, and each connection that ended fits it; the summary is
--- of the tables after it. `show` is what a door shows, and `fits` what an ended connection owes.
+-- The workers served the door: their turns are one legal history from the first tables, each connection that ended fits it (`HasServed` of
+-- door_workers), and the program ends by `EndsServing` with the tables after it. `show` is what a door shows, and `fits` what an ended
+-- connection owes.
+-- Shown by: session_tests serve.rt: sixteen_workers_serve_more_connections_than_they_are.
 pub record IsOpened {D I O : Type 0} (show : D → Shown I O) (fits : ℕ → I × O → I × O → Bool → List Turn → Type 0) (connections : Option ℕ)
     (lent returned : D) (old new : Option (List ℕ)) (status : Status) : Type 0 where
   pub turns : List Turn
@@ -78,7 +87,9 @@ pub record IsOpened {D I O : Type 0} (show : D → Shown I O) (fits : ℕ → I 
   pub served : HasServed connections (show lent) (show returned) fits turns end
   pub ends : EndsServing end (seen_book turns).tables old new status
 
--- The host gave a door at the port, and a link for each worker, and took all back. The port was printed, and then the workers served the door.
+-- The host gave one door, at the port, and one link for each worker, and took back one door and as many links, with no fault. `listening`
+-- and the port were written, and then the workers served the door (`IsOpened`).
+-- Shown by: session_tests serve.rt: two_workers_serve_the_first_run; serve_counts_one_link_too_few.edit; the_door_is_kept.edit.
 pub record Serves {D L I O : Type 0} (show : D → Shown I O) (fits : ℕ → I × O → I × O → Bool → List Turn → Type 0) (port workers : ℕ)
     (connections : Option ℕ) (old new : AroundDoor D L) (status : Status) : Type 0 where
   -- the door as it was given, and as it was taken back
@@ -104,15 +115,17 @@ abbrev pub OneRose : {D L : Type 0} → AroundDoor D L → AroundDoor D L → Ty
 OneRose old new =
     (Rose old.door_faults new.door_faults × (new.link_faults ≡ old.link_faults)) ⊎ (Rose old.link_faults new.link_faults × (new.door_faults ≡ old.door_faults))
 
--- why nothing was served, and what was written
+-- Why nothing was served, and what was written: `DoorFault` after one fault of the host, in giving a link or the door (`OneRose`), and
+-- nothing; `WriteFault` and a first part of the line `listening`; `NoMemory`, and nothing or the line.
+-- Shown by: session_tests serve.rt: without_its_first_line_nothing_is_served; a_failed_first_line_is_served.edit.
 abbrev pub EndsUnserved : {D L : Type 0} → ℕ → AroundDoor D L → AroundDoor D L → Status → Type 0
 EndsUnserved port old new status =
     ((status ≡ statuses.DoorFault) × Keeps old.written new.written × OneRose old new)
     ⊎ (((status ≡ statuses.WriteFault) × AppendsPart old.written new.written (listening_text port))
     ⊎ ((status ≡ statuses.NoMemory) × (Keeps old.written new.written ⊎ Appends old.written new.written (listening_text port))))
 
--- Nothing was served. The host took back the door, if it gave one, and the links, each as it gave it. It gave a door before the port was
--- to be printed.
+-- Nothing was served, by `EndsUnserved`. The host took back the door, if it gave one, and the links, each as it gave it.
+-- Shown by: session_tests serve.rt: a_port_that_is_not_open_serves_nothing, without_its_first_line_nothing_is_served.
 pub record IsUnserved {D L : Type 0} (port workers : ℕ) (old new : AroundDoor D L) (status : Status) : Type 0 where
   pub cause : EndsUnserved port old new status
   pub lent : List D
@@ -126,7 +139,8 @@ pub record IsUnserved {D L : Type 0} (port workers : ℕ) (old new : AroundDoor 
   pub links_back : new.links_back ≡ old.links_back ++ links_lent
   pub faultless : status ≢ statuses.DoorFault → (new.door_faults ≡ old.door_faults) × (new.link_faults ≡ old.link_faults)
 
--- the run of a program that serves
+-- The run of a program that serves: `Serves` or `IsUnserved`.
+-- Shown by: session_tests serve.rt: two_workers_serve_the_first_run; serve_is_refused.edit.
 abbrev pub IsServe : {D L I O : Type 0} → (D → Shown I O) → (ℕ → I × O → I × O → Bool → List Turn → Type 0) → ℕ → ℕ → Option ℕ
     → AroundDoor D L → AroundDoor D L → Status → Type 0
 IsServe show fits port workers connections old new status =

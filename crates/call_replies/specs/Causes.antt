@@ -16,7 +16,8 @@ use Rattle.config_changes.specs.declared.control.TargetFault.TheVariants as targ
 use Rattle.config_changes.specs.declared.control.ControlFault.{ControlFault}
 use Rattle.config_changes.specs.declared.control.ControlFault.TheVariants as fault
 
--- the name that the change has for a thing of this kind
+-- The name that a change has for a thing of this kind: its bus, its rule or its queue.
+-- Shown by: call_replies tests/causes.rt: each_fault_of_a_change_has_its_cause.
 abbrev pub name_in : Control → Kind → List ℕ
 name_in (rule_put bus name pattern enabled) kind.EventBus = bus
 name_in (rule_put bus name pattern enabled) _ = name
@@ -34,7 +35,8 @@ name_in (policy_put bus policy) _ = bus
 name_in (queue_created name) _ = name
 name_in (queue_deleted name) _ = name
 
--- the change's refusal for this fault
+-- The refusal of a change that has this fault.
+-- Shown by: call_replies tests/causes.rt: each_fault_of_a_change_has_its_cause.
 abbrev pub IsCause : Control → ControlFault → Cause → Type 0
 IsCause control (fault.ResourceNotFound kind) c = c ≡ cause.NotFound kind (name_in control kind)
 IsCause control (fault.AlreadyExists kind) c = c ≡ cause.Exists kind (name_in control kind)
@@ -46,7 +48,9 @@ IsCause control (fault.Validation member) c = c ≡ cause.NotValid member
 IsCause control fault.PolicyTooLong c = c ≡ cause.PolicyTooLong
 IsCause control fault.NoMemory c = ⊥
 
--- the refusal of a target that has this fault; the name of a missing queue is that in the target's ARN, or in that of its dead-letter queue
+-- The refusal of a target that has this fault: a missing queue by the name in the target's ARN, a missing dead-letter queue by the name in
+-- its own.
+-- Shown by: the_missing_dead_letter_queue_is_not_named.edit.
 abbrev pub IsTargetCause : Target → TargetFault → Cause → Type 0
 IsTargetCause target (target_fault.Member member) c = c ≡ cause.NotValid member
 IsTargetCause target target_fault.NoQueue c = (queue : List ℕ) × (target.arn ≡ queue_arn queue) × (c ≡ cause.NotFound kind.Queue queue)
@@ -54,7 +58,8 @@ IsTargetCause target target_fault.NoDeadLetterQueue c =
     (queue : List ℕ) × (target.dead_letter ≡ Some (queue_arn queue)) × (c ≡ cause.NotFound kind.Queue queue)
 IsTargetCause target target_fault.Sixth c = c ≡ cause.LimitReached kind.Target
 
--- the refusal of an entry with this fault of its own
+-- The refusal of an entry that has this fault of its own.
+-- Shown by: call_replies tests/causes.rt: each_fault_of_a_target_or_an_entry_has_its_cause.
 abbrev pub entry_cause : EntryFault → Cause
 entry_cause Source = cause.Parameter member.Source
 entry_cause DetailType = cause.Parameter member.DetailType

@@ -2,9 +2,10 @@
 use Rattle.std.specs.Prelude.{ℕ, Bool, List, Option}
 use Rattle.config_changes.specs.declared.control.Target.{Target}
 
--- a bus was created, or deleted; a rule was put (its bus, its name, its pattern's text, and whether it is enabled), or deleted; a rule was
--- enabled or disabled; targets were put to a rule of a bus, or removed from it by their ids; a bus got a policy, by its text, or lost the one
--- that it had; a queue was created, or deleted
+-- A change of the configuration: a bus is created or deleted; a rule is put (its bus, its name, its pattern's text, and whether it is
+-- enabled) or deleted, enabled or disabled; targets are put to a rule of a bus, or removed from it by their ids; a bus gets a policy, by
+-- its text, or loses it; a queue is created or deleted.
+-- Shown by: rule_table tests.rt: each_change_is_made_or_refused.
 pub data Control : Type 0 where
   bus_created : (name : List ℕ) → Control
   bus_deleted : (name : List ℕ) → Control

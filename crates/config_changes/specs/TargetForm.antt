@@ -1,5 +1,5 @@
--- What a target has to be whatever the rule set is, and its first member that is otherwise. The syntax and the numbers are the public API
--- Reference's; which URLs are endpoints is this project's own rule.
+-- What a target has to be whatever the rule set is, and its first member that is otherwise. The syntax and the numbers are those of the
+-- Amazon EventBridge API Reference; which URLs are endpoints is this project's own rule.
 use Rattle.std.specs.Prelude.{◌≡◌, ◌⊎◌, ℕ, true, false, List, Option, Some, None}
 use Rattle.event_shape.specs.Names.{IsShortName, IsQueueArn}
 use Rattle.http_target.specs.Endpoint.{is_endpoint}
@@ -8,16 +8,19 @@ use Rattle.api_replies.specs.declared.member.Member.TheVariants as member
 use Rattle.config_changes.specs.declared.control.Target.{Target}
 use Rattle.config_changes.specs.Retry.{is_retry_valid}
 
--- the ARN of a queue, which may be missing, or the URL of an HTTP endpoint
+-- The text is the ARN of a queue, which may be missing, or the URL of an HTTP endpoint.
+-- Shown by: an_endpoint_is_refused.edit.
 abbrev pub IsTargetArn : List ℕ → Type 0
 IsTargetArn arn = ((queue : List ℕ) × IsQueueArn arn queue) ⊎ (is_endpoint arn ≡ true)
 
--- there is no dead-letter queue, or its ARN is that of a queue, which may be missing
+-- A target has no dead-letter queue, or its ARN is that of a queue, which may be missing.
+-- Shown by: config_changes tests.rt: a_retry_policy_has_its_limits.
 abbrev pub IsDeadLetterArn : Option (List ℕ) → Type 0
 IsDeadLetterArn None = Unit {0}
 IsDeadLetterArn (Some arn) = (queue : List ℕ) × IsQueueArn arn queue
 
--- a target whose members are within their syntax and their limits, and which has none that is not supported yet
+-- Each member of a target is within its syntax and its limits, and it has none of Input, InputPath and InputTransformer.
+-- Shown by: config_changes tests.rt: a_target_has_its_first_fault.
 pub record IsWellFormedTarget (target : Target) : Type 0 where
   pub id : IsShortName target.id
   pub arn : IsTargetArn target.arn
@@ -25,7 +28,8 @@ pub record IsWellFormedTarget (target : Target) : Type 0 where
   pub retry : is_retry_valid target.retry ≡ true
   pub dead_letter : IsDeadLetterArn target.dead_letter
 
--- the first member that is otherwise
+-- The first member of a target that is otherwise: `Id`, `Arn`, one that is not supported yet, `RetryPolicy`, `DeadLetterConfig`.
+-- Shown by: config_changes tests.rt: a_target_has_its_first_fault, a_retry_policy_has_its_limits.
 pub data HasMemberFault (target : Target) : Member → Type 0 where
   bad_id : ¬ IsShortName target.id → HasMemberFault target member.Id
   bad_arn : IsShortName target.id → ¬ IsTargetArn target.arn → HasMemberFault target member.Arn

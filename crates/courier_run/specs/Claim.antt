@@ -6,6 +6,9 @@ use Rattle.delivery_duties.specs.declared.outcome.Outcome.TheVariants.{Accepted,
 use Rattle.courier_run.specs.declared.held.Way.{Way}
 use Rattle.courier_run.specs.declared.held.Way.TheVariants.{Queue, Http}
 
+-- What an attempt sees of a duty: its number, endpoint, text, accepted moment and age, the moment that was handed to the claim, and the
+-- claim's own moment.
+-- Shown by: courier_run tests.rt: each_claim_has_a_reading_of_its_own.
 pub record Claim : Type 0 where
   -- the number of the duty
   pub number : ℕ
@@ -18,20 +21,24 @@ pub record Claim : Type 0 where
   pub reading : ℕ
   pub moment : ℕ
 
--- at the claim's moment the duty is above its age
+-- The claim's moment is above the accepted moment plus the age. A duty of 1000 with age 60 is attempted at 1060 and too old at 1061.
+-- Shown by: courier_run tests.rt: only_a_young_duty_of_an_endpoint_is_sent.
 abbrev pub IsTooOld : Claim → Type 0
 IsTooOld c = c.accepted + c.age < c.moment
 
--- the endpoint is the ARN of a queue
+-- The claim's endpoint is the ARN of a queue.
+-- Shown by: courier_run tests.rt: only_a_young_duty_of_an_endpoint_is_sent.
 abbrev pub IsForQueue : Claim → Type 0
 IsForQueue c = (queue : List ℕ) × IsQueueArn c.endpoint queue
 
--- the way of a claim's text follows from its endpoint
+-- How the text reaches its target: `Queue` if the endpoint is the ARN of a queue, and else `Http`.
+-- Shown by: courier_run tests.rt: only_a_young_duty_of_an_endpoint_is_sent.
 abbrev pub IsWayOf : Claim → Way → Type 0
 IsWayOf c Queue = IsForQueue c
 IsWayOf c Http = ¬ IsForQueue c
 
--- the link is to send the duty's text: the endpoint is no queue, and the duty is not too old
+-- The link is to send the duty's text: its endpoint is no queue, and it is not too old.
+-- Shown by: courier_run tests.rt: only_a_young_duty_of_an_endpoint_is_sent.
 abbrev pub NeedsSend : Claim → Type 0
 NeedsSend c = (¬ IsForQueue c) × (¬ IsTooOld c)
 
@@ -39,7 +46,9 @@ NeedsSend c = (¬ IsForQueue c) × (¬ IsTooOld c)
 abbrev pub IsSuccess : ℕ → Type 0
 IsSuccess code = (200 ≤ code) × (code ≤ 299)
 
--- An outcome that an attempt of this claim may have, before its record. Only the record finds that a queue is missing.
+-- An outcome that an attempt of the claim may have, before its record: `TooOld` only above its age; else `Accepted` for a queue, and
+-- `Accepted`, `Code` or `NoAnswer` for any other endpoint. `NoQueue` is no such outcome: only the record finds that a queue is missing.
+-- Shown by: a_queue_is_called_missing.edit.
 pub data FitsClaim (c : Claim) : Outcome → Type 0 where
   above_age : IsTooOld c → FitsClaim c TooOld
   for_queue : ¬ IsTooOld c → IsForQueue c → FitsClaim c Accepted
@@ -47,6 +56,7 @@ pub data FitsClaim (c : Claim) : Outcome → Type 0 where
   refused : NeedsSend c → (code : ℕ) → ¬ IsSuccess code → FitsClaim c (Code code)
   unanswered : NeedsSend c → FitsClaim c NoAnswer
 
--- the moment of a reading of the clock: a reading after the last moment counts as the last moment
+-- The moment of a reading of the clock: at most the last moment, 250,000,000,000.
+-- Shown by: courier_run tests.rt: each_claim_has_a_reading_of_its_own.
 abbrev pub moment_of : ℕ → ℕ
 moment_of reading = min reading 250000000000

@@ -12,7 +12,10 @@ use Rattle.courier_run.specs.Steps.{Attempt}
 abbrev pub exchange_with : Claim → ℕ → Exchange
 exchange_with c code = record { endpoint = c.endpoint; text = c.text; code = code }
 
--- An attempt of this claim, by its outcome: the exchanges that had an answer, and the link's count of faults before and after.
+-- What an attempt did to the link, by its outcome. Too old, or an endpoint that is a queue: nothing. `Accepted`: one exchange of the
+-- claim's endpoint and text with a code from 200 to 299. `Code(c)`: one exchange with another code. `NoAnswer`: no exchange, and the count
+-- of faults rose. In all other cases the count is as before.
+-- Shown by: courier_run tests.rt: an_outcome_is_what_the_link_answered.
 pub data IsTried (c : Claim) (before : ℕ) : Outcome → List Exchange → ℕ → Type 0 where
   too_old : IsTooOld c → IsTried c before TooOld [] before
   queued : ¬ IsTooOld c → IsForQueue c → IsTried c before Accepted [] before
@@ -21,7 +24,8 @@ pub data IsTried (c : Claim) (before : ℕ) : Outcome → List Exchange → ℕ 
   refusal : NeedsSend c → (code : ℕ) → ¬ IsSuccess code → IsTried c before (Code code) (exchange_with c code ∷ []) before
   silence : NeedsSend c → (now : ℕ) → before ≤ now → Rose before now → IsTried c before NoAnswer [] now
 
--- attempts, one after the other
+-- What several attempts did to the link (`IsTried` of each), in order.
+-- Shown by: sent_again_after_a_failure.edit.
 abbrev pub AreTried : ℕ → List Attempt → List Exchange → ℕ → Type 0
 AreTried before [] answers now = (answers ≡ []) × (now ≡ before)
 AreTried before (a ∷ more) answers now = (between : ℕ) × (first rest : List Exchange)
@@ -39,6 +43,7 @@ is_unanswered TooOld = false
 abbrev pub unanswered_in : List Attempt → ℕ
 unanswered_in attempts = count_by (λ a. is_unanswered a.outcome) attempts
 
--- a count of faults rose by at least n, or is at its last value
+-- A count of faults rose by at least n, or is at its last value.
+-- Shown by: courier_run tests.rt: an_outcome_is_what_the_link_answered.
 abbrev pub RoseBy : ℕ → ℕ → ℕ → Type 0
 RoseBy n before now = min (before + n) last_count ≤ now

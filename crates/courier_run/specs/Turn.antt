@@ -1,4 +1,5 @@
--- A turn of the courier: attempts within a budget, over a book, a clock and a link.
+-- A turn of the courier: attempts within a budget, over a book, a clock and a link. A book, a link or a clock that reports nothing meets
+-- its contracts whatever it does.
 use Rattle.std.specs.Prelude.{◌≡◌, ℕ, ◌≤◌, List, [], ◌∷◌, ◌++◌, length, map, Option, Result, Ok, Err, ⊤}
 use Rattle.router_disk.specs.Clock.{Gives}
 use Rattle.router_disk.specs.Link.{Exchange, Answered}
@@ -39,10 +40,14 @@ pub record Outside : Type 0 where
   pub answered : Option (List Exchange)
   pub faults : ℕ
 
+-- What is known of the book, the clock and the link: the steps so far, the readings to come, the exchanges, and the count of faults.
+-- Shown by: as IsTurn.
 abbrev pub outside : List Step → Option (ℕ → ℕ) → Option (List Exchange) → ℕ → Outside
 outside steps ahead answered faults = record { steps = steps; ahead = ahead; answered = answered; faults = faults }
 
--- how a turn ended after its attempts
+-- How a turn ended after its attempts: at its budget; with no claim; with a claim put back because the link was out of memory before it
+-- sent anything; with a claim put back because its outcome was not recorded.
+-- Shown by: courier_run tests.rt: a_fault_leaves_no_claim_open.
 pub data End : Type 0 where
   -- the budget was used up
   at_budget : End
@@ -67,14 +72,18 @@ last_moments (unclaimed moment) = moment ∷ []
 last_moments (unsent c) = c.reading ∷ []
 last_moments (unrecorded c outcome) = c.reading ∷ []
 
--- what the end did to the link: an attempt that was not recorded may have had an answer
+-- What the end did to the link. An outcome that was not recorded may have had an answer; the other ends did nothing.
+-- Shown by: courier_run tests.rt: a_fault_leaves_no_claim_open.
 abbrev pub IsLastTry : ℕ → End → List Exchange → ℕ → Type 0
 IsLastTry before at_budget answers now = (answers ≡ []) × (now ≡ before)
 IsLastTry before (unclaimed moment) answers now = (answers ≡ []) × (now ≡ before)
 IsLastTry before (unsent c) answers now = (answers ≡ []) × (now ≡ before)
 IsLastTry before (unrecorded c outcome) answers now = IsTried c before outcome answers now
 
--- why a turn ended with this fault; `limited c` says that the limit was reached when `c` was put back
+-- Why a turn ended with this fault, by its end. With no claim: the cause of the claim's fault. With a claim put back unsent: the link was
+-- out of memory. With an outcome that was not recorded: the disk, or the number limit at the turn that put the claim back (`limited`);
+-- never memory.
+-- Shown by: put_back_after_a_send.edit; courier_run tests.rt: a_refused_record_puts_its_claim_back.
 abbrev pub IsStopped : (broken : Type 0) (full : ℕ → Type 0) (limited : Claim → Type 0) → BookFault → End → Type 0
 IsStopped broken full limited fault at_budget = ⊥
 IsStopped broken full limited fault (unclaimed moment) = HasCause broken (full moment) ⊤ fault
@@ -88,13 +97,18 @@ IsDone idle spent (unclaimed moment) = idle moment
 IsDone idle spent (unsent c) = ⊥
 IsDone idle spent (unrecorded c outcome) = ⊥
 
--- why a turn ended with this result
+-- Without a fault a turn ends at its budget, or because no duty is due at the last moment. Each fault has its cause.
+-- Shown by: stops_before_the_budget.edit; a_fault_ends_as_idle.edit.
 abbrev pub HasReason : (idle : ℕ → Type 0) (broken : Type 0) (full : ℕ → Type 0) (limited : Claim → Type 0) (spent : Type 0)
     → Result Turned TurnFault → End → Type 0
 HasReason idle broken full limited spent (Ok turned) last = IsDone idle spent last
 HasReason idle broken full limited spent (Err fault) last = IsStopped broken full limited (cause_of fault) last
 
--- A turn with this budget, from the outside `before` to `after`, with this result.
+-- A turn with this budget, from the outside `before` to `after`, with this result: attempts and an end. The book made a claim and a record
+-- for each attempt, and for the end at most a claim and its put-back. The clock was read once for each claim, at most as often as the
+-- budget allows. The link's exchanges are those of the attempts, in order, then those of the end. Its count rose for each attempt without
+-- an answer. The result has the numbers of the attempts, and its reason.
+-- Shown by: courier_run tests.rt: a_turn_makes_attempts_within_its_budget, a_fault_leaves_no_claim_open.
 pub record IsTurn (budget : ℕ) (before after : Outside) (idle : ℕ → Type 0) (broken : Type 0) (full : ℕ → Type 0)
     (limited : Claim → Type 0) (result : Result Turned TurnFault) : Type 0 where
   -- its recorded attempts in order, and how it ended after them

@@ -24,7 +24,8 @@ is_dropped Pending = false
 is_dropped Delivered = false
 is_dropped DeadLettered = false
 
--- the number of these attempts, and of those that delivered, dead-lettered and dropped their duty
+-- The number of attempts, and of those that delivered, dead-lettered or dropped their duty.
+-- Shown by: courier_run tests.rt: a_turn_makes_attempts_within_its_budget.
 abbrev pub turned_of : List Attempt → Turned
 turned_of attempts = record {
   attempts = length attempts;
@@ -33,7 +34,8 @@ turned_of attempts = record {
   dropped = count_by (λ a. is_dropped a.fate) attempts;
 }
 
--- no attempt
+-- No attempt: four zeros.
+-- Shown by: courier_run tests.rt: a_turn_makes_attempts_within_its_budget.
 abbrev pub no_attempt : Turned
 no_attempt = record { attempts = 0; delivered = 0; dead = 0; dropped = 0 }
 

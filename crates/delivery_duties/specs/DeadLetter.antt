@@ -1,4 +1,5 @@
--- The six texts of a dead letter. This project's own rules, in the form of the public guide's dead-letter attributes.
+-- The six texts of a dead letter. This project's own rules, in the form of the attributes of a dead letter in the Amazon EventBridge User
+-- Guide.
 use Rattle.std.specs.Prelude.{ℕ, List, [], ◌++◌, Option, Some, None, codes, decimal}
 use Rattle.delivery_duties.specs.declared.failure.Cause.{Cause}
 use Rattle.delivery_duties.specs.declared.failure.Cause.TheVariants.{Answered, Unanswered, NotAttempted, TextTooLong, QueueMissing}
@@ -9,7 +10,8 @@ use Rattle.delivery_duties.specs.declared.stored.StoredMessage.{StoredMessage}
 use Rattle.delivery_duties.specs.declared.message.DeadLetterAttributes.{DeadLetterAttributes}
 use Rattle.delivery_duties.specs.declared.message.QueueMessage.{QueueMessage}
 
--- ERROR_CODE
+-- `ERROR_CODE` of a dead letter: `STATUS_404` and the like, `NO_ANSWER`, `NO_ATTEMPT`, `TEXT_TOO_LONG` or `QUEUE_NOT_FOUND`.
+-- Shown by: delivery_duties tests.rt: dead_letters.
 abbrev pub error_code : Cause → List ℕ
 error_code (Answered code) = codes "STATUS_" ++ decimal code
 error_code Unanswered = codes "NO_ANSWER"
@@ -17,7 +19,8 @@ error_code NotAttempted = codes "NO_ATTEMPT"
 error_code TextTooLong = codes "TEXT_TOO_LONG"
 error_code QueueMissing = codes "QUEUE_NOT_FOUND"
 
--- ERROR_MESSAGE
+-- `ERROR_MESSAGE` of a dead letter: one sentence for each cause, as `Target answered 404.`
+-- Shown by: delivery_duties tests.rt: dead_letters.
 abbrev pub error_message : Cause → List ℕ
 error_message (Answered code) = codes "Target answered " ++ (decimal code ++ codes ".")
 error_message Unanswered = codes "Target gave no answer."
@@ -25,12 +28,16 @@ error_message NotAttempted = codes "No attempt was made."
 error_message TextTooLong = codes "The text is over 1048576 bytes."
 error_message QueueMissing = codes "The queue does not exist."
 
--- EXHAUSTED_RETRY_CONDITION
+-- `EXHAUSTED_RETRY_CONDITION` of a dead letter: `MaximumRetryAttempts`, `MaximumEventAgeInSeconds`, or empty if no limit ended the duty.
+-- Shown by: delivery_duties tests.rt: always_503_with_an_age_of_60.
 abbrev pub exhausted_retry_condition : Option RetryLimit → List ℕ
 exhausted_retry_condition None = []
 exhausted_retry_condition (Some MaximumAttempts) = codes "MaximumRetryAttempts"
 exhausted_retry_condition (Some MaximumAge) = codes "MaximumEventAgeInSeconds"
 
+-- The six texts of a dead letter: the ARNs of its rule and target, its error code and error message, the exhausted condition, and the
+-- number of retries.
+-- Shown by: delivery_duties tests.rt: dead_letters.
 abbrev pub attributes_of : DeadLetter → DeadLetterAttributes
 attributes_of d = record {
   rule_arn = d.target.rule_arn;
@@ -46,6 +53,7 @@ abbrev pub attributes_in : Option DeadLetter → Option DeadLetterAttributes
 attributes_in None = None
 attributes_in (Some d) = Some (attributes_of d)
 
--- the message as `peek` returns it
+-- A message as a peek returns it: its number, its text, and the attributes of a dead letter.
+-- Shown by: delivery_duties tests.rt: dead_letters.
 abbrev pub shown : StoredMessage → QueueMessage
 shown m = record { number = m.number; body = m.body; attributes = attributes_in m.dead }

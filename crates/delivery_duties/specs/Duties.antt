@@ -1,4 +1,5 @@
--- Duties and their fates. A duty is the delivery of one event to one target. This project's own rules.
+-- Duties and their fates. A duty is the delivery of one event to one target. An endpoint is the ARN of a queue or the URL of an HTTP
+-- endpoint. This project's own rules.
 use Rattle.std.specs.Prelude.{◌≡◌, ℕ, ◌+◌, ◌<◌, ◌≤◌, ◌⊎◌, Bool, true, false, if◌then◌else◌, List, [], ◌∷◌, ◌++◌}
 use Rattle.std.specs.Prelude.{length, Option, Some, None, Any, Contains, filter}
 use Rattle.event_shape.specs.Names.{queue_arn}
@@ -18,19 +19,22 @@ use Rattle.delivery_duties.specs.Retry.{Attempt, begun, retried, verdict_of, too
 use Rattle.std.specs.List.{list_any}
 use Rattle.delivery_duties.specs.Queues.{Queue, has_arn, sent_to, messages_of, with_queue, without_queue, deleted_through}
 
--- the pending duties by number; the duties that ended, in the order in which they ended; the queues, in the byte order of their names;
--- and the number of duties made so far
+-- The pending duties by number; the duties that ended, in the order of their ends; the queues, in the byte order of their names; and the
+-- number of duties made so far.
+-- Shown by: delivery_duties tests.rt: dead_letters.
 pub record Duties : Type 0 where
   pub pending : List (ℕ × DutyRow)
   pub ended : List SettledDuty
   pub queues : List Queue
   pub created : ℕ
 
--- no duties and no queues
+-- No duty and no queue.
+-- Shown by: delivery_duties tests.rt: dead_letters.
 abbrev pub no_duties : Duties
 no_duties = record { pending = []; ended = []; queues = []; created = 0 }
 
--- the pending duty of this number
+-- The pending duty of this number, if there is one.
+-- Shown by: delivery_duties tests.rt: order_by_due_moment_then_number.
 abbrev pub pending_row : ℕ → Duties → Option DutyRow
 pending_row number s = value_at number s.pending
 
@@ -43,7 +47,8 @@ abbrev pub is_one_of : Option (List ℕ) → List Queue → Bool
 is_one_of None queues = false
 is_one_of (Some arn) queues = list_any (has_arn arn) queues
 
--- the target names a dead-letter queue, and one of the queues has its ARN
+-- The target names a dead-letter queue, and one of the queues has its ARN.
+-- Shown by: delivery_duties tests.rt: dropped_without_a_dead_letter_queue.
 abbrev pub has_dead_letter_queue : TargetRow → List Queue → Bool
 has_dead_letter_queue target queues = is_one_of target.dead_letter queues
 
@@ -73,7 +78,8 @@ ended_as row fate queues s = record s {
 abbrev pub failed : Option (List ℕ) → Failure → DutyRow → Duties → Duties
 failed arn failure row s = ended_as row (failed_fate arn) (dead_lettered arn failure row s.queues) s
 
--- a duty is added: it gets the next number and is due at once; if its text is too long, it ends at once
+-- A duty gets the next number and is due at once; one whose text is too long ends at once.
+-- Shown by: delivery_duties tests.rt: dead_letters.
 abbrev pub added_one : NewDuty → ℕ → Duties → Duties
 added_one duty moment s =
     let row : DutyRow = begun (s.created + 1) moment duty in
@@ -81,16 +87,19 @@ added_one duty moment s =
     (record s { created = s.created + 1 })
     else record s { created = s.created + 1; pending = placed (s.created + 1, row) s.pending }
 
--- the duties are added in their order
+-- Duties are added in their order.
+-- Shown by: delivery_duties tests.rt: order_by_due_moment_then_number.
 abbrev pub added : List NewDuty → ℕ → Duties → Duties
 added [] moment s = s
 added (duty ∷ duties) moment s = added duties moment (added_one duty moment s)
 
--- the row comes no later than the other: it is due earlier, or at the same moment with a number that is not greater
+-- A row is due earlier than another, or at the same moment with a number that is not greater.
+-- Shown by: order_by_number_alone.edit.
 abbrev pub IsNoLater : DutyRow → DutyRow → Type 0
 IsNoLater row other = (row.due < other.due) ⊎ ((row.due ≡ other.due) × (row.number ≤ other.number))
 
--- of the duties that are due at the moment and not claimed, the one of this number comes first, by due moment, then number
+-- Of the duties that are due and not claimed, the one of this number comes first: by due moment, then by number.
+-- Shown by: order_by_number_alone.edit.
 pub record IsNext (s : Duties) (moment number : ℕ) : Type 0 where
   pub row : DutyRow
   pub there : pending_row number s ≡ Some row
@@ -98,19 +107,23 @@ pub record IsNext (s : Duties) (moment number : ℕ) : Type 0 where
   pub due : row.due ≤ moment
   pub first : (n : ℕ) (other : DutyRow) → pending_row n s ≡ Some other → other.claimed ≡ false → other.due ≤ moment → IsNoLater row other
 
--- no duty that is not claimed is due
+-- No duty that is not claimed is due.
+-- Shown by: delivery_duties tests.rt: always_503_with_an_age_of_60.
 abbrev pub NoneDue : Duties → ℕ → Type 0
 NoneDue s moment = (n : ℕ) (row : DutyRow) → pending_row n s ≡ Some row → row.claimed ≡ false → moment < row.due
 
--- this duty is pending, and claimed
+-- The duty of this number is pending and claimed.
+-- Shown by: delivery_duties tests.rt: order_by_due_moment_then_number.
 abbrev pub IsOut : ℕ → Duties → Type 0
 IsOut number s = (row : DutyRow) × (pending_row number s ≡ Some row) × (row.claimed ≡ true)
 
--- this duty is pending, and not claimed
+-- The duty of this number is pending and not claimed.
+-- Shown by: delivery_duties tests.rt: order_by_due_moment_then_number.
 abbrev pub IsFree : ℕ → Duties → Type 0
 IsFree number s = (row : DutyRow) × (pending_row number s ≡ Some row) × (row.claimed ≡ false)
 
--- the pending duties are in the order of their numbers, each under its own
+-- The pending duties are in the order of their numbers, each under its own.
+-- Shown by: delivery_duties tests.rt: order_by_due_moment_then_number.
 pub record IsOrdered (s : Duties) : Type 0 where
   pub sorted : AreSorted s.pending
   pub named : (n : ℕ) (row : DutyRow) → pending_row n s ≡ Some row → row.number ≡ n
@@ -120,11 +133,13 @@ abbrev pub marked_row : Bool → Option DutyRow → Duties → Duties
 marked_row mark None s = s
 marked_row mark (Some row) s = record s { pending = replaced (record row { claimed = mark }) s.pending }
 
--- the duty of this number is claimed
+-- The duty of this number is marked as claimed; nothing else changes.
+-- Shown by: delivery_duties tests.rt: order_by_due_moment_then_number.
 abbrev pub claimed : ℕ → Duties → Duties
 claimed number s = marked_row true (pending_row number s) s
 
--- the claim of the duty of this number is released
+-- The duty of this number is no longer marked as claimed; nothing else changes.
+-- Shown by: law a_claim_put_back_changes_nothing.
 abbrev pub unclaimed : ℕ → Duties → Duties
 unclaimed number s = marked_row false (pending_row number s) s
 
@@ -134,7 +149,8 @@ settled_by row attempt Deliver s = ended_as row Delivered (delivered row s.queue
 settled_by row attempt (Retry due) s = record s { pending = replaced (retried due attempt.outcome row) s.pending }
 settled_by row attempt (Fail failure) s = failed (dead_letter_queue row.duty.target attempt.has_dead_letter_queue) failure row s
 
--- an attempt of the duty of this row, as it is recorded
+-- An attempt of a pending duty as it is recorded; the queues say whether its dead-letter queue exists.
+-- Shown by: delivery_duties tests.rt: dropped_without_a_dead_letter_queue.
 abbrev pub attempt_of : DutyRow → ℕ → Outcome → Duties → Attempt
 attempt_of row moment outcome s =
     record { moment = moment; outcome = outcome; has_dead_letter_queue = has_dead_letter_queue row.duty.target s.queues }
@@ -144,7 +160,9 @@ abbrev pub settled_row : Option DutyRow → ℕ → Outcome → Duties → Dutie
 settled_row None moment outcome s = s
 settled_row (Some row) moment outcome s = settled_by row (attempt_of row moment outcome s) (verdict_of row moment outcome) s
 
--- the duty of this number after an attempt at the moment, which ended with the outcome: delivered, due again, dead-lettered or dropped
+-- The duty of this number after an attempt: its queue gets its text, it is due again, its text becomes a dead letter, or it is dropped.
+-- Number and fate of a duty that ends are recorded.
+-- Shown by: delivery_duties tests.rt: dead_letters.
 abbrev pub settled : ℕ → ℕ → Outcome → Duties → Duties
 settled number moment outcome s = settled_row (pending_row number s) moment outcome s
 
@@ -178,50 +196,61 @@ was_dead_lettered d = is_dead_lettered d.fate
 abbrev pub was_dropped : SettledDuty → Bool
 was_dropped d = is_dropped d.fate
 
--- the number of delivered ones
+-- The number of ended duties that were delivered.
+-- Shown by: delivery_duties tests.rt: numbers_go_on_after_a_delete.
 abbrev pub delivered_of : List SettledDuty → ℕ
 delivered_of ended = length (filter was_delivered ended)
 
--- the number of dead-lettered ones
+-- The number of ended duties that were dead-lettered.
+-- Shown by: delivery_duties tests.rt: dead_letters.
 abbrev pub dead_lettered_of : List SettledDuty → ℕ
 dead_lettered_of ended = length (filter was_dead_lettered ended)
 
--- the number of dropped ones
+-- The number of ended duties that were dropped.
+-- Shown by: delivery_duties tests.rt: dropped_without_a_dead_letter_queue.
 abbrev pub dropped_of : List SettledDuty → ℕ
 dropped_of ended = length (filter was_dropped ended)
 
--- the duty of this number is pending
+-- A pending duty has this number.
+-- Shown by: delivery_duties tests.rt: dead_letters.
 abbrev pub IsPending : ℕ → List (ℕ × DutyRow) → Type 0
 IsPending number rows = (row : DutyRow) × (value_at number rows ≡ Some row)
 
--- an ended duty has this number
+-- An ended duty has this number.
+-- Shown by: delivery_duties tests.rt: dead_letters.
 abbrev pub HasEnded : ℕ → List SettledDuty → Type 0
 HasEnded number ended = Any (λ d. d.number ≡ number) ended
 
--- the duty of this number has exactly one fate: it is pending and has not ended, or it is not pending and has ended once
+-- The duty of this number is pending and has not ended, or has ended once and is not pending.
+-- Shown by: delivery_duties tests.rt: dead_letters.
 abbrev pub HasOneFate : ℕ → Duties → Type 0
 HasOneFate number s =
     (IsPending number s.pending × (HasEnded number s.ended → ⊥))
     ⊎ ((IsPending number s.pending → ⊥) × ((d : SettledDuty) × Contains s.ended d × (d.number ≡ number) × (d.fate ≡ Pending → ⊥)
     × ((other : SettledDuty) → Contains s.ended other → other.number ≡ number → other ≡ d)))
 
--- a queue is created, with no message
+-- A queue is created without messages; one that is there stays as it is.
+-- Shown by: delivery_duties tests.rt: numbers_go_on_after_a_delete.
 abbrev pub with_new_queue : List ℕ → Duties → Duties
 with_new_queue name s = record s { queues = with_queue name s.queues }
 
--- a queue is deleted with its messages
+-- A queue is deleted with its messages.
+-- Shown by: delivery_duties tests.rt: numbers_go_on_after_a_delete.
 abbrev pub forgotten : List ℕ → Duties → Duties
 forgotten name s = record s { queues = without_queue name s.queues }
 
--- the queue's messages with numbers up to this one are deleted
+-- The messages of a queue with numbers up to this one are deleted.
+-- Shown by: delivery_duties tests.rt: numbers_go_on_after_a_delete.
 abbrev pub with_deleted : List ℕ → ℕ → Duties → Duties
 with_deleted queue through s = record s { queues = deleted_through queue through s.queues }
 
--- the duty is for the queue, or its dead letter would be
+-- The duty is for the queue, or its dead letter would be.
+-- Shown by: delivery_duties tests.rt: dead_letters.
 abbrev pub IsForQueue : List ℕ → DutyRow → Type 0
 IsForQueue queue row = (row.duty.target.endpoint ≡ queue_arn queue) ⊎ (row.duty.target.dead_letter ≡ Some (queue_arn queue))
 
--- a pending duty or a message names the queue
+-- A pending duty or a message names the queue.
+-- Shown by: a_queue_with_messages_is_deleted.edit.
 abbrev pub IsNamed : List ℕ → Duties → Type 0
 IsNamed queue s = ((n : ℕ) × (row : DutyRow) × (pending_row n s ≡ Some row) × IsForQueue queue row)
     ⊎ (messages_of queue s.queues ≡ [] → ⊥)

@@ -7,7 +7,8 @@ use Rattle.name_rows.specs.Rows.{placed, without}
 use Rattle.delivery_duties.specs.declared.stored.DeadLetter.{DeadLetter}
 use Rattle.delivery_duties.specs.declared.stored.StoredMessage.{StoredMessage}
 
--- a queue: its name, the number of its last message, and its messages, oldest first
+-- A queue: its name, the number of its last message, and its messages, oldest first.
+-- Shown by: delivery_duties tests.rt: numbers_go_on_after_a_delete.
 pub record Queue : Type 0 where
   pub name : List ℕ
   pub sent : ℕ
@@ -24,20 +25,24 @@ empty_queue name = record { name = name; sent = 0; messages = [] }
 abbrev pub keeping : Queue → Queue → Queue
 keeping old new = old
 
--- the queues, in the byte order of their names, with a queue of this name, which is empty if there was none
+-- The queues, in the byte order of their names, with one of this name, which is empty if there was none.
+-- Shown by: delivery_duties tests.rt: numbers_go_on_after_a_delete.
 abbrev pub with_queue : List ℕ → List Queue → List Queue
 with_queue name queues = placed name_of keeping (empty_queue name) queues
 
--- the queues without the one of this name
+-- The queues without the one of this name.
+-- Shown by: delivery_duties tests.rt: numbers_go_on_after_a_delete.
 abbrev pub without_queue : List ℕ → List Queue → List Queue
 without_queue name queues = without name_of name queues
 
--- one of the queues has this name
+-- One of the queues has this name.
+-- Shown by: delivery_duties tests.rt: numbers_go_on_after_a_delete.
 abbrev pub has_queue : List ℕ → List Queue → Bool
 has_queue queue [] = false
 has_queue queue (m ∷ ms) = if bytes_eq m.name queue then true else has_queue queue ms
 
--- the text is the ARN of one of these queues
+-- The text is the ARN of one of the queues.
+-- Shown by: delivery_duties tests.rt: dropped_without_a_dead_letter_queue.
 abbrev pub IsArnOfOne : List ℕ → List Queue → Type 0
 IsArnOfOne arn queues = Any (λ m. arn ≡ queue_arn m.name) queues
 
@@ -62,11 +67,13 @@ has_arn arn m = bytes_eq arn (queue_arn m.name)
 abbrev pub is_named : List ℕ → Queue → Bool
 is_named name m = bytes_eq m.name name
 
--- the queues, with the text as the next message of the queue that has this ARN; unchanged if there is none
+-- The queue that has this ARN gets the text as its next message; nothing changes if there is none.
+-- Shown by: delivery_duties tests.rt: numbers_go_on_after_a_delete.
 abbrev pub sent_to : List ℕ → List ℕ → Option DeadLetter → List Queue → List Queue
 sent_to arn body dead queues = changed_first (has_arn arn) (with_next body dead) queues
 
--- the messages of the queue with this name; none if there is no such queue
+-- The messages of the queue of this name; none if there is no such queue.
+-- Shown by: delivery_duties tests.rt: numbers_go_on_after_a_delete.
 abbrev pub messages_of : List ℕ → List Queue → List StoredMessage
 messages_of queue [] = []
 messages_of queue (m ∷ ms) = if bytes_eq m.name queue then m.messages else messages_of queue ms
@@ -75,7 +82,8 @@ messages_of queue (m ∷ ms) = if bytes_eq m.name queue then m.messages else mes
 abbrev pub messages_after : ℕ → List StoredMessage → List StoredMessage
 messages_after through messages = filter (λ m. not (nat_le m.number through)) messages
 
--- the messages with numbers up to this one
+-- The messages with numbers up to this one.
+-- Shown by: delivery_duties tests.rt: messages_up_to_a_number_are_counted.
 abbrev pub messages_through : ℕ → List StoredMessage → List StoredMessage
 messages_through through messages = filter (λ m. nat_le m.number through) messages
 
@@ -83,10 +91,12 @@ messages_through through messages = filter (λ m. nat_le m.number through) messa
 abbrev pub without_through : ℕ → Queue → Queue
 without_through through m = record m { messages = messages_after through m.messages }
 
--- the queue of this name loses its messages with numbers up to this one
+-- The queue of this name loses its messages with numbers up to this one, and numbers on.
+-- Shown by: numbers_begin_anew_after_a_delete.edit.
 abbrev pub deleted_through : List ℕ → ℕ → List Queue → List Queue
 deleted_through queue through queues = changed_first (is_named queue) (without_through through) queues
 
--- the number of messages of all queues
+-- The number of messages of all queues.
+-- Shown by: session_tests serve.rt: two_workers_serve_the_first_run.
 abbrev pub message_count : List Queue → ℕ
 message_count queues = sum_by (λ (m : Queue). length m.messages) queues

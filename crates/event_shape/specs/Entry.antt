@@ -5,7 +5,8 @@ use Rattle.json_text.specs.Tree.{Tree}
 use Rattle.json_text.specs.View.{tree_of}
 use Rattle.event_shape.specs.declared.entry.EventEntry.{EventEntry}
 
--- each member as it was given, or `None`
+-- An entry of a PutEvents: time, source, resources, detail type, detail and bus, each as given or absent.
+-- Shown by: event_shape tests.rt: the_first_fault_is_reported.
 pub record Entry : Type 0 where
   pub time : Option Tree
   pub source : Option (List ℕ)
@@ -14,6 +15,8 @@ pub record Entry : Type 0 where
   pub detail : Option (List ℕ)
   pub bus : Option (List ℕ)
 
+-- What contracts see of the code's `EventEntry`.
+-- Shown by: event_shape tests.rt: the_first_fault_is_reported.
 abbrev pub entry_of : EventEntry → Entry
 entry_of e = record {
   time = option_map tree_of e.time;
@@ -34,6 +37,8 @@ abbrev pub text_size : Option (List ℕ) → ℕ
 text_size None = 0
 text_size (Some t) = length t
 
--- Source, DetailType, Detail and each resource by its bytes; the bus doesn't count (this project's own rule)
+-- The size of an entry in bytes: 14 for a time, and the bytes of its source, detail type, detail and resources. The bus does not count
+-- (this project's own rule).
+-- Shown by: event_shape tests.rt: a_size_is_the_sum_of_its_bytes.
 abbrev pub size_of : Entry → ℕ
 size_of e = time_size e.time + text_size e.source + text_size e.detail_type + text_size e.detail + sum_by length e.resources

@@ -27,7 +27,8 @@ abbrev pub IsNoBus : Option (List ℕ) → Type 0
 IsNoBus None = ⊥
 IsNoBus (Some t) = (bus : List ℕ) → ¬ IsBusGiven t bus
 
--- the text spells this object, with at most 99 levels: in the event the object is one level deeper
+-- The text spells this JSON object within 99 levels: in the event the object is one level deeper.
+-- Shown by: event_shape tests.rt: a_detail_has_at_most_99_levels.
 abbrev pub IsDetail : List ℕ → Tree → Type 0
 IsDetail bytes tree = (n : Node) × IsText 99 bytes n × (tree ≡ value_of n) × IsObject tree
 
@@ -41,6 +42,9 @@ abbrev pub IsReserved : Option (List ℕ) → Type 0
 IsReserved None = ⊥
 IsReserved (Some t) = (rest : List ℕ) × (t ≡ codes "aws." ++ rest)
 
+-- The entry has this fault: source or detail type absent or empty, detail absent, a time that gives no moment, a bus that is neither a name
+-- nor an ARN, a detail that is no JSON object, or a source that begins with `aws.`. The source `aws` has no fault.
+-- Shown by: event_shape tests.rt: the_first_fault_is_reported.
 abbrev pub HasFault : entry.Entry → EntryFault → Type 0
 HasFault e Source = LacksText e.source
 HasFault e DetailType = LacksText e.detail_type
@@ -50,7 +54,8 @@ HasFault e Bus = IsNoBus e.bus
 HasFault e Malformed = IsNoDetail e.detail
 HasFault e NotAuthorized = IsReserved e.source
 
--- the place in the order
+-- The order in which faults are found: `Source`, `DetailType`, `Detail`, `Time`, `Bus`, `Malformed`, `NotAuthorized`, 1 to 7.
+-- Shown by: event_shape tests.rt: the_first_fault_is_reported.
 abbrev pub place_of : EntryFault → ℕ
 place_of Source = 1
 place_of DetailType = 2
@@ -65,7 +70,8 @@ abbrev pub IsMemoryOr : CheckFault → EntryFault → Type 0 → Type 0
 IsMemoryOr NoMemory fault condition = Unit {0}
 IsMemoryOr (Entry f) fault condition = (f ≡ fault) × condition
 
--- the entry has this fault, and none before it
+-- The entry has this fault and none of an earlier place.
+-- Shown by: event_shape tests.rt: the_first_fault_is_reported.
 pub record IsFirstFault (e : entry.Entry) (fault : EntryFault) : Type 0 where
   pub there : HasFault e fault
   pub first : (other : EntryFault) → place_of other < place_of fault → ¬ HasFault e other

@@ -6,7 +6,8 @@ use Rattle.json_text.specs.Tree.{Tree, members_of}
 use Rattle.json_text.specs.Compact.{compact_text, more_members_text}
 use Rattle.event_shape.specs.Event.{Event, text_code, event_code, event_members, event_tree, IsEventAt}
 
--- the name of the bus, and the event; its number is open, which the number 0 represents
+-- An event that has no number yet, and the name of its bus. The number 0 represents the open number.
+-- Shown by: event_shape tests.rt: an_event_gets_its_number_last.
 pub record Unnumbered : Type 0 where
   pub bus : List ℕ
   pub event : Event
@@ -15,7 +16,8 @@ pub record Unnumbered : Type 0 where
 abbrev pub unnumbered_code : Coded Unnumbered
 unnumbered_code = code_by (List ℕ × Event) (coded× text_code event_code) (λ u. (u.bus, u.event)) (λ (b, e). record { bus = b; event = e }) (λ _. refl)
 
--- the event with this number
+-- The same event with this number, so with this number's id.
+-- Shown by: event_shape tests.rt: an_event_gets_its_number_last.
 abbrev pub with_number : ℕ → Event → Event
 with_number number e = record e { number = number }
 

@@ -1,4 +1,5 @@
--- Which texts are endpoints, by the URL Standard's reading of a text. The choice among them is this project's own rule.
+-- Which texts are endpoints, by the URL Standard's reading of a text (`parse_url` of the crate `url`). The choice among them is this
+-- project's own rule.
 use Rattle.std.specs.Prelude.{ℕ, Bool, not, ◌&&◌, ◌||◌, nat_le, List, [], length, codes, bytes_eq, Option, Some, None, is_some, unwrap_or, option_map, Result, Ok, Err, if◌then◌else◌}
 use Rattle.url.specs.declared.error.ParseError.{ParseError}
 use Rattle.url.specs.Input.{is_empty}
@@ -6,11 +7,13 @@ use Rattle.url.specs.Host.{host_text}
 use Rattle.url.specs.Parts.{Parts, nonempty_host}
 use Rattle.url.specs.Parser.{parse_url}
 
--- the text of the host, empty if there is none
+-- The text of the URL's host, empty if it has none.
+-- Shown by: http_target tests.rt: an_endpoint_has_a_host_and_a_port.
 abbrev pub host_of : Parts → List ℕ
 host_of url = unwrap_or (option_map host_text (nonempty_host url)) []
 
--- the port to connect to
+-- The port to connect to: the URL's port, and 80 if it names none.
+-- Shown by: http_target tests.rt: an_endpoint_has_a_host_and_a_port.
 abbrev pub port_of : Parts → ℕ
 port_of url = unwrap_or url.port 80
 
@@ -28,10 +31,13 @@ abbrev pub local_of : Result Parts ParseError → Option Parts
 local_of (Ok url) = if is_local url then Some url else None
 local_of (Err fault) = None
 
--- the URL of an endpoint's text. A text of over 1,600 bytes is none.
+-- The URL of an endpoint's text: at most 1,600 bytes, scheme `http`, host 127.0.0.1 or localhost once read, no user, no password, no
+-- fragment. `http://127.1/` is one; `https://localhost/`, `http://[::1]/` and `http://localhost/#` are none.
+-- Shown by: http_target tests.rt: a_url_of_this_machine_is_an_endpoint, any_other_text_is_none.
 abbrev pub endpoint_of : List ℕ → Option Parts
 endpoint_of text = if nat_le (length text) 1600 then local_of (parse_url None text) else None
 
--- the text is an endpoint
+-- The text has a URL by `endpoint_of`.
+-- Shown by: http_target tests.rt: the_text_of_an_endpoint_has_at_most_1600_bytes.
 abbrev pub is_endpoint : List ℕ → Bool
 is_endpoint text = is_some (endpoint_of text)

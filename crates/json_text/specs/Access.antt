@@ -3,12 +3,14 @@ use Rattle.std.specs.Prelude.{ℕ, List, Option, Some, None, if◌then◌else◌
 use Rattle.std.specs.Str.{bytes_eq}
 use Rattle.json_text.specs.Tree.{Tree, null, truth, number, text, list, object, Members, no_members, member}
 
--- the value of the first member with the key
+-- The value of the first member with this key.
+-- Shown by: json_text tests.rt: members_are_found_and_added.
 abbrev pub member_in : List ℕ → Members → Option Tree
 member_in key no_members = None
 member_in key (member name t members) = if bytes_eq name key then Some t else member_in key members
 
--- the value of the first member with the key, if the value is an object that has such a member
+-- The value of the first member with this key, if the value is an object and has one.
+-- Shown by: json_text tests.rt: members_are_found_and_added.
 abbrev pub member_of : List ℕ → Tree → Option Tree
 member_of key (object inside) = member_in key inside
 member_of key null = None
@@ -17,7 +19,8 @@ member_of key (number spelling) = None
 member_of key (text t) = None
 member_of key (list items) = None
 
--- the value is an object
+-- The value is an object.
+-- Shown by: json_text tests.rt: members_are_found_and_added.
 abbrev pub IsObject : Tree → Type 0
 IsObject (object inside) = Unit {0}
 IsObject null = ⊥
@@ -26,7 +29,8 @@ IsObject (number spelling) = ⊥
 IsObject (text t) = ⊥
 IsObject (list items) = ⊥
 
--- the bytes of a string
+-- The bytes of a string; none for any other value.
+-- Shown by: json_text tests.rt: members_are_found_and_added.
 abbrev pub text_in : Tree → Option (List ℕ)
 text_in (text t) = Some t
 text_in null = None

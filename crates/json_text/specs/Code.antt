@@ -112,5 +112,7 @@ pub tree_given_back : (t : Tree) → tree_of_numbers (tree_numbers t) ≡ t
 tree_given_back t = ap (λ ns. (tree_from (length (tree_numbers t)) ns).0) (sym (append-nil (tree_numbers t)))
     ∙ ap (λ p. p.0) (tree_back t (length (tree_numbers t)) [] (omega arith))
 
+-- A tree as a list of numbers from which it can be computed back. Proofs use it to compare values that contain a tree.
+-- Shown by: proofs alone.
 abbrev pub tree_code : Coded Tree
 tree_code = code_by (List ℕ) (coded_list coded_ℕ) tree_numbers tree_of_numbers tree_given_back

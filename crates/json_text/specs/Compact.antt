@@ -23,6 +23,9 @@ escape b =
 abbrev pub quoted : List ℕ → List ℕ
 quoted bytes = 34 ∷ (flat_map escape bytes ++ 34 ∷ [])
 
+-- The one text that a value is written as: no spaces; in texts `"`, `\` and bytes below a space are escaped, by two characters if there is
+-- such an escape, and else as `\u00xx` in lower case.
+-- Shown by: json_text tests.rt: values_are_written_compactly.
 abbrev mutual
   pub compact_text : Tree → List ℕ
   compact_text null = codes "null"
@@ -54,7 +57,8 @@ abbrev pub LacksKey : List ℕ → Members → Type 0
 LacksKey key no_members = Unit {0}
 LacksKey key (member k t members) = (key ≢ k) × LacksKey key members
 
--- Numbers are spelled as in RFC 8259, strings and keys are UTF-8, the keys of an object are distinct.
+-- Numbers are spelled as in RFC 8259, texts and keys are UTF-8, and the keys of each object are distinct.
+-- Shown by: json_text tests.rt: values_are_written_compactly.
 abbrev mutual
   pub IsValue : Tree → Type 0
   IsValue null = Unit {0}
@@ -72,7 +76,8 @@ abbrev mutual
   AreMembers no_members = Unit {0}
   AreMembers (member key t members) = IsUtf8 key × LacksKey key members × IsValue t × AreMembers members
 
--- the number of lists and objects one inside another
+-- How deep lists and objects are nested in a value. A node may have more levels than its value: `{"a":[[]],"a":1}` has 3 and 1.
+-- Shown by: json_text tests.rt: a_hundred_levels_are_read_and_one_more_is_not.
 abbrev mutual
   pub tree_levels : Tree → ℕ
   tree_levels null = 0

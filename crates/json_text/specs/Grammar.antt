@@ -24,7 +24,9 @@ SpellsField P at bytes place key = (before name gap rest : List ℕ) × (bytes �
     × P (at + length before + length name + length gap + 1) rest
 
 abbrev mutual
-  -- value = false / null / true / object / array / number / string
+  -- The grammar of RFC 8259, sections 2 to 5, one case a production: white space around each value and key and in empty brackets, commas
+  -- between, a colon after each key.
+  -- Shown by: json_text tests.rt: outside_cases_go_as_marked.
   pub SpellsValue : ℕ → List ℕ → Node → Type 0
   SpellsValue at bytes null_node = bytes ≡ codes "null"
   SpellsValue at bytes (truth_node true) = bytes ≡ codes "true"
@@ -58,11 +60,13 @@ abbrev mutual
   SpellsMoreMembers at bytes (field place key n fs) = (first rest : List ℕ) × (bytes ≡ 44 ∷ (first ++ rest))
       × SpellsField (Padded (λ there inside. SpellsValue there inside n)) (at + 1) first place key × SpellsMoreMembers (at + 1 + length first) rest fs
 
--- JSON-text = ws value ws
+-- A value with white space around it: JSON-text = ws value ws (RFC 8259, section 2).
+-- Shown by: json_text tests.rt: outside_cases_go_as_marked.
 abbrev pub SpellsText : List ℕ → Node → Type 0
 SpellsText bytes n = Padded (λ place inside. SpellsValue place inside n) 0 bytes
 
--- a JSON text of at most `levels` levels
+-- The text spells this node (RFC 8259), within this number of levels.
+-- Shown by: json_text tests.rt: a_hundred_levels_are_read_and_one_more_is_not.
 pub record IsText (levels : ℕ) (bytes : List ℕ) (n : Node) : Type 0 where
   pub spelled : SpellsText bytes n
   pub within : levels_of n ≤ levels

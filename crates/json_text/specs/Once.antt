@@ -4,7 +4,8 @@ use Rattle.json_text.specs.Node.{Node, first_repeat}
 use Rattle.json_text.specs.declared.fault.JsonFault.{JsonFault}
 use Rattle.json_text.specs.declared.fault.JsonFault.TheVariants.{NotJson, TooDeep, KeyTwice, NoMemory}
 
--- of a JSON text: the first repeated key, or out of memory
+-- What `read_once` reports of a JSON text within the levels: its first repeated key, or out of memory.
+-- Shown by: json_text tests.rt: the_first_repeated_key_is_reported.
 abbrev pub IsRepeatOrMemory : Node → JsonFault → Type 0
 IsRepeatOrMemory n (NotJson at) = ⊥
 IsRepeatOrMemory n (TooDeep at) = ⊥

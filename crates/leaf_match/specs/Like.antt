@@ -13,6 +13,7 @@ abbrev pub like_piece : ℕ → Piece
 like_piece byte =
     if byte == star then Run else (if byte == question then OneCharacter else Letter byte)
 
--- each byte of the pattern is one piece
+-- The pieces of a StringLike pattern: `*` is a run, `?` one character, and every other byte, a backslash included, is itself.
+-- Shown by: leaf_match tests.rt: likes.
 abbrev pub like_pieces : List ℕ → List Piece
 like_pieces pattern = map like_piece pattern

@@ -1,5 +1,4 @@
--- How a wildcard's text spells its pieces. If the public guide is silent, this is the project's own rule.
--- `a**b`, `a\b` and a backslash at the end spell nothing.
+-- How a wildcard's text spells its pieces. If the Amazon EventBridge User Guide is silent, this is the project's own rule.
 use Rattle.std.specs.Prelude.{◌≡◌, ◌≢◌, ℕ, ◌||◌, ◌==◌, if◌then◌else◌, List, [], ◌∷◌, ◌++◌, Some, slice_get}
 use Rattle.leaf_match.specs.declared.piece.Piece.{Piece}
 use Rattle.leaf_match.specs.declared.piece.Piece.TheVariants.{Letter, Run, OneCharacter}
@@ -22,18 +21,22 @@ BeginsWith (Letter byte) text rest = text ≡ escaped byte ++ rest
 BeginsWith Run text rest = (text ≡ star ∷ rest) × (slice_get rest 0 ≢ Some star)
 BeginsWith OneCharacter text rest = ⊥
 
--- the text is the spellings of the pieces, in order
+-- The wildcard's text spells these pieces: `*` without another `*` after it is a run; `\*` and `\\` are letters; any other byte, `?`
+-- included, is itself. `a**b`, `a\b` and a backslash at the end spell nothing.
+-- Shown by: leaf_match tests.rt: wildcards.
 abbrev pub Spells : List ℕ → List Piece → Type 0
 Spells text [] = text ≡ []
 Spells text (piece ∷ pieces) = (rest : List ℕ) × BeginsWith piece text rest × Spells rest pieces
 
--- the bytes of the letters before the first piece that is no letter
+-- The letters before the first piece that is no letter.
+-- Shown by: leaf_match tests.rt: wildcards.
 abbrev pub literal_front : List Piece → List ℕ
 literal_front [] = []
 literal_front (Letter byte ∷ pieces) = byte ∷ literal_front pieces
 literal_front (Run ∷ pieces) = []
 literal_front (OneCharacter ∷ pieces) = []
 
--- some pieces are spelled
+-- The text spells some pieces.
+-- Shown by: leaf_match tests.rt: wildcards.
 abbrev pub IsWildcard : List ℕ → Type 0
 IsWildcard text = (pieces : List Piece) × Spells text pieces

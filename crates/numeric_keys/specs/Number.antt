@@ -1,11 +1,12 @@
--- Numbers as RFC 8259, section 6, spells them, and the millionths that a spelling means
+-- Numbers as RFC 8259, section 6, spells them, and the millionths that a spelling means. The size is defined by an equation and no power is
+-- computed, so the definition holds for exponents of any length.
 use Rattle.std.specs.Prelude.{◌≡◌, ℕ, ◌+◌, ◌*◌, ◌^◌, ◌≤◌, ℤ, pos, neg_ℤ, Bool, true, false, List, [], ◌∷◌, ◌++◌, length, if◌then◌else◌}
 use Rattle.std.specs.Bool.{MatchBool}
 use Rattle.std.specs.Str.Parse.{AllDigits, IsNumeral, digits_value}
 
--- the parts of a spelling: whether it begins with `minus`, the digits of `int`, of `frac` and of
--- `exp`, and whether `exp` has a `minus` (RFC 8259, section 6); a part that is left out has no
--- digits
+-- The parts of a spelling (RFC 8259, section 6): whether it begins with a minus, the digits of `int`, `frac` and `exp`, and whether `exp`
+-- has a minus. A part that is left out has no digits.
+-- Shown by: numeric_keys tests.rt: number_spellings.
 pub record Parts : Type 0 where
   pub negative : Bool
   pub whole : List ℕ
@@ -45,8 +46,9 @@ pub data IsExp : Bool → List ℕ → List ℕ → Type 0 where
   with_minus : {e : ℕ} {digits : List ℕ} → IsE e → IsNumeral 10 digits →
       IsExp true digits (e ∷ 45 ∷ digits)
 
--- number = [ minus ] int [ frac ] [ exp ] (RFC 8259, section 6): these parts are spelled by this
--- text
+-- The text spells a number with these parts: [ minus ] int [ frac ] [ exp ] (RFC 8259, section 6). `007`, `+1`, `.5`, `5.`, `1e` and the
+-- empty text are no numbers; `0.001`, `1e007`, `1E+2` and `-0` are numbers.
+-- Shown by: numeric_keys tests.rt: number_spellings.
 pub record IsNumber (parts : Parts) (text : List ℕ) : Type 0 where
   pub sign : List ℕ
   pub frac : List ℕ
@@ -57,10 +59,10 @@ pub record IsNumber (parts : Parts) (text : List ℕ) : Type 0 where
   pub fraction : IsFrac parts.fraction frac
   pub exponent : IsExp parts.exponent_negative parts.exponent exp
 
--- the value of the parts without their sign, times 1,000,000, is this size: with D the number that
--- the digits of `int` and `frac` write together, f the number of digits of `frac`, and E the number
--- that the digits of `exp` write, D * 10 ^ E * 10 ^ 6 = size * 10 ^ f, and if `exp` has a minus
--- D * 10 ^ 6 = size * 10 ^ (f + E)
+-- The value without its sign, times 1,000,000, is this whole number. With D the number that all digits of `int` and `frac` write, f the
+-- number of digits of `frac`, and E the number that the digits of `exp` write: D * 10 ^ E * 10 ^ 6 = size * 10 ^ f, and with a minus in
+-- `exp` D * 10 ^ 6 = size * 10 ^ (f + E). `0.0000001` has no size.
+-- Shown by: numeric_keys tests.rt: long_spellings.
 abbrev pub HasSize : Parts → ℕ → Type 0
 HasSize parts size =
     let digits = digits_value 10 (parts.whole ++ parts.fraction) in
@@ -70,12 +72,14 @@ HasSize parts size =
     (digits * 10 ^ 6 ≡ size * 10 ^ (places + power))
     (digits * 10 ^ power * 10 ^ 6 ≡ size * 10 ^ places)
 
--- the greatest size of a number of millionths: those of 5,000,000,000 (this project's own rule)
+-- 5,000,000,000,000,000: the millionths of 5,000,000,000 (this project's own bound).
+-- Shown by: numeric_keys tests.rt: number_spellings.
 abbrev pub largest_size : ℕ
 largest_size = 5000000000000000
 
--- the text spells a number whose value times 1,000,000 is the whole number m, of at most the
--- greatest size
+-- The text spells a number of at most the largest size, and this is the size with its sign. `-5000000000` gives -5 * 10 ^ 15;
+-- `5000000000.000001` is too large; `-0` and `0e99` give 0.
+-- Shown by: numeric_keys tests.rt: number_spellings.
 pub record IsMillionths (text : List ℕ) (m : ℤ) : Type 0 where
   pub parts : Parts
   pub size : ℕ

@@ -12,8 +12,9 @@ Part = List (List ℕ) × List Test
 abbrev pub paired : List (List Part) → List (List Part) → List (List Part)
 paired firsts seconds = flat_map (λ first. map (λ second. first ++ second) seconds) firsts
 
--- The alternatives of a pattern below a path. Tests are one part; an object's alternatives are made of one of each of its members; the
--- alternatives of `$or` are those of its branches.
+-- A pattern as a choice between lists of parts, each a path and tests of which one has to hold. Tests are one part; an alternative of an
+-- object joins one alternative of each member; the alternatives of `$or` are those of its branches.
+-- Shown by: law alternatives_decide.
 abbrev mutual
   pub alternatives : Pattern → List (List ℕ) → List (List Part)
   alternatives (pattern fs bs) path = paired (of_fields fs path) (of_branches bs path)
@@ -34,7 +35,8 @@ abbrev mutual
   of_some no_branches path = []
   of_some (branch p bs) path = alternatives p path ++ of_some bs path
 
--- how many alternatives a pattern has: an object the product of its members, `$or` the sum of its branches
+-- How many alternatives a pattern has: of an object the product of its members, of `$or` the sum of its branches.
+-- Shown by: law alternatives_decide.
 abbrev mutual
   pub alternative_count : Pattern → ℕ
   alternative_count (pattern fs bs) = field_count fs * branch_count bs
@@ -59,6 +61,7 @@ abbrev mutual
 abbrev pub PartHolds : Tree → Tree → Part → Type 0
 PartHolds event view part = Any (TestHolds event part.0 view) part.1
 
--- all parts of one alternative hold on a view of the event
+-- All parts of one alternative hold on a view of the event.
+-- Shown by: law alternatives_decide.
 abbrev pub AlternativeHolds : Pattern → Tree → Tree → Type 0
 AlternativeHolds p event view = Any (All (PartHolds event view)) (alternatives p [])

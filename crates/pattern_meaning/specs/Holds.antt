@@ -12,7 +12,8 @@ use Rattle.pattern_meaning.specs.Pattern.{wildcard, anything_but, numeric, cidr,
 use Rattle.pattern_meaning.specs.Pattern.{Pattern, pattern, Fields, no_fields, field, Field, tests, below, Branches, no_branches, branch}
 use Rattle.pattern_meaning.specs.View.{IsView, leaf_at}
 
--- two scalars are the same; numbers are compared by their spelling (this project's own rule)
+-- Two scalars are the same; numbers are compared by their spelling, so `1` is not `1.0` (this project's own rule).
+-- Shown by: pattern_meaning tests.rt: a_scalar_is_compared_by_its_spelling.
 abbrev pub IsSame : Tree → Tree → Type 0
 IsSame a b = a ≡ b
 
@@ -20,7 +21,8 @@ IsSame a b = a ≡ b
 abbrev pub OnText : (List ℕ → Type 0) → Tree → Type 0
 OnText holds leaf = (t : List ℕ) × (leaf ≡ text t) × holds t
 
--- a comparison holds of a number, both in millionths
+-- A number, in millionths, meets a comparison with a bound.
+-- Shown by: pattern_meaning tests.rt: all_comparisons_are_required.
 abbrev pub Compares : Operator → ℤ → ℤ → Type 0
 Compares Equal n m = n ≡ m
 Compares Less n m = n <ℤ m
@@ -28,7 +30,9 @@ Compares AtMost n m = n ≤ℤ m
 Compares Greater n m = m <ℤ n
 Compares AtLeast n m = m ≤ℤ n
 
--- A leaf meets a test: a line for each kind. `exists: false` is met by no leaf.
+-- A leaf meets a test: a line for each kind, in the words of leaf_match and numeric_keys. `anything_but` is met by each leaf that meets
+-- none of its tests, whether it is a string or not. `missing` is met by no leaf.
+-- Shown by: pattern_meaning tests.rt: a_front_is_a_front, an_end_is_an_end, a_wildcard_fits, an_address_has_the_first_bits.
 abbrev mutual
   pub IsMet : Test → Tree → Type 0
   IsMet (same scalar) leaf = IsSame scalar leaf
@@ -50,17 +54,20 @@ abbrev mutual
   IsMetBySome no_tests leaf = ⊥
   IsMetBySome (test t ts) leaf = IsMet t leaf ⊎ IsMetBySome ts leaf
 
--- no view of the event has a leaf at the path
+-- No view of the whole event has a leaf at the path. `a.b` is absent from `{"a":{"b":[]}}` and not from `{"a":[{"c":1},{"b":1}]}`.
+-- Shown by: pattern_meaning tests.rt: a_missing_leaf_is_missing_in_all_views.
 abbrev pub IsAbsent : Tree → List (List ℕ) → Type 0
 IsAbsent event path = (view : Tree) → IsView event view → leaf_at path view ≡ None
 
--- A test holds at a path of a view of the event if the leaf there meets it. `exists: false` needs no leaf: it holds if no view of the
--- event has one.
+-- A test holds at a path of a view of the event: the leaf at the path meets it; or the test is `exists: false`, and no view of the event
+-- has a leaf at the path.
+-- Shown by: pattern_meaning tests.rt: a_leaf_exists, a_missing_leaf_is_missing_in_all_views.
 abbrev pub TestHolds : Tree → List (List ℕ) → Tree → Test → Type 0
 TestHolds event path view t = ((leaf : Tree) × (leaf_at path view ≡ Some leaf) × IsMet t leaf) ⊎ ((t ≡ missing) × IsAbsent event path)
 
--- On one view of the event, below the path: each field has a test that holds at the field's path, or a pattern that holds below it; of
--- the branches of `$or` one holds, on the same view.
+-- On one view of the event, below a path: each field has a test that holds at its path, or a pattern that holds from there; and of the
+-- branches, if there are any, one holds on the same view.
+-- Shown by: pattern_meaning tests.rt: a_field_and_a_branch_speak_of_one_member.
 abbrev mutual
   pub HoldsOnView : Pattern → Tree → List (List ℕ) → Tree → Type 0
   HoldsOnView (pattern fs bs) event path view = FieldsHold fs event path view × BranchesHold bs event path view
@@ -82,6 +89,8 @@ abbrev mutual
   SomeHolds no_branches event path view = ⊥
   SomeHolds (branch p bs) event path view = HoldsOnView p event path view ⊎ SomeHolds bs event path view
 
--- a pattern holds of an event: some view of the event satisfies it
+-- Some view of the whole value satisfies the pattern. `{"a":{"b":[1],"c":[2]}}` does not hold of `{"a":[{"b":1},{"c":2}]}`, and holds of
+-- `{"a":[{"b":1,"c":2}]}`.
+-- Shown by: pattern_meaning tests.rt: two_fields_need_one_member_of_a_list; pattern_read tests.rt: patterns_hold_of_events.
 abbrev pub PatternHolds : Pattern → Tree → Type 0
 PatternHolds p event = (view : Tree) × IsView event view × HoldsOnView p event [] view

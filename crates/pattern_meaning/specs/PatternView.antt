@@ -42,7 +42,8 @@ pattern_step p = pattern (fields_of p.fields.items) (branches_of p.branches.item
 abbrev pub field_of : CodeField → Field
 field_of = fold-Field Field Pattern field_step pattern_step
 
--- a whole pattern
+-- What contracts see of the code's pattern.
+-- Shown by: pattern_meaning tests.rt: a_scalar_is_compared_by_its_spelling.
 abbrev pub pattern_of : CodePattern → Pattern
 pattern_of = fold-Pattern Field Pattern field_step pattern_step
 

@@ -1,10 +1,11 @@
--- Views of a JSON value: in each list one member is chosen, so that no list is left (this project's own reading of the
--- public guide, where a pattern is compared with each member of a list).
+-- Views of a JSON value: in each list one member is chosen, so that no list is left. This is the project's own reading of the Amazon
+-- EventBridge User Guide, where a pattern is compared with each member of a list.
 use Rattle.std.specs.Prelude.{◌≡◌, ℕ, Bool, true, false, ◌||◌, ◌⊎◌, IsFalse, List, [], ◌∷◌, Option, Some, None, if◌then◌else◌}
 use Rattle.std.specs.Str.{bytes_eq}
 use Rattle.json_text.specs.Tree.{Tree, null, truth, number, text, list, object, Items, no_items, item, Members, no_members, member}
 
--- a value has a view unless it is a list none of whose members has one
+-- A value has a view unless it is a list of which no member has one. `[]` and `[[],[]]` have none.
+-- Shown by: pattern_meaning tests.rt: a_missing_leaf_is_missing_in_all_views.
 abbrev mutual
   pub has_view : Tree → Bool
   has_view null = true
@@ -18,8 +19,10 @@ abbrev mutual
   some_has_view no_items = false
   some_has_view (item t items) = has_view t || some_has_view items
 
--- IsView e v: v is a view of e. A scalar is its own; in an object's the members are replaced by views of them, and a member
--- without a view is left out; a list's are those of its members.
+-- IsView e v: v is a view of the value e. In each list one member is chosen, so that no list is left. In an object each member's value
+-- becomes a view of it, and a member without a view is left out. The views of `{"a":[1,[2,3]],"b":[]}` are `{"a":1}`, `{"a":2}` and
+-- `{"a":3}` (this project's own reading of the Amazon EventBridge User Guide).
+-- Shown by: pattern_meaning tests.rt: two_fields_need_one_member_of_a_list.
 abbrev mutual
   pub IsView : Tree → Tree → Type 0
   IsView null v = v ≡ null
@@ -39,7 +42,8 @@ abbrev mutual
       ((v : Tree) × (rest : Members) × (seen ≡ member key v rest) × IsView t v × AreViews members rest)
       ⊎ (IsFalse (has_view t) × AreViews members seen)
 
--- the scalar of a view at a path, a list of keys; of two members with one key the first counts
+-- The scalar of a view at a path of keys, if there is one. Of two members with one key the first counts.
+-- Shown by: pattern_meaning tests.rt: a_scalar_is_compared_by_its_spelling.
 abbrev mutual
   pub leaf_at : List (List ℕ) → Tree → Option Tree
   leaf_at [] null = Some null

@@ -1,5 +1,5 @@
--- What can be wrong with a JSON value that is to be a pattern: one list of checks, in the order of the text. Each has its place, which is the keys
--- from the root to it. A check that does not pass is a fault.
+-- What can be wrong with a JSON value that is to be a pattern: one list of checks, in the order of the text. Each has its place, which is
+-- the keys from the root to it. A check that does not pass is a fault.
 use Rattle.std.specs.Prelude.{◌≡◌, ◌⊎◌, ℕ, Bool, false, ◌&&◌, List, [], ◌∷◌, ◌++◌, Option, Some, None, map, flat_map, if◌then◌else◌, codes}
 use Rattle.std.specs.Str.{bytes_eq}
 use Rattle.json_text.specs.Tree.{Tree, text, list, object, Items, no_items, item, Members, no_members, member}
@@ -20,7 +20,9 @@ pub data Condition : Type 0 where
   operand : Kind → Tree → Condition
   wildcard_text : List ℕ → Condition
 
--- the check passes
+-- A check passes: an operand is one that its kind allows (`IsOperand`), or a text is a wildcard. A check that is a fault in any case
+-- (`never`) does not pass.
+-- Shown by: pattern_read tests.rt: tests_that_are_none_are_refused.
 abbrev pub Passes : Condition → Type 0
 Passes (never why) = ⊥
 Passes (operand kind t) = (test : Test) × IsOperand kind t test
@@ -50,12 +52,14 @@ refused why = here (never why)
 abbrev pub under : List ℕ → Checks → Checks
 under key checks = map (λ c. (key ∷ c.0, c.1)) checks
 
--- each check passes
+-- Each check of a list passes: there is no fault.
+-- Shown by: law faults_decide.
 abbrev pub AllPass : Checks → Type 0
 AllPass [] = Unit {0}
 AllPass (c ∷ checks) = Passes c.1 × AllPass checks
 
--- the first check that does not pass is at these keys, with this cause
+-- The first check of the list that does not pass has this cause and these keys.
+-- Shown by: pattern_read tests.rt: the_first_fault_of_the_text_is_reported.
 abbrev pub IsFirst : Checks → List (List ℕ) → Why → Type 0
 IsFirst [] keys why = ⊥
 IsFirst (c ∷ checks) keys why = ((¬ Passes c.1) × (keys ≡ c.0) × (why ≡ cause_of c.1)) ⊎ (Passes c.1 × IsFirst checks keys why)
@@ -109,9 +113,11 @@ no_item_checks (item t items) = []
 abbrev pub id_checks : Bool → List ℕ → Checks
 id_checks root key = if root && bytes_eq key (codes "id") then refused BadId else []
 
--- The first argument is true of the root, and of a branch of a root `$or`.
+-- All that can be wrong with a value that is to be a pattern, but for the number of its alternatives, in the order of the text, each with
+-- the keys from the root to its place. Of `{"a":1,"b":[]}` there are two: `NotObject` at `a`, and `EmptyArray` at `b`. The truth value is
+-- true of the root, and of a branch of a `$or` there.
+-- Shown by: pattern_read tests.rt: the_first_fault_of_the_text_is_reported.
 abbrev mutual
-  -- a value that is to be a pattern
   pub pattern_checks : Bool → Tree → Checks
   pattern_checks root (object ms) = no_member_checks ms ++ members_checks root ms
   pattern_checks root _ = refused NotObject

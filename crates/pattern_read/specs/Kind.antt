@@ -1,11 +1,12 @@
--- The tests that an object names (public guide, "Comparison operators").
+-- The tests that an object names (Amazon EventBridge User Guide, "Comparison operators for use in event patterns in Amazon EventBridge").
 use Rattle.std.specs.Prelude.{ℕ, List, Option, Some, None, option_map, if◌then◌else◌, codes}
 use Rattle.std.specs.Str.{bytes_eq}
 use Rattle.json_text.specs.Tree.{Tree, Members, no_members, member}
 use Rattle.pattern_read.specs.declared.kind.Kind.{Kind}
 use Rattle.pattern_read.specs.declared.kind.Kind.TheVariants.{Prefix, Suffix, EqualsIgnoreCase, Wildcard, AnythingBut, Numeric, Cidr, Exists}
 
--- the kind of test that a key names
+-- The test that a key names: `prefix`, `suffix`, `equals-ignore-case`, `wildcard`, `anything-but`, `numeric`, `cidr` or `exists`.
+-- Shown by: pattern_read tests.rt: each_kind_of_test_is_read.
 abbrev pub kind_of : List ℕ → Option Kind
 kind_of key =
     if bytes_eq key (codes "prefix") then Some Prefix else (

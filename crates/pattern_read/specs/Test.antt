@@ -1,4 +1,4 @@
--- Which test a value in an array of tests is: the table of the public guide, "Comparison operators".
+-- Which test a value in an array of tests is: the table of comparison operators in the Amazon EventBridge User Guide.
 use Rattle.std.specs.Prelude.{◌≡◌, ℕ, Bool, true, false, List, [], ◌∷◌, Option, Some, None, option_map, option_and_then, map, if◌then◌else◌, codes}
 use Rattle.std.specs.List.{list_all}
 use Rattle.std.specs.Str.{bytes_eq}
@@ -35,7 +35,9 @@ folded_text _ _ = None
 abbrev pub folded_in : Members → Option (List ℕ)
 folded_in ms = option_and_then (λ named. folded_text named.0 named.1) (named_in ms)
 
--- `prefix` and `suffix` with a text or `{"equals-ignore-case": text}`, `equals-ignore-case` with a text, `exists` with true or false
+-- The rows of `prefix` and `suffix` (a text, or `{"equals-ignore-case": text}`), `equals-ignore-case` (a text) and `exists` (true or
+-- false).
+-- Shown by: pattern_read tests.rt: each_kind_of_test_is_read.
 abbrev pub plain_test : Kind → Tree → Option Test
 plain_test Prefix (text t) = Some (prefix t)
 plain_test Prefix (object ms) = option_map prefix_ignoring_case (folded_in ms)
@@ -121,7 +123,9 @@ abbrev pub AreExcluded : Tree → List Test → Type 0
 AreExcluded (object ms) tests = AreTextTests (named_in ms) tests
 AreExcluded operand tests = option_map (map same) (scalars_in operand) ≡ Some tests
 
--- the test of this kind with this operand; a row of the table each
+-- The test of a kind with its operand, a line for each kind, in the words of leaf_match and numeric_keys. `numeric` has one comparison or
+-- two. `anything-but` has a text, a number, a list of texts alone or of numbers alone, or one test of texts.
+-- Shown by: pattern_read tests.rt: each_kind_of_test_is_read, tests_that_are_none_are_refused, other_operands_of_anything_but_are_refused.
 abbrev pub IsOperand : Kind → Tree → Test → Type 0
 IsOperand Wildcard (text t) test = IsTextTest Wildcard t test
 IsOperand AnythingBut operand test = (tests : List Test) × AreExcluded operand tests × (test ≡ anything_but (tests_of tests))
@@ -134,7 +138,9 @@ abbrev pub IsNamedTest : Option (Kind × Tree) → Test → Type 0
 IsNamedTest None test = ⊥
 IsNamedTest (Some named) test = IsOperand named.0 named.1 test
 
--- a value in an array of tests: a scalar is the test that a leaf is the same
+-- The test that a value in a list is. A scalar is the test that the leaf is the same; an object is what its one member names. A list is no
+-- test.
+-- Shown by: pattern_read tests.rt: tests_that_are_none_are_refused.
 abbrev pub IsTest : Tree → Test → Type 0
 IsTest (list items) test = ⊥
 IsTest (object ms) test = IsNamedTest (named_in ms) test

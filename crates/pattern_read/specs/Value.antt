@@ -39,9 +39,11 @@ abbrev pub Makes : Members → (List (List ℕ × Field) → List Pattern → Ty
 Makes ms Make p = HasMember ms
     × ((fs : List (List ℕ × Field)) × (bs : List Pattern) × Make fs bs × (p ≡ pattern (fields_of fs) (branches_of bs)))
 
--- The first argument is true of the root, and of a branch of a root `$or`.
+-- The pattern that a value is: an object with a member. `$or` has at least two branches, each a pattern; each other member is a field,
+-- which is a list of at least one test, or a pattern. The truth value says whether the value is the root, or a branch of a `$or` there. If
+-- so, no field has the key `id`.
+-- Shown by: law faults_decide; pattern_read tests.rt: values_that_are_no_patterns_are_refused.
 abbrev mutual
-  -- a pattern is an object
   pub IsPatternOf : Bool → Tree → Pattern → Type 0
   IsPatternOf root (object ms) p = Makes ms (AreMembers root ms) p
   IsPatternOf root _ p = ⊥

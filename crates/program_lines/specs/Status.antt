@@ -3,7 +3,8 @@ use Rattle.std.specs.Prelude.{ℕ, List, [], ◌∷◌, ◌++◌, codes}
 use Rattle.program_lines.specs.declared.status.Status.{Status}
 use Rattle.program_lines.specs.declared.status.Status.TheVariants as statuses
 
--- the exit status of the process
+-- The exit status: `Done` 0, `Usage` 2, `ReadFault` 3, `WriteFault` 4, `NoMemory` 7, `DoorFault` 8, `Cut` 9, `Long` 10, `Refused` 11.
+-- Shown by: bad-arguments; cut-message; bad-head.
 abbrev pub code_of : Status → ℕ
 code_of statuses.Done = 0
 code_of statuses.Usage = 2
@@ -15,7 +16,8 @@ code_of statuses.Cut = 9
 code_of statuses.Long = 10
 code_of statuses.Refused = 11
 
--- the line that reports a status; each line ends in a line feed
+-- The line of a status on standard error, with its line feed; `Done` has none.
+-- Shown by: cut-message.
 abbrev pub fault_line : Status → List ℕ
 fault_line statuses.Done = []
 fault_line statuses.Usage = codes "ebusd: bad arguments" ++ 10 ∷ []

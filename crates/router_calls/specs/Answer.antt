@@ -39,34 +39,40 @@ use Rattle.router_calls.specs.Targets.{AreSplit}
 use Rattle.router_calls.specs.Removals.{removed_ids, failed_ids}
 use Rattle.router_calls.specs.Permission.{has_statement, granting, revoking}
 
--- the batch that is written, if any, and the reply
+-- What a request's turn writes, a batch or none, and its reply.
+-- Shown by: router_calls tests.rt: each_request_is_answered.
 pub record Answer : Type 0 where
   pub batch : Option batch.Batch
   pub reply : Reply
 
--- a reply without a batch
+-- A reply without a batch.
+-- Shown by: router_calls tests.rt: each_request_is_answered.
 abbrev pub reply_alone : Reply → Answer
 reply_alone reply = record { batch = None; reply = reply }
 
--- the entries as a batch, with this reply; or a refusal if the number limit is reached
+-- A batch with its reply, or the refusal of the number limit without a batch.
+-- Shown by: router_calls tests.rt: each_request_is_answered.
 abbrev pub writes : Tables → ℕ → List batch.Entry → Reply → Answer
 writes t moment entries reply =
     if is_full t then reply_alone (refused cause.NumberLimit)
     else record { batch = Some (record { moment = moment; entries = entries }); reply = reply }
 
--- a change of the configuration: written if it is allowed, and else refused for its first fault
+-- A configuration change is written with its reply if it is allowed, and else refused for its first fault.
+-- Shown by: a_refused_change_is_reported_as_done.edit.
 abbrev pub IsControlled : Tables → ℕ → Control → Reply → Answer → Type 0
 IsControlled t moment control reply a =
     (IsAllowed control t.set × (a ≡ writes t moment (batch.control control ∷ []) reply))
     ⊎ ((fault : ControlFault) × (c : Cause) × IsRefused control t.set fault × IsCause control fault c × (a ≡ reply_alone (refused c)))
 
--- the answer to a PutTargets on a rule: the accepted targets are one entry; without one nothing is written
+-- The answer to a PutTargets on a rule: the accepted targets are one operation of a batch; without one nothing is written.
+-- Shown by: router_calls tests.rt: each_request_is_answered.
 abbrev pub targets_answer : Tables → ℕ → List ℕ → List ℕ → List Target → List (List ℕ × Cause) → Answer
 targets_answer t moment bus rule [] failed = reply_alone (targets_reply failed)
 targets_answer t moment bus rule (target ∷ targets) failed =
     writes t moment (batch.control (targets_put bus rule (target ∷ targets)) ∷ []) (targets_reply failed)
 
--- PutTargets: the bus and the rule exist, and each target is accepted or fails by itself
+-- PutTargets. A missing bus or rule is refused; else each target is accepted or fails by itself.
+-- Shown by: router_calls tests.rt: each_request_is_answered.
 abbrev pub IsTargetsPut : Tables → ℕ → List ℕ → List ℕ → List Target → Answer → Type 0
 IsTargetsPut t moment bus rule targets a =
     ((has_bus bus t.set ≡ false) × (a ≡ reply_alone (refused (cause.NotFound kind.EventBus bus))))
@@ -74,68 +80,81 @@ IsTargetsPut t moment bus rule targets a =
     ⊎ ((r : Rule) × (accepted : List Target) × (failed : List (List ℕ × Cause)) × (rule_at bus rule t.set ≡ Some r)
     × AreSplit t.set r.targets targets accepted failed × (a ≡ targets_answer t moment bus rule accepted failed)))
 
--- the item of an entry: the id of its event, or why it failed
+-- The item of an entry: its event's id, or why it failed.
+-- Shown by: router_calls tests.rt: each_request_is_answered.
 abbrev pub entry_report : Placed → Tree
 entry_report (Ok e) = object (members_of ((codes "EventId", text (event_id e.number)) ∷ []))
 entry_report (Err c) = object (members_of (failed_members c))
 
--- the reply to a PutEvents
+-- The reply to a PutEvents: an item for each entry, in their order.
+-- Shown by: router_calls tests.rt: each_request_is_answered.
 abbrev pub entries_reply : List Placed → Reply
 entries_reply all = items_reply (failures_in all) (codes "Entries") (map entry_report all)
 
--- the events as one batch, with this reply; without an event nothing is written
+-- The answer to a PutEvents: the accepted events as one batch, with this reply; without an event nothing is written.
+-- Shown by: an_empty_change_is_written.edit.
 abbrev pub events_answer : Tables → ℕ → List batch.Accepted → Reply → Answer
 events_answer t moment [] reply = reply_alone reply
 events_answer t moment (e ∷ es) reply = writes t moment (map batch.accepted (e ∷ es)) reply
 
--- PutEvents: entries of more than 262,144 bytes together are refused as a whole; else each becomes an event of this rule set, numbered after the
--- last one, or fails by itself
+-- PutEvents of a caller, matched on a rule set. Entries of more than 262,144 bytes together are refused as a whole. Else each becomes an
+-- event of this rule set, numbered after the last one, or fails by itself.
+-- Shown by: a_byte_too_many_is_accepted.edit.
 abbrev pub IsPublished : Tables → RuleSet → List ℕ → ℕ → List Given → ℕ → Answer → Type 0
 IsPublished t set caller moment entries size a =
     ((262144 < size) × (a ≡ reply_alone (refused cause.TooLargeTogether)))
     ⊎ ((size ≤ 262144) × ((all : List Placed) × ArePlaced set caller (t.events + 1) entries all
     × (a ≡ events_answer t moment (events_in all) (entries_reply all))))
 
--- TestEventPattern: whether the pattern with this text matches the event
+-- TestEventPattern: whether the pattern with this text matches the event. Nothing is written.
+-- Shown by: a_tested_pattern_always_matches.edit.
 abbrev pub IsTested : List ℕ → Tree → Answer → Type 0
 IsTested pattern event a = (matches : Bool) × IsTestedAs pattern event matches × (a ≡ reply_alone (tested_reply matches))
 
--- DeleteQueue: a queue that a pending duty or a message names is in use; else the queue is deleted, or the change is refused. One that does not
--- exist is refused as such, whatever names it.
+-- DeleteQueue. An existing queue that a pending delivery or a message names is in use; else it is a change like others. A missing queue is
+-- refused as such, whatever names it.
+-- Shown by: a_missing_queue_is_in_use.edit.
 abbrev pub IsQueueDeleted : Tables → ℕ → List ℕ → Answer → Type 0
 IsQueueDeleted t moment name a =
     ((has_queue name t.set ≡ true) × IsNamed name t.duties × (a ≡ reply_alone (refused (cause.InUse kind.Queue name))))
     ⊎ (((has_queue name t.set ≡ false) ⊎ ¬ (IsNamed name t.duties)) × IsControlled t moment (queue_deleted name) empty_reply a)
 
--- the answer to a DeleteMessages that is to delete these messages, which have the numbers up to `through`; without one nothing is written
+-- The answer to a DeleteMessages that is to delete these messages, which have numbers up to `through`: the deletion is one operation of a
+-- batch; without a message nothing is written.
+-- Shown by: deleted_zero_writes.edit.
 abbrev pub deletion_answer : Tables → ℕ → List ℕ → ℕ → List StoredMessage → Answer
 deletion_answer t moment queue through [] = reply_alone (deletion_reply 0)
 deletion_answer t moment queue through (m ∷ ms) =
     writes t moment (batch.messages_deleted queue through ∷ []) (deletion_reply (length (m ∷ ms)))
 
--- DeleteMessages: the queue's messages with numbers up to `through` are deleted
+-- DeleteMessages: the queue's messages with numbers up to `Through` are deleted; a missing queue is refused.
+-- Shown by: router_calls tests/queues.rt: a_queue_is_deleted_once_nothing_names_it.
 abbrev pub messages_deletion : Tables → ℕ → List ℕ → ℕ → Answer
 messages_deletion t moment queue through =
     if has_queue queue t.set then deletion_answer t moment queue through (messages_through through (messages_of queue t.duties.queues))
     else reply_alone (refused (cause.NotFound kind.Queue queue))
 
--- the bus exists, and the rule does not
+-- The bus exists, and has no rule of this name.
+-- Shown by: a_missing_rule_writes.edit.
 abbrev pub lacks_rule : List ℕ → List ℕ → RuleSet → Bool
 lacks_rule bus name set = has_bus bus set && not (is_some (rule_at bus name set))
 
--- DeleteRule: a rule that does not exist is no fault, and nothing is written
+-- DeleteRule. A rule that does not exist is no fault, and nothing is written; else it is a change like others.
+-- Shown by: a_missing_rule_writes.edit.
 abbrev pub IsRuleDeleted : Tables → ℕ → List ℕ → List ℕ → Answer → Type 0
 IsRuleDeleted t moment bus name a =
     ((lacks_rule bus name t.set ≡ true) × (a ≡ reply_alone empty_reply))
     ⊎ ((lacks_rule bus name t.set ≡ false) × IsControlled t moment (rule_deleted bus name) empty_reply a)
 
--- the answer to a RemoveTargets on a rule: the removed ids are one entry; without one nothing is written
+-- The answer to a RemoveTargets on a rule: the removed ids are one operation of a batch; without one nothing is written.
+-- Shown by: router_calls tests.rt: each_change_is_answered.
 abbrev pub removals_answer : Tables → ℕ → List ℕ → List ℕ → List (List ℕ) → List (List ℕ × Cause) → Answer
 removals_answer t moment bus rule [] failed = reply_alone (targets_reply failed)
 removals_answer t moment bus rule (id ∷ ids) failed =
     writes t moment (batch.control (targets_removed bus rule (id ∷ ids)) ∷ []) (targets_reply failed)
 
--- RemoveTargets: the bus and the rule exist, and each id is removed or fails by itself
+-- RemoveTargets. A missing bus or rule is refused; else each id is removed or fails by itself.
+-- Shown by: router_calls tests.rt: each_change_is_answered.
 abbrev pub AreTargetsRemoved : Tables → ℕ → List ℕ → List ℕ → List (List ℕ) → Answer → Type 0
 AreTargetsRemoved t moment bus rule ids a =
     ((has_bus bus t.set ≡ false) × (a ≡ reply_alone (refused (cause.NotFound kind.EventBus bus))))
@@ -143,45 +162,56 @@ AreTargetsRemoved t moment bus rule ids a =
     ⊎ ((r : Rule) × (rule_at bus rule t.set ≡ Some r)
     × (a ≡ removals_answer t moment bus rule (removed_ids ids r.targets) (failed_ids ids r.targets))))
 
--- a change of the policy of a bus, which has to exist
+-- A change of the policy of a bus. A missing bus is refused.
+-- Shown by: router_calls tests.rt: each_change_is_answered.
 abbrev pub IsOnBus : Tables → List ℕ → (Bus → Answer → Type 0) → Answer → Type 0
 IsOnBus t bus IsChanged a =
     ((has_bus bus t.set ≡ false) × (a ≡ reply_alone (refused (cause.NotFound kind.EventBus bus))))
     ⊎ ((b : Bus) × (named (λ other. other.name) bus t.set.buses ≡ Some b) × IsChanged b a)
 
--- PutPermission with a Policy: the bus gets this policy, by its text as it is stored
+-- PutPermission with a `Policy`: the bus gets this policy, by its text as it is stored. The change is made or refused like others.
+-- Shown by: permissions.
 abbrev pub IsPolicyPut : Tables → ℕ → List ℕ → List ℕ → Answer → Type 0
 IsPolicyPut t moment bus policy a = IsControlled t moment (policy_put bus (Some policy)) empty_reply a
 
--- PutPermission of a statement to this policy: refused if the policy has its StatementId already, else the policy with the statement is put
+-- A statement is put to a policy: refused if the policy has its StatementId already, else the policy with the statement is put.
+-- Shown by: router_calls tests.rt: each_change_is_answered.
 abbrev pub IsGranted : Tables → ℕ → List ℕ → List ℕ → Option (List ℕ) → Option Tree → Answer → Type 0
 IsGranted t moment bus sid account policy a =
     ((has_statement sid policy ≡ true) × (a ≡ reply_alone (refused (cause.StatementExists sid))))
     ⊎ ((has_statement sid policy ≡ false)
     × IsControlled t moment (policy_put bus (Some (compact_text (granting bus sid account policy)))) empty_reply a)
 
+-- PutPermission of a statement, by the policy that the text of the bus is (router_core `IsPolicyOf`).
+-- Shown by: a_statement_put_first.edit.
 abbrev pub IsStatementPut : Tables → ℕ → List ℕ → List ℕ → Option (List ℕ) → Answer → Type 0
 IsStatementPut t moment bus sid account a =
     IsOnBus t bus (λ b answer. (policy : Option Tree) × IsPolicyOf b.policy policy × IsGranted t moment bus sid account policy answer) a
 
--- RemovePermission of a statement from this policy: refused if the policy has none of this StatementId
+-- A statement is removed from a policy: refused if the policy has none of this StatementId, else what is left is put.
+-- Shown by: router_calls tests.rt: each_change_is_answered.
 abbrev pub IsRevoked : Tables → ℕ → List ℕ → List ℕ → Option Tree → Answer → Type 0
 IsRevoked t moment bus sid None a = a ≡ reply_alone (refused (cause.NoStatement sid))
 IsRevoked t moment bus sid (Some policy) a =
     ((has_statement sid (Some policy) ≡ true) × IsControlled t moment (policy_put bus (revoking sid policy)) empty_reply a)
     ⊎ ((has_statement sid (Some policy) ≡ false) × (a ≡ reply_alone (refused (cause.NoStatement sid))))
 
--- RemovePermission of a statement, which needs a StatementId
+-- RemovePermission on a bus: without a StatementId it is refused.
+-- Shown by: router_calls tests.rt: each_change_is_answered.
 abbrev pub IsStatementRemovedFrom : Tables → ℕ → List ℕ → Option (List ℕ) → Bus → Answer → Type 0
 IsStatementRemovedFrom t moment bus None b a = a ≡ reply_alone (refused (cause.Required member.StatementId))
 IsStatementRemovedFrom t moment bus (Some sid) b a =
     (policy : Option Tree) × IsPolicyOf b.policy policy × IsRevoked t moment bus sid policy a
 
+-- RemovePermission of a statement: a missing bus is refused; else by `IsStatementRemovedFrom`.
+-- Shown by: router_calls tests.rt: each_change_is_answered.
 abbrev pub IsStatementRemoved : Tables → ℕ → List ℕ → Option (List ℕ) → Answer → Type 0
 IsStatementRemoved t moment bus sid a = IsOnBus t bus (IsStatementRemovedFrom t moment bus sid) a
 
--- the answer to a request of this caller at the moment of its turn, from the tables before it; events are matched on the given rule set.
--- DeliverDue has none: it is answered by its steps.
+-- The answer to a request of a caller by cases on its action, at the moment of its turn, from the tables before it. Events are matched on
+-- the given rule set; everything else goes by that of the tables. A DeliverDue has no answer here: it is answered by its steps
+-- (router_sessions `IsDelivery`).
+-- Shown by: router_calls tests.rt: each_request_is_answered.
 abbrev pub IsAnswerAt : Tables → RuleSet → List ℕ → ℕ → Action → Answer → Type 0
 IsAnswerAt t set caller moment (create_event_bus name) a =
     IsControlled t moment (bus_created name) (served ((codes "EventBusArn", text (bus_arn name)) ∷ [])) a
@@ -212,9 +242,10 @@ IsAnswerAt t set caller moment (delete_messages queue through) a = a ≡ message
 IsAnswerAt t set caller moment duty_counts a = a ≡ reply_alone (duties_reply t.duties)
 IsAnswerAt t set caller moment (deliver_due budget) a = ⊥
 
--- The answer to the request, from these tables, with configuration version k, whose rule set is `set`. Events may be matched on an earlier
--- version; everything else goes by the latest one. A request outside its bounds has no answer, and neither has one that its caller may not
--- make.
+-- `IsAnswerAt` at the moment of the turn, on a configuration version that the tables have had. Only a PutEvents may be matched on an
+-- earlier version than the latest. A request outside `IsBounded` has no answer, and neither has one that its caller may not make
+-- (router_core `IsEntitled`).
+-- Shown by: router_calls tests.rt: each_request_is_answered.
 pub record IsAnswer (t : Tables) (request : Request) (k : ℕ) (set : RuleSet) (a : Answer) : Type 0 where
   pub bounded : IsBounded request.action
   pub entitled : IsEntitled request

@@ -18,20 +18,24 @@ use Rattle.router_core.specs.Request.{put_rule_state, describe_rule, list_rules,
 use Rattle.router_core.specs.Request.{list_rule_names_by_target, put_policy, put_statement, remove_policy, remove_statement, put_events}
 use Rattle.router_core.specs.Request.{test_event_pattern, create_queue, delete_queue, peek_messages, delete_messages, duty_counts, deliver_due}
 
--- an entry of a PutEvents without a fault is for a bus name
+-- An entry without a fault is for a bus name.
+-- Shown by: router_calls tests.rt: each_request_is_answered.
 abbrev pub IsForBus : Result Unnumbered EntryFault → Type 0
 IsForBus (Ok event) = IsBusName event.bus
 IsForBus (Err fault) = Unit {0}
 
--- a StatementId, if one is given
+-- A StatementId, if one is given.
+-- Shown by: router_calls tests.rt: each_change_is_answered.
 abbrev pub IsStatementIdIfGiven : Option (List ℕ) → Type 0
 IsStatementIdIfGiven None = Unit {0}
 IsStatementIdIfGiven (Some sid) = IsStatementId sid
 
--- The names and ARNs have their syntax. A PutTargets has 1 to 100 targets, a RemoveTargets 1 to 100 ids, and a PutEvents 1 to 10 entries, as in
--- the public API; a PeekMessages shows 1 to 1,000 messages, a DeleteMessages deletes those up to a number below 2 ^ 48, and a DeliverDue makes
--- 1 to 1,000 steps (these three are this project's own). A policy that is put is one as it is stored, of any length; a statement that is put is
--- for an account or for everyone. A PutRule has a pattern, and a TestEventPattern a pattern and a JSON value.
+-- The names, ARNs and ids of a request have their syntax. As in the Amazon EventBridge API Reference, a PutTargets has 1 to 100 targets, a
+-- RemoveTargets 1 to 100 ids, a PutEvents 1 to 10 entries, each for a bus name or faulty. By this project's own rule, a PeekMessages shows
+-- 1 to 1,000 messages, a DeleteMessages deletes those up to a number below 2 ^ 48, a DeliverDue makes 1 to 1,000 steps. A PutRule has a
+-- pattern, a TestEventPattern a pattern and a JSON value. A policy that is put is one as it is stored, of any length; a statement that is
+-- put is for an account or for everyone.
+-- Shown by: api_wire tests.rt: a_message_has_its_first_refusal.
 abbrev pub IsBounded : Action → Type 0
 IsBounded (create_event_bus name) = IsWellFormed (bus_created name)
 IsBounded (delete_event_bus name) = IsWellFormed (bus_deleted name)

@@ -7,7 +7,9 @@ use Rattle.config_changes.specs.Control.{targets_removed, policy_put, queue_crea
 use Rattle.router_core.specs.Request.{Action, create_event_bus, delete_event_bus, put_rule, delete_rule, put_rule_state, put_targets, remove_targets}
 use Rattle.router_core.specs.Request.{put_policy, put_statement, remove_policy, remove_statement, create_queue, delete_queue}
 
--- the change is one that the action makes: a PutTargets puts some of its targets, and a RemoveTargets removes some of its ids
+-- The change of the configuration is one that the action makes. A PutTargets puts some of its targets, and a RemoveTargets removes some of
+-- its ids; another call makes the change that it names.
+-- Shown by: router_calls tests.rt: each_change_is_answered.
 abbrev pub MayMake : Action → Control → Type 0
 MayMake (create_event_bus name) c = c ≡ bus_created name
 MayMake (delete_event_bus name) c = c ≡ bus_deleted name

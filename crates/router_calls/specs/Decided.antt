@@ -7,6 +7,7 @@ use Rattle.router_core.specs.declared.ready.Ready.{Ready}
 use Rattle.api_replies.specs.declared.reply.Reply.{Reply}
 use Rattle.router_calls.specs.Answer.{Answer}
 
--- the batch of the change, if there is one, and the reply
+-- What contracts see of the code's answer: the batch of the change, if there is one, and the reply.
+-- Shown by: router_calls tests.rt: each_request_is_answered.
 abbrev pub answer_of : Option Ready × Reply → Answer
 answer_of p = record { batch = option_map (λ r. batch_of r.batch) p.0; reply = reply_of p.1 }

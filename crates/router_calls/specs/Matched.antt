@@ -6,7 +6,9 @@ use Rattle.router_core.specs.Tables.{Tables}
 use Rattle.router_core.specs.Matching.{IsSeen}
 use Rattle.router_core.specs.declared.seen.Seen.{Seen}
 
--- the result is that of matching the request on this rule set, which the tables have had; it is their latest one unless the request publishes events
+-- What `decide` asks of the result of matching: it is that of the request on a sound rule set, whose version the tables have had; the
+-- latest one, unless the request publishes events.
+-- Shown by: router_calls tests.rt: each_request_is_answered.
 pub record IsMatchedOn (t : Tables) (request : Request) (set : RuleSet) (seen : Seen) : Type 0 where
   pub sound : IsSound set
   pub is_seen : IsSeen set request seen

@@ -5,21 +5,25 @@ use Rattle.json_text.specs.Compact.{compact_text}
 use Rattle.bus_policy.specs.Parts.{statements_of}
 use Rattle.bus_policy.specs.Change.{allow_for, first_policy, with_statement, some_has_sid, without_sid, without_statement}
 
--- some statement of the policy has this StatementId as its Sid; without a policy there is no statement
+-- Some statement of the policy has this StatementId as its Sid. Without a policy there is no statement.
+-- Shown by: router_calls tests.rt: each_change_is_answered.
 abbrev pub has_statement : List ℕ → Option Tree → Bool
 has_statement sid None = false
 has_statement sid (Some policy) = some_has_sid sid (statements_of policy)
 
--- the policy with one more statement, which lets the account, or everyone, put events on the bus
+-- The policy with one more statement, the last, which lets the account, or everyone, put events on the bus.
+-- Shown by: a_statement_put_first.edit.
 abbrev pub granting : List ℕ → List ℕ → Option (List ℕ) → Option Tree → Tree
 granting bus sid account None = first_policy (allow_for sid account bus)
 granting bus sid account (Some policy) = with_statement policy (allow_for sid account bus)
 
--- the text of the policy if statements are left in it; with its last statement the policy goes
+-- The text of a policy if statements are left in it. With its last statement the policy goes.
+-- Shown by: router_calls tests.rt: each_change_is_answered.
 abbrev pub unless_empty : Items → Tree → Option (List ℕ)
 unless_empty no_items policy = None
 unless_empty (item statement_value statements) policy = Some (compact_text policy)
 
--- the policy without the statements of this StatementId
+-- The policy without the statements of a StatementId.
+-- Shown by: router_calls tests.rt: each_change_is_answered.
 abbrev pub revoking : List ℕ → Tree → Option (List ℕ)
 revoking sid policy = unless_empty (without_sid sid (statements_of policy)) (without_statement policy sid)

@@ -7,8 +7,9 @@ use Rattle.rule_table.specs.Refusal.{HasTargetFault}
 use Rattle.api_replies.specs.declared.cause.Cause.{Cause}
 use Rattle.call_replies.specs.Causes.{IsTargetCause}
 
--- The targets that are accepted, and the id and the refusal of each other one, both in their order. Each target is put to the rule's targets
--- with the accepted ones before it, so one that replaces another is no sixth.
+-- The targets that are accepted, and the id and the refusal of each other one, both in their order. Each target is put to the rule's
+-- targets with the accepted ones before it, so one that replaces another is no sixth.
+-- Shown by: a_faulty_target_is_put.edit.
 abbrev pub AreSplit : RuleSet → List Target → List Target → List Target → List (List ℕ × Cause) → Type 0
 AreSplit set have [] accepted failed = (accepted ≡ []) × (failed ≡ [])
 AreSplit set have (target ∷ targets) accepted failed =

@@ -4,8 +4,9 @@ use Rattle.delivery_duties.specs.declared.duty.NewDuty.{NewDuty}
 use Rattle.delivery_duties.specs.declared.outcome.Outcome.{Outcome}
 use Rattle.config_changes.specs.Control.{Control}
 
--- an accepted event: its number, its bus, the configuration version `k` at which it was matched, the moment of its member `time`,
--- its text, and its duties
+-- An accepted event: its number, its bus, the configuration version `k` that it was matched on, the moment of its `time`, its text and its
+-- duties.
+-- Shown by: first-run.
 pub record Accepted : Type 0 where
   pub number : ℕ
   pub bus : List ℕ
@@ -14,15 +15,17 @@ pub record Accepted : Type 0 where
   pub text : List ℕ
   pub duties : List NewDuty
 
--- one entry: a change of the configuration, an accepted event, the outcome of an attempt of the duty with this number, or the deletion of the
--- queue's messages with numbers up to this one
+-- One operation of a batch: a configuration change, an accepted event, the outcome of an attempt of a duty, or the deletion of a queue's
+-- messages with numbers up to one.
+-- Shown by: first-run; empty-a-queue.
 pub data Entry : Type 0 where
   control : Control → Entry
   accepted : Accepted → Entry
   attempt : (duty : ℕ) (outcome : Outcome) → Entry
   messages_deleted : (queue : List ℕ) (through : ℕ) → Entry
 
--- one turn: its moment, and its entries in order
+-- What one turn changes, as a journal records it: a moment, and operations (`Entry`) in their order.
+-- Shown by: a_change_is_made_at_moment_0.edit.
 pub record Batch : Type 0 where
   pub moment : ℕ
   pub entries : List Entry

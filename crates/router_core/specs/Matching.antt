@@ -22,21 +22,25 @@ use Rattle.router_core.specs.declared.seen.SeenResult.{SeenResult}
 use Rattle.router_core.specs.declared.seen.SeenResult.TheVariants.{Entries, Tested, Nothing}
 use Rattle.router_core.specs.declared.seen.Seen.{Seen}
 
--- the text is a pattern, which holds of the event
+-- The text is a pattern, which holds of the event.
+-- Shown by: router_calls tests.rt: a_pattern_is_tested_on_an_event.
 pub record TextMatches (text : List ℕ) (event : Tree) : Type 0 where
   pub pattern : Pattern
   pub read : IsPatternText text pattern
   pub holds : PatternHolds pattern event
 
--- the rule is enabled, and its pattern matches the event
+-- The rule is enabled, and its pattern matches the event.
+-- Shown by: a_disabled_rule_matches.edit.
 abbrev pub Matches : Rule → Tree → Type 0
 Matches rule event = (rule.enabled ≡ true) × TextMatches rule.pattern event
 
--- a target of a rule, as a match finds it
+-- A target of a rule as matching finds it: its row (rule_table `row_of`).
+-- Shown by: router_core tests.rt: the_targets_of_the_rules_that_match_are_seen.
 abbrev pub seen_target : Rule → Target → SeenTarget
 seen_target rule target = record { row = row_of rule target }
 
--- the targets of the rules that match the event, in the order of the rules, and in the order of targets within a rule
+-- The targets of the rules that match, by rule in the order of the rule set, and by target in the rule's order.
+-- Shown by: one_duty_per_rule.edit.
 abbrev pub AreMatched : List Rule → Tree → List SeenTarget → Type 0
 AreMatched [] event targets = targets ≡ []
 AreMatched (rule ∷ rules) event targets =
@@ -44,33 +48,39 @@ AreMatched (rule ∷ rules) event targets =
     × ((Matches rule event × (targets ≡ map (seen_target rule) rule.targets ++ rest))
     ⊎ ((¬ Matches rule event) × (targets ≡ rest)))
 
--- the targets of the rules of its bus that match the event, whatever number it gets: no pattern tests an event's id
+-- The targets of the rules of its bus that match an event which has no number yet, whatever number it gets: no pattern tests an event's id.
+-- Shown by: router_core tests.rt: the_targets_of_the_rules_that_match_are_seen.
 abbrev pub AreMatchedFor : RuleSet → Unnumbered → List SeenTarget → Type 0
 AreMatchedFor set event targets =
     (number : ℕ) → AreMatched (rules_of event.bus set) (event_tree (with_number number event.event) None) targets
 
--- the targets of an entry with this verdict: those that match an allowed event; any other entry has none
+-- An allowed event has the targets that match it; any other entry has none.
+-- Shown by: router_core tests.rt: a_policy_decides_who_publishes.
 abbrev pub AreTargetsOf : RuleSet → Result Unnumbered EntryFault → SeenVerdict → List SeenTarget → Type 0
 AreTargetsOf set (Ok event) Allowed targets = AreMatchedFor set event targets
 AreTargetsOf set entry verdict targets = targets ≡ []
 
--- the result of matching an entry of this caller
+-- The result of matching an entry of a caller: its verdict and its targets.
+-- Shown by: router_core tests.rt: a_policy_decides_who_publishes.
 pub record IsSeenEntry (set : RuleSet) (caller : List ℕ) (entry : Result Unnumbered EntryFault) (seen : SeenEntry) : Type 0 where
   pub verdict : IsEntryVerdict set caller entry seen.verdict
   pub targets : AreTargetsOf set entry seen.verdict seen.targets.items
 
--- the results of matching entries, in their order
+-- The results of matching entries, one each, in their order.
+-- Shown by: router_core tests.rt: the_targets_of_the_rules_that_match_are_seen.
 abbrev pub AreSeenEntries : RuleSet → List ℕ → List (Result Unnumbered EntryFault) → List SeenEntry → Type 0
 AreSeenEntries set caller [] all = all ≡ []
 AreSeenEntries set caller (entry ∷ entries) [] = ⊥
 AreSeenEntries set caller (entry ∷ entries) (seen ∷ all) = IsSeenEntry set caller entry seen × AreSeenEntries set caller entries all
 
--- whether the pattern of this text matches the event
+-- Whether the pattern of this text matches the event.
+-- Shown by: router_calls tests.rt: a_pattern_is_tested_on_an_event.
 abbrev pub IsTestedAs : List ℕ → Tree → Bool → Type 0
 IsTestedAs pattern event true = TextMatches pattern event
 IsTestedAs pattern event false = ¬ TextMatches pattern event
 
--- what matching finds for an action: for entries what becomes of each, for a tested pattern whether it matches, and else nothing
+-- What matching finds for an action: for a PutEvents what becomes of each entry, for a TestEventPattern whether it matches, else nothing.
+-- Shown by: router_core tests.rt: the_targets_of_the_rules_that_match_are_seen.
 abbrev pub IsSeenResult : RuleSet → List ℕ → Action → SeenResult → Type 0
 IsSeenResult set caller (put_events entries size) (Entries all) = AreSeenEntries set caller entries all.items
 IsSeenResult set caller (put_events entries size) result = ⊥
@@ -78,26 +88,31 @@ IsSeenResult set caller (test_event_pattern pattern event) (Tested matches) = Is
 IsSeenResult set caller (test_event_pattern pattern event) result = ⊥
 IsSeenResult set caller action result = result ≡ Nothing
 
--- the result of matching a request on the rule set, and the configuration version of the rule set
+-- The result of matching a request on a rule set: the configuration version `k`, and what is found.
+-- Shown by: router_core tests.rt: the_targets_of_the_rules_that_match_are_seen.
 pub record IsSeen (set : RuleSet) (request : Request) (seen : Seen) : Type 0 where
   pub k : seen.k ≡ set.count
   pub result : IsSeenResult set request.caller request.action seen.result
 
--- a tested event is a JSON value
+-- A tested event is a JSON value.
+-- Shown by: router_calls tests.rt: a_pattern_is_tested_on_an_event.
 abbrev pub HasValue : Action → Type 0
 HasValue (test_event_pattern pattern event) = IsValue event
 HasValue action = Unit {0}
 
--- the result of matching one event that is there already against the rules of the bus: the configuration version, and the targets
+-- The result of matching one event that is there already: the configuration version, and the targets of `AreMatched`.
+-- Shown by: router_core tests.rt: the_targets_of_the_rules_that_match_are_seen.
 pub record IsSeenEvent (set : RuleSet) (bus : List ℕ) (event : Tree) (k : ℕ) (targets : List SeenTarget) : Type 0 where
   pub version : k ≡ set.count
   pub matched : AreMatched (rules_of bus set) event targets
 
--- the text has more bytes than a target accepts (this project's own limit)
+-- The text has more bytes than a target accepts, which are 1,048,576 (this project's own limit).
+-- Shown by: router_core tests.rt: each_target_is_owed_one_duty.
 abbrev pub is_too_long : List ℕ → Bool
 is_too_long text = not (nat_le (length text) 1048576)
 
--- the duty of one target: it has the event's text, or `{}` if the text is too long
+-- The duty of one target: the target's row, and the event's text, or `{}` if that is too long.
+-- Shown by: a_too_long_text_is_sent.edit.
 abbrev pub duty_of : List ℕ → SeenTarget → NewDuty
 duty_of text seen = record {
   target = seen.row;
@@ -105,6 +120,7 @@ duty_of text seen = record {
   too_long = is_too_long text;
 }
 
--- one duty for each target of each rule that matches, in their order
+-- One duty for each target of each rule that matches, in their order.
+-- Shown by: router_core tests.rt: each_target_is_owed_one_duty.
 abbrev pub AreDuties : List Rule → Tree → List ℕ → List NewDuty → Type 0
 AreDuties rules event text duties = (targets : List SeenTarget) × AreMatched rules event targets × (duties ≡ map (duty_of text) targets)

@@ -6,9 +6,10 @@ use Rattle.event_shape.specs.Unnumbered.{Unnumbered}
 use Rattle.event_shape.specs.declared.entry.EntryFault.{EntryFault}
 use Rattle.config_changes.specs.declared.control.Target.{Target}
 
--- What a request asks for. An entry of a PutEvents is an event without its number, or has a fault; `size` is the number of bytes of all
--- entries together. `put_policy` has the policy's text as it would be stored. Of a `put_statement` the statement allows this account, or
--- everyone. A `remove_statement` that gives no StatementId is refused.
+-- What a request asks for: an action with its members. Each bus is given by its name. An entry of a PutEvents is an event without its
+-- number, or has a fault; `size` is the number of bytes of all entries together. `put_policy` has the policy's text as it would be stored.
+-- A `put_statement` allows this account, or everyone. A `remove_statement` that gives no StatementId is refused.
+-- Shown by: api_wire tests.rt: a_message_has_its_first_refusal.
 pub data Action : Type 0 where
   create_event_bus : (name : List ℕ) → Action
   delete_event_bus : (name : List ℕ) → Action
@@ -36,7 +37,8 @@ pub data Action : Type 0 where
   deliver_due : (budget : ℕ) → Action
   duty_counts : Action
 
--- the action is made by one turn; the steps of a DeliverDue are turns of their own
+-- The action is done by one turn. That is every action except DeliverDue, whose steps are turns of their own.
+-- Shown by: api_wire tests.rt: a_message_has_its_first_refusal.
 abbrev pub IsOneTurn : Action → Type 0
 IsOneTurn (deliver_due budget) = ⊥
 IsOneTurn _ = Unit {0}
@@ -56,13 +58,15 @@ abbrev pub AreEntriesOf : List ℕ → Action → Type 0
 AreEntriesOf account (put_events entries size) = All (IsEntryOf account) entries
 AreEntriesOf account _ = Unit {0}
 
--- an action, the account that asks for it, and the clock's reading when the request had been read whole
+-- An action, the account that asks for it, and the clock's reading when its message was whole.
+-- Shown by: api_wire tests/requests.rt: a_request_has_what_the_message_gives.
 pub record Request : Type 0 where
   pub action : Action
   pub caller : List ℕ
   pub reading : ℕ
 
--- the request is one that a caller may make: only the owner asks for anything but to publish events, and events have their caller's account
+-- The caller may make the request: it is the owner, or it publishes events; and the events have the caller's account.
+-- Shown by: api_wire tests.rt: a_message_has_its_first_refusal.
 pub record IsEntitled (request : Request) : Type 0 where
   pub allowed : (request.caller ≡ owner) ⊎ IsPublishing request.action
   pub own : AreEntriesOf request.caller request.action

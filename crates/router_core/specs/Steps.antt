@@ -12,15 +12,18 @@ use Rattle.router_core.specs.Batch.{attempt, Batch}
 use Rattle.router_core.specs.Tables.{Tables}
 use Rattle.router_core.specs.declared.errand.Errand.{Errand}
 
--- the tables with the duty claimed
+-- The tables with the duty claimed. No batch records it.
+-- Shown by: router_calls tests/queues.rt: a_delivery_is_retried_until_its_event_is_too_old.
 abbrev pub claiming : ℕ → Tables → Tables
 claiming duty t = record t { duties = claimed duty t.duties }
 
--- the tables with the duty's claim released
+-- The tables with the claim released. No batch records it.
+-- Shown by: a_claim_is_not_released.edit.
 abbrev pub putting_back : ℕ → Tables → Tables
 putting_back duty t = record t { duties = unclaimed duty t.duties }
 
--- the errand is that of a claimed duty of these tables, which was due when it was claimed
+-- The errand is that of a claimed duty of these tables, which was due when it was claimed.
+-- Shown by: session_tests program.rt: an_endpoint_is_sent_the_event_once.
 pub record IsErrandOf (t : Tables) (e : Errand) : Type 0 where
   pub row : DutyRow
   pub pending : pending_row e.claim.number t.duties ≡ Some row
@@ -28,7 +31,8 @@ pub record IsErrandOf (t : Tables) (e : Errand) : Type 0 where
   pub due : row.due ≤ e.moment
   pub endpoint : e.target.endpoint ≡ row.duty.target.endpoint
 
--- the duty that is due first at the moment was claimed; the errand has its target, its text and the moment at which it was made
+-- The duty that is due first was claimed, and its errand has its target, its text and the moment at which it was made.
+-- Shown by: session_tests program.rt: an_endpoint_is_sent_the_event_once.
 pub record IsClaimed (old : Tables) (moment : ℕ) (e : Errand) (new : Tables) : Type 0 where
   pub next : IsNext old.duties moment e.claim.number
   pub at : e.moment ≡ moment
@@ -40,17 +44,20 @@ pub record IsClaimed (old : Tables) (moment : ℕ) (e : Errand) (new : Tables) :
   pub text : e.text ≡ row.duty.text
   pub accepted : e.accepted ≡ row.accepted
 
--- what is recorded of an attempt to reach the endpoint that ended so: a text for a queue that does not exist was not accepted
+-- The outcome that is recorded: the one that is given, but a text for a queue that does not exist was not accepted.
+-- Shown by: a_missing_queue_accepts.edit.
 abbrev pub IsRecordedAs : List Queue → List ℕ → Outcome → Outcome → Type 0
 IsRecordedAs queues endpoint ended recorded =
     ((recorded ≡ ended) × (ended ≡ Accepted → (queue : List ℕ) → IsQueueArn endpoint queue → has_queue queue queues ≡ true))
     ⊎ ((ended ≡ Accepted) × (recorded ≡ NoQueue) × ((queue : List ℕ) × IsQueueArn endpoint queue × (has_queue queue queues ≡ false)))
 
--- the batch that records the outcome of an attempt
+-- The batch that records the outcome of an attempt.
+-- Shown by: first-run.
 abbrev pub record_of : ℕ → ℕ → Outcome → Batch
 record_of moment duty outcome = record { moment = moment; entries = attempt duty outcome ∷ [] }
 
--- the fate of the duty of this row after an attempt at the moment, with these queues
+-- The fate of a duty after an attempt, with these queues.
+-- Shown by: dead-letters.
 abbrev pub fate_after : List Queue → ℕ → DutyRow → Outcome → Fate
 fate_after queues moment row outcome = fate_of (after_attempt (waits row)
     (record { moment = moment; outcome = outcome; has_dead_letter_queue = has_dead_letter_queue row.duty.target queues }))

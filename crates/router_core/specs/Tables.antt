@@ -6,8 +6,9 @@ use Rattle.rule_table.specs.RuleSet.{RuleSet, first_set, applied}
 use Rattle.delivery_duties.specs.Duties.{Duties, no_duties, with_new_queue, forgotten, with_deleted, added, settled}
 use Rattle.router_core.specs.Batch.{Entry, control, accepted, attempt, messages_deleted, Batch}
 
--- the rule set, the duties with the queues' messages, the numbers of accepted events, of entries and of batches so far, and the moment
--- of the last batch
+-- The state of the router: the rule set, the duties and the queue messages, the numbers of events, of operations and of batches so far, and
+-- the moment of the last batch.
+-- Shown by: router_core tests.rt: the_first_tables_are_empty.
 pub record Tables : Type 0 where
   pub set : RuleSet
   pub duties : Duties
@@ -16,51 +17,63 @@ pub record Tables : Type 0 where
   pub batches : ℕ
   pub moment : ℕ
 
--- the tables before any batch
+-- The tables before any batch; all numbers and the moment are 0.
+-- Shown by: router_core tests.rt: the_first_tables_are_empty.
 abbrev pub first_tables : Tables
 first_tables = record { set = first_set; duties = no_duties; events = 0; entries = 0; batches = 0; moment = 0 }
 
--- the duties after a change of the configuration: a created queue is added, with no message; a deleted queue is forgotten
+-- The duties after a configuration change: one that creates a queue adds that queue, one that deletes a queue removes it with its messages,
+-- any other changes nothing.
+-- Shown by: a_deleted_queue_keeps_its_messages.edit.
 abbrev pub duties_after : Control → Duties → Duties
 duties_after (queue_created name) duties = with_new_queue name duties
 duties_after (queue_deleted name) duties = forgotten name duties
 duties_after _ duties = duties
 
--- the tables after an entry at the moment; the duties of an event are due at once
+-- The tables after one operation (`Entry`) at a moment. The duties of an event are due at once.
+-- Shown by: first-run.
 abbrev pub after_entry : ℕ → Entry → Tables → Tables
 after_entry moment (control c) t = record t { set = applied c t.set; duties = duties_after c t.duties; entries = t.entries + 1 }
 after_entry moment (accepted e) t = record t { duties = added e.duties moment t.duties; events = t.events + 1; entries = t.entries + 1 }
 after_entry moment (attempt duty outcome) t = record t { duties = settled duty moment outcome t.duties; entries = t.entries + 1 }
 after_entry moment (messages_deleted queue through) t = record t { duties = with_deleted queue through t.duties; entries = t.entries + 1 }
 
--- the tables after entries at the moment, in their order
+-- The tables after operations, in their order.
+-- Shown by: entries.
 abbrev pub after_entries : ℕ → List Entry → Tables → Tables
 after_entries moment [] t = t
 after_entries moment (e ∷ es) t = after_entries moment es (after_entry moment e t)
 
--- the tables after a batch
+-- The tables after a batch. The moment never falls: it is the greater one of the tables' and the batch's.
+-- Shown by: a_change_is_made_at_moment_0.edit.
 abbrev pub after_batch : Batch → Tables → Tables
 after_batch b t = record (after_entries b.moment b.entries t) { batches = t.batches + 1; moment = max t.moment b.moment }
 
--- the tables after batches, oldest first
+-- The fold: the tables after a list of batches, oldest first.
+-- Shown by: proofs alone.
 abbrev pub tables_after : List Batch → Tables → Tables
 tables_after [] t = t
 tables_after (b ∷ bs) t = tables_after bs (after_batch b t)
 
--- no further batch is made once there are this many entries or duties (this project's own limit)
+-- 2^48 = 281,474,976,710,656: no further batch is made once there are this many operations or duties (this project's own limit).
+-- Shown by: full_comes_one_later.edit.
 abbrev pub number_limit : ℕ
 number_limit = 2 ^ 48
 
--- the number limit is reached: there are at least that many entries, or duties
+-- The number limit is reached: there were 2^48 operations or 2^48 duties, so no further batch may begin. One that begins below the limit
+-- may end above it.
+-- Shown by: full_comes_one_later.edit.
 abbrev pub is_full : Tables → Bool
 is_full t = nat_le number_limit t.entries || nat_le number_limit t.duties.created
 
--- the moment of a turn: the clock's reading, or the moment of the last batch if that is greater
+-- The moment of a turn: the clock's reading, or the moment of the last batch if that is greater.
+-- Shown by: session_tests tests.rt: a_delivery_has_the_reading_of_its_own_step.
 abbrev pub moment_at : Tables → ℕ → ℕ
 moment_at t reading = max reading t.moment
 
--- What holds of all tables that admitted batches make from the first ones: the queues with messages are those of the rule set, and the
--- numbers stay in their bounds.
+-- What holds of all tables that admitted batches make from the first ones: the queues with messages are those of the rule set, in the same
+-- order, and all numbers are in range.
+-- Shown by: router_core tests.rt: the_first_tables_are_empty.
 pub record IsConsistent (t : Tables) : Type 0 where
   pub queues : map (λ queue. queue.name) t.duties.queues ≡ t.set.queues
   pub moment : IsMoment t.moment

@@ -26,13 +26,15 @@ seen_verdict allowed = Allowed
 seen_verdict (denied_by statement_name) = DeniedBy statement_name
 seen_verdict no_allow = NotAllowed
 
--- the verdict on an event whose bus is this one, or does not exist
+-- The verdict on an event whose bus is this one, or does not exist.
+-- Shown by: a_policy_before_the_bus.edit.
 abbrev pub IsVerdictOn : Option Bus → List ℕ → Unnumbered → SeenVerdict → Type 0
 IsVerdictOn None caller event seen = seen ≡ NoBus
 IsVerdictOn (Some bus) caller event seen = (policy : Option Tree) × (verdict : Verdict) × IsPolicyOf bus.policy policy
     × IsBusVerdict policy (asker_for caller event) verdict × (seen ≡ seen_verdict verdict)
 
--- the verdict on an entry of this caller: its own fault; or its bus does not exist; or what its bus's policy says
+-- The verdict on an entry of a caller: its own fault; or its bus does not exist; or what its bus's policy says of the caller and the event.
+-- Shown by: router_core tests.rt: a_policy_decides_who_publishes.
 abbrev pub IsEntryVerdict : RuleSet → List ℕ → Result Unnumbered EntryFault → SeenVerdict → Type 0
 IsEntryVerdict set caller (Err fault) seen = seen ≡ Fault fault
 IsEntryVerdict set caller (Ok event) seen = IsVerdictOn (named (λ b. b.name) event.bus set.buses) caller event seen

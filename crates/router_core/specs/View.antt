@@ -12,7 +12,8 @@ use Rattle.router_core.specs.declared.batch.Batch.{Batch}
 use Rattle.router_core.specs.Request as request
 use Rattle.router_core.specs.Batch as batch
 
--- the action, with its vectors as lists
+-- What contracts see of the code's `Action`, with its vectors as lists.
+-- Shown by: api_wire tests/requests.rt: a_request_has_what_the_message_gives.
 abbrev pub action_of : Action → request.Action
 action_of (action.CreateEventBus name) = request.create_event_bus name
 action_of (action.DeleteEventBus name) = request.delete_event_bus name
@@ -40,21 +41,25 @@ action_of (action.DeleteMessages queue through) = request.delete_messages queue 
 action_of (action.DeliverDue budget) = request.deliver_due budget
 action_of action.DutyCounts = request.duty_counts
 
--- the request, with the view of its action
+-- What contracts see of the code's `Request`, with the view of its action.
+-- Shown by: api_wire tests/requests.rt: a_request_has_what_the_message_gives.
 abbrev pub request_of : Request → request.Request
 request_of r = record { action = action_of r.action; caller = r.caller; reading = r.reading }
 
--- the event, with its duties as a list
+-- What contracts see of the code's `AcceptedEvent`, with its duties as a list.
+-- Shown by: first-run.
 abbrev pub accepted_of : AcceptedEvent → batch.Accepted
 accepted_of e = record { number = e.number; bus = e.bus; k = e.k; time = e.time; text = e.text; duties = e.duties.items }
 
--- the entry, with the view of what it records
+-- What contracts see of the code's `Entry`, with the view of what it records.
+-- Shown by: first-run.
 abbrev pub entry_of : Entry → batch.Entry
 entry_of (entry.Control c) = batch.control (control_of c)
 entry_of (entry.Accepted e) = batch.accepted (accepted_of e)
 entry_of (entry.Attempt duty outcome) = batch.attempt duty outcome
 entry_of (entry.MessagesDeleted queue through) = batch.messages_deleted queue through
 
--- the batch, with its entries as a list
+-- What contracts see of the code's `Batch`, with its operations as a list.
+-- Shown by: first-run.
 abbrev pub batch_of : Batch → batch.Batch
 batch_of b = record { moment = b.moment; entries = map entry_of b.entries.items }

@@ -6,13 +6,15 @@ use Rattle.router_disk.specs.declared.memory.link.Answer.{Answer}
 use Rattle.router_disk.specs.declared.memory.link.MemLink.{MemLink}
 use Rattle.router_disk.specs.Faults.{last_count}
 
--- a text that was sent to an endpoint, and the status code of the reply
+-- A text sent to an endpoint, and the status code of the reply.
+-- Shown by: router_disk tests.rt: a_link_in_memory_keeps_to_its_plan.
 pub record Exchange : Type 0 where
   pub endpoint : List ℕ
   pub text : List ℕ
   pub code : ℕ
 
--- the exchange of a send that had an answer; none if it had none
+-- The exchange of one send, if it had an answer.
+-- Shown by: an_answer_is_not_remembered.edit.
 abbrev pub exchanges_of : Result ℕ LinkFault → List ℕ → List ℕ → List Exchange
 exchanges_of (Ok code) endpoint text = record { endpoint = endpoint; text = text; code = code } ∷ []
 exchanges_of (Err fault) endpoint text = []
@@ -23,15 +25,18 @@ EndsWith None new more = ⊤
 EndsWith (Some old) None more = ⊥
 EndsWith (Some old) (Some new) more = new ≡ old ++ more
 
--- a link with the exchanges `old` made these, in order, and has the exchanges `new` now
+-- If a link's exchanges are known, these came after them, in order, and no others.
+-- Shown by: an_answer_is_not_remembered.edit.
 pub record Answered (old new : Option (List Exchange)) (more : List Exchange) : Type 0 where
   pub in_order : EndsWith old new more
 
--- an exchange that a link in memory remembers
+-- The exchange that a remembered answer shows.
+-- Shown by: as exchanges_in.
 abbrev pub exchange_of : Answer → Exchange
 exchange_of a = record { endpoint = string_bytes a.endpoint; text = string_bytes a.text; code = a.code }
 
--- the exchanges that a link in memory remembers, in order
+-- The exchanges that a link in memory remembers, in order.
+-- Shown by: router_disk tests.rt: a_link_in_memory_keeps_to_its_plan.
 abbrev pub exchanges_in : MemLink → List Exchange
 exchanges_in l = map exchange_of l.answers.items
 
@@ -41,11 +46,14 @@ planned_from r [] k = r
 planned_from r (s ∷ later) zero = r
 planned_from r (s ∷ later) (suc k) = planned_from s later k
 
--- the results that a link in memory plans, without end: at k, that of the k-th send from now on
+-- The results that a link in memory plans, without end: at k, that of the k-th send from now on. The last one repeats forever.
+-- Shown by: the_plan_stays.edit.
 abbrev pub plan_of : MemLink → ℕ → Result ℕ LinkFault
 plan_of l = planned_from l.planned l.later.items
 
--- a send gives what was planned, and the plan moves on; else it ran out of memory, or the count is at its last value, and the plan stays
+-- A send gives the planned result, and the plan moves on. Otherwise it ran out of memory, or the count of faults is at its last value and
+-- the send failed; then the plan stays.
+-- Shown by: the_plan_stays.edit; out_of_memory_in_place_of_a_failed_send.edit.
 abbrev pub KeepsToPlan : MemLink → MemLink → Result ℕ LinkFault → Type 0
 KeepsToPlan old new result =
     ((result ≡ plan_of old 0) × ((k : ℕ) → plan_of new k ≡ plan_of old (suc k)))

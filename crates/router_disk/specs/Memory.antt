@@ -1,17 +1,20 @@
 -- What the doubles in memory hold.
 use Rattle.std.specs.Prelude.{ℕ, zero, suc, List, Option, Some, None}
 
--- a source: the bytes that it has left, and the most that a read gives
+-- What a source in memory holds: the bytes left, and the most that one read gives.
+-- Shown by: router_disk tests.rt: a_source_gives_the_same_bytes_in_any_pieces.
 pub record Supply : Type 0 where
   pub left : List ℕ
   pub most : ℕ
 
--- a sink: the bytes that were written, and the number of writes that ran out of memory
+-- What a sink in memory holds: the bytes written, and its count of faults.
+-- Shown by: router_disk tests.rt: a_failed_call_loses_no_byte_and_is_counted.
 pub record Store : Type 0 where
   pub bytes : List ℕ
   pub faults : ℕ
 
--- the number of calls that still succeed before the one that is to fail, after one more call
+-- How many calls succeed before the planned failure, after one more call.
+-- Shown by: router_disk tests.rt: a_failed_call_loses_no_byte_and_is_counted.
 abbrev pub sound_after : Option ℕ → Option ℕ
 sound_after None = None
 sound_after (Some zero) = None

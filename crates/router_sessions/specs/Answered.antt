@@ -18,29 +18,34 @@ use Rattle.router_sessions.specs.declared.book.TurnReply.TheVariants.{Rendered, 
 use Rattle.router_sessions.specs.History.{Turn, Ask, asked, IsLatest, IsAnsweredBy}
 use Rattle.router_sessions.specs.Book.{BookState, state_of}
 
--- the bytes of a turn's reply
+-- The bytes of a turn's reply, made already or to be made.
+-- Shown by: the_reply_is_not_written.edit.
 abbrev pub turn_text : TurnReply → Bool → List ℕ
 turn_text (Rendered bytes) close = bytes
 turn_text (Unrendered reply) close = reply_text (reply_of reply) close
 
--- the bytes of the reply are not made yet
+-- The bytes of the reply are not made yet.
+-- Shown by: proofs alone.
 abbrev pub IsUnrendered : TurnReply → Type 0
 IsUnrendered (Rendered bytes) = ⊥
 IsUnrendered (Unrendered reply) = Unit {0}
 
--- the bytes of the reply are made, or can be made from its status
+-- The bytes of the reply are made, or its status is one that is written from a value.
+-- Shown by: proofs alone.
 abbrev pub IsRenderable : TurnReply → Type 0
 IsRenderable (Rendered bytes) = Unit {0}
 IsRenderable (Unrendered reply) = IsServedStatus reply.status
 
--- the turn was made from this seat, for this
+-- A turn was made from a seat (a pass, and the connection that it serves), for an ask.
+-- Shown by: a_turn_names_another_pass.edit.
 pub record IsFrom (seat : Seat) (ask : Ask) (turn : Turn) : Type 0 where
   pub pass : turn.pass ≡ seat.pass
   pub connection : turn.connection ≡ seat.connection
   pub made_for : turn.ask ≡ ask
 
--- one turn from this seat was added for the request; the bytes are those of its reply. They were made before the
+-- One turn was added for the request, by the latest configuration version, and the bytes are those of its reply. They were made before the
 -- turn exactly if it wrote a batch.
+-- Shown by: the_history_lacks_a_turn_without_a_batch.edit.
 pub record IsAnswered (seat : Seat) (old new : BookState) (request : Request) (close : Bool) (reply : TurnReply) : Type 0 where
   pub turn : Turn
   pub from : IsFrom seat (asked request) turn
@@ -52,7 +57,8 @@ pub record IsAnswered (seat : Seat) (old new : BookState) (request : Request) (c
   pub unwritten : IsUnrendered reply → turn.batch ≡ None
   pub written : turn.batch ≡ None → IsUnrendered reply
 
--- a request that one turn answers: within its bounds, one that its caller may make, at a reading that is a moment
+-- A request that one turn answers: within its bounds, one that its caller may make, at a reading that is a moment.
+-- Shown by: callers.
 pub record IsAskable (request : Request) : Type 0 where
   pub bounded : IsBounded request.action
   pub entitled : IsEntitled request

@@ -21,7 +21,8 @@ use Rattle.router_sessions.specs.History.{State, Turn, Ask, OpenClaim, open_clai
 use Rattle.router_sessions.specs.Book.{BookState, state_of}
 use Rattle.router_sessions.specs.Sent.{AreSent, tries_with}
 
--- the claim of the duty of this row, made at this reading, in a turn with this moment
+-- The claim of the duty of a row, made at this reading, in a turn with this moment.
+-- Shown by: session_tests program.rt: an_endpoint_is_sent_the_event_once.
 abbrev pub claim_of : ℕ → ℕ → DutyRow → Claim
 claim_of reading moment row = record {
   number = row.number;
@@ -33,11 +34,13 @@ claim_of reading moment row = record {
   moment = moment;
 }
 
--- the open claim of the duty
+-- The open claim of a duty, as the courier sees it.
+-- Shown by: as claim_of.
 abbrev pub claim_in : State → ℕ → Option Claim
 claim_in s duty = option_and_then (λ c. option_map (claim_of c.reading c.moment) (pending_row duty s.tables.duties)) (open_claim duty s.open_claims)
 
--- the attempt of the duty that a turn recorded
+-- The attempt that a record turn records: its claim, its outcome, and the fate that it gave the duty.
+-- Shown by: recorded_without_a_send.edit.
 abbrev pub attempt_in : State → ℕ → ℕ → Outcome → Option Attempt
 attempt_in s duty reading outcome = option_and_then (λ claim. option_map (λ row. record {
   claim = claim;
@@ -45,7 +48,8 @@ attempt_in s duty reading outcome = option_and_then (λ claim. option_map (λ ro
   fate = fate_after s.tables.duties.queues (moment_at s.tables reading) row outcome;
 }) (pending_row duty s.tables.duties)) (claim_in s duty)
 
--- what a turn made for this did, as the courier sees it
+-- What a turn did, as the courier sees it, by what it was made for.
+-- Shown by: proofs alone.
 abbrev pub step_for : State → Ask → Step
 step_for s (history.asked request) = other
 step_for s (history.claims duty reading) =
@@ -53,19 +57,23 @@ step_for s (history.claims duty reading) =
 step_for s (history.records duty reading outcome) = unwrap_or (option_map records (attempt_in s duty reading outcome)) other
 step_for s (history.puts_back duty) = unwrap_or (option_map puts_back (claim_in s duty)) other
 
--- what a turn did, as the courier sees it
+-- What a placed turn did, as the courier sees it.
+-- Shown by: proofs alone.
 abbrev pub step_of : Placed → Step
 step_of p = step_for p.before p.turn.ask
 
--- the attempts that turns recorded, in order
+-- The attempts that turns recorded, in order.
+-- Shown by: recorded_without_a_send.edit.
 abbrev pub attempts_of : List Placed → List Attempt
 attempts_of turns = attempts_in (map step_of turns)
 
--- what the turns of pass n did, as the courier sees them
+-- What the turns of a pass did, as the courier sees them.
+-- Shown by: proofs alone.
 abbrev pub steps_in : ℕ → BookState → List Step
 steps_in n b = map step_of (placed_by n (placed b.opened b.turns))
 
--- the claim that is held
+-- The claim that a `Held` is for.
+-- Shown by: as claim_of.
 abbrev pub held_claim : Held → Claim
 held_claim h = record {
   number = h.errand.claim.number;
@@ -77,7 +85,8 @@ held_claim h = record {
   moment = h.errand.moment;
 }
 
--- the claim is open in this state: this pass made it, and its duty is pending, claimed, and was due
+-- The claim is open: a pass made it, and its duty is pending, claimed, and was due.
+-- Shown by: proofs alone.
 pub record IsOpen (s : State) (pass : ℕ) (c : Claim) : Type 0 where
   pub is_open : open_claim c.number s.open_claims ≡ Some (record { pass = pass; duty = c.number; reading = c.reading; moment = c.moment })
   pub row : DutyRow
@@ -86,15 +95,18 @@ pub record IsOpen (s : State) (pass : ℕ) (c : Claim) : Type 0 where
   pub due : row.due ≤ c.moment
   pub claim : claim_of c.reading c.moment row ≡ c
 
--- no unclaimed duty is due at this reading
+-- No unclaimed duty is due at a reading.
+-- Shown by: quiet_makes_no_step.edit.
 abbrev pub IsIdle : State → ℕ → Type 0
 IsIdle s reading = NoneDue s.tables.duties (moment_at s.tables reading)
 
--- the number limit is reached, and an unclaimed duty is due at this reading
+-- The number limit is reached, and an unclaimed duty is due at a reading.
+-- Shown by: proofs alone.
 abbrev pub IsFullAt : State → ℕ → Type 0
 IsFullAt s reading = (is_full s.tables ≡ true) × (¬ IsIdle s reading)
 
--- the last turn of the book is the one in which pass n put this claim back, and the number limit was reached before it
+-- The last turn of the book is the one in which a pass put this claim back, and the number limit was reached before it.
+-- Shown by: the_limit_is_that_of_a_later_look.edit.
 pub record EndsAtLimit (n : ℕ) (c : Claim) (b : BookState) : Type 0 where
   pub before : List Turn
   pub turn : Turn
@@ -103,11 +115,15 @@ pub record EndsAtLimit (n : ℕ) (c : Claim) (b : BookState) : Type 0 where
   pub made_for : turn.ask ≡ history.puts_back c.number
   pub full : is_full (state_after before b.opened).tables ≡ true
 
--- the number limit was reached before the last of these turns
+-- The number limit was reached before the last of these turns.
+-- Shown by: the_limit_is_that_of_a_later_look.edit.
 abbrev pub IsLastAtLimit : List Placed → Type 0
 IsLastAtLimit turns = (before : List Placed) × (p : Placed) × (turns ≡ before ++ p ∷ []) × (is_full p.before.tables ≡ true)
 
--- The steps of one DeliverDue: these turns, at these readings, with this result. At the last look the state was `look`.
+-- The steps of one DeliverDue: these turns, at these readings, with this result; at the last look the state was `look`. There is a claim
+-- and its record for each attempt, and one reading for each. The steps ended for a reason. If an attempt was not recorded, the number limit
+-- was reached before the turn that put its claim back (`IsLastAtLimit`), and at the last look.
+-- Shown by: session_tests tests.rt: a_delivery_has_the_reading_of_its_own_step.
 pub record IsDelivered (budget : ℕ) (turns : List Placed) (readings : List ℕ) (look : State) (result : Result Turned TurnFault) : Type 0 where
   -- the recorded attempts in order, and how the steps ended after them
   pub attempts : List Attempt
@@ -117,11 +133,14 @@ pub record IsDelivered (budget : ℕ) (turns : List Placed) (readings : List ℕ
   -- one reading for each claim, or for the look that found no duty
   pub moments : map moment_of readings ≡ map (λ a. a.claim.reading) attempts ++ last_moments last
   pub within : length readings ≤ budget
-  -- the result counts the attempts, and has its reason; no disk fails. An attempt is not recorded only if its claim was put back at the limit.
+  -- the result counts the attempts, and has its reason; no disk fails. An attempt is not recorded only if its claim was put back at the
+  -- limit.
   pub counts : reported result ≡ turned_of attempts
   pub reason : HasReason (IsIdle look) ⊥ (IsFullAt look) (λ c. IsLastAtLimit turns) (length attempts ≡ budget) result last
 
--- the turns of one DeliverDue were added to what the seat's pass knows of the book, beside turns of other passes; the link answered their tries
+-- The turns of delivery steps were added to what the seat's pass knows of a book, beside turns of other passes. They name the seat's
+-- connection, and the link did what their attempts did (`AreSent`).
+-- Shown by: recorded_without_a_send.edit.
 pub record Delivers (seat : Seat) (budget : ℕ) (old new : BookState) (ahead ahead_new : Option (ℕ → ℕ)) (answered answered_new : Option (List Exchange))
     (faults faults_new : ℕ) (result : Result Turned TurnFault) : Type 0 where
   pub added : List Turn

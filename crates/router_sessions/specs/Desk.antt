@@ -9,23 +9,28 @@ use Rattle.router_sessions.specs.declared.book.Seat.{Seat}
 use Rattle.router_sessions.specs.declared.history.Turn.{Turn}
 use Rattle.router_sessions.specs.Book.{BookState, IsBook, HasLearned, seen_book}
 
--- what is known of a pass, by its seat at the hall's table
+-- What is known of a pass: its seat at the table of the hall.
+-- Shown by: session_tests tests.rt: two_passes_go_on_from_what_the_other_did.
 abbrev pub Known : Type 0
 Known = PassSeat (Option Book) (View Turn)
 
--- the turns that the pass has seen
+-- The turns that a pass has seen, oldest first.
+-- Shown by: as Known.
 abbrev pub seen_by : Known → List Turn
 seen_by known = (view known).seen
 
--- the book as the pass knows it
+-- The book as a pass knows it: `seen_book` of the turns that it has seen.
+-- Shown by: as Known.
 abbrev pub book_seen : Known → BookState
 book_seen known = seen_book (seen_by known)
 
--- the number of the pass
+-- The number of a pass.
+-- Shown by: a_turn_names_another_pass.edit.
 abbrev pub number_of : Known → ℕ
 number_of known = (view known).number
 
--- the seat of the pass, for turns that name this connection
+-- The seat of a pass, for turns that name a connection.
+-- Shown by: a_turn_names_no_connection.edit.
 abbrev pub seat_of : Option ℕ → Known → Seat
 seat_of connection known = record { pass = number_of known; connection = connection }
 
@@ -36,7 +41,8 @@ no_hall = record { words = 0; slots = 0; views_name = 0; atom = 0; block = 0; of
 abbrev pub no_seat : Seat
 no_seat = record { pass = 0; connection = None }
 
--- the pass has seen all that it had seen, and perhaps more
+-- A pass has seen all turns that it had seen, in order, and perhaps more after them.
+-- Shown by: as Known.
 abbrev pub SeesMore : Known → Known → Type 0
 SeesMore old new = (more : List Turn) × (seen_by new ≡ seen_by old ++ more)
 

@@ -17,8 +17,9 @@ use Rattle.router_sessions.specs.History.{State, Placed, asked, IsAnsweredBy}
 use Rattle.router_sessions.specs.Sent.{Try, tries_with}
 use Rattle.router_sessions.specs.Delivery.{IsDelivered}
 
--- a message; the reading of the clock when the message was whole; the readings of its delivery steps, and of a last look that found no duty; the
--- turns made for it, each with the state before it; the states at which it only looked; its attempts as the link saw them; and its reply
+-- A message, the reading for it, the readings of its delivery steps and of a last look that found no duty, the turns made for it, each with
+-- the state before it, the states at which it only looked, its attempts as the link saw them, and its reply.
+-- Shown by: session_tests tests.rt: the_first_run_has_its_replies.
 pub record Exchange : Type 0 where
   pub message : Message
   pub reading : ℕ
@@ -28,18 +29,21 @@ pub record Exchange : Type 0 where
   pub tries : List Try
   pub reply : Reply
 
--- what a DeliverDue reports of its steps
+-- The counts of a DeliverDue's reply, from those of the delivery loop.
+-- Shown by: dead-letters.
 abbrev pub counts_of : Turned → Counts
 counts_of turned = record { attempts = turned.attempts; delivered = turned.delivered; dead_lettered = turned.dead; dropped = turned.dropped }
 
--- the reply to a DeliverDue, by how its steps ended; no disk fails
+-- The reply to a DeliverDue by how its steps ended: the counts, `limit_reply`, or `no_memory`. No disk fails.
+-- Shown by: first-run; out_of_memory_is_reported_as_the_limit.edit.
 abbrev pub IsDeliveryReply : Result Turned TurnFault → Reply → Type 0
 IsDeliveryReply (Ok turned) reply = reply ≡ counted (counts_of turned)
 IsDeliveryReply (Err (NumberLimit turned)) reply = reply ≡ limit_reply
 IsDeliveryReply (Err (NoMemory turned)) reply = reply ≡ no_memory
 IsDeliveryReply (Err (DiskFault turned)) reply = ⊥
 
--- an exchange that makes no turn
+-- An exchange with this reply, no step, no turn, no try and no look.
+-- Shown by: unknown-operation.
 pub record IsWithoutTurn (e : Exchange) (reply : Reply) : Type 0 where
   pub no_steps : e.steps ≡ []
   pub no_turns : e.turns ≡ []
@@ -47,7 +51,8 @@ pub record IsWithoutTurn (e : Exchange) (reply : Reply) : Type 0 where
   pub no_tries : e.tries ≡ []
   pub replies : e.reply ≡ reply
 
--- an exchange of one turn, which answers the request with this reply
+-- An exchange of one turn, which answers the request with this reply (`IsAnsweredBy`).
+-- Shown by: first-run.
 pub record IsOneTurn (e : Exchange) (request : Request) (reply : Reply) : Type 0 where
   pub turn : Placed
   pub turns : e.turns ≡ turn ∷ []
@@ -57,7 +62,8 @@ pub record IsOneTurn (e : Exchange) (request : Request) (reply : Reply) : Type 0
   pub ask : turn.turn.ask ≡ asked request
   pub answer : IsAnsweredBy turn.before turn.turn request reply
 
--- an exchange of delivery steps
+-- An exchange of delivery steps, by `IsDelivered`, with one look after them.
+-- Shown by: first-run.
 pub record IsDelivery (e : Exchange) (budget : ℕ) : Type 0 where
   pub look : State
   pub looks : e.looks ≡ look ∷ []
@@ -66,7 +72,9 @@ pub record IsDelivery (e : Exchange) (budget : ℕ) : Type 0 where
   pub tries : e.tries ≡ tries_with delivered.attempts delivered.last
   pub replies : IsDeliveryReply result e.reply
 
--- A POST and its reply.
+-- A POST and its reply, by cases: its first refusal; a request of one turn; the same with a 503, if it wrote no batch and memory ran out
+-- for its reply; a DeliverDue; or out of memory, without a turn. The last case is allowed for any POST.
+-- Shown by: refusals.
 pub data IsPosted (e : Exchange) : Type 0 where
   -- the message is refused
   refused : (c : Cause) → IsCallRefused e.message c → IsWithoutTurn e (refusal_of c) → IsPosted e
@@ -80,18 +88,22 @@ pub data IsPosted (e : Exchange) : Type 0 where
   -- out of memory, before anything changed
   out_of_memory : IsWithoutTurn e no_memory → IsPosted e
 
--- A message and its reply. The turns themselves show in which states they were made, and what they changed.
+-- A message and its reply: by `IsPosted` for a POST; `not_post` and no turn for another method. The turns show in which states they were
+-- made, and what they changed.
+-- Shown by: get-is-refused.
 pub data IsExchange (e : Exchange) : Type 0 where
   -- the method is not POST
   unposted : is_post e.message.method ≡ false → IsWithoutTurn e not_post → IsExchange e
   posted : is_post e.message.method ≡ true → IsPosted e → IsExchange e
 
--- what is written for a reply to a message with that method: a HEAD gets the head of the reply alone
+-- What is written for a reply: all of it, or `reply_head` for a HEAD.
+-- Shown by: a_head_reply_has_a_body.edit.
 abbrev pub sent_text : Method → Reply → Bool → List ℕ
 sent_text Post reply close = reply_text reply close
 sent_text Head reply close = reply_head reply close
 sent_text Other reply close = reply_text reply close
 
--- what is written for an exchange; `close` is true if the connection ends after it
+-- The `sent_text` of an exchange's reply to its message's method. `close` is true if the connection ends after it.
+-- Shown by: head-request.
 abbrev pub exchange_text : Exchange → Bool → List ℕ
 exchange_text e close = sent_text e.message.method e.reply close

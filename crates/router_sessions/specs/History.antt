@@ -16,16 +16,18 @@ use Rattle.router_core.specs.Tables.{Tables, after_batch, is_full, moment_at}
 use Rattle.router_core.specs.Steps.{record_of, claiming, putting_back}
 use Rattle.router_calls.specs.Answer.{IsAnswer}
 
--- what a turn was made for: a request; a claim of the next due duty, at a reading of the clock; the record of the outcome of a
--- claimed duty's attempt, with the claim's reading; or a claim that was put back
+-- What a turn was made for: a request; a claim of the next due duty at a reading; the record of how a claimed duty's attempt ended, with
+-- the claim's reading; or a claim that is put back.
+-- Shown by: a_claim_is_not_in_the_history.edit.
 pub data Ask : Type 0 where
   asked : Request → Ask
   claims : (duty reading : ℕ) → Ask
   records : (duty reading : ℕ) (outcome : Outcome) → Ask
   puts_back : (duty : ℕ) → Ask
 
--- the pass that made the turn, the connection that it served if it served one, what was asked, the configuration version by which it went,
--- and the batch that it wrote, if one
+-- The pass that made the turn, the connection that it served, if any, its ask, the configuration version by which it went, and the batch
+-- that it wrote, if any.
+-- Shown by: a_turn_names_another_pass.edit; a_turn_names_no_connection.edit.
 pub record Turn : Type 0 where
   pub pass : ℕ
   pub connection : Option ℕ
@@ -33,29 +35,35 @@ pub record Turn : Type 0 where
   pub k : ℕ
   pub batch : Option Batch
 
--- a claim that has not ended: the pass that made it, its duty, the reading at which it was made, and the moment of its turn
+-- A claim that has not ended: its pass, its duty, its reading, and the moment of its turn.
+-- Shown by: session_tests tests.rt: a_delivery_has_the_reading_of_its_own_step.
 pub record OpenClaim : Type 0 where
   pub pass : ℕ
   pub duty : ℕ
   pub reading : ℕ
   pub moment : ℕ
 
--- the tables, the changes of the configuration so far, oldest first, and the open claims
+-- The tables, the changes of the configuration so far, oldest first, and the open claims.
+-- Shown by: first-run; a_claim_is_not_in_the_history.edit.
 pub record State : Type 0 where
   pub tables : Tables
   pub controls : List Control
   pub open_claims : List OpenClaim
 
--- the open claim of the duty
+-- The open claim of a duty, if there is one.
+-- Shown by: proofs alone.
 abbrev pub open_claim : ℕ → List OpenClaim → Option OpenClaim
 open_claim duty all = find (λ c. c.duty == duty) all
 
--- the open claims without those of the duty
+-- The open claims without those of a duty.
+-- Shown by: proofs alone.
 abbrev pub closed_claims : ℕ → List OpenClaim → List OpenClaim
 closed_claims duty all = filter (λ c. not (c.duty == duty)) all
 
--- The outcome that the record of an attempt may have if the duty of this row was claimed at the moment: the event was above its age; or its
--- queue exists, or does not; or its endpoint, which is no queue's ARN, accepted the text, answered otherwise, or gave no answer.
+-- The outcome that the record of an attempt may have if the duty of this row was claimed at the moment. The event was above its age; or its
+-- queue exists, or does not; or its endpoint, which is no queue's ARN, accepted the text, answered with a code that is no success, or gave
+-- no answer.
+-- Shown by: dead-letters.
 pub data IsOutcome (queues : List Queue) (row : DutyRow) (moment : ℕ) : Outcome → Type 0 where
   above_age : row.accepted + row.duty.target.age < moment → IsOutcome queues row moment TooOld
   queued : moment ≤ row.accepted + row.duty.target.age → (queue : List ℕ) → IsQueueArn row.duty.target.endpoint queue
@@ -69,29 +77,34 @@ pub data IsOutcome (queues : List Queue) (row : DutyRow) (moment : ℕ) : Outcom
   unanswered : moment ≤ row.accepted + row.duty.target.age → ((queue : List ℕ) → ¬ IsQueueArn row.duty.target.endpoint queue)
       → IsOutcome queues row moment NoAnswer
 
--- the turn answers the request with this reply: the answer is the router machine's, by the rule set of the turn's configuration version
+-- A turn answers a request with a reply, by `IsAnswer` on the rule set of the turn's configuration version.
+-- Shown by: first-run.
 pub record IsAnsweredBy (s : State) (turn : Turn) (request : Request) (reply : Reply) : Type 0 where
   pub known : turn.k ≤ length s.controls
   pub answer : IsAnswer s.tables request turn.k (rule_set_at turn.k s.controls) (record { batch = turn.batch; reply = reply })
 
--- the turn goes by the latest configuration version
+-- The turn goes by the latest configuration version.
+-- Shown by: matched_on_the_first_rule_set.edit.
 abbrev pub IsLatest : State → Turn → Type 0
 IsLatest s turn = turn.k ≡ length s.controls
 
--- the turn claims the duty that is due first, below the number limit
+-- The turn claims the duty that is due first, below the number limit, and writes nothing.
+-- Shown by: proofs alone.
 pub record IsClaimBy (s : State) (turn : Turn) (duty reading : ℕ) : Type 0 where
   pub latest : IsLatest s turn
   pub unwritten : turn.batch ≡ None
   pub numbered : is_full s.tables ≡ false
   pub next : IsNext s.tables.duties (moment_at s.tables reading) duty
 
--- the turn ends a claim that its own pass made
+-- The turn ends a claim that its own pass made.
+-- Shown by: proofs alone.
 pub record EndsClaim (s : State) (turn : Turn) (claim : OpenClaim) : Type 0 where
   pub latest : IsLatest s turn
   pub is_open : open_claim claim.duty s.open_claims ≡ Some claim
   pub own : claim.pass ≡ turn.pass
 
--- the turn records the outcome of the attempt of a claimed duty
+-- The turn records an outcome of a claimed, pending duty, below the number limit.
+-- Shown by: first-run.
 pub record IsRecordBy (s : State) (turn : Turn) (duty reading : ℕ) (outcome : Outcome) : Type 0 where
   pub moment : ℕ
   pub ends : EndsClaim s turn (record { pass = turn.pass; duty = duty; reading = reading; moment = moment })
@@ -101,18 +114,21 @@ pub record IsRecordBy (s : State) (turn : Turn) (duty reading : ℕ) (outcome : 
   pub fits : IsOutcome s.tables.duties.queues row moment outcome
   pub written : turn.batch ≡ Some (record_of (moment_at s.tables reading) duty outcome)
 
--- a turn that may be made in this state, by what it was made for; a request came by a connection
+-- A turn that may be made in a state, by what it was made for. One that was made for a request names a connection.
+-- Shown by: a_turn_names_no_connection.edit.
 abbrev pub IsTurnFor : State → Turn → Ask → Type 0
 IsTurnFor s turn (asked request) = IsSome turn.connection × ((reply : Reply) × IsAnsweredBy s turn request reply)
 IsTurnFor s turn (claims duty reading) = IsClaimBy s turn duty reading
 IsTurnFor s turn (records duty reading outcome) = IsRecordBy s turn duty reading outcome
 IsTurnFor s turn (puts_back duty) = (turn.batch ≡ None) × ((claim : OpenClaim) × (claim.duty ≡ duty) × EndsClaim s turn claim)
 
--- a turn that may be made in this state
+-- A turn that may be made in a state.
+-- Shown by: as IsTurnFor.
 abbrev pub IsTurnOf : State → Turn → Type 0
 IsTurnOf s turn = IsTurnFor s turn turn.ask
 
--- the changes of the configuration among entries
+-- The configuration changes among entries.
+-- Shown by: first-run.
 abbrev pub controls_in : List Entry → List Control
 controls_in [] = []
 controls_in (control c ∷ es) = c ∷ controls_in es
@@ -120,12 +136,14 @@ controls_in (accepted e ∷ es) = controls_in es
 controls_in (attempt duty outcome ∷ es) = controls_in es
 controls_in (messages_deleted queue through ∷ es) = controls_in es
 
--- the state after what a turn wrote
+-- The state after the batch that a turn wrote, or the same state if it wrote none.
+-- Shown by: the_batch_is_not_entered.edit.
 abbrev pub after_written : Option Batch → State → State
 after_written None s = s
 after_written (Some b) s = record s { tables = after_batch b s.tables; controls = s.controls ++ controls_in b.entries }
 
--- the state after a turn, by what it was made for
+-- The state after a turn, by what it was made for.
+-- Shown by: first-run.
 abbrev pub after_ask : Turn → Ask → State → State
 after_ask turn (asked request) s = after_written turn.batch s
 after_ask turn (claims duty reading) s = record s {
@@ -135,63 +153,76 @@ after_ask turn (claims duty reading) s = record s {
 after_ask turn (records duty reading outcome) s = record (after_written turn.batch s) { open_claims = closed_claims duty s.open_claims }
 after_ask turn (puts_back duty) s = record s { tables = putting_back duty s.tables; open_claims = closed_claims duty s.open_claims }
 
--- the state after a turn
+-- The state after a turn.
+-- Shown by: first-run.
 abbrev pub after_turn : Turn → State → State
 after_turn turn s = after_ask turn turn.ask s
 
--- a legal history: each turn may be made in the state that the turns before it left
+-- A legal history: each turn may be made in the state that the turns before it left.
+-- Shown by: proofs alone.
 abbrev pub IsLegal : State → List Turn → Type 0
 IsLegal s [] = Unit {0}
 IsLegal s (turn ∷ turns) = IsTurnOf s turn × IsLegal (after_turn turn s) turns
 
--- the state after the turns
+-- The state after a list of turns.
+-- Shown by: first-run.
 abbrev pub state_after : List Turn → State → State
 state_after [] s = s
 state_after (turn ∷ turns) s = state_after turns (after_turn turn s)
 
--- a turn, and the state before it
+-- A turn, and the state before it.
+-- Shown by: first-run.
 pub record Placed : Type 0 where
   pub before : State
   pub turn : Turn
 
--- each turn with the state before it
+-- Each of these turns with the state before it.
+-- Shown by: first-run.
 abbrev pub placed : State → List Turn → List Placed
 placed s [] = []
 placed s (turn ∷ turns) = record { before = s; turn = turn } ∷ placed (after_turn turn s) turns
 
--- the turns that pass n made
+-- The turns that a pass made.
+-- Shown by: a_turn_names_another_pass.edit.
 abbrev pub turns_by : ℕ → List Turn → List Turn
 turns_by n turns = filter (λ t. t.pass == n) turns
 
--- the same of turns with the states before them
+-- The same of turns with the states before them (`turns_by`).
+-- Shown by: a_turn_names_another_pass.edit.
 abbrev pub placed_by : ℕ → List Placed → List Placed
 placed_by n turns = filter (λ p. p.turn.pass == n) turns
 
--- the open claims that pass n made
+-- The open claims that a pass made.
+-- Shown by: proofs alone.
 abbrev pub claims_by : ℕ → List OpenClaim → List OpenClaim
 claims_by n all = filter (λ c. c.pass == n) all
 
--- the batches with this one before them, if there is one
+-- These batches, with one before them if there is one.
+-- Shown by: proofs alone.
 abbrev pub with_written : Option Batch → List Batch → List Batch
 with_written None batches = batches
 with_written (Some b) batches = b ∷ batches
 
--- the batches that the turns wrote
+-- The batches that the turns wrote, in order.
+-- Shown by: proofs alone.
 abbrev pub batches_of : List Turn → List Batch
 batches_of [] = []
 batches_of (turn ∷ turns) = with_written turn.batch (batches_of turns)
 
--- the reading of an ask: a request's, or a claim's; the record of a claim has the same reading, so it is not counted again
+-- The reading of a request or a claim. The record of a claim has the claim's reading, so it is not counted again.
+-- Shown by: proofs alone.
 abbrev pub readings_at : Ask → List ℕ
 readings_at (asked request) = request.reading ∷ []
 readings_at (claims duty reading) = reading ∷ []
 readings_at (records duty reading outcome) = []
 readings_at (puts_back duty) = []
 
--- the readings of turns; that of a claim and its record counts once
+-- The readings of turns; a claim's counts once for the claim and its record.
+-- Shown by: session_tests tests.rt: a_delivery_has_the_reading_of_its_own_step.
 abbrev pub asked_readings : List Turn → List ℕ
 asked_readings = flat_map (λ turn. readings_at turn.ask)
 
--- the state of tables that changes of the configuration have not made, with no claim open
+-- The state of tables that no change of the configuration has made, with no claim open.
+-- Shown by: first-run.
 abbrev pub begun : Tables → State
 begun t = record { tables = t; controls = []; open_claims = [] }

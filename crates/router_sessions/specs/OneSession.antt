@@ -16,7 +16,8 @@ use Rattle.router_sessions.specs.Exchanges.{turns_of, IsAlone}
 use Rattle.router_sessions.specs.Session.{Course, texts_of, IsSession}
 use Rattle.router_sessions.specs.World.{World}
 
--- the session ended neither by a fault of a stream nor out of memory
+-- The end is no fault of a stream and not `NoMemory`.
+-- Shown by: law one_session.
 abbrev pub IsUndisturbed : SessionEnd → Type 0
 IsUndisturbed Closed = Unit {0}
 IsUndisturbed Cut = Unit {0}
@@ -26,7 +27,8 @@ IsUndisturbed ReadFault = ⊥
 IsUndisturbed WriteFault = ⊥
 IsUndisturbed NoMemory = ⊥
 
--- a session that nothing around it disturbed: no fault, and no reply `out of memory`
+-- A session that nothing around it disturbed: no fault, and no reply `Out of memory.`
+-- Shown by: law one_session.
 pub record IsPlain (new : BookState) (end : SessionEnd) (c : Course) : Type 0 where
   pub book : IsBook new
   pub undisturbed : IsUndisturbed end
@@ -36,13 +38,15 @@ pub record IsPlain (new : BookState) (end : SessionEnd) (c : Course) : Type 0 wh
 abbrev pub RecordsAttempt : List Placed → Attempt → Type 0
 RecordsAttempt turns a = Contains (map step_of turns) (records a)
 
--- the link treated both alike: two attempts of the same claim whose text was sent had the same outcome
+-- The link treated both alike: two attempts of the same claim whose text was sent had the same outcome.
+-- Shown by: law one_session.
 abbrev pub AreAnsweredAlike : List Placed → List Placed → Type 0
 AreAnsweredAlike turns others =
     (a b : Attempt) → RecordsAttempt turns a → RecordsAttempt others b → b.claim ≡ a.claim → NeedsSend a.claim → b.outcome ≡ a.outcome
 
--- two sessions, each the only one of its book, from the same book, which was opened with the first tables, with the same bytes, the same readings
--- and a link that treated both alike
+-- Two plain sessions, each alone with its book (`IsAlone`), from the same book, which was opened with the first tables, with the same bytes
+-- taken, the same readings, and a link that treated both alike.
+-- Shown by: law one_session.
 pub record BeginAlike (seat other_seat : Seat) (old new other other_new : World) (end other_end : SessionEnd)
     (one : IsSession seat old new end) (two : IsSession other_seat other other_new other_end) : Type 0 where
   pub alone : IsAlone seat one.exchanges.added
@@ -61,12 +65,14 @@ pub record BeginAlike (seat other_seat : Seat) (old new other other_new : World)
 abbrev pub bytes_of : Course → List ℕ
 bytes_of c = texts_of c.exchanges ++ unwrap_or c.closing []
 
--- the bytes, or the first of them within which a head has to end, end inside a request target that cannot become UTF-8
+-- The bytes, or their first 16,384, end inside a request target that cannot become UTF-8.
+-- Shown by: law one_session.
 abbrev pub IsUndecided : List ℕ → Type 0
 IsUndecided bytes = EndsInTarget bytes ⊎ EndsInTarget (first_bytes bytes)
 
--- they wrote the same bytes and ended alike; in one case only the replies are the same: the bytes after the messages are undecided, and one
--- session may refuse what the other awaits
+-- Both wrote the same replies and left the same tables and the same rest; they wrote the same bytes and ended alike, unless the rest is
+-- undecided. In that case one session may refuse what the other awaits.
+-- Shown by: law one_session.
 pub record EndAlike (seat other_seat : Seat) (old new other other_new : World) (end other_end : SessionEnd)
     (one : IsSession seat old new end) (two : IsSession other_seat other other_new other_end) : Type 0 where
   pub texts : texts_of two.course.exchanges ≡ texts_of one.course.exchanges

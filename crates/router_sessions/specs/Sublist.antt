@@ -1,7 +1,8 @@
 -- Some numbers of a list, in their order.
 use Rattle.std.specs.Prelude.{◌≡◌, ◌⊎◌, ℕ, List, [], ◌∷◌}
 
--- the numbers are some of the others, in their order
+-- The numbers are some of the others, in their order.
+-- Shown by: proofs alone.
 abbrev pub IsSublist : List ℕ → List ℕ → Type 0
 IsSublist [] ys = Unit {0}
 IsSublist (x ∷ xs) [] = ⊥

@@ -13,35 +13,41 @@ use Rattle.router_sessions.specs.Book.{BookState, state_of}
 use Rattle.router_sessions.specs.Answered.{IsFrom}
 use Rattle.router_sessions.specs.Delivery.{attempt_in, IsOpen, IsFullAt}
 
--- the number limit is reached, and an unclaimed duty is due at this reading
+-- The number limit is reached, and an unclaimed duty is due at this reading (`IsFullAt` of the state of a book).
+-- Shown by: proofs alone.
 abbrev pub IsLimited : BookState → ℕ → Type 0
 IsLimited b reading = IsFullAt (state_of b) reading
 
--- one turn from this seat was added, for this
+-- One turn from a seat was added to a book, for this ask.
+-- Shown by: a_step_is_recorded_twice.edit.
 pub record IsAdded (seat : Seat) (ask : Ask) (old new : BookState) : Type 0 where
   pub turn : Turn
   pub from : IsFrom seat ask turn
   pub turns : new.turns ≡ old.turns ++ turn ∷ []
 
--- the duty of the claim was claimed at the reading
+-- One turn claimed the duty of this claim at a reading, and the claim is open.
+-- Shown by: a_claim_is_not_in_the_history.edit.
 pub record IsClaimedBy (seat : Seat) (reading : ℕ) (old new : BookState) (c : Claim) : Type 0 where
   pub added : IsAdded seat (claims c.number reading) old new
   pub at : c.reading ≡ reading
   pub moment : c.moment ≡ moment_at old.tables reading
   pub is_open : IsOpen (state_of new) seat.pass c
 
--- the claim was put back in one turn from this seat, and the number limit was reached before that turn
+-- One turn from a seat put this claim back, and the number limit was reached before that turn.
+-- Shown by: the_claim_is_put_back_below_the_limit.edit.
 pub record IsPutBackAtLimit (seat : Seat) (c : Claim) (old new : BookState) : Type 0 where
   pub added : IsAdded seat (puts_back c.number) old new
   pub full : is_full old.tables ≡ true
 
--- nothing was claimed at the reading: at the number limit, or out of memory
+-- Why nothing was claimed: at the number limit, or out of memory.
+-- Shown by: a_claim_is_refused_below_the_limit.edit.
 abbrev pub IsUnclaimed : BookState → ℕ → BookFault → Type 0
 IsUnclaimed b reading NumberLimit = IsLimited b reading
 IsUnclaimed b reading NoMemory = Unit {0}
 IsUnclaimed b reading DiskFault = ⊥
 
--- the attempt of the claim that had this outcome was recorded, and gave the duty this fate
+-- One turn recorded the attempt of this claim, whose outcome it had or found, and gave the duty this fate.
+-- Shown by: a_step_is_recorded_twice.edit.
 pub record IsRecordedBy (seat : Seat) (c : Claim) (had : Outcome) (fate : Fate) (old new : BookState) : Type 0 where
   pub recorded : Outcome
   pub outcome : IsOutcomeIn c had recorded

@@ -10,7 +10,8 @@ use Rattle.router_sessions.specs.Book.{seen_book}
 use Rattle.router_sessions.specs.Session.{IsSession}
 use Rattle.router_sessions.specs.World.{world}
 
--- whether out of memory ended the session
+-- Out of memory ended the session.
+-- Shown by: out_of_memory_is_no_cut.edit.
 abbrev pub is_cut : SessionEnd → Bool
 is_cut Closed = false
 is_cut Cut = false
@@ -21,9 +22,11 @@ is_cut WriteFault = false
 is_cut NoMemory = true
 
 module _ {I O : Type 0} (left : I → Option (List ℕ)) (written : O → Option (List ℕ)) (reads : I → ℕ) (writes : O → ℕ) where
-  -- Connection n came with these streams and ended with those. A session of one pass, whose turns name the connection, is a part of
-  -- these turns, beside turns of other passes. What the clock and the link did is known only to be something that the session allows.
-  -- `reads` and `writes` are the counts of faults of the streams: a fault ends a session only if it was counted.
+  -- A connection with this number came with these streams and ended with those. Somewhere in these turns is its session (`IsSession`), by
+  -- one pass whose turns name the connection, beside turns of other passes. `cut` says whether out of memory ended it. `reads` and `writes`
+  -- are the counts of faults of the streams: a fault ends a session only if it was counted. The clock's readings and the link's answers are
+  -- any that the session allows.
+  -- Shown by: session_tests serve.rt: two_workers_serve_the_first_run, a_held_reply_holds_no_other_connection.
   pub record IsVisit (n : ℕ) (came went : I × O) (cut : Bool) (turns : List Turn) : Type 0 where
     pub pass : ℕ
     pub before : List Turn

@@ -3,8 +3,9 @@ use Rattle.std.specs.Prelude.{ℕ, List, Option}
 use Rattle.router_disk.specs.Link.{Exchange}
 use Rattle.router_sessions.specs.Book.{BookState}
 
--- the book; the bytes that are left to read, and the bytes that were written, each if they are known; the readings of the clock to come, if they are;
--- and the exchanges of the link that had an answer, if they are, and the link's count of faults
+-- What is known around a session: the book; the bytes left to read, the bytes written, the readings to come and the exchanges of the link
+-- that had an answer, each if it is known; and the link's count of faults.
+-- Shown by: session_tests tests.rt: the_first_run_has_its_replies.
 pub record World : Type 0 where
   pub book : BookState
   pub left : Option (List ℕ)
@@ -13,6 +14,8 @@ pub record World : Type 0 where
   pub answered : Option (List Exchange)
   pub link_faults : ℕ
 
+-- The `World` with these parts.
+-- Shown by: as World.
 abbrev pub world : BookState → Option (List ℕ) → Option (List ℕ) → Option (ℕ → ℕ) → Option (List Exchange) → ℕ → World
 world book left written ahead answered link_faults = record {
   book = book;

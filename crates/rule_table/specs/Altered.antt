@@ -5,7 +5,8 @@ use Rattle.config_changes.specs.Control.{Control, bus_created, bus_deleted, rule
 use Rattle.config_changes.specs.Control.{queue_created, queue_deleted}
 use Rattle.rule_table.specs.RuleSet.{Rule, RuleSet, rule_at, targets_in}
 
--- the bus that the change names, if any
+-- The bus that a change names; none for the creation or the deletion of a queue.
+-- Shown by: law other_buses_stay.
 abbrev pub changed_bus : Control → Option (List ℕ)
 changed_bus (bus_created name) = Some name
 changed_bus (bus_deleted name) = Some name
@@ -22,14 +23,17 @@ changed_bus (queue_deleted name) = None
 abbrev pub matching_of_rule : Rule → List ℕ × List ℕ × Bool
 matching_of_rule rule = (rule.name, rule.pattern, rule.enabled)
 
--- each bus with what matching reads of its rules
+-- What matching reads: each bus with its rules' names, patterns and states.
+-- Shown by: law matching_stays.
 abbrev pub matching_of : RuleSet → List (List ℕ × List (List ℕ × List ℕ × Bool))
 matching_of set = map (λ bus. (bus.name, map matching_of_rule bus.rules)) set.buses
 
--- the bus has a rule of this name
+-- The bus has a rule of this name.
+-- Shown by: law only_its_call_removes.
 abbrev pub has_rule : List ℕ → List ℕ → RuleSet → Bool
 has_rule bus name set = is_some (rule_at bus name set)
 
--- the rule of this name on the bus has a target of this id
+-- The rule has a target of this id.
+-- Shown by: law only_its_call_removes.
 abbrev pub has_target_of_rule : List ℕ → List ℕ → List ℕ → RuleSet → Bool
 has_target_of_rule bus rule id set = is_some (named (λ target. target.id) id (targets_in (rule_at bus rule set)))

@@ -27,7 +27,9 @@ abbrev pub IsDeadLetterMissing : RuleSet → Option (List ℕ) → Type 0
 IsDeadLetterMissing set None = ⊥
 IsDeadLetterMissing set (Some arn) = IsQueueMissing set arn
 
--- the first fault of a target that is put to a rule which has these targets
+-- The first fault of a target at a rule with these targets: a member (`HasMemberFault`), a queue that does not exist, a dead-letter queue
+-- that does not exist, a sixth target.
+-- Shown by: rule_table tests/targets.rt: a_target_has_its_first_fault.
 pub data HasTargetFault (set : RuleSet) (targets : List Target) (target : Target) : TargetFault → Type 0 where
   -- a member is outside its syntax or its limits, or not supported yet
   bad_member : (first : Member) → HasMemberFault target first → HasTargetFault set targets target (target_fault.Member first)
@@ -40,7 +42,8 @@ pub data HasTargetFault (set : RuleSet) (targets : List Target) (target : Target
   sixth : IsWellFormedTarget target → IsArnThere set target.arn → IsDeadLetterThere set target.dead_letter → 5 < length (put_target target targets)
       → HasTargetFault set targets target target_fault.Sixth
 
--- one of the new targets has a fault once those before it are put to the rule's targets
+-- A target of a list has a fault once those before it are put.
+-- Shown by: rule_table tests.rt: each_change_is_made_or_refused.
 abbrev pub HasFaultyTarget : RuleSet → List Target → List Target → Type 0
 HasFaultyTarget set [] targets = ⊥
 HasFaultyTarget set (new ∷ news) targets =
@@ -102,14 +105,22 @@ abbrev pub IsTooLong : Option (List ℕ) → Type 0
 IsTooLong None = ⊥
 IsTooLong (Some t) = 10240 < length t
 
--- the first refusal of the change that puts a policy or takes it away; a PutPermission looks for the bus before it refuses a policy that is too long
+-- the first refusal of the change that puts a policy or takes it away; a PutPermission looks for the bus before it refuses a policy that is
+-- too long
 pub data IsPolicyRefused (bus : List ℕ) (policy : Option (List ℕ)) (set : RuleSet) : ControlFault → Type 0 where
   no_policy : ¬ IsTooLong policy → ¬ IsNoneOrStored policy → IsPolicyRefused bus policy set (Validation member.Policy)
   policy_without_bus : IsNoneOrStored policy ⊎ IsTooLong policy → has_bus bus set ≡ false
       → IsPolicyRefused bus policy set (ResourceNotFound kind.EventBus)
   policy_too_long : IsTooLong policy → has_bus bus set ≡ true → IsPolicyRefused bus policy set PolicyTooLong
 
--- the first refusal of a change
+-- The first refusal of a change. A bus that is created: it exists, there are 100. A bus that is deleted: it is `default`, no such bus, it
+-- has a rule. A rule: its text is no pattern, no such bus, a new rule and the bus has 300. A rule that is deleted: no such bus, no such
+-- rule, it has targets. A state: no such bus, no such rule. Targets: no such bus, no such rule, no target or a faulty one. Targets that are
+-- removed: no such bus, no such rule, no id, or one that is no target's or comes twice. A policy: a text of at most 10,240 bytes that is
+-- not as it is stored, no such bus, a longer text. A queue that is created: it exists, there are 1,000. A queue that is deleted: no such
+-- queue, a target names it.
+-- Shown by: rule_table tests.rt: each_removal_is_made_or_refused, each_bus_is_made_or_refused, each_policy_is_put_or_refused,
+-- a_queue_in_use_stays.
 abbrev pub IsRefused : Control → RuleSet → ControlFault → Type 0
 IsRefused (bus_created name) set fault = IsBusRefused name set fault
 IsRefused (bus_deleted name) set fault = IsBusDeletionRefused name set fault

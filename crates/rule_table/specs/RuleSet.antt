@@ -1,5 +1,6 @@
--- The rule set: buses with their rules, queues, and the number of changes that made it; what a change does, and which
--- changes are allowed. The data model is the public API's; the limits are this project's own, but for that on targets.
+-- The rule set: buses with their rules, queues, and the number of changes that made it; what a change does, and which changes are allowed.
+-- The data model is that of the Amazon EventBridge API Reference. The limits on buses, rules and targets are EventBridge quotas; the limit
+-- on queues is this project's own.
 use Rattle.std.specs.Prelude.{◌≡◌, ℕ, ◌+◌, ◌<◌, ◌≤◌, ◌⊎◌, Bool, true, false, ◌||◌, if◌then◌else◌, List, [], ◌∷◌, length, map, take}
 use Rattle.std.specs.Prelude.{Option, Some, None, All, is_some}
 use Rattle.std.specs.List.{list_any}
@@ -17,7 +18,8 @@ use Rattle.config_changes.specs.Retry.{is_retry_valid}
 use Rattle.config_changes.specs.Control.{Control, bus_created, bus_deleted, rule_put, rule_deleted, state_put, targets_put, targets_removed, policy_put}
 use Rattle.config_changes.specs.Control.{queue_created, queue_deleted}
 
--- a rule: its ARN, its name, its pattern's text, whether it is enabled, and its targets in the byte order of their ids
+-- A rule: its ARN, its name, its pattern's text, whether it is enabled, and its targets in the byte order of their ids.
+-- Shown by: rule_table tests.rt: each_change_is_made_or_refused.
 pub record Rule : Type 0 where
   pub arn : List ℕ
   pub name : List ℕ
@@ -25,27 +27,32 @@ pub record Rule : Type 0 where
   pub enabled : Bool
   pub targets : List Target
 
--- a bus: its name, its policy's text if it has a policy, and its rules in the byte order of their names
+-- A bus: its name, its policy's text if it has a policy, and its rules in the byte order of their names.
+-- Shown by: rule_table tests.rt: a_bus_shows_its_rule, each_policy_is_put_or_refused.
 pub record Bus : Type 0 where
   pub name : List ℕ
   pub policy : Option (List ℕ)
   pub rules : List Rule
 
--- buses and queues in the byte order of their names
+-- The configuration: buses and queues, both in the byte order of their names, and the number of changes that made it.
+-- Shown by: rule_table tests.rt: each_change_is_made_or_refused.
 pub record RuleSet : Type 0 where
   pub buses : List Bus
   pub queues : List (List ℕ)
   pub count : ℕ
 
--- the bus `default` alone
+-- The bus `default` without rules, and no queue.
+-- Shown by: rule_table tests.rt: a_set_shows_its_queues, a_bus_shows_its_rule.
 abbrev pub first_set : RuleSet
 first_set = record { buses = record { name = default_bus; policy = None; rules = [] } ∷ []; queues = []; count = 0 }
 
--- the rows, with each row of the name changed
+-- The rows, with a change made to each one of the name.
+-- Shown by: rule_table tests.rt: each_change_is_made_or_refused.
 abbrev pub changed : {A : Type 0} → (A → List ℕ) → List ℕ → (A → A) → List A → List A
 changed name_of name change rows = map (λ row. if bytes_eq (name_of row) name then change row else row) rows
 
--- a rule of the bus of this name, which has no target
+-- A rule of a bus, with the ARN that names both, and without a target.
+-- Shown by: rule_table tests/targets.rt: a_rule_shows_its_target.
 abbrev pub new_rule : (bus name pattern : List ℕ) → Bool → Rule
 new_rule bus name pattern enabled = record { arn = rule_arn bus name; name = name; pattern = pattern; enabled = enabled; targets = [] }
 
@@ -53,15 +60,18 @@ new_rule bus name pattern enabled = record { arn = rule_arn bus name; name = nam
 abbrev pub keeping_targets : Rule → Rule → Rule
 keeping_targets old new = record new { targets = old.targets }
 
--- the rules with one more, or with the rule of the same name replaced, whose targets stay
+-- A rule put into its bus; one that existed keeps its targets.
+-- Shown by: a_rule_put_again_loses_its_targets.edit.
 abbrev pub put_rule : Rule → List Rule → List Rule
 put_rule = placed (λ rule. rule.name) keeping_targets
 
--- the targets with one more, or with the target of the same id replaced
+-- One target put to a rule's targets; the one with the same id is replaced.
+-- Shown by: targets_out_of_order.edit.
 abbrev pub put_target : Target → List Target → List Target
 put_target = placed (λ target. target.id) replacing
 
--- the targets with the new ones put in this order
+-- Targets put one after the other; one with the same id is replaced, so the last one counts.
+-- Shown by: rule_table tests.rt: each_change_is_made_or_refused.
 abbrev pub put_targets : List Target → List Target → List Target
 put_targets [] targets = targets
 put_targets (new ∷ news) targets = put_targets news (put_target new targets)
@@ -96,24 +106,29 @@ abbrev pub rules_in : Option Bus → List Rule
 rules_in None = []
 rules_in (Some bus) = bus.rules
 
--- the rules of the bus with this name; none if there is no such bus
+-- The rules of a bus, none if there is no such bus.
+-- Shown by: rule_table tests.rt: a_set_shows_its_queues, a_bus_shows_its_rule.
 abbrev pub rules_of : List ℕ → RuleSet → List Rule
 rules_of bus set = rules_in (named (λ b. b.name) bus set.buses)
 
--- the rule of this name on the bus, if there is one
+-- The rule of this name on the bus, if there is one.
+-- Shown by: rule_table tests.rt: each_change_is_made_or_refused.
 abbrev pub rule_at : List ℕ → List ℕ → RuleSet → Option Rule
 rule_at bus name set = named (λ rule. rule.name) name (rules_of bus set)
 
--- the targets of the rule; none if there is no rule
+-- The targets of a rule, none if there is no rule.
+-- Shown by: rule_table tests.rt: a_set_shows_its_queues, a_bus_shows_its_rule.
 abbrev pub targets_in : Option Rule → List Target
 targets_in None = []
 targets_in (Some rule) = rule.targets
 
--- there is a bus of this name
+-- The bus exists.
+-- Shown by: rule_table tests.rt: a_set_shows_its_queues, a_bus_shows_its_rule.
 abbrev pub has_bus : List ℕ → RuleSet → Bool
 has_bus bus set = is_some (named (λ b. b.name) bus set.buses)
 
--- there is a queue of this name
+-- The queue exists.
+-- Shown by: rule_table tests.rt: a_set_shows_its_queues, a_bus_shows_its_rule.
 abbrev pub has_queue : List ℕ → RuleSet → Bool
 has_queue name set = is_some (named (λ queue. queue) name set.queues)
 
@@ -134,7 +149,8 @@ is_used_by_rule queue rule = list_any (is_used_by_target queue) rule.targets
 abbrev pub is_used_by_bus : List ℕ → Bus → Bool
 is_used_by_bus queue bus = list_any (is_used_by_rule queue) bus.rules
 
--- a target of a rule of some bus names the queue
+-- A target of a rule of some bus has the queue's ARN, as its own ARN or as that of its dead-letter queue.
+-- Shown by: a_queue_in_use_is_deleted.edit.
 abbrev pub is_queue_used : List ℕ → RuleSet → Bool
 is_queue_used queue set = list_any (is_used_by_bus queue) set.buses
 
@@ -142,7 +158,8 @@ is_queue_used queue set = list_any (is_used_by_bus queue) set.buses
 abbrev pub with_rule_changed : List ℕ → (Rule → Rule) → Bus → Bus
 with_rule_changed rule change b = record b { rules = changed (λ r. r.name) rule change b.rules }
 
--- the rule set after a change
+-- The rule set after a change.
+-- Shown by: rule_table tests.rt: each_change_is_made_or_refused.
 abbrev pub applied : Control → RuleSet → RuleSet
 applied (bus_created name) set = record set { buses = put_bus name set.buses; count = set.count + 1 }
 applied (bus_deleted name) set = record set { buses = without_bus name set.buses; count = set.count + 1 }
@@ -179,44 +196,53 @@ abbrev pub applied_all : List Control → RuleSet → RuleSet
 applied_all [] set = set
 applied_all (control ∷ controls) set = applied_all controls (applied control set)
 
--- configuration version k: the rule set after the first k changes
+-- Configuration version k: the rule set after the first k changes of a list, oldest first.
+-- Shown by: rule_table tests.rt: each_change_is_made_or_refused.
 abbrev pub rule_set_at : ℕ → List Control → RuleSet
 rule_set_at k controls = applied_all (take k controls) first_set
 
--- the text is the ARN of a queue of the rule set
+-- The text is the ARN of a queue that exists.
+-- Shown by: a_target_of_a_missing_queue_is_put.edit.
 abbrev pub IsQueueThere : RuleSet → List ℕ → Type 0
 IsQueueThere set arn = (queue : List ℕ) × IsQueueArn arn queue × (has_queue queue set ≡ true)
 
--- the text is the ARN of a queue of the rule set, or an endpoint that is no queue's ARN
+-- The text is the ARN of a queue that exists, or an endpoint that is no queue's ARN.
+-- Shown by: a_target_of_a_missing_queue_is_put.edit.
 abbrev pub IsArnThere : RuleSet → List ℕ → Type 0
 IsArnThere set arn = IsQueueThere set arn ⊎ (((queue : List ℕ) → ¬ IsQueueArn arn queue) × (is_endpoint arn ≡ true))
 
--- there is no dead-letter queue, or it is a queue of the rule set
+-- A target has no dead-letter queue, or that queue exists.
+-- Shown by: a_dead_letter_queue_may_be_missing.edit.
 abbrev pub IsDeadLetterThere : RuleSet → Option (List ℕ) → Type 0
 IsDeadLetterThere set None = Unit {0}
 IsDeadLetterThere set (Some arn) = IsQueueThere set arn
 
--- The target may be stored: its queue exists or it has an endpoint, it has no member that is not supported yet, its retry policy is valid, and
--- its dead-letter queue exists.
+-- The target may be stored: its queue exists or it has an endpoint, it has no member that is not supported yet, its retry policy is valid,
+-- and its dead-letter queue exists.
+-- Shown by: a_dead_letter_queue_may_be_missing.edit.
 pub record IsSoundTarget (set : RuleSet) (target : Target) : Type 0 where
   pub arn : IsArnThere set target.arn
   pub supported : target.unbuilt ≡ None
   pub retry : is_retry_valid target.retry ≡ true
   pub dead_letter : IsDeadLetterThere set target.dead_letter
 
--- A target is accepted if it is put to a rule that has these targets: its id has the syntax, it may be stored, and the rule has at most five
--- targets afterwards.
+-- A target is accepted at a rule with these targets: its id has the syntax `IsShortName`, it may be stored (`IsSoundTarget`), and the rule
+-- has at most five targets with it.
+-- Shown by: a_replaced_target_is_a_sixth.edit.
 pub record IsGoodTarget (set : RuleSet) (targets : List Target) (target : Target) : Type 0 where
   pub id : IsShortName target.id
   pub sound : IsSoundTarget set target
   pub few : length (put_target target targets) ≤ 5
 
--- each of the new targets is accepted once those before it are put to the rule's targets
+-- Each target of a list is accepted once those before it are put.
+-- Shown by: rule_table tests.rt: each_change_is_made_or_refused.
 abbrev pub AreGoodTargets : RuleSet → List Target → List Target → Type 0
 AreGoodTargets set [] targets = Unit {0}
 AreGoodTargets set (new ∷ news) targets = IsGoodTarget set targets new × AreGoodTargets set news (put_target new targets)
 
--- the text is that of a policy as it is stored: read again, the policy has this text
+-- The text is that of a policy as it is stored: a policy that is read from it has this text. A text without `Version`, or with white space
+-- between its parts, is not.
+-- Shown by: rule_table tests.rt: each_policy_is_put_or_refused.
 abbrev pub IsStoredPolicy : List ℕ → Type 0
 IsStoredPolicy t = (policy : Tree) × IsPolicyText t policy × (t ≡ compact_text policy)
 
@@ -236,12 +262,14 @@ AreRemovable [] targets = Unit {0}
 AreRemovable (id ∷ ids) targets =
     (is_some (named (λ target. target.id) id targets) ≡ true) × AreRemovable ids (without (λ target. target.id) id targets)
 
--- The change is allowed. A bus that is created: no bus has its name, and there are fewer than 100. One that is deleted: it exists, is not
--- `default`, and has no rule. A rule that is deleted: it exists and has no target. A state: its rule exists. Targets that are removed: their
--- rule exists, there is at least one, and each is there, once. A policy: its text is as it is stored, and its bus exists. A rule: its text is
--- a pattern, its bus exists, and the bus has the rule already or has fewer than 300. Targets: their rule exists, there is at least one, and
--- each is accepted after those before it. A queue that is created: no queue has its name, and there are fewer than 1,000. One that is
--- deleted: it exists, and no target names it.
+-- A change is allowed. A bus that is created: it does not exist, and there are fewer than 100. A bus that is deleted: it exists, is not
+-- `default`, and has no rule. A rule: its text is a pattern, its bus exists, and it exists or the bus has fewer than 300. A rule that is
+-- deleted: it exists and has no target. A state: the rule exists. Targets: the rule exists, there is at least one target, and each is
+-- accepted after those before it (`IsGoodTarget`). Targets that are removed: the rule exists, there is at least one id, and each is that of
+-- a target, once. A policy: its bus exists, and its text is as it is stored, or the policy is taken away. A queue that is created: it does
+-- not exist, and there are fewer than 1,000. A queue that is deleted: it exists, and no target names it (`is_queue_used`). 100 buses, 300
+-- rules and five targets are EventBridge quotas; 1,000 queues are this project's own limit.
+-- Shown by: a_bus_with_rules_is_deleted.edit; default_bus_is_deleted.edit; a_queue_in_use_is_deleted.edit.
 abbrev pub IsAllowed : Control → RuleSet → Type 0
 IsAllowed (bus_created name) set = (has_bus name set ≡ false) × (length set.buses < 100)
 IsAllowed (bus_deleted name) set = (bytes_eq name default_bus ≡ false) × (has_bus name set ≡ true) × (rules_of name set ≡ [])
@@ -261,12 +289,16 @@ IsAllowed (queue_deleted name) set = (has_queue name set ≡ true) × (is_queue_
 abbrev pub HasSoundTargets : RuleSet → Rule → Type 0
 HasSoundTargets set rule = (length rule.targets ≤ 5) × All (IsSoundTarget set) rule.targets
 
--- the rule's ARN names the rule and this bus
+-- The rule's ARN names the rule and this bus.
+-- Shown by: rule_table tests/targets.rt: a_rule_shows_its_target.
 abbrev pub HasItsArn : List ℕ → Rule → Type 0
 HasItsArn bus rule = rule.arn ≡ rule_arn bus rule.name
 
--- What holds of every rule set that allowed changes made from the first one: the limits, the bus `default`, policies as they are stored, the
--- ARNs of rules, and the order of buses, rules, targets and queues by the bytes of their names, which are distinct.
+-- What holds of every rule set that allowed changes made from the first one. There are at most 100 buses, one of which is `default`; each
+-- bus has at most 300 rules, each rule at most five targets, each of which is sound (`IsSoundTarget`); and there are at most 1,000 queues.
+-- Each rule has the ARN that names it and its bus. Each policy is as it is stored. Buses, rules, targets and queues are in the byte order
+-- of their names, which are distinct.
+-- Shown by: targets_out_of_order.edit.
 pub record IsSound (set : RuleSet) : Type 0 where
   pub buses : length set.buses ≤ 100
   pub rules : All (λ bus. length bus.rules ≤ 300) set.buses

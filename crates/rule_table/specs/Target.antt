@@ -6,12 +6,15 @@ use Rattle.config_changes.specs.declared.control.RetryPolicy.{RetryPolicy}
 use Rattle.config_changes.specs.Retry.{attempts_of, age_of}
 use Rattle.rule_table.specs.RuleSet.{Rule}
 
--- a target as a rule stores it: its row, and whether it was put with a retry policy
+-- A target as a rule stores it: its row, and whether it was put with a retry policy.
+-- Shown by: rule_table tests/targets.rt: a_target_shows_its_retries.
 pub record StoredTarget : Type 0 where
   pub row : TargetRow
   pub has_retry_policy : Bool
 
--- what matching and delivery need of a target of the rule
+-- What matching and delivery need of a target of a rule: the rule's ARN and name, the target's id and ARN, the ARN of its dead-letter
+-- queue, and how it is retried: by its retry policy, and else at most 185 times, within 86,400 seconds.
+-- Shown by: a_target_keeps_the_old_rule.edit; the_dead_letter_queue_is_forgotten.edit.
 abbrev pub row_of : Rule → Target → TargetRow
 row_of rule target = record {
   rule_arn = rule.arn;
@@ -23,16 +26,19 @@ row_of rule target = record {
   age = age_of target.retry;
 }
 
--- the target, as the rule stores it
+-- A target of a rule, as the rule stores it.
+-- Shown by: rule_table tests/targets.rt: a_rule_shows_its_target.
 abbrev pub stored_of : Rule → Target → StoredTarget
 stored_of rule target = record { row = row_of rule target; has_retry_policy = is_some target.retry }
 
--- the retry policy that it was put with, if any
+-- The retry policy that a stored target was put with, with both numbers; none if it was put without one.
+-- Shown by: rule_table tests/targets.rt: a_target_shows_its_retries.
 abbrev pub retry_of : StoredTarget → Option RetryPolicy
 retry_of stored =
     if stored.has_retry_policy then Some (record { attempts = Some stored.row.attempts; age = Some stored.row.age }) else None
 
--- the target that is stored so, as a request puts it
+-- The target that is stored so, as a request puts it: with a retry policy, of both numbers, only if it was put with one.
+-- Shown by: rule_table tests/targets.rt: a_target_shows_its_retries.
 abbrev pub target_of : StoredTarget → Target
 target_of stored = record {
   id = stored.row.target_id;
@@ -46,7 +52,8 @@ target_of stored = record {
 abbrev pub IsStoredOf : Rule → StoredTarget → Type 0
 IsStoredOf rule stored = stored ≡ stored_of rule (target_of stored)
 
--- the rule's targets, as it stores them; none if there is no rule
+-- The targets of a rule as it stores them, none if there is no rule.
+-- Shown by: rule_table tests/targets.rt: a_rule_shows_its_target.
 abbrev pub stored_in : Option Rule → List StoredTarget
 stored_in None = []
 stored_in (Some rule) = map (stored_of rule) rule.targets

@@ -1,5 +1,5 @@
 -- What a change has to be whatever the rule set is: the syntax of its names, its pattern, its policy and its targets. The syntax and the
--- numbers are the public API Reference's.
+-- numbers are those of the Amazon EventBridge API Reference.
 use Rattle.std.specs.Prelude.{ℕ, List}
 use Rattle.event_shape.specs.Names.{IsBusName, IsQueueName}
 use Rattle.pattern_meaning.specs.Pattern.{Pattern}
@@ -13,7 +13,10 @@ use Rattle.rule_table.specs.RuleSet.{IsNoneOrStored}
 abbrev pub IsSomePattern : List ℕ → Type 0
 IsSomePattern text = (p : Pattern) × IsPatternText text p
 
--- the change is well formed
+-- What a change has to be whatever the rule set is: its names have their syntax, its pattern's text is a pattern, and its policy is as it
+-- is stored or none. Targets that are put, and ids of targets that are removed, are those of config_changes (`AreWellFormedTargets`,
+-- `AreWellFormedIds`).
+-- Shown by: rule_table tests.rt: changes_are_well_formed.
 abbrev pub IsWellFormed : Control → Type 0
 IsWellFormed (bus_created name) = IsBusName name
 IsWellFormed (bus_deleted name) = IsBusName name

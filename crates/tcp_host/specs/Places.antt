@@ -4,8 +4,9 @@ use Rattle.bus_host.specs.declared.door.Ended.{Ended}
 use Rattle.bus_host.specs.declared.door.Knock.{Knock}
 use Rattle.bus_host.specs.declared.door.Knock.TheVariants.{Conn, Quiet, Closed, Failed, NoMemory}
 
--- how many connections may be out at once, and how many are; those given and those that ended, in order, as they were then;
--- and how many calls of `next` have failed
+-- What contracts see of a door over TCP: how many connections may be out, how many are, those given and those that ended, and its count of
+-- faults.
+-- Shown by: more_connections_are_out_than_its_limit.edit.
 pub record Places (I O : Type 0) : Type 0 where
   pub limit : ℕ
   pub out : ℕ
@@ -13,11 +14,13 @@ pub record Places (I O : Type 0) : Type 0 where
   pub ended : List (Ended I O)
   pub faults : ℕ
 
--- a listener with this limit that has given no connection
+-- A door over TCP with this limit that has given no connection.
+-- Shown by: a_door_does_not_count_the_links.edit.
 abbrev pub fresh : {I O : Type 0} → ℕ → Places I O
 fresh limit = record { limit = limit; out = 0; given = []; ended = []; faults = 0 }
 
--- how many connections are out after a call of `next`
+-- How many connections are out after a call of `next`: one more if it gave one.
+-- Shown by: more_connections_are_out_than_its_limit.edit.
 abbrev pub out_after : {I O : Type 0} → ℕ → Knock I O → ℕ
 out_after out (Conn input output) = out + 1
 out_after out Quiet = out
@@ -25,10 +28,13 @@ out_after out Closed = out
 out_after out Failed = out
 out_after out NoMemory = out
 
--- how many connections a listener gives out at once, for a program with so many workers: one worker stays free for other work
+-- How many connections a door gives out at once, for a program with this number of workers: one fewer, and at least one. So one worker
+-- stays free for other work.
+-- Shown by: tcp_host tests/tcp_door.rt: an_idle_client_ends_for_one_that_waits.
 abbrev pub limit_for : ℕ → ℕ
 limit_for workers = max 1 (workers - 1)
 
--- a number as the host counts it: the count stays at the last one of 64 bits
+-- The number of links as the host counts it: it stays at the last number of 64 bits.
+-- Shown by: a_door_does_not_count_the_links.edit.
 abbrev pub counted : ℕ → ℕ
 counted number = min number (2 ^ 64 - 1)

@@ -16,7 +16,8 @@ abbrev pub names_only : ℕ → Option ℕ → Bool
 names_only n None = true
 names_only n (Some m) = m == n
 
--- the turns of pass n
+-- The turns of a list that name this pass.
+-- Shown by: turn_book tests.rt: four_threads_share_one_history.
 abbrev pub turns_by : {T : Type 0} → (T → Option ℕ) → ℕ → List T → List T
 turns_by made_by n turns = filter (λ t. is_number (made_by t) n) turns
 
@@ -65,6 +66,8 @@ pub record Holds {V T : Type 0} (turns : V → List T) (made_by : T → Option �
   pub kept : Kept made_by turns sound ticket serving s.homes s.views
 
 module _ {T : Type 0} where
+  -- The first pass: number 0, one pass made, and it has seen the value's own turns.
+  -- Shown by: turn_book tests.rt: one_pass_gives_its_turns.
   abbrev pub opener : List T → View T
   opener log = record { number = 0; stage = 0; ticket = 0; made = 1; passes = 1; seen = log; also = [] }
 
@@ -72,6 +75,8 @@ module _ {T : Type 0} where
   abbrev pub note : List T → View T
   note log = record { number = 0; stage = 0; ticket = 0; made = 0; passes = 0; seen = log; also = [] }
 
+  -- A new pass with this number, which has seen this history and has no turn.
+  -- Shown by: a_turn_names_another_pass.edit.
   abbrev pub newcomer : ℕ → List T → View T
   newcomer n log = record { number = n; stage = 0; ticket = 0; made = 0; passes = 1; seen = log; also = [] }
 
@@ -93,15 +98,18 @@ module _ {T : Type 0} where
   abbrev pub looking : View T → List T → View T
   looking v log = record v { seen = log; also = [] }
 
-  -- the history is now `log`: it begins with what the pass had seen, and the rest has no turn of the pass
+  -- The history begins with what the pass had seen, and the rest has no turn of this pass.
+  -- Shown by: another_turn_is_replaced.edit.
   abbrev pub Learns : (T → Option ℕ) → View T → List T → Type 0
   Learns made_by v log = IsPrefix v.seen log × (turns_by made_by v.number log ≡ turns_by made_by v.number v.seen)
 
-  -- no turn names a pass that was not made, if so many were
+  -- No turn of a history names a pass that was not made, if this number of passes was made.
+  -- Shown by: proofs alone.
   abbrev pub IsUnmade : (T → Option ℕ) → ℕ → List T → Type 0
   IsUnmade made_by made log = (n : ℕ) → made ≤ n → turns_by made_by n log ≡ []
 
-  -- each turn names pass n, or no pass
+  -- Each turn names this pass or no pass.
+  -- Shown by: turn_book tests.rt: one_pass_gives_its_turns.
   abbrev pub AreOf : (T → Option ℕ) → ℕ → List T → Type 0
   AreOf made_by n added = All (λ t. names_only n (made_by t) ≡ true) added
 
