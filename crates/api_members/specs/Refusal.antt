@@ -73,7 +73,7 @@ AreSound [] ms = Unit {0}
 AreSound (a ∷ asked) ms = IsSoundMember a ms × AreSound asked ms
 
 -- One member of the list is refused for this cause, and those before it are sound.
--- Shown by: the_event_is_refused_before_the_pattern.edit.
+-- Shown by: api_wire tests.rt: a_message_has_its_first_refusal.
 pub record IsFirstRefusal (asked : List Asked) (ms : Members) (c : Cause) : Type 0 where
   pub before : List Asked
   pub here : Asked
@@ -83,7 +83,7 @@ pub record IsFirstRefusal (asked : List Asked) (ms : Members) (c : Cause) : Type
   pub refused : IsMemberRefused here ms c
 
 -- The fault is the first refusal, or out of memory.
--- Shown by: the_event_is_refused_before_the_pattern.edit.
+-- Shown by: api_wire tests.rt: a_message_has_its_first_refusal.
 abbrev pub FirstFault : List Asked → Members → CallFault → Type 0
 FirstFault asked ms (Refused c) = IsFirstRefusal asked ms c
 FirstFault asked ms NoMemory = Unit {0}

@@ -47,7 +47,7 @@ attempts_given policy = number_or 185 65535 (value_at (codes "MaximumRetryAttemp
 
 -- `MaximumEventAgeInSeconds` of a retry policy; 86,400 if it is absent. None if it is no whole number, or above 4,294,967,295, the greatest
 -- value of its type.
--- Shown by: an_age_is_read_as_attempts.edit.
+-- Shown by: an_absent_age_is_zero.edit.
 abbrev pub age_given : Members → Option ℕ
 age_given policy = number_or 86400 4294967295 (value_at (codes "MaximumEventAgeInSeconds") policy)
 

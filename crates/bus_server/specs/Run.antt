@@ -41,7 +41,7 @@ IsReported status old new faults faults_new =
 
 -- The source's count of faults rose, or was at its last value, if the status is `ReadFault`, and is unchanged at every other status. The
 -- same holds of the sink's count and `WriteFault`.
--- Shown by: always_answers_read_fault.edit.
+-- Shown by: always_answers_write_fault.edit.
 pub record FaultsMatch (status : Status) (reads reads_new writes writes_new : ℕ) : Type 0 where
   pub read_fault : status ≡ statuses.ReadFault → Rose reads reads_new
   pub input_faultless : status ≢ statuses.ReadFault → reads_new ≡ reads
@@ -99,7 +99,7 @@ RunsBy (Some moment) old new status = (later : Option (ℕ → ℕ))
     × RunsOnce (record old { ahead = Some (repeating moment []) }) (record new { ahead = later }) status × Gives old.ahead new.ahead []
 
 -- The host gave one link, a session had it (`RunsBy`), and the host took it back. `answered` and `faults` are what a link shows.
--- Shown by: the_link_is_not_given_back.edit.
+-- Shown by: session_tests program.rt: a_run_gives_its_link_back.
 pub record RunsLinked {L : Type 0} (answered : L → Option (List Exchange)) (faults : L → ℕ) (now : Option ℕ) (old new : Around L) (status : Status)
     : Type 0 where
   -- the link as it was given, and as it was taken back
@@ -119,7 +119,7 @@ IsRun answered faults now old new status =
 
 -- The host's count of faults of links rose, or was at its last value, if the status is `DoorFault`, and is unchanged at every other status;
 -- the other two counts are unchanged.
--- Shown by: a_link_fault_is_no_fault.edit.
+-- Shown by: session_tests program.rt: a_host_that_fails_ends_a_run.
 pub record HostMatches {H : Type 0} (disk door link : H → ℕ) (status : Status) (old new : H) : Type 0 where
   pub same_disk : disk new ≡ disk old
   pub same_door : door new ≡ door old

@@ -89,7 +89,7 @@ pub record IsOpened {D I O : Type 0} (show : D → Shown I O) (fits : ℕ → I 
 
 -- The host gave one door, at the port, and one link for each worker, and took back one door and as many links, with no fault. `listening`
 -- and the port were written, and then the workers served the door (`IsOpened`).
--- Shown by: session_tests serve.rt: two_workers_serve_the_first_run; serve_counts_one_link_too_few.edit; the_door_is_kept.edit.
+-- Shown by: session_tests serve.rt: two_workers_serve_the_first_run; serve_counts_one_link_too_few.edit.
 pub record Serves {D L I O : Type 0} (show : D → Shown I O) (fits : ℕ → I × O → I × O → Bool → List Turn → Type 0) (port workers : ℕ)
     (connections : Option ℕ) (old new : AroundDoor D L) (status : Status) : Type 0 where
   -- the door as it was given, and as it was taken back
@@ -117,7 +117,7 @@ OneRose old new =
 
 -- Why nothing was served, and what was written: `DoorFault` after one fault of the host, in giving a link or the door (`OneRose`), and
 -- nothing; `WriteFault` and a first part of the line `listening`; `NoMemory`, and nothing or the line.
--- Shown by: session_tests serve.rt: without_its_first_line_nothing_is_served; a_failed_first_line_is_served.edit.
+-- Shown by: session_tests serve.rt: without_its_first_line_nothing_is_served.
 abbrev pub EndsUnserved : {D L : Type 0} → ℕ → AroundDoor D L → AroundDoor D L → Status → Type 0
 EndsUnserved port old new status =
     ((status ≡ statuses.DoorFault) × Keeps old.written new.written × OneRose old new)

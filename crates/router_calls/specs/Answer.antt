@@ -92,7 +92,7 @@ abbrev pub entries_reply : List Placed → Reply
 entries_reply all = items_reply (failures_in all) (codes "Entries") (map entry_report all)
 
 -- The answer to a PutEvents: the accepted events as one batch, with this reply; without an event nothing is written.
--- Shown by: an_empty_change_is_written.edit.
+-- Shown by: entries.
 abbrev pub events_answer : Tables → ℕ → List batch.Accepted → Reply → Answer
 events_answer t moment [] reply = reply_alone reply
 events_answer t moment (e ∷ es) reply = writes t moment (map batch.accepted (e ∷ es)) reply
@@ -113,7 +113,7 @@ IsTested pattern event a = (matches : Bool) × IsTestedAs pattern event matches 
 
 -- DeleteQueue. An existing queue that a pending delivery or a message names is in use; else it is a change like others. A missing queue is
 -- refused as such, whatever names it.
--- Shown by: a_missing_queue_is_in_use.edit.
+-- Shown by: a_queue_with_messages_is_deleted.edit.
 abbrev pub IsQueueDeleted : Tables → ℕ → List ℕ → Answer → Type 0
 IsQueueDeleted t moment name a =
     ((has_queue name t.set ≡ true) × IsNamed name t.duties × (a ≡ reply_alone (refused (cause.InUse kind.Queue name))))
@@ -121,7 +121,7 @@ IsQueueDeleted t moment name a =
 
 -- The answer to a DeleteMessages that is to delete these messages, which have numbers up to `through`: the deletion is one operation of a
 -- batch; without a message nothing is written.
--- Shown by: deleted_zero_writes.edit.
+-- Shown by: empty-a-queue.
 abbrev pub deletion_answer : Tables → ℕ → List ℕ → ℕ → List StoredMessage → Answer
 deletion_answer t moment queue through [] = reply_alone (deletion_reply 0)
 deletion_answer t moment queue through (m ∷ ms) =

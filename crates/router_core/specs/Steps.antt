@@ -18,7 +18,7 @@ abbrev pub claiming : ℕ → Tables → Tables
 claiming duty t = record t { duties = claimed duty t.duties }
 
 -- The tables with the claim released. No batch records it.
--- Shown by: a_claim_is_not_released.edit.
+-- Shown by: proofs alone.
 abbrev pub putting_back : ℕ → Tables → Tables
 putting_back duty t = record t { duties = unclaimed duty t.duties }
 

@@ -37,12 +37,12 @@ written_of Nothing = None
 written_of (Changes batch) = Some (batch_of batch.value)
 
 -- What contracts see of the code's `Turn`, with the views of its ask and its batch.
--- Shown by: a_turn_names_another_pass.edit; a_turn_names_no_connection.edit.
+-- Shown by: a_turn_names_another_pass.edit; a_quiet_step_names_a_connection.edit.
 abbrev pub turn_of : Turn → view.Turn
 turn_of turn = record { pass = turn.pass; connection = turn.connection; ask = ask_of turn.ask; k = turn.k; batch = written_of turn.written }
 
 -- The turns of the code's `History` as they were recorded, oldest first.
--- Shown by: a_claim_is_not_in_the_history.edit.
+-- Shown by: a_step_is_recorded_twice.edit.
 abbrev pub recorded_in : History → List Turn
 recorded_in history = firsts history.log.items
 
@@ -89,7 +89,7 @@ pub record HasLearned (n : ℕ) (old new : BookState) : Type 0 where
   pub by_others : view.turns_by n more ≡ []
 
 -- Turns were added, and those of the seat's pass name the seat's connection.
--- Shown by: a_turn_names_no_connection.edit.
+-- Shown by: a_quiet_step_names_a_connection.edit.
 pub record HasNamed (seat : Seat) (old new : BookState) : Type 0 where
   pub more : List view.Turn
   pub turns : new.turns ≡ old.turns ++ more

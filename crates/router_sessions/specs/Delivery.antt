@@ -96,7 +96,7 @@ pub record IsOpen (s : State) (pass : ℕ) (c : Claim) : Type 0 where
   pub claim : claim_of c.reading c.moment row ≡ c
 
 -- No unclaimed duty is due at a reading.
--- Shown by: quiet_makes_no_step.edit.
+-- Shown by: session_tests serve.rt: a_quiet_door_lets_its_worker_deliver.
 abbrev pub IsIdle : State → ℕ → Type 0
 IsIdle s reading = NoneDue s.tables.duties (moment_at s.tables reading)
 
@@ -106,7 +106,7 @@ abbrev pub IsFullAt : State → ℕ → Type 0
 IsFullAt s reading = (is_full s.tables ≡ true) × (¬ IsIdle s reading)
 
 -- The last turn of the book is the one in which a pass put this claim back, and the number limit was reached before it.
--- Shown by: the_limit_is_that_of_a_later_look.edit.
+-- Shown by: proofs alone.
 pub record EndsAtLimit (n : ℕ) (c : Claim) (b : BookState) : Type 0 where
   pub before : List Turn
   pub turn : Turn
@@ -116,7 +116,7 @@ pub record EndsAtLimit (n : ℕ) (c : Claim) (b : BookState) : Type 0 where
   pub full : is_full (state_after before b.opened).tables ≡ true
 
 -- The number limit was reached before the last of these turns.
--- Shown by: the_limit_is_that_of_a_later_look.edit.
+-- Shown by: proofs alone.
 abbrev pub IsLastAtLimit : List Placed → Type 0
 IsLastAtLimit turns = (before : List Placed) × (p : Placed) × (turns ≡ before ++ p ∷ []) × (is_full p.before.tables ≡ true)
 

@@ -30,7 +30,7 @@ abbrev pub number_of : Known → ℕ
 number_of known = (view known).number
 
 -- The seat of a pass, for turns that name a connection.
--- Shown by: a_turn_names_no_connection.edit.
+-- Shown by: a_quiet_step_names_a_connection.edit.
 abbrev pub seat_of : Option ℕ → Known → Seat
 seat_of connection known = record { pass = number_of known; connection = connection }
 

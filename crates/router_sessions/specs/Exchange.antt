@@ -97,7 +97,7 @@ pub data IsExchange (e : Exchange) : Type 0 where
   posted : is_post e.message.method ≡ true → IsPosted e → IsExchange e
 
 -- What is written for a reply: all of it, or `reply_head` for a HEAD.
--- Shown by: a_head_reply_has_a_body.edit.
+-- Shown by: head-request.
 abbrev pub sent_text : Method → Reply → Bool → List ℕ
 sent_text Post reply close = reply_text reply close
 sent_text Head reply close = reply_head reply close

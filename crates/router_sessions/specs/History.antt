@@ -18,7 +18,7 @@ use Rattle.router_calls.specs.Answer.{IsAnswer}
 
 -- What a turn was made for: a request; a claim of the next due duty at a reading; the record of how a claimed duty's attempt ended, with
 -- the claim's reading; or a claim that is put back.
--- Shown by: a_claim_is_not_in_the_history.edit.
+-- Shown by: a_step_is_recorded_twice.edit.
 pub data Ask : Type 0 where
   asked : Request → Ask
   claims : (duty reading : ℕ) → Ask
@@ -27,7 +27,7 @@ pub data Ask : Type 0 where
 
 -- The pass that made the turn, the connection that it served, if any, its ask, the configuration version by which it went, and the batch
 -- that it wrote, if any.
--- Shown by: a_turn_names_another_pass.edit; a_turn_names_no_connection.edit.
+-- Shown by: a_turn_names_another_pass.edit; a_quiet_step_names_a_connection.edit.
 pub record Turn : Type 0 where
   pub pass : ℕ
   pub connection : Option ℕ
@@ -44,7 +44,7 @@ pub record OpenClaim : Type 0 where
   pub moment : ℕ
 
 -- The tables, the changes of the configuration so far, oldest first, and the open claims.
--- Shown by: first-run; a_claim_is_not_in_the_history.edit.
+-- Shown by: first-run; a_step_is_recorded_twice.edit.
 pub record State : Type 0 where
   pub tables : Tables
   pub controls : List Control
@@ -115,7 +115,7 @@ pub record IsRecordBy (s : State) (turn : Turn) (duty reading : ℕ) (outcome : 
   pub written : turn.batch ≡ Some (record_of (moment_at s.tables reading) duty outcome)
 
 -- A turn that may be made in a state, by what it was made for. One that was made for a request names a connection.
--- Shown by: a_turn_names_no_connection.edit.
+-- Shown by: a_quiet_step_names_a_connection.edit.
 abbrev pub IsTurnFor : State → Turn → Ask → Type 0
 IsTurnFor s turn (asked request) = IsSome turn.connection × ((reply : Reply) × IsAnsweredBy s turn request reply)
 IsTurnFor s turn (claims duty reading) = IsClaimBy s turn duty reading

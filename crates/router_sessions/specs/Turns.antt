@@ -26,7 +26,7 @@ pub record IsAdded (seat : Seat) (ask : Ask) (old new : BookState) : Type 0 wher
   pub turns : new.turns ≡ old.turns ++ turn ∷ []
 
 -- One turn claimed the duty of this claim at a reading, and the claim is open.
--- Shown by: a_claim_is_not_in_the_history.edit.
+-- Shown by: proofs alone.
 pub record IsClaimedBy (seat : Seat) (reading : ℕ) (old new : BookState) (c : Claim) : Type 0 where
   pub added : IsAdded seat (claims c.number reading) old new
   pub at : c.reading ≡ reading
@@ -34,13 +34,13 @@ pub record IsClaimedBy (seat : Seat) (reading : ℕ) (old new : BookState) (c : 
   pub is_open : IsOpen (state_of new) seat.pass c
 
 -- One turn from a seat put this claim back, and the number limit was reached before that turn.
--- Shown by: the_claim_is_put_back_below_the_limit.edit.
+-- Shown by: proofs alone.
 pub record IsPutBackAtLimit (seat : Seat) (c : Claim) (old new : BookState) : Type 0 where
   pub added : IsAdded seat (puts_back c.number) old new
   pub full : is_full old.tables ≡ true
 
 -- Why nothing was claimed: at the number limit, or out of memory.
--- Shown by: a_claim_is_refused_below_the_limit.edit.
+-- Shown by: proofs alone.
 abbrev pub IsUnclaimed : BookState → ℕ → BookFault → Type 0
 IsUnclaimed b reading NumberLimit = IsLimited b reading
 IsUnclaimed b reading NoMemory = Unit {0}

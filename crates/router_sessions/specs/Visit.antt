@@ -11,7 +11,7 @@ use Rattle.router_sessions.specs.Session.{IsSession}
 use Rattle.router_sessions.specs.World.{world}
 
 -- Out of memory ended the session.
--- Shown by: out_of_memory_is_no_cut.edit.
+-- Shown by: proofs alone.
 abbrev pub is_cut : SessionEnd → Bool
 is_cut Closed = false
 is_cut Cut = false

@@ -66,7 +66,7 @@ abbrev pub put_rule : Rule → List Rule → List Rule
 put_rule = placed (λ rule. rule.name) keeping_targets
 
 -- One target put to a rule's targets; the one with the same id is replaced.
--- Shown by: targets_out_of_order.edit.
+-- Shown by: targets.
 abbrev pub put_target : Target → List Target → List Target
 put_target = placed (λ target. target.id) replacing
 
@@ -212,14 +212,14 @@ abbrev pub IsArnThere : RuleSet → List ℕ → Type 0
 IsArnThere set arn = IsQueueThere set arn ⊎ (((queue : List ℕ) → ¬ IsQueueArn arn queue) × (is_endpoint arn ≡ true))
 
 -- A target has no dead-letter queue, or that queue exists.
--- Shown by: a_dead_letter_queue_may_be_missing.edit.
+-- Shown by: target-members.
 abbrev pub IsDeadLetterThere : RuleSet → Option (List ℕ) → Type 0
 IsDeadLetterThere set None = Unit {0}
 IsDeadLetterThere set (Some arn) = IsQueueThere set arn
 
 -- The target may be stored: its queue exists or it has an endpoint, it has no member that is not supported yet, its retry policy is valid,
 -- and its dead-letter queue exists.
--- Shown by: a_dead_letter_queue_may_be_missing.edit.
+-- Shown by: target-members.
 pub record IsSoundTarget (set : RuleSet) (target : Target) : Type 0 where
   pub arn : IsArnThere set target.arn
   pub supported : target.unbuilt ≡ None
@@ -298,7 +298,7 @@ HasItsArn bus rule = rule.arn ≡ rule_arn bus rule.name
 -- bus has at most 300 rules, each rule at most five targets, each of which is sound (`IsSoundTarget`); and there are at most 1,000 queues.
 -- Each rule has the ARN that names it and its bus. Each policy is as it is stored. Buses, rules, targets and queues are in the byte order
 -- of their names, which are distinct.
--- Shown by: targets_out_of_order.edit.
+-- Shown by: targets.
 pub record IsSound (set : RuleSet) : Type 0 where
   pub buses : length set.buses ≤ 100
   pub rules : All (λ bus. length bus.rules ≤ 300) set.buses

@@ -14,7 +14,7 @@ pub record StoredTarget : Type 0 where
 
 -- What matching and delivery need of a target of a rule: the rule's ARN and name, the target's id and ARN, the ARN of its dead-letter
 -- queue, and how it is retried: by its retry policy, and else at most 185 times, within 86,400 seconds.
--- Shown by: a_target_keeps_the_old_rule.edit; the_dead_letter_queue_is_forgotten.edit.
+-- Shown by: the_dead_letter_queue_is_forgotten.edit.
 abbrev pub row_of : Rule → Target → TargetRow
 row_of rule target = record {
   rule_arn = rule.arn;
