@@ -141,8 +141,8 @@ def each_code():
         endpoint.expect(*((event_text(1), it) for it in codes))
 
 
-def readme_run():
-    """The run of the README, byte for byte, at another port of four digits."""
+def the_documented_run():
+    """The first run with an endpoint of docs/OPERATING.md, byte for byte, at another port of four digits."""
     queue = "arn:aws:sqs:us-east-1:111122223333:d"
     bodies = [
         f'{{"QueueArn":"{queue}"}}',
@@ -211,7 +211,7 @@ def a_failed_send_then_200():
 
 
 def two_retries():
-    """The script of the README."""
+    """The script of docs/OPERATING.md."""
     with Endpoint(503) as endpoint:
         environment = {**os.environ, "EBUSD": COMMAND[0]}
         ran = subprocess.run([*RETRY, str(endpoint.port)], env=environment, capture_output=True, text=True, timeout=120)
@@ -285,7 +285,7 @@ def kinds_in_order():
 CASES = [
     without_retries,
     each_code,
-    readme_run,
+    the_documented_run,
     a_retry_is_delivered,
     a_retry_ends_it,
     a_failed_send_then_200,

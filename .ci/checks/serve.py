@@ -661,8 +661,8 @@ def real_clients():
             until_delivered(client, 10 * len(scripts))
 
 
-def readme_run():
-    """The README's run: twelve clients, boto3, and what curl prints then."""
+def the_documented_run():
+    """The example clients of docs/OPERATING.md: twelve clients, boto3, and what curl prints then."""
     with Served(8) as it:
         printed = script(sys.executable, "-B", EXAMPLES + "clients.py", str(it.port)).splitlines()
         wanted = ["12 clients put 6000 events: ids 1 to 6000 came once each", "all were delivered to queue q without a DeliverDue"]
@@ -723,7 +723,7 @@ CASES = [
     connections_are_counted,
     mixed_requests_over_tcp,
     real_clients,
-    readme_run,
+    the_documented_run,
 ]
 
 
