@@ -41,7 +41,7 @@ pair_of high low = 0x10000 + 0x400 * (high - 0xD800) + (low - 0xDC00)
 -- Bytes that spell one character, and the character in UTF-8 (RFC 8259, section 7): a Unicode scalar value from U+0020 on other than `"`
 -- and `\`; one of eight escapes of two bytes; `\u` with four hexadecimal digits of a scalar value; or two such escapes, a high and then a
 -- low surrogate. A surrogate alone is no character.
--- Shown by: json_text tests.rt: outside_cases_go_as_marked.
+-- Shown by: text_tests test_json_text.rt: outside_cases_go_as_marked.
 pub data SpellsCharacter : List ℕ → List ℕ → Type 0 where
   unescaped : (c : ℕ) → IsScalar c → 32 ≤ c → c ≢ 34 → c ≢ 92 → SpellsCharacter (encode_utf8 c) (encode_utf8 c)
   escaped : (b c : ℕ) → escape_of b ≡ Some c → SpellsCharacter (92 ∷ b ∷ []) (c ∷ [])
@@ -55,6 +55,6 @@ pub data SpellsCharacters : List ℕ → List ℕ → Type 0 where
   more : {a x b y : List ℕ} → SpellsCharacter a x → SpellsCharacters b y → SpellsCharacters (a ++ b) (x ++ y)
 
 -- Characters between quotation marks.
--- Shown by: json_text tests.rt: outside_cases_go_as_marked.
+-- Shown by: text_tests test_json_text.rt: outside_cases_go_as_marked.
 abbrev pub SpellsString : List ℕ → List ℕ → Type 0
 SpellsString bytes text = (inside : List ℕ) × (bytes ≡ 34 ∷ (inside ++ 34 ∷ [])) × SpellsCharacters inside text

@@ -25,7 +25,7 @@ quoted bytes = 34 ∷ (flat_map escape bytes ++ 34 ∷ [])
 
 -- The one text that a value is written as: no spaces; in texts `"`, `\` and bytes below a space are escaped, by two characters if there is
 -- such an escape, and else as `\u00xx` in lower case.
--- Shown by: json_text tests.rt: values_are_written_compactly.
+-- Shown by: text_tests test_json_text.rt: values_are_written_compactly.
 abbrev mutual
   pub compact_text : Tree → List ℕ
   compact_text null = codes "null"
@@ -58,7 +58,7 @@ LacksKey key no_members = Unit {0}
 LacksKey key (member k t members) = (key ≢ k) × LacksKey key members
 
 -- Numbers are spelled as in RFC 8259, texts and keys are UTF-8, and the keys of each object are distinct.
--- Shown by: json_text tests.rt: values_are_written_compactly.
+-- Shown by: text_tests test_json_text.rt: values_are_written_compactly.
 abbrev mutual
   pub IsValue : Tree → Type 0
   IsValue null = Unit {0}
@@ -77,7 +77,7 @@ abbrev mutual
   AreMembers (member key t members) = IsUtf8 key × LacksKey key members × IsValue t × AreMembers members
 
 -- How deep lists and objects are nested in a value. A node may have more levels than its value: `{"a":[[]],"a":1}` has 3 and 1.
--- Shown by: json_text tests.rt: a_hundred_levels_are_read_and_one_more_is_not.
+-- Shown by: text_tests test_json_text.rt: a_hundred_levels_are_read_and_one_more_is_not.
 abbrev mutual
   pub tree_levels : Tree → ℕ
   tree_levels null = 0

@@ -26,7 +26,7 @@ SpellsField P at bytes place key = (before name gap rest : List ℕ) × (bytes �
 abbrev mutual
   -- The grammar of RFC 8259, sections 2 to 5, one case a production: white space around each value and key and in empty brackets, commas
   -- between, a colon after each key.
-  -- Shown by: json_text tests.rt: outside_cases_go_as_marked.
+  -- Shown by: text_tests test_json_text.rt: outside_cases_go_as_marked.
   pub SpellsValue : ℕ → List ℕ → Node → Type 0
   SpellsValue at bytes null_node = bytes ≡ codes "null"
   SpellsValue at bytes (truth_node true) = bytes ≡ codes "true"
@@ -61,12 +61,12 @@ abbrev mutual
       × SpellsField (Padded (λ there inside. SpellsValue there inside n)) (at + 1) first place key × SpellsMoreMembers (at + 1 + length first) rest fs
 
 -- A value with white space around it: JSON-text = ws value ws (RFC 8259, section 2).
--- Shown by: json_text tests.rt: outside_cases_go_as_marked.
+-- Shown by: text_tests test_json_text.rt: outside_cases_go_as_marked.
 abbrev pub SpellsText : List ℕ → Node → Type 0
 SpellsText bytes n = Padded (λ place inside. SpellsValue place inside n) 0 bytes
 
 -- The text spells this node (RFC 8259), within this number of levels.
--- Shown by: json_text tests.rt: a_hundred_levels_are_read_and_one_more_is_not.
+-- Shown by: text_tests test_json_text.rt: a_hundred_levels_are_read_and_one_more_is_not.
 pub record IsText (levels : ℕ) (bytes : List ℕ) (n : Node) : Type 0 where
   pub spelled : SpellsText bytes n
   pub within : levels_of n ≤ levels

@@ -6,7 +6,7 @@ use Rattle.std.specs.Str.{bytes_eq}
 use Rattle.json_text.specs.Tree.{Tree, null, truth, number, text, list, object, items_of, members_of}
 
 -- A JSON value as a text writes it, repeated keys included. Each key has its place: the number of bytes before its quotation mark.
--- Shown by: json_text tests.rt: the_first_repeated_key_is_reported.
+-- Shown by: text_tests test_json_text.rt: the_first_repeated_key_is_reported.
 mutual
   pub data Node : Type 0 where
     null_node : Node
@@ -31,7 +31,7 @@ with_member key tree (m ∷ ms) = if bytes_eq key m.0 then (m.0, tree) ∷ ms el
 
 -- The value of a node. Of a repeated key the first place and the last value count: `{"a":1, "b":2,"a":3}` is `{"a":3,"b":2}`. This
 -- project's own rule: RFC 8259, section 4, leaves it open.
--- Shown by: json_text tests.rt: values_are_written_compactly.
+-- Shown by: text_tests test_json_text.rt: values_are_written_compactly.
 abbrev mutual
   pub value_of : Node → Tree
   value_of null_node = null
@@ -50,7 +50,7 @@ abbrev mutual
   members_after ms (field place key n fs) = members_after (with_member key (value_of n) ms) fs
 
 -- How deep lists and objects are nested in a node.
--- Shown by: json_text tests.rt: a_hundred_levels_are_read_and_one_more_is_not.
+-- Shown by: text_tests test_json_text.rt: a_hundred_levels_are_read_and_one_more_is_not.
 abbrev mutual
   pub levels_of : Node → ℕ
   levels_of null_node = 0
@@ -74,7 +74,7 @@ first_of (Some at) other = Some at
 
 -- The place of the first key, in the order of the text, that an earlier member of its object has too. In `{"a":{"b":1,"b":2},"a":3}` it is
 -- 12.
--- Shown by: json_text tests.rt: the_first_repeated_key_is_reported.
+-- Shown by: text_tests test_json_text.rt: the_first_repeated_key_is_reported.
 abbrev mutual
   pub first_repeat : Node → Option ℕ
   first_repeat null_node = None

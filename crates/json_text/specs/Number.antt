@@ -44,7 +44,7 @@ IsMinus (b ∷ bs) = (b ≡ 45) × (bs ≡ [])
 
 -- The bytes spell a number (RFC 8259, section 6): an optional minus; one 0, or digits that begin with 1 to 9; an optional fraction; an
 -- optional exponent. `01`, `-`, `1.`, `1e+`, `.5` and `+1` are no numbers; `-0.50e+07` is a number.
--- Shown by: json_text tests.rt: outside_cases_go_as_marked.
+-- Shown by: text_tests test_json_text.rt: outside_cases_go_as_marked.
 pub record IsNumber (bytes : List ℕ) : Type 0 where
   pub minus : List ℕ
   pub int : List ℕ

@@ -5,7 +5,7 @@ use Rattle.json_text.specs.declared.fault.JsonFault.{JsonFault}
 use Rattle.json_text.specs.declared.fault.JsonFault.TheVariants.{NotJson, TooDeep, KeyTwice, NoMemory}
 
 -- What `read_once` reports of a JSON text within the levels: its first repeated key, or out of memory.
--- Shown by: json_text tests.rt: the_first_repeated_key_is_reported.
+-- Shown by: text_tests test_json_text.rt: the_first_repeated_key_is_reported.
 abbrev pub IsRepeatOrMemory : Node → JsonFault → Type 0
 IsRepeatOrMemory n (NotJson at) = ⊥
 IsRepeatOrMemory n (TooDeep at) = ⊥

@@ -14,7 +14,7 @@ view_step (Json-F.List v) = list (items_of v.items)
 view_step (Json-F.Obj v) = object (members_of v.items)
 
 -- The `Tree` of a `Json`. Contracts see a `Json` by its `Tree`.
--- Shown by: json_text tests.rt: values_are_written_compactly.
+-- Shown by: text_tests test_json_text.rt: values_are_written_compactly.
 abbrev pub tree_of : Json → Tree
 tree_of = fold-Json Tree view_step
 

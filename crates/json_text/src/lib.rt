@@ -12,8 +12,6 @@ mod reader;
 mod reading;
 mod state;
 mod string;
-#[cfg(test)]
-mod tests;
 mod value;
 mod word;
 

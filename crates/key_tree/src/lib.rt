@@ -7,6 +7,3 @@ mod values;
 
 pub use node::Node;
 pub use values::KeyTree;
-
-#[cfg(test)]
-mod tests;

@@ -14,6 +14,6 @@ like_piece byte =
     if byte == star then Run else (if byte == question then OneCharacter else Letter byte)
 
 -- The pieces of a StringLike pattern: `*` is a run, `?` one character, and every other byte, a backslash included, is itself.
--- Shown by: leaf_match tests.rt: likes.
+-- Shown by: text_tests test_leaf_match.rt: likes.
 abbrev pub like_pieces : List ℕ → List Piece
 like_pieces pattern = map like_piece pattern

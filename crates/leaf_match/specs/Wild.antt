@@ -23,13 +23,13 @@ BeginsWith OneCharacter text rest = ⊥
 
 -- The wildcard's text spells these pieces: `*` without another `*` after it is a run; `\*` and `\\` are letters; any other byte, `?`
 -- included, is itself. `a**b`, `a\b` and a backslash at the end spell nothing.
--- Shown by: leaf_match tests.rt: wildcards.
+-- Shown by: text_tests test_leaf_match.rt: fronts.
 abbrev pub Spells : List ℕ → List Piece → Type 0
 Spells text [] = text ≡ []
 Spells text (piece ∷ pieces) = (rest : List ℕ) × BeginsWith piece text rest × Spells rest pieces
 
 -- The letters before the first piece that is no letter.
--- Shown by: leaf_match tests.rt: wildcards.
+-- Shown by: text_tests test_leaf_match.rt: fronts.
 abbrev pub literal_front : List Piece → List ℕ
 literal_front [] = []
 literal_front (Letter byte ∷ pieces) = byte ∷ literal_front pieces
@@ -37,6 +37,6 @@ literal_front (Run ∷ pieces) = []
 literal_front (OneCharacter ∷ pieces) = []
 
 -- The text spells some pieces.
--- Shown by: leaf_match tests.rt: wildcards.
+-- Shown by: text_tests test_leaf_match.rt: fronts.
 abbrev pub IsWildcard : List ℕ → Type 0
 IsWildcard text = (pieces : List Piece) × Spells text pieces

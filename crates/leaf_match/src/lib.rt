@@ -7,8 +7,6 @@ mod cidr;
 mod fault;
 mod matching;
 mod piece;
-#[cfg(test)]
-mod tests;
 mod whole_text;
 mod wildcard;
 

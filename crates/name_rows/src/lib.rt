@@ -12,6 +12,3 @@ pub use iter::RowsFrom;
 pub use place::Place;
 pub use row::Row;
 pub use rows::Rows;
-
-#[cfg(test)]
-mod tests;

@@ -6,7 +6,7 @@ use Rattle.std.specs.Str.Parse.{AllDigits, IsNumeral, digits_value}
 
 -- The parts of a spelling (RFC 8259, section 6): whether it begins with a minus, the digits of `int`, `frac` and `exp`, and whether `exp`
 -- has a minus. A part that is left out has no digits.
--- Shown by: numeric_keys tests.rt: number_spellings.
+-- Shown by: text_tests test_numeric_keys.rt: number_spellings.
 pub record Parts : Type 0 where
   pub negative : Bool
   pub whole : List ℕ
@@ -48,7 +48,7 @@ pub data IsExp : Bool → List ℕ → List ℕ → Type 0 where
 
 -- The text spells a number with these parts: [ minus ] int [ frac ] [ exp ] (RFC 8259, section 6). `007`, `+1`, `.5`, `5.`, `1e` and the
 -- empty text are no numbers; `0.001`, `1e007`, `1E+2` and `-0` are numbers.
--- Shown by: numeric_keys tests.rt: number_spellings.
+-- Shown by: text_tests test_numeric_keys.rt: number_spellings.
 pub record IsNumber (parts : Parts) (text : List ℕ) : Type 0 where
   pub sign : List ℕ
   pub frac : List ℕ
@@ -62,7 +62,7 @@ pub record IsNumber (parts : Parts) (text : List ℕ) : Type 0 where
 -- The value without its sign, times 1,000,000, is this whole number. With D the number that all digits of `int` and `frac` write, f the
 -- number of digits of `frac`, and E the number that the digits of `exp` write: D * 10 ^ E * 10 ^ 6 = size * 10 ^ f, and with a minus in
 -- `exp` D * 10 ^ 6 = size * 10 ^ (f + E). `0.0000001` has no size.
--- Shown by: numeric_keys tests.rt: long_spellings.
+-- Shown by: text_tests test_numeric_keys.rt: long_spellings.
 abbrev pub HasSize : Parts → ℕ → Type 0
 HasSize parts size =
     let digits = digits_value 10 (parts.whole ++ parts.fraction) in
@@ -73,13 +73,13 @@ HasSize parts size =
     (digits * 10 ^ power * 10 ^ 6 ≡ size * 10 ^ places)
 
 -- 5,000,000,000,000,000: the millionths of 5,000,000,000 (this project's own bound).
--- Shown by: numeric_keys tests.rt: number_spellings.
+-- Shown by: text_tests test_numeric_keys.rt: number_spellings.
 abbrev pub largest_size : ℕ
 largest_size = 5000000000000000
 
 -- The text spells a number of at most the largest size, and this is the size with its sign. `-5000000000` gives -5 * 10 ^ 15;
 -- `5000000000.000001` is too large; `-0` and `0e99` give 0.
--- Shown by: numeric_keys tests.rt: number_spellings.
+-- Shown by: text_tests test_numeric_keys.rt: number_spellings.
 pub record IsMillionths (text : List ℕ) (m : ℤ) : Type 0 where
   pub parts : Parts
   pub size : ℕ

@@ -12,6 +12,3 @@ pub use fault::NoMemory;
 pub use marks::Marks;
 pub use number::millionths;
 pub use ranges::Ranges;
-
-#[cfg(test)]
-mod tests;

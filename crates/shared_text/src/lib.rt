@@ -2,8 +2,6 @@
 #![tactic(auto)]
 
 mod row;
-#[cfg(test)]
-mod tests;
 mod text;
 
 pub use row::{SharedRow, TargetRow};

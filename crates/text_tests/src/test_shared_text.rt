@@ -1,5 +1,6 @@
-use crate::{SharedRow, SharedText, TargetRow};
+//! Tests of shared_text.
 use json_text::Text;
+use shared_text::{SharedRow, SharedText, TargetRow};
 use std::alloc::Global;
 use std::test::Fail;
 

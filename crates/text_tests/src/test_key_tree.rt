@@ -1,4 +1,5 @@
-use crate::{KeyTree, Node};
+//! Tests of key_tree.
+use key_tree::{KeyTree, Node};
 use std::alloc::{AllocFailed, Global};
 use std::test::Fail;
 

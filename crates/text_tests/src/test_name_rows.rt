@@ -1,5 +1,7 @@
-use crate::Rows;
+//! Tests of name_rows.
+use crate::rows::two;
 use json_text::Text;
+use name_rows::Rows;
 use std::alloc::Global;
 use std::test::Fail;
 
@@ -93,16 +95,27 @@ fn removed_rows_are_gone_and_the_others_stay(rt: HostRuntime) -> Result<(), Fail
     Ok(())
 }
 
+/// A name, and how many of the names 1000 to 1999 are not before it.
+const FROM: &str = "1000|1000
+|1000
+1998|2
+19975|2
+1999|1
+2|0
+";
+
+fn is_counted(rows: &Rows<Text>, row: &str) -> Result<bool, Fail> {
+    let (name, count) = two(row);
+    Ok(count_from(rows, name) == count.parse::<usize>()?)
+}
+
 #[test]
 fn rows_from_a_name_on(rt: HostRuntime) -> Result<(), Fail> {
-    let alloc = rt.alloc();
-    let rows = thousand(alloc)?;
-    assert_eq!(rt; count_from(&rows, "1000"), 1000);
-    assert_eq!(rt; count_from(&rows, ""), 1000);
-    assert_eq!(rt; count_from(&rows, "1998"), 2);
-    assert_eq!(rt; count_from(&rows, "19975"), 2);
-    assert_eq!(rt; count_from(&rows, "1999"), 1);
-    assert_eq!(rt; count_from(&rows, "2"), 0);
+    let rows = thousand(rt.alloc())?;
+    assert_eq!(rt; FROM.lines().count(), 6);
+    for row in FROM.lines() {
+        assert!(rt; is_counted(&rows, row)?, "{row}");
+    }
     Ok(())
 }
 
