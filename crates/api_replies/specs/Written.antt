@@ -14,13 +14,13 @@ close_field true = codes "Connection: close" ++ crlf
 close_field false = []
 
 -- The field `Allow: POST`, in a reply 405 alone (RFC 9110, section 10.2.1).
--- Shown by: api_replies tests.rt: replies_without_memory_are_written_out.
+-- Shown by: table_tests test_api_replies.rt: replies_without_memory_are_written_out.
 abbrev pub allow_field : ℕ → List ℕ
 allow_field status = if status == 405 then codes "Allow: POST" ++ crlf else []
 
 -- Status line, Content-Type, the Content-Length of a body of that length, these further fields, `Connection: close` if the connection ends,
 -- an empty line, and what is sent after it (RFC 9112, section 4).
--- Shown by: api_replies tests.rt: replies_without_memory_are_written_out.
+-- Shown by: table_tests test_api_replies.rt: replies_without_memory_are_written_out.
 abbrev pub message_with : ℕ → ℕ → List ℕ → Bool → List ℕ → List ℕ
 message_with status len more close sent =
     codes "HTTP/1.1 " ++ (decimal status ++ (codes " " ++ (unwrap_or (reason_phrase status) [] ++ (crlf
@@ -29,21 +29,21 @@ message_with status len more close sent =
     ++ (more ++ (close_field close ++ (crlf ++ sent))))))))))))
 
 -- The `message_with` of a status and a body, with `allow_field`.
--- Shown by: api_replies tests.rt: a_reply_is_written_behind_what_is_there.
+-- Shown by: table_tests test_api_replies.rt: a_reply_is_written_behind_what_is_there.
 abbrev pub message_text : ℕ → List ℕ → Bool → List ℕ
 message_text status body close = message_with status (length body) (allow_field status) close body
 
 -- The `message_text` of a reply: with its status, and the compact text of its body. `close` is true if the connection ends after it.
--- Shown by: api_replies tests.rt: a_reply_is_written_behind_what_is_there.
+-- Shown by: table_tests test_api_replies.rt: a_reply_is_written_behind_what_is_there.
 abbrev pub reply_text : Reply → Bool → List ℕ
 reply_text reply close = message_text reply.status (compact_text reply.body) close
 
 -- The `reply_text` without the body, as the reply to a HEAD. Its Content-Length is that of the body (RFC 9110, section 9.3.2).
--- Shown by: api_replies tests.rt: replies_without_memory_are_written_out.
+-- Shown by: table_tests test_api_replies.rt: replies_without_memory_are_written_out.
 abbrev pub reply_head : Reply → Bool → List ℕ
 reply_head reply close = message_with reply.status (length (compact_text reply.body)) (allow_field reply.status) close []
 
 -- 200, 400 or 503: the statuses of the replies that are written from a value. The other replies are constants.
--- Shown by: api_replies tests.rt: a_reply_is_written_behind_what_is_there.
+-- Shown by: table_tests test_api_replies.rt: a_reply_is_written_behind_what_is_there.
 abbrev pub IsServedStatus : ℕ → Type 0
 IsServedStatus status = (status ≡ 200) ⊎ ((status ≡ 400) ⊎ (status ≡ 503))

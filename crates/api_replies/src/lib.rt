@@ -17,6 +17,3 @@ pub use counts::CountsReply;
 pub use kind::Kind;
 pub use member::Member;
 pub use reply::{Reply, limit_reply, refused_reply};
-
-#[cfg(test)]
-mod tests;

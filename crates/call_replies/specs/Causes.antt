@@ -17,7 +17,7 @@ use Rattle.config_changes.specs.declared.control.ControlFault.{ControlFault}
 use Rattle.config_changes.specs.declared.control.ControlFault.TheVariants as fault
 
 -- The name that a change has for a thing of this kind: its bus, its rule or its queue.
--- Shown by: call_replies tests/causes.rt: each_fault_of_a_change_has_its_cause.
+-- Shown by: table_tests test_call_replies.rt: each_fault_of_a_change_has_its_cause.
 abbrev pub name_in : Control → Kind → List ℕ
 name_in (rule_put bus name pattern enabled) kind.EventBus = bus
 name_in (rule_put bus name pattern enabled) _ = name
@@ -36,7 +36,7 @@ name_in (queue_created name) _ = name
 name_in (queue_deleted name) _ = name
 
 -- The refusal of a change that has this fault.
--- Shown by: call_replies tests/causes.rt: each_fault_of_a_change_has_its_cause.
+-- Shown by: table_tests test_call_replies.rt: each_fault_of_a_change_has_its_cause.
 abbrev pub IsCause : Control → ControlFault → Cause → Type 0
 IsCause control (fault.ResourceNotFound kind) c = c ≡ cause.NotFound kind (name_in control kind)
 IsCause control (fault.AlreadyExists kind) c = c ≡ cause.Exists kind (name_in control kind)
@@ -59,7 +59,7 @@ IsTargetCause target target_fault.NoDeadLetterQueue c =
 IsTargetCause target target_fault.Sixth c = c ≡ cause.LimitReached kind.Target
 
 -- The refusal of an entry that has this fault of its own.
--- Shown by: call_replies tests/causes.rt: each_fault_of_a_target_or_an_entry_has_its_cause.
+-- Shown by: table_tests test_call_replies.rt: each_fault_of_a_target_or_an_entry_has_its_cause.
 abbrev pub entry_cause : EntryFault → Cause
 entry_cause Source = cause.Parameter member.Source
 entry_cause DetailType = cause.Parameter member.DetailType

@@ -5,8 +5,6 @@ mod causes;
 mod counts;
 mod messages;
 mod replies;
-#[cfg(test)]
-mod tests;
 
 pub use causes::{change_cause, entry_cause, target_cause};
 pub use counts::duty_counts;

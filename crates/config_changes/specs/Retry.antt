@@ -19,13 +19,13 @@ is_retry_valid None = true
 is_retry_valid (Some policy) = are_attempts_valid policy.attempts && is_age_valid policy.age
 
 -- The maximum number of retry attempts: the one of the retry policy, and else 185.
--- Shown by: rule_table tests/targets.rt: a_rule_shows_its_target.
+-- Shown by: table_tests test_rule_table.rt: a_rule_shows_its_target.
 abbrev pub attempts_of : Option RetryPolicy → ℕ
 attempts_of None = 185
 attempts_of (Some policy) = unwrap_or policy.attempts 185
 
 -- The maximum age of an event: the one of the retry policy, and else 86,400 seconds.
--- Shown by: rule_table tests/targets.rt: a_rule_shows_its_target.
+-- Shown by: table_tests test_rule_table.rt: a_rule_shows_its_target.
 abbrev pub age_of : Option RetryPolicy → ℕ
 age_of None = 86400
 age_of (Some policy) = unwrap_or policy.age 86400

@@ -14,13 +14,13 @@ abbrev pub IsTargetArn : List ℕ → Type 0
 IsTargetArn arn = ((queue : List ℕ) × IsQueueArn arn queue) ⊎ (is_endpoint arn ≡ true)
 
 -- A target has no dead-letter queue, or its ARN is that of a queue, which may be missing.
--- Shown by: config_changes tests.rt: a_retry_policy_has_its_limits.
+-- Shown by: table_tests test_config_changes.rt: a_retry_policy_has_its_limits.
 abbrev pub IsDeadLetterArn : Option (List ℕ) → Type 0
 IsDeadLetterArn None = Unit {0}
 IsDeadLetterArn (Some arn) = (queue : List ℕ) × IsQueueArn arn queue
 
 -- Each member of a target is within its syntax and its limits, and it has none of Input, InputPath and InputTransformer.
--- Shown by: config_changes tests.rt: a_target_has_its_first_fault.
+-- Shown by: table_tests test_config_changes.rt: a_target_has_its_first_fault.
 pub record IsWellFormedTarget (target : Target) : Type 0 where
   pub id : IsShortName target.id
   pub arn : IsTargetArn target.arn
@@ -29,7 +29,7 @@ pub record IsWellFormedTarget (target : Target) : Type 0 where
   pub dead_letter : IsDeadLetterArn target.dead_letter
 
 -- The first member of a target that is otherwise: `Id`, `Arn`, one that is not supported yet, `RetryPolicy`, `DeadLetterConfig`.
--- Shown by: config_changes tests.rt: a_target_has_its_first_fault, a_retry_policy_has_its_limits.
+-- Shown by: table_tests test_config_changes.rt: a_target_has_its_first_fault, a_retry_policy_has_its_limits.
 pub data HasMemberFault (target : Target) : Member → Type 0 where
   bad_id : ¬ IsShortName target.id → HasMemberFault target member.Id
   bad_arn : IsShortName target.id → ¬ IsTargetArn target.arn → HasMemberFault target member.Arn

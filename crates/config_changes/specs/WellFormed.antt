@@ -6,7 +6,7 @@ use Rattle.config_changes.specs.declared.control.Target.{Target}
 use Rattle.config_changes.specs.TargetForm.{IsWellFormedTarget}
 
 -- The names of a bus and of a rule, by their syntax.
--- Shown by: rule_table tests.rt: changes_are_well_formed.
+-- Shown by: table_tests test_rule_table.rt: changes_are_well_formed.
 abbrev pub NamesRule : List ℕ → List ℕ → Type 0
 NamesRule bus name = IsBusName bus × IsShortName name
 
@@ -16,6 +16,6 @@ abbrev pub AreWellFormedTargets : List Target → Type 0
 AreWellFormedTargets targets = (1 ≤ length targets) × (length targets ≤ 100) × All IsWellFormedTarget targets
 
 -- From 1 to 100 ids of targets.
--- Shown by: rule_table tests.rt: changes_are_well_formed.
+-- Shown by: table_tests test_rule_table.rt: changes_are_well_formed.
 abbrev pub AreWellFormedIds : List (List ℕ) → Type 0
 AreWellFormedIds ids = (1 ≤ length ids) × (length ids ≤ 100) × All IsShortName ids

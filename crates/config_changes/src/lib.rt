@@ -5,8 +5,6 @@ mod control;
 mod laws;
 mod retry;
 mod target_form;
-#[cfg(test)]
-mod tests;
 mod well_formed;
 
 pub use control::{Control, ControlFault, RetryPolicy, Target, TargetFault, copy_optional};

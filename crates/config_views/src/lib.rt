@@ -5,8 +5,6 @@ mod buses;
 mod parts;
 mod rules;
 mod targets;
-#[cfg(test)]
-mod tests;
 
 pub use buses::{describe_event_bus, list_event_buses};
 pub use rules::{describe_rule, list_rules};

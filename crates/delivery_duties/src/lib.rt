@@ -20,8 +20,6 @@ mod removed;
 mod retry;
 mod schedule;
 mod stored;
-#[cfg(test)]
-mod tests;
 mod verdict;
 
 pub use claim::Claim;

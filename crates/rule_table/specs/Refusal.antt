@@ -29,7 +29,7 @@ IsDeadLetterMissing set (Some arn) = IsQueueMissing set arn
 
 -- The first fault of a target at a rule with these targets: a member (`HasMemberFault`), a queue that does not exist, a dead-letter queue
 -- that does not exist, a sixth target.
--- Shown by: rule_table tests/targets.rt: a_target_has_its_first_fault.
+-- Shown by: table_tests test_rule_table.rt: a_target_has_its_first_fault.
 pub data HasTargetFault (set : RuleSet) (targets : List Target) (target : Target) : TargetFault → Type 0 where
   -- a member is outside its syntax or its limits, or not supported yet
   bad_member : (first : Member) → HasMemberFault target first → HasTargetFault set targets target (target_fault.Member first)
@@ -43,7 +43,7 @@ pub data HasTargetFault (set : RuleSet) (targets : List Target) (target : Target
       → HasTargetFault set targets target target_fault.Sixth
 
 -- A target of a list has a fault once those before it are put.
--- Shown by: rule_table tests.rt: each_change_is_made_or_refused.
+-- Shown by: table_tests test_rule_table.rt: each_change_is_made_or_refused.
 abbrev pub HasFaultyTarget : RuleSet → List Target → List Target → Type 0
 HasFaultyTarget set [] targets = ⊥
 HasFaultyTarget set (new ∷ news) targets =
@@ -119,7 +119,7 @@ pub data IsPolicyRefused (bus : List ℕ) (policy : Option (List ℕ)) (set : Ru
 -- removed: no such bus, no such rule, no id, or one that is no target's or comes twice. A policy: a text of at most 10,240 bytes that is
 -- not as it is stored, no such bus, a longer text. A queue that is created: it exists, there are 1,000. A queue that is deleted: no such
 -- queue, a target names it.
--- Shown by: rule_table tests.rt: each_removal_is_made_or_refused, each_bus_is_made_or_refused, each_policy_is_put_or_refused,
+-- Shown by: table_tests test_rule_table.rt: each_removal_is_made_or_refused, each_bus_is_made_or_refused, each_policy_is_put_or_refused,
 -- a_queue_in_use_stays.
 abbrev pub IsRefused : Control → RuleSet → ControlFault → Type 0
 IsRefused (bus_created name) set fault = IsBusRefused name set fault

@@ -19,7 +19,7 @@ use Rattle.config_changes.specs.Control.{Control, bus_created, bus_deleted, rule
 use Rattle.config_changes.specs.Control.{queue_created, queue_deleted}
 
 -- A rule: its ARN, its name, its pattern's text, whether it is enabled, and its targets in the byte order of their ids.
--- Shown by: rule_table tests.rt: each_change_is_made_or_refused.
+-- Shown by: table_tests test_rule_table.rt: each_change_is_made_or_refused.
 pub record Rule : Type 0 where
   pub arn : List ℕ
   pub name : List ℕ
@@ -28,31 +28,31 @@ pub record Rule : Type 0 where
   pub targets : List Target
 
 -- A bus: its name, its policy's text if it has a policy, and its rules in the byte order of their names.
--- Shown by: rule_table tests.rt: a_bus_shows_its_rule, each_policy_is_put_or_refused.
+-- Shown by: table_tests test_rule_table.rt: a_bus_shows_its_rule, each_policy_is_put_or_refused.
 pub record Bus : Type 0 where
   pub name : List ℕ
   pub policy : Option (List ℕ)
   pub rules : List Rule
 
 -- The configuration: buses and queues, both in the byte order of their names, and the number of changes that made it.
--- Shown by: rule_table tests.rt: each_change_is_made_or_refused.
+-- Shown by: table_tests test_rule_table.rt: each_change_is_made_or_refused.
 pub record RuleSet : Type 0 where
   pub buses : List Bus
   pub queues : List (List ℕ)
   pub count : ℕ
 
 -- The bus `default` without rules, and no queue.
--- Shown by: rule_table tests.rt: a_set_shows_its_queues, a_bus_shows_its_rule.
+-- Shown by: table_tests test_rule_table.rt: a_set_shows_its_queues, a_bus_shows_its_rule.
 abbrev pub first_set : RuleSet
 first_set = record { buses = record { name = default_bus; policy = None; rules = [] } ∷ []; queues = []; count = 0 }
 
 -- The rows, with a change made to each one of the name.
--- Shown by: rule_table tests.rt: each_change_is_made_or_refused.
+-- Shown by: table_tests test_rule_table.rt: each_change_is_made_or_refused.
 abbrev pub changed : {A : Type 0} → (A → List ℕ) → List ℕ → (A → A) → List A → List A
 changed name_of name change rows = map (λ row. if bytes_eq (name_of row) name then change row else row) rows
 
 -- A rule of a bus, with the ARN that names both, and without a target.
--- Shown by: rule_table tests/targets.rt: a_rule_shows_its_target.
+-- Shown by: table_tests test_rule_table.rt: a_rule_shows_its_target.
 abbrev pub new_rule : (bus name pattern : List ℕ) → Bool → Rule
 new_rule bus name pattern enabled = record { arn = rule_arn bus name; name = name; pattern = pattern; enabled = enabled; targets = [] }
 
@@ -71,7 +71,7 @@ abbrev pub put_target : Target → List Target → List Target
 put_target = placed (λ target. target.id) replacing
 
 -- Targets put one after the other; one with the same id is replaced, so the last one counts.
--- Shown by: rule_table tests.rt: each_change_is_made_or_refused.
+-- Shown by: table_tests test_rule_table.rt: each_change_is_made_or_refused.
 abbrev pub put_targets : List Target → List Target → List Target
 put_targets [] targets = targets
 put_targets (new ∷ news) targets = put_targets news (put_target new targets)
@@ -107,28 +107,28 @@ rules_in None = []
 rules_in (Some bus) = bus.rules
 
 -- The rules of a bus, none if there is no such bus.
--- Shown by: rule_table tests.rt: a_set_shows_its_queues, a_bus_shows_its_rule.
+-- Shown by: table_tests test_rule_table.rt: a_set_shows_its_queues, a_bus_shows_its_rule.
 abbrev pub rules_of : List ℕ → RuleSet → List Rule
 rules_of bus set = rules_in (named (λ b. b.name) bus set.buses)
 
 -- The rule of this name on the bus, if there is one.
--- Shown by: rule_table tests.rt: each_change_is_made_or_refused.
+-- Shown by: table_tests test_rule_table.rt: each_change_is_made_or_refused.
 abbrev pub rule_at : List ℕ → List ℕ → RuleSet → Option Rule
 rule_at bus name set = named (λ rule. rule.name) name (rules_of bus set)
 
 -- The targets of a rule, none if there is no rule.
--- Shown by: rule_table tests.rt: a_set_shows_its_queues, a_bus_shows_its_rule.
+-- Shown by: table_tests test_rule_table.rt: a_set_shows_its_queues, a_bus_shows_its_rule.
 abbrev pub targets_in : Option Rule → List Target
 targets_in None = []
 targets_in (Some rule) = rule.targets
 
 -- The bus exists.
--- Shown by: rule_table tests.rt: a_set_shows_its_queues, a_bus_shows_its_rule.
+-- Shown by: table_tests test_rule_table.rt: a_set_shows_its_queues, a_bus_shows_its_rule.
 abbrev pub has_bus : List ℕ → RuleSet → Bool
 has_bus bus set = is_some (named (λ b. b.name) bus set.buses)
 
 -- The queue exists.
--- Shown by: rule_table tests.rt: a_set_shows_its_queues, a_bus_shows_its_rule.
+-- Shown by: table_tests test_rule_table.rt: a_set_shows_its_queues, a_bus_shows_its_rule.
 abbrev pub has_queue : List ℕ → RuleSet → Bool
 has_queue name set = is_some (named (λ queue. queue) name set.queues)
 
@@ -159,7 +159,7 @@ abbrev pub with_rule_changed : List ℕ → (Rule → Rule) → Bus → Bus
 with_rule_changed rule change b = record b { rules = changed (λ r. r.name) rule change b.rules }
 
 -- The rule set after a change.
--- Shown by: rule_table tests.rt: each_change_is_made_or_refused.
+-- Shown by: table_tests test_rule_table.rt: each_change_is_made_or_refused.
 abbrev pub applied : Control → RuleSet → RuleSet
 applied (bus_created name) set = record set { buses = put_bus name set.buses; count = set.count + 1 }
 applied (bus_deleted name) set = record set { buses = without_bus name set.buses; count = set.count + 1 }
@@ -197,7 +197,7 @@ applied_all [] set = set
 applied_all (control ∷ controls) set = applied_all controls (applied control set)
 
 -- Configuration version k: the rule set after the first k changes of a list, oldest first.
--- Shown by: rule_table tests.rt: each_change_is_made_or_refused.
+-- Shown by: table_tests test_rule_table.rt: each_change_is_made_or_refused.
 abbrev pub rule_set_at : ℕ → List Control → RuleSet
 rule_set_at k controls = applied_all (take k controls) first_set
 
@@ -235,14 +235,14 @@ pub record IsGoodTarget (set : RuleSet) (targets : List Target) (target : Target
   pub few : length (put_target target targets) ≤ 5
 
 -- Each target of a list is accepted once those before it are put.
--- Shown by: rule_table tests.rt: each_change_is_made_or_refused.
+-- Shown by: table_tests test_rule_table.rt: each_change_is_made_or_refused.
 abbrev pub AreGoodTargets : RuleSet → List Target → List Target → Type 0
 AreGoodTargets set [] targets = Unit {0}
 AreGoodTargets set (new ∷ news) targets = IsGoodTarget set targets new × AreGoodTargets set news (put_target new targets)
 
 -- The text is that of a policy as it is stored: a policy that is read from it has this text. A text without `Version`, or with white space
 -- between its parts, is not.
--- Shown by: rule_table tests.rt: each_policy_is_put_or_refused.
+-- Shown by: table_tests test_rule_table.rt: each_policy_is_put_or_refused.
 abbrev pub IsStoredPolicy : List ℕ → Type 0
 IsStoredPolicy t = (policy : Tree) × IsPolicyText t policy × (t ≡ compact_text policy)
 
@@ -290,7 +290,7 @@ abbrev pub HasSoundTargets : RuleSet → Rule → Type 0
 HasSoundTargets set rule = (length rule.targets ≤ 5) × All (IsSoundTarget set) rule.targets
 
 -- The rule's ARN names the rule and this bus.
--- Shown by: rule_table tests/targets.rt: a_rule_shows_its_target.
+-- Shown by: table_tests test_rule_table.rt: a_rule_shows_its_target.
 abbrev pub HasItsArn : List ℕ → Rule → Type 0
 HasItsArn bus rule = rule.arn ≡ rule_arn bus rule.name
 

@@ -16,7 +16,7 @@ IsSomePattern text = (p : Pattern) × IsPatternText text p
 -- What a change has to be whatever the rule set is: its names have their syntax, its pattern's text is a pattern, and its policy is as it
 -- is stored or none. Targets that are put, and ids of targets that are removed, are those of config_changes (`AreWellFormedTargets`,
 -- `AreWellFormedIds`).
--- Shown by: rule_table tests.rt: changes_are_well_formed.
+-- Shown by: table_tests test_rule_table.rt: changes_are_well_formed.
 abbrev pub IsWellFormed : Control → Type 0
 IsWellFormed (bus_created name) = IsBusName name
 IsWellFormed (bus_deleted name) = IsBusName name

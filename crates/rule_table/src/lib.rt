@@ -8,8 +8,6 @@ mod rule;
 mod rule_set;
 mod rule_target;
 mod targets;
-#[cfg(test)]
-mod tests;
 mod well_formed;
 
 pub use bus::Bus;
