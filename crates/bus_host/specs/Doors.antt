@@ -16,19 +16,19 @@ pub record Lengthened {A : Type 0} (old new : Option (List A)) (more : List A) :
   pub in_order : LongerBy old new more
 
 -- `Shortened` by what was known: if the entries of a list were known before, it began with these.
--- Shown by: bus_host tests/mem_door.rt: a_door_in_memory_gives_what_it_plans.
+-- Shown by: outside_tests test_bus_host.rt: a_door_in_memory_gives_what_it_plans.
 abbrev pub ShorterBy : {A : Type 0} → Option (List A) → Option (List A) → List A → Type 0
 ShorterBy None new taken = ⊤
 ShorterBy (Some old) None taken = ⊥
 ShorterBy (Some old) (Some new) taken = old ≡ taken ++ new
 
 -- If the list was known before, it is known now, and these entries were its first.
--- Shown by: bus_host tests/mem_door.rt: a_door_in_memory_gives_what_it_plans.
+-- Shown by: outside_tests test_bus_host.rt: a_door_in_memory_gives_what_it_plans.
 pub record Shortened {A : Type 0} (old new : Option (List A)) (taken : List A) : Type 0 where
   pub in_order : ShorterBy old new taken
 
 -- The connection that a call of `next` gave, as a list; empty if it gave none.
--- Shown by: bus_host tests/mem_door.rt: a_door_in_memory_gives_what_it_plans.
+-- Shown by: outside_tests test_bus_host.rt: a_door_in_memory_gives_what_it_plans.
 abbrev pub given_by : {I O : Type 0} → Knock I O → List (I × O)
 given_by (Conn input output) = (input, output) ∷ []
 given_by Quiet = []
@@ -37,7 +37,7 @@ given_by Failed = []
 given_by NoMemory = []
 
 -- A door that says that no connection will come has none to come, if that is known.
--- Shown by: bus_host tests/mem_door.rt: a_door_in_memory_gives_what_it_plans.
+-- Shown by: outside_tests test_bus_host.rt: a_door_in_memory_gives_what_it_plans.
 abbrev pub HasNone : {A : Type 0} → Option (List A) → Type 0
 HasNone None = ⊤
 HasNone (Some ahead) = ahead ≡ []

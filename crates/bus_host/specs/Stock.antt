@@ -6,7 +6,7 @@ use Rattle.bus_host.specs.declared.host.HostFault.TheVariants.{Failed}
 
 -- What a host in memory has of one kind, doors or links: the results planned for the calls to come, what it gave, what came back, what of
 -- that it still holds, and its count of failed calls.
--- Shown by: bus_host tests/mem_host.rt: a_host_in_memory_gives_what_it_plans.
+-- Shown by: outside_tests test_bus_host.rt: a_host_in_memory_gives_what_it_plans.
 pub record Stocked (T : Type 0) : Type 0 where
   pub planned : List (Result T HostFault)
   pub given : List T
@@ -15,7 +15,7 @@ pub record Stocked (T : Type 0) : Type 0 where
   pub faults : ℕ
 
 -- The first planned result, and the rest stays planned; a failure if nothing was planned.
--- Shown by: bus_host tests/mem_host.rt: a_host_in_memory_gives_what_it_plans.
+-- Shown by: outside_tests test_bus_host.rt: a_host_in_memory_gives_what_it_plans.
 abbrev pub IsFirst : {T : Type 0} → List (Result T HostFault) → List (Result T HostFault) → Result T HostFault → Type 0
 IsFirst [] new result = (result ≡ Err Failed) × (new ≡ [])
 IsFirst (first ∷ later) new result = (result ≡ first) × (new ≡ later)
@@ -28,7 +28,7 @@ GoesByPlan old new result =
     ⊎ ((old.faults ≡ last_count) × (result ≡ Err Failed) × (new.planned ≡ old.planned))
 
 -- What a call gave is now the last that was given; a call that gave nothing changes nothing.
--- Shown by: bus_host tests/mem_host.rt: a_host_in_memory_gives_what_it_plans.
+-- Shown by: outside_tests test_bus_host.rt: a_host_in_memory_gives_what_it_plans.
 abbrev pub Gave : {T E : Type 0} → List T → List T → Result T E → Type 0
 Gave old new result = MatchResult result (λ given. new ≡ old ++ given ∷ []) (λ _. new ≡ old)
 

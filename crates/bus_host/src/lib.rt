@@ -18,6 +18,3 @@ pub use mem_door::{MemDoor, Plan};
 pub use mem_host::MemHost;
 pub use no_host::{NoDisk, NoDoor, NoHost, NoLink};
 pub use stock::Stock;
-
-#[cfg(test)]
-mod tests;

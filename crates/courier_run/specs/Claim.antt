@@ -8,7 +8,7 @@ use Rattle.courier_run.specs.declared.held.Way.TheVariants.{Queue, Http}
 
 -- What an attempt sees of a duty: its number, endpoint, text, accepted moment and age, the moment that was handed to the claim, and the
 -- claim's own moment.
--- Shown by: courier_run tests.rt: each_claim_has_a_reading_of_its_own.
+-- Shown by: outside_tests test_courier_run.rt: each_claim_has_a_reading_of_its_own.
 pub record Claim : Type 0 where
   -- the number of the duty
   pub number : ℕ
@@ -22,23 +22,23 @@ pub record Claim : Type 0 where
   pub moment : ℕ
 
 -- The claim's moment is above the accepted moment plus the age. A duty of 1000 with age 60 is attempted at 1060 and too old at 1061.
--- Shown by: courier_run tests.rt: only_a_young_duty_of_an_endpoint_is_sent.
+-- Shown by: outside_tests test_courier_run.rt: only_a_young_duty_of_an_endpoint_is_sent.
 abbrev pub IsTooOld : Claim → Type 0
 IsTooOld c = c.accepted + c.age < c.moment
 
 -- The claim's endpoint is the ARN of a queue.
--- Shown by: courier_run tests.rt: only_a_young_duty_of_an_endpoint_is_sent.
+-- Shown by: outside_tests test_courier_run.rt: only_a_young_duty_of_an_endpoint_is_sent.
 abbrev pub IsForQueue : Claim → Type 0
 IsForQueue c = (queue : List ℕ) × IsQueueArn c.endpoint queue
 
 -- How the text reaches its target: `Queue` if the endpoint is the ARN of a queue, and else `Http`.
--- Shown by: courier_run tests.rt: only_a_young_duty_of_an_endpoint_is_sent.
+-- Shown by: outside_tests test_courier_run.rt: only_a_young_duty_of_an_endpoint_is_sent.
 abbrev pub IsWayOf : Claim → Way → Type 0
 IsWayOf c Queue = IsForQueue c
 IsWayOf c Http = ¬ IsForQueue c
 
 -- The link is to send the duty's text: its endpoint is no queue, and it is not too old.
--- Shown by: courier_run tests.rt: only_a_young_duty_of_an_endpoint_is_sent.
+-- Shown by: outside_tests test_courier_run.rt: only_a_young_duty_of_an_endpoint_is_sent.
 abbrev pub NeedsSend : Claim → Type 0
 NeedsSend c = (¬ IsForQueue c) × (¬ IsTooOld c)
 
@@ -57,6 +57,6 @@ pub data FitsClaim (c : Claim) : Outcome → Type 0 where
   unanswered : NeedsSend c → FitsClaim c NoAnswer
 
 -- The moment of a reading of the clock: at most the last moment, 250,000,000,000.
--- Shown by: courier_run tests.rt: each_claim_has_a_reading_of_its_own.
+-- Shown by: outside_tests test_courier_run.rt: each_claim_has_a_reading_of_its_own.
 abbrev pub moment_of : ℕ → ℕ
 moment_of reading = min reading 250000000000

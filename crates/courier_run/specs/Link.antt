@@ -15,7 +15,7 @@ exchange_with c code = record { endpoint = c.endpoint; text = c.text; code = cod
 -- What an attempt did to the link, by its outcome. Too old, or an endpoint that is a queue: nothing. `Accepted`: one exchange of the
 -- claim's endpoint and text with a code from 200 to 299. `Code(c)`: one exchange with another code. `NoAnswer`: no exchange, and the count
 -- of faults rose. In all other cases the count is as before.
--- Shown by: courier_run tests.rt: an_outcome_is_what_the_link_answered.
+-- Shown by: outside_tests test_courier_run.rt: an_outcome_is_what_the_link_answered.
 pub data IsTried (c : Claim) (before : ℕ) : Outcome → List Exchange → ℕ → Type 0 where
   too_old : IsTooOld c → IsTried c before TooOld [] before
   queued : ¬ IsTooOld c → IsForQueue c → IsTried c before Accepted [] before
@@ -44,6 +44,6 @@ abbrev pub unanswered_in : List Attempt → ℕ
 unanswered_in attempts = count_by (λ a. is_unanswered a.outcome) attempts
 
 -- A count of faults rose by at least n, or is at its last value.
--- Shown by: courier_run tests.rt: an_outcome_is_what_the_link_answered.
+-- Shown by: outside_tests test_courier_run.rt: an_outcome_is_what_the_link_answered.
 abbrev pub RoseBy : ℕ → ℕ → ℕ → Type 0
 RoseBy n before now = min (before + n) last_count ≤ now

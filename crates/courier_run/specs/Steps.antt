@@ -9,14 +9,14 @@ use Rattle.courier_run.specs.declared.book.BookFault.TheVariants.{DiskFault, Num
 use Rattle.courier_run.specs.Claim.{Claim, IsForQueue}
 
 -- A recorded attempt: its claim, the outcome in the record, and the fate that the record gave the duty.
--- Shown by: courier_run tests.rt: an_outcome_is_what_the_link_answered.
+-- Shown by: outside_tests test_courier_run.rt: an_outcome_is_what_the_link_answered.
 pub record Attempt : Type 0 where
   pub claim : Claim
   pub outcome : Outcome
   pub fate : Fate
 
 -- What one turn of a book did: a claim (`claims`), a record (`records`), a claim put back (`puts_back`), or anything else (`other`).
--- Shown by: courier_run tests.rt: a_fault_leaves_no_claim_open.
+-- Shown by: outside_tests test_courier_run.rt: a_fault_leaves_no_claim_open.
 pub data Step : Type 0 where
   claims : Claim → Step
   records : Attempt → Step
@@ -39,7 +39,7 @@ abbrev pub attempts_in : List Step → List Attempt
 attempts_in steps = filter_map recorded_by steps
 
 -- The step of a call that claims: a claim if it found a duty, and else none.
--- Shown by: courier_run tests.rt: a_fault_leaves_no_claim_open.
+-- Shown by: outside_tests test_courier_run.rt: a_fault_leaves_no_claim_open.
 abbrev pub claims_of : {H : Type 0} → (H → Claim) → Result (Option H) BookFault → List Step
 claims_of shows (Ok (Some held)) = claims (shows held) ∷ []
 claims_of shows (Ok None) = []
@@ -52,7 +52,7 @@ IsOutcomeIn c had recorded = (recorded ≡ had) ⊎ (IsForQueue c × (had ≡ Ac
 
 -- The step of a call that records: a record if it returns `Ok`, and a put-back if it returns `Err`. The record has the outcome of the
 -- attempt, but `NoQueue` in place of `Accepted` if the endpoint is a queue that does not exist.
--- Shown by: courier_run tests.rt: only_a_young_duty_of_an_endpoint_is_sent.
+-- Shown by: outside_tests test_courier_run.rt: only_a_young_duty_of_an_endpoint_is_sent.
 abbrev pub IsRecorded : List Step → List Step → Claim → Outcome → Result Fate BookFault → Type 0
 IsRecorded old new c had result = MatchResult result
     (λ fate. (recorded : Outcome) × IsOutcomeIn c had recorded
@@ -61,7 +61,7 @@ IsRecorded old new c had result = MatchResult result
 
 -- `DiskFault` only if the book is broken, `NumberLimit` only if the limit was reached, and `NoMemory` only if the call may run out of
 -- memory.
--- Shown by: courier_run tests.rt: a_fault_leaves_no_claim_open.
+-- Shown by: outside_tests test_courier_run.rt: a_fault_leaves_no_claim_open.
 abbrev pub HasCause : (broken full memory : Type 0) → BookFault → Type 0
 HasCause broken full memory DiskFault = broken
 HasCause broken full memory NumberLimit = full

@@ -47,7 +47,7 @@ outside steps ahead answered faults = record { steps = steps; ahead = ahead; ans
 
 -- How a turn ended after its attempts: at its budget; with no claim; with a claim put back because the link was out of memory before it
 -- sent anything; with a claim put back because its outcome was not recorded.
--- Shown by: courier_run tests.rt: a_fault_leaves_no_claim_open.
+-- Shown by: outside_tests test_courier_run.rt: a_fault_leaves_no_claim_open.
 pub data End : Type 0 where
   -- the budget was used up
   at_budget : End
@@ -73,7 +73,7 @@ last_moments (unsent c) = c.reading ∷ []
 last_moments (unrecorded c outcome) = c.reading ∷ []
 
 -- What the end did to the link. An outcome that was not recorded may have had an answer; the other ends did nothing.
--- Shown by: courier_run tests.rt: a_fault_leaves_no_claim_open.
+-- Shown by: outside_tests test_courier_run.rt: a_fault_leaves_no_claim_open.
 abbrev pub IsLastTry : ℕ → End → List Exchange → ℕ → Type 0
 IsLastTry before at_budget answers now = (answers ≡ []) × (now ≡ before)
 IsLastTry before (unclaimed moment) answers now = (answers ≡ []) × (now ≡ before)
@@ -83,7 +83,7 @@ IsLastTry before (unrecorded c outcome) answers now = IsTried c before outcome a
 -- Why a turn ended with this fault, by its end. With no claim: the cause of the claim's fault. With a claim put back unsent: the link was
 -- out of memory. With an outcome that was not recorded: the disk, or the number limit at the turn that put the claim back (`limited`);
 -- never memory.
--- Shown by: put_back_after_a_send.edit; courier_run tests.rt: a_refused_record_puts_its_claim_back.
+-- Shown by: put_back_after_a_send.edit; outside_tests test_courier_run.rt: a_refused_record_puts_its_claim_back.
 abbrev pub IsStopped : (broken : Type 0) (full : ℕ → Type 0) (limited : Claim → Type 0) → BookFault → End → Type 0
 IsStopped broken full limited fault at_budget = ⊥
 IsStopped broken full limited fault (unclaimed moment) = HasCause broken (full moment) ⊤ fault
@@ -108,7 +108,7 @@ HasReason idle broken full limited spent (Err fault) last = IsStopped broken ful
 -- for each attempt, and for the end at most a claim and its put-back. The clock was read once for each claim, at most as often as the
 -- budget allows. The link's exchanges are those of the attempts, in order, then those of the end. Its count rose for each attempt without
 -- an answer. The result has the numbers of the attempts, and its reason.
--- Shown by: courier_run tests.rt: a_turn_makes_attempts_within_its_budget, a_fault_leaves_no_claim_open.
+-- Shown by: outside_tests test_courier_run.rt: a_turn_makes_attempts_within_its_budget, a_fault_leaves_no_claim_open.
 pub record IsTurn (budget : ℕ) (before after : Outside) (idle : ℕ → Type 0) (broken : Type 0) (full : ℕ → Type 0)
     (limited : Claim → Type 0) (result : Result Turned TurnFault) : Type 0 where
   -- its recorded attempts in order, and how it ended after them

@@ -25,7 +25,7 @@ is_dropped Delivered = false
 is_dropped DeadLettered = false
 
 -- The number of attempts, and of those that delivered, dead-lettered or dropped their duty.
--- Shown by: courier_run tests.rt: a_turn_makes_attempts_within_its_budget.
+-- Shown by: outside_tests test_courier_run.rt: a_turn_makes_attempts_within_its_budget.
 abbrev pub turned_of : List Attempt → Turned
 turned_of attempts = record {
   attempts = length attempts;
@@ -35,7 +35,7 @@ turned_of attempts = record {
 }
 
 -- No attempt: four zeros.
--- Shown by: courier_run tests.rt: a_turn_makes_attempts_within_its_budget.
+-- Shown by: outside_tests test_courier_run.rt: a_turn_makes_attempts_within_its_budget.
 abbrev pub no_attempt : Turned
 no_attempt = record { attempts = 0; delivered = 0; dead = 0; dropped = 0 }
 

@@ -6,8 +6,6 @@ mod book;
 mod delivery;
 mod fault;
 mod held;
-#[cfg(test)]
-mod tests;
 mod turned;
 
 pub use book::{BookFault, DutyBook};

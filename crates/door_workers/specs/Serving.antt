@@ -14,7 +14,7 @@ use Rattle.door_workers.specs.declared.door.DoorEnd.{DoorEnd}
 use Rattle.door_workers.specs.declared.door.DoorEnd.TheVariants.{Done, DoorFault, NoMemory}
 
 -- A pass of this hall that has no turn.
--- Shown by: door_workers tests.rt: two_workers_serve_three_connections.
+-- Shown by: outside_tests test_door_workers.rt: two_workers_serve_three_connections.
 abbrev pub IsIdlePass : {V T : Type 0} → TableId → Seat (Option V) (View T) → Type 0
 IsIdlePass hall seat = (seat.table_id ≡ hall) × IsFree seat
 
@@ -26,8 +26,8 @@ over_of NoMemory = None
 
 -- A door that showed `start`, of which at most `most` connections were asked for, gave some and shows `now`; `end` says why it gave no
 -- more. Those that ended each fit a history with these turns, and each has its own number.
--- Shown by: door_workers tests.rt: two_workers_serve_three_connections, one_worker_stops_at_the_limit, a_door_that_fails_is_reported;
--- the_limit_is_ignored.edit.
+-- Shown by: outside_tests test_door_workers.rt: two_workers_serve_three_connections, one_worker_stops_at_the_limit,
+-- a_door_that_fails_is_reported; the_limit_is_ignored.edit.
 pub record HasServed {I O T : Type 0} (most : Option ℕ) (start now : Shown I O)
     (fits : ℕ → I × O → I × O → Bool → List T → Type 0) (turns : List T) (end : DoorEnd) : Type 0 where
   pub standing : Standing

@@ -36,7 +36,7 @@ impl Counts {
 /// Whether a worker may stop knocking for a while. `busy` workers serve a connection or do something else than knock, this one
 /// counted, and `begun` have begun; `out` connections are out, of which the door gives `limit` at once. It may if another one is
 /// left to knock, if each other one serves a connection, or if the door gives none of them a connection.
-pub(crate) fn may_leave(busy: u64, begun: u64, out: u64, limit: u64) -> bool
+pub fn may_leave(busy: u64, begun: u64, out: u64, limit: u64) -> bool
     ensures { IsTrue result ↔ ((busy < begun) ⊎ ((begun ≤ out + 1) ⊎ (limit ≤ out))) }
 {
     busy < begun || begun <= 1 || begun - 1 <= out || limit <= out

@@ -5,9 +5,8 @@ mod counts;
 mod door;
 mod site;
 mod staff;
-#[cfg(test)]
-mod tests;
 mod worker;
 
+pub use counts::may_leave;
 pub use door::{DoorEnd, Serving, serve_door};
 pub use worker::Work;

@@ -8,12 +8,12 @@ use Rattle.url.specs.Parts.{Parts, nonempty_host}
 use Rattle.url.specs.Parser.{parse_url}
 
 -- The text of the URL's host, empty if it has none.
--- Shown by: http_target tests.rt: an_endpoint_has_a_host_and_a_port.
+-- Shown by: outside_tests test_http_target.rt: an_endpoint_has_a_host_and_a_port.
 abbrev pub host_of : Parts → List ℕ
 host_of url = unwrap_or (option_map host_text (nonempty_host url)) []
 
 -- The port to connect to: the URL's port, and 80 if it names none.
--- Shown by: http_target tests.rt: an_endpoint_has_a_host_and_a_port.
+-- Shown by: outside_tests test_http_target.rt: an_endpoint_has_a_host_and_a_port.
 abbrev pub port_of : Parts → ℕ
 port_of url = unwrap_or url.port 80
 
@@ -33,11 +33,11 @@ local_of (Err fault) = None
 
 -- The URL of an endpoint's text: at most 1,600 bytes, scheme `http`, host 127.0.0.1 or localhost once read, no user, no password, no
 -- fragment. `http://127.1/` is one; `https://localhost/`, `http://[::1]/` and `http://localhost/#` are none.
--- Shown by: http_target tests.rt: a_url_of_this_machine_is_an_endpoint, any_other_text_is_none.
+-- Shown by: outside_tests test_http_target.rt: a_url_of_this_machine_is_an_endpoint, any_other_text_is_none.
 abbrev pub endpoint_of : List ℕ → Option Parts
 endpoint_of text = if nat_le (length text) 1600 then local_of (parse_url None text) else None
 
 -- The text has a URL by `endpoint_of`.
--- Shown by: http_target tests.rt: the_text_of_an_endpoint_has_at_most_1600_bytes.
+-- Shown by: outside_tests test_http_target.rt: the_text_of_an_endpoint_has_at_most_1600_bytes.
 abbrev pub is_endpoint : List ℕ → Bool
 is_endpoint text = is_some (endpoint_of text)

@@ -70,7 +70,7 @@ HasNever bytes = (more : List ℕ) (code : ℕ) → ¬ (HasStatus (bytes ++ more
 -- at most 256 fields, all in at most 16,384 bytes. `NotYet(last)`: no such head, and fewer than 16,384 bytes, which after the first heads
 -- may become a head of the grammar, perhaps past the limits; `last` is the code of the last head so far. `Never`: no bytes that follow give
 -- one.
--- Shown by: http_target tests.rt: the_final_head_gives_the_code, a_head_has_at_most_256_fields_and_16384_bytes.
+-- Shown by: outside_tests test_http_target.rt: the_final_head_gives_the_code, a_head_has_at_most_256_fields_and_16384_bytes.
 abbrev pub Reads : List ℕ → Reply → Type 0
 Reads bytes (Whole code) = HasStatus bytes code
 Reads bytes (NotYet last) = IsNotYet bytes last

@@ -43,13 +43,13 @@ request_head url size = record {
 
 -- The bytes of a request: the head `request_head` as the grammar prints it, and then the text. The head has POST, the path and the query,
 -- version 1.1, and the fields Host, Content-Type, Content-Length and Connection.
--- Shown by: http_target tests.rt: a_request_has_the_path_the_host_the_length_and_the_text.
+-- Shown by: outside_tests test_http_target.rt: a_request_has_the_path_the_host_the_length_and_the_text.
 abbrev pub request_bytes : Parts → List ℕ → List ℕ
 request_bytes url text = print_request (request_head url (length text)) ++ text
 
 -- The bytes are one request of the grammar with that head, and the text is its body. No other head is read from them, so no URL adds a
 -- field. The values of the fields are those of `request_fields`.
--- Shown by: http_target tests.rt: a_request_has_the_path_the_host_the_length_and_the_text.
+-- Shown by: outside_tests test_http_target.rt: a_request_has_the_path_the_host_the_length_and_the_text.
 pub record IsRequestTo (url : Parts) (text bytes : List ℕ) : Type 0 where
   pub reads : ReadsRequest bytes (request_head url (length text)) text
   -- no other head is read from them, so the URL adds no field

@@ -7,6 +7,3 @@ mod request;
 
 pub use endpoint::{Endpoint, is_endpoint};
 pub use reply::{Reply, read_reply};
-
-#[cfg(test)]
-mod tests;

@@ -4,7 +4,7 @@ use Rattle.std.specs.Str.{bytes_eq}
 use Rattle.program_lines.specs.Number.{IsNumber}
 
 -- The words of options: each a name and a value.
--- Shown by: program_lines tests.rt: other_words_are_no_command.
+-- Shown by: outside_tests test_program_lines.rt: other_words_are_no_command.
 abbrev pub words_of : List (List ℕ × List ℕ) → List (List ℕ)
 words_of [] = []
 words_of (option ∷ options) = option.0 ∷ (option.1 ∷ words_of options)
@@ -16,12 +16,12 @@ values_of name [] = []
 values_of name (option ∷ options) = if bytes_eq option.0 name then option.1 ∷ values_of name options else values_of name options
 
 -- One of the four names of options.
--- Shown by: program_lines tests.rt: other_words_are_no_command.
+-- Shown by: outside_tests test_program_lines.rt: other_words_are_no_command.
 abbrev pub IsName : List ℕ → Type 0
 IsName name = (name ≡ codes "--now") ⊎ ((name ≡ codes "--port") ⊎ ((name ≡ codes "--workers") ⊎ (name ≡ codes "--connections")))
 
 -- Each option has one of these names.
--- Shown by: program_lines tests.rt: other_words_are_no_command.
+-- Shown by: outside_tests test_program_lines.rt: other_words_are_no_command.
 abbrev pub AreNamed : List (List ℕ × List ℕ) → Type 0
 AreNamed [] = Unit {0}
 AreNamed (option ∷ options) = IsName option.0 × AreNamed options

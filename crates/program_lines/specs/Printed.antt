@@ -3,13 +3,13 @@ use Rattle.std.specs.Prelude.{ℕ, List, [], ◌∷◌, ◌++◌, codes, decimal
 use Rattle.program_lines.specs.declared.printed.Summary.{Summary}
 
 -- Numbers, each after its word, and a line feed.
--- Shown by: program_lines tests.rt: the_summary_has_its_lines.
+-- Shown by: outside_tests test_program_lines.rt: the_summary_has_its_lines.
 abbrev pub counts_line : List (List ℕ × ℕ) → List ℕ
 counts_line [] = 10 ∷ []
 counts_line (count ∷ counts) = count.0 ++ (decimal count.1 ++ counts_line counts)
 
 -- `listening`, a port and a line feed.
--- Shown by: program_lines tests.rt: the_port_is_printed.
+-- Shown by: outside_tests test_program_lines.rt: the_port_is_printed.
 abbrev pub listening_text : ℕ → List ℕ
 listening_text port = counts_line ((codes "listening ", port) ∷ [])
 
@@ -30,6 +30,6 @@ abbrev pub message_line : Summary → List ℕ
 message_line s = counts_line ((codes "messages ", s.messages) ∷ [])
 
 -- The four lines of the summary (`record_line`, `event_line`, `duty_line` with `ended_counts`, `message_line`).
--- Shown by: program_lines tests.rt: the_summary_has_its_lines.
+-- Shown by: outside_tests test_program_lines.rt: the_summary_has_its_lines.
 abbrev pub summary_lines : Summary → List ℕ
 summary_lines s = record_line s ++ (event_line s ++ (duty_line s ++ message_line s))

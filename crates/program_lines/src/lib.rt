@@ -7,8 +7,6 @@ mod number;
 mod options;
 mod printed;
 mod status;
-#[cfg(test)]
-mod tests;
 
 pub use command::{Command, read_command};
 pub use laws::one_command;

@@ -5,18 +5,18 @@ use Rattle.router_disk.specs.declared.link.LinkFault.{LinkFault}
 use Rattle.router_disk.specs.declared.link.LinkFault.TheVariants.{Failed, NoMemory}
 
 -- 2^64 - 1, the last value of a count of faults, at which it stays.
--- Shown by: router_disk tests.rt: a_failed_call_loses_no_byte_and_is_counted.
+-- Shown by: outside_tests test_router_disk.rt: a_failed_call_loses_no_byte_and_is_counted.
 abbrev pub last_count : ℕ
 last_count = 2 ^ 64 - 1
 
 -- The count rose by at least one, or was at its last value.
--- Shown by: router_disk tests.rt: a_failed_call_loses_no_byte_and_is_counted.
+-- Shown by: outside_tests test_router_disk.rt: a_failed_call_loses_no_byte_and_is_counted.
 abbrev pub Rose : ℕ → ℕ → Type 0
 Rose before now = min (before + 1) last_count ≤ now
 
 -- What a call whose every error is a fault does to its object's count. The count never falls; a failure raises it and nothing else changes
 -- it; at its last value the call fails.
--- Shown by: router_disk tests.rt: a_failed_call_loses_no_byte_and_is_counted.
+-- Shown by: outside_tests test_router_disk.rt: a_failed_call_loses_no_byte_and_is_counted.
 pub record CountsFaults {T E : Type 0} (before now : ℕ) (result : Result T E) : Type 0 where
   -- the count never falls
   pub later : before ≤ now

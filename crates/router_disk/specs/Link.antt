@@ -7,7 +7,7 @@ use Rattle.router_disk.specs.declared.memory.link.MemLink.{MemLink}
 use Rattle.router_disk.specs.Faults.{last_count}
 
 -- A text sent to an endpoint, and the status code of the reply.
--- Shown by: router_disk tests.rt: a_link_in_memory_keeps_to_its_plan.
+-- Shown by: outside_tests test_router_disk.rt: a_link_in_memory_keeps_to_its_plan.
 pub record Exchange : Type 0 where
   pub endpoint : List ℕ
   pub text : List ℕ
@@ -36,7 +36,7 @@ abbrev pub exchange_of : Answer → Exchange
 exchange_of a = record { endpoint = string_bytes a.endpoint; text = string_bytes a.text; code = a.code }
 
 -- The exchanges that a link in memory remembers, in order.
--- Shown by: router_disk tests.rt: a_link_in_memory_keeps_to_its_plan.
+-- Shown by: outside_tests test_router_disk.rt: a_link_in_memory_keeps_to_its_plan.
 abbrev pub exchanges_in : MemLink → List Exchange
 exchanges_in l = map exchange_of l.answers.items
 
@@ -47,13 +47,13 @@ planned_from r (s ∷ later) zero = r
 planned_from r (s ∷ later) (suc k) = planned_from s later k
 
 -- The results that a link in memory plans, without end: at k, that of the k-th send from now on. The last one repeats forever.
--- Shown by: router_disk tests.rt: a_link_in_memory_keeps_to_its_plan.
+-- Shown by: outside_tests test_router_disk.rt: a_link_in_memory_keeps_to_its_plan.
 abbrev pub plan_of : MemLink → ℕ → Result ℕ LinkFault
 plan_of l = planned_from l.planned l.later.items
 
 -- A send gives the planned result, and the plan moves on. Otherwise it ran out of memory, or the count of faults is at its last value and
 -- the send failed; then the plan stays.
--- Shown by: out_of_memory_in_place_of_a_failed_send.edit; router_disk tests.rt: a_link_in_memory_keeps_to_its_plan.
+-- Shown by: out_of_memory_in_place_of_a_failed_send.edit; outside_tests test_router_disk.rt: a_link_in_memory_keeps_to_its_plan.
 abbrev pub KeepsToPlan : MemLink → MemLink → Result ℕ LinkFault → Type 0
 KeepsToPlan old new result =
     ((result ≡ plan_of old 0) × ((k : ℕ) → plan_of new k ≡ plan_of old (suc k)))

@@ -3,7 +3,7 @@ use Rattle.std.specs.Prelude.{◌≡◌, ℕ, List, ◌++◌, Option, Result, Ma
 use Rattle.std.specs.Io.KnownBytes.{Appends}
 
 -- A first part of the bytes was appended, perhaps none.
--- Shown by: router_disk tests.rt: a_failed_call_loses_no_byte_and_is_counted.
+-- Shown by: outside_tests test_router_disk.rt: a_failed_call_loses_no_byte_and_is_counted.
 abbrev pub AppendsPart : Option (List ℕ) → Option (List ℕ) → List ℕ → Type 0
 AppendsPart old new bytes = (first rest : List ℕ) × (bytes ≡ first ++ rest) × Appends old new first
 

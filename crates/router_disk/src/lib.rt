@@ -18,6 +18,3 @@ pub use link::{Link, LinkFault};
 pub use memory::{Answer, Failing, MemClock, MemLink, MemSink, MemSource};
 pub use sink::Sink;
 pub use source::Source;
-
-#[cfg(test)]
-mod tests;

@@ -10,27 +10,27 @@ use Rattle.shared_door.specs.declared.connection.Over.TheVariants as over
 
 module _ {D I O : Type 0} where
   -- Which porch gave the connection, by the name of its tickets.
-  -- Shown by: shared_door tests.rt: two_threads_serve_four_connections.
+  -- Shown by: outside_tests test_shared_door.rt: two_threads_serve_four_connections.
   abbrev pub tickets_of : Connection D I O → TableId
   tickets_of c = c.ticket.seat.table_id
 
   -- The place of a connection, from 1, among those given.
-  -- Shown by: shared_door tests.rt: two_threads_serve_four_connections.
+  -- Shown by: outside_tests test_shared_door.rt: two_threads_serve_four_connections.
   abbrev pub number_of : Connection D I O → ℕ
   number_of c = c.ticket.number
 
   -- The streams of a connection as they came.
-  -- Shown by: shared_door tests.rt: two_threads_serve_four_connections.
+  -- Shown by: outside_tests test_shared_door.rt: two_threads_serve_four_connections.
   abbrev pub came_of : Connection D I O → I × O
   came_of c = c.ticket.came.value
 
 -- The porch asks the door: it is not over, and may give one more connection.
--- Shown by: shared_door tests.rt: a_porch_gives_no_more_than_it_may.
+-- Shown by: outside_tests test_shared_door.rt: a_porch_gives_no_more_than_it_may.
 abbrev pub IsGoing : Standing → Type 0
 IsGoing s = (s.over ≡ None) × (s.left ≢ Some 0)
 
 -- What a knock returns, and where the porch is then.
--- Shown by: shared_door tests.rt: a_porch_returns_what_its_door_returns.
+-- Shown by: outside_tests test_shared_door.rt: a_porch_returns_what_its_door_returns.
 abbrev pub Knocks : {D I O : Type 0} → TableId → Standing → Standing → Knocked D I O → Type 0
 Knocks tickets old new (knocked.Conn c) =
     IsGoing old × (new.over ≡ None) × (new.gave ≡ old.gave + 1) × IsOneFewer old.left new.left

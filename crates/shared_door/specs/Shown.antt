@@ -4,12 +4,12 @@ use Rattle.atomic_table.specs.Seated.{TableId}
 use Rattle.bus_host.specs.declared.door.Ended.{Ended}
 
 -- The name of no table.
--- Shown by: shared_door tests.rt: a_porch_returns_what_its_door_returns.
+-- Shown by: outside_tests test_shared_door.rt: a_porch_returns_what_its_door_returns.
 abbrev pub no_table : TableId
 no_table = record { words = 0; slots = 0; views_name = 0; atom = 0; block = 0; offset = 0; slot_names = [] }
 
 -- What a door shows: its count of faults, and the connections to come, given and ended, if they are known.
--- Shown by: shared_door tests.rt: a_porch_returns_what_its_door_returns.
+-- Shown by: outside_tests test_shared_door.rt: a_porch_returns_what_its_door_returns.
 pub record Shown (I O : Type 0) : Type 0 where
   pub faults : ℕ
   pub ahead : Option (List (I × O))
@@ -17,18 +17,18 @@ pub record Shown (I O : Type 0) : Type 0 where
   pub ended : Option (List (Ended I O))
 
 -- A door that shows nothing, and has no fault.
--- Shown by: shared_door tests.rt: a_porch_returns_what_its_door_returns.
+-- Shown by: outside_tests test_shared_door.rt: a_porch_returns_what_its_door_returns.
 abbrev pub nothing_shown : {I O : Type 0} → Shown I O
 nothing_shown = record { faults = 0; ahead = None; given = None; ended = None }
 
 module _ {D I O : Type 0} where
   -- What a door shows now.
-  -- Shown by: shared_door tests.rt: a_porch_returns_what_its_door_returns.
+  -- Shown by: outside_tests test_shared_door.rt: a_porch_returns_what_its_door_returns.
   abbrev pub shown_by : (D → ℕ) → (D → Option (List (I × O))) → (D → Option (List (I × O))) → (D → Option (List (Ended I O))) → D → Shown I O
   shown_by faults ahead given ended door = record { faults = faults door; ahead = ahead door; given = given door; ended = ended door }
 
 -- If the connections to come were known, they were these.
--- Shown by: shared_door tests.rt: a_porch_returns_what_its_door_returns.
+-- Shown by: outside_tests test_shared_door.rt: a_porch_returns_what_its_door_returns.
 abbrev pub HasGiven : {A : Type 0} → Option (List A) → List A → Type 0
 HasGiven None given = ⊤
 HasGiven (Some ahead) given = ahead ≡ given

@@ -6,7 +6,7 @@ use Rattle.atomic_table.specs.Table.{State, Me, Step}
 use Rattle.shared_door.specs.declared.known.Known.{Known}
 
 -- The number is the place, from 1, of the thing in the list.
--- Shown by: shared_door tests.rt: two_threads_serve_four_connections.
+-- Shown by: outside_tests test_shared_door.rt: two_threads_serve_four_connections.
 abbrev pub IsPlace : {C : Type 0} → List C → ℕ × C → Type 0
 IsPlace given t = (0 < t.0) × (slice_get given (t.0 - 1) ≡ Some t.1)
 
@@ -15,13 +15,13 @@ abbrev pub IsNew : {C : Type 0} → List (ℕ × C) → ℕ → Type 0
 IsNew back n = All (λ t. t.0 ≢ n) back
 
 -- The numbers of two tickets differ.
--- Shown by: shared_door tests.rt: two_threads_serve_four_connections.
+-- Shown by: outside_tests test_shared_door.rt: two_threads_serve_four_connections.
 abbrev pub HasOtherNumber : {C : Type 0} → ℕ × C → ℕ × C → Type 0
 HasOtherNumber s t = s.0 ≢ t.0
 
 module _ {C : Type 0} where
   -- The seat that gives tickets and takes them back: what it gave them for, and those that came back.
-  -- Shown by: shared_door tests.rt: two_threads_serve_four_connections.
+  -- Shown by: outside_tests test_shared_door.rt: two_threads_serve_four_connections.
   abbrev pub keeper : List C → List (ℕ × C) → Known C
   keeper given back = record { keeps = 1; given = given; back = back; number = 0; came = [] }
 
@@ -30,7 +30,7 @@ module _ {C : Type 0} where
   holder given back n came = record { keeps = 1; given = given; back = back; number = n; came = came }
 
   -- The seat of a ticket: its number, and what it was given for.
-  -- Shown by: shared_door tests.rt: two_threads_serve_four_connections.
+  -- Shown by: outside_tests test_shared_door.rt: two_threads_serve_four_connections.
   abbrev pub ticket : ℕ → List C → Known C
   ticket n came = record { keeps = 0; given = []; back = []; number = n; came = came }
 
@@ -64,7 +64,7 @@ module _ {C : Type 0} where
 
 module _ {S C : Type 0} where
   -- The rule of the table of tickets: `Kept` of its views.
-  -- Shown by: shared_door tests.rt: two_threads_serve_four_connections.
+  -- Shown by: outside_tests test_shared_door.rt: two_threads_serve_four_connections.
   abbrev pub Holds : State S (Known C) → Type 0
   Holds s = Kept s.views
 

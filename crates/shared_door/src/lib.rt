@@ -6,8 +6,6 @@ mod known;
 mod naming;
 mod porch;
 mod served;
-#[cfg(test)]
-mod tests;
 mod tickets;
 
 pub use connection::{Connection, Knocked, Over, Standing, Visit};

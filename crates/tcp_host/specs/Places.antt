@@ -30,7 +30,7 @@ out_after out NoMemory = out
 
 -- How many connections a door gives out at once, for a program with this number of workers: one fewer, and at least one. So one worker
 -- stays free for other work.
--- Shown by: tcp_host tests/tcp_door.rt: an_idle_client_ends_for_one_that_waits.
+-- Shown by: outside_tests test_tcp_host.rt: an_idle_client_ends_for_one_that_waits.
 abbrev pub limit_for : ℕ → ℕ
 limit_for workers = max 1 (workers - 1)
 

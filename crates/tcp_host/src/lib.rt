@@ -19,6 +19,3 @@ pub use tcp_door::TcpDoor;
 pub use tcp_host::TcpHost;
 pub use tcp_sink::TcpSink;
 pub use tcp_source::TcpSource;
-
-#[cfg(test)]
-mod tests;

@@ -17,7 +17,7 @@ names_only n None = true
 names_only n (Some m) = m == n
 
 -- The turns of a list that name this pass.
--- Shown by: turn_book tests.rt: four_threads_share_one_history.
+-- Shown by: outside_tests test_turn_book.rt: four_threads_share_one_history.
 abbrev pub turns_by : {T : Type 0} → (T → Option ℕ) → ℕ → List T → List T
 turns_by made_by n turns = filter (λ t. is_number (made_by t) n) turns
 
@@ -67,7 +67,7 @@ pub record Holds {V T : Type 0} (turns : V → List T) (made_by : T → Option �
 
 module _ {T : Type 0} where
   -- The first pass: number 0, one pass made, and it has seen the value's own turns.
-  -- Shown by: turn_book tests.rt: one_pass_gives_its_turns.
+  -- Shown by: outside_tests test_turn_book.rt: one_pass_gives_its_turns.
   abbrev pub opener : List T → View T
   opener log = record { number = 0; stage = 0; ticket = 0; made = 1; passes = 1; seen = log; also = [] }
 
@@ -109,7 +109,7 @@ module _ {T : Type 0} where
   IsUnmade made_by made log = (n : ℕ) → made ≤ n → turns_by made_by n log ≡ []
 
   -- Each turn names this pass or no pass.
-  -- Shown by: turn_book tests.rt: one_pass_gives_its_turns.
+  -- Shown by: outside_tests test_turn_book.rt: one_pass_gives_its_turns.
   abbrev pub AreOf : (T → Option ℕ) → ℕ → List T → Type 0
   AreOf made_by n added = All (λ t. names_only n (made_by t) ≡ true) added
 

@@ -4,8 +4,6 @@
 mod fault;
 mod hall;
 mod story;
-#[cfg(test)]
-mod tests;
 mod view;
 
 pub use fault::NoMemory;

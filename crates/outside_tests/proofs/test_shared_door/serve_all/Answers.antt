@@ -12,11 +12,11 @@ use Rattle.std.proofs.Crossing.{crosses}
 use Rattle.std.specs.contracts.sync.Mutex as mutex
 use Rattle.turn_book.specs.contracts.hall.Hall as hall
 use Rattle.shared_door.specs.contracts.porch.Porch as porch
-use Rattle.shared_door.specs.contracts.tests.Ledger as ledger
-use Rattle.shared_door.specs.contracts.tests.LedgerStory.TheImpl as story
-use Rattle.shared_door.specs.contracts.tests.LedgerServed.TheImpl as served
+use Rattle.outside_tests.specs.contracts.ledger.Ledger as ledger
+use Rattle.outside_tests.specs.contracts.ledger.LedgerStory.TheImpl as story
+use Rattle.outside_tests.specs.contracts.ledger.LedgerServed.TheImpl as served
 use Rattle.shared_door.proofs.CrossingLemmas.{hall_sync, porch_send}
-use Rattle.shared_door.proofs.tests.serve_all.Goals as goal
+use Rattle.outside_tests.proofs.test_shared_door.serve_all.Goals as goal
 
 abbrev turn : RattleType
 turn = tuple.TupleAt (40 ∷ 44 ∷ 41 ∷ []) ((field.u64-field).row ∷ (field.u64-field).row ∷ [])

@@ -2,7 +2,7 @@ use Rattle.std.proofs.Common.{◌≡◌, ◌⊎◌, ℕ, true, List, sym, subst}
 use Rattle.std.specs.Prelude.{◌==◌}
 use Rattle.std.specs.List.{list_any}
 use Rattle.shared_door.specs.Knocks.{number_of}
-use Rattle.shared_door.proofs.tests.serve_one.Goals as goal
+use Rattle.outside_tests.proofs.test_shared_door.knock.Goals as goal
 
 pub back-requires-clause-fits : goal.back-requires-clause-fits
 back-requires-clause-fits g c κs lives = let cut = c.add-ledger.result.1 in let items = c.add-ledger.result.0.entries.items in

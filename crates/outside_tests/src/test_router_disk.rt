@@ -1,4 +1,5 @@
-use crate::{
+//! The doubles in memory and the adapters of the outside.
+use router_disk::{
     Clock, Failed, Failing, Link, LinkFault, MemClock, MemLink, MemSink, MemSource, ReaderSource,
     Sink, Source, SystemClock, WriterSink,
 };
@@ -47,9 +48,9 @@ fn a_failed_call_loses_no_byte_and_is_counted(rt: HostRuntime) -> Result<(), Fai
         assert_eq!(rt; Source::faults(&failing), 1, "after {sound}");
     }
     let mut sink = Failing::after(1, MemSink::new(rt.alloc()));
-    for (part, want) in [("ab", Ok(())), ("cd", Err(Failed)), ("ef", Ok(()))] {
-        assert_eq!(rt; sink.write_all(part.as_bytes()), want, "at {part}");
-    }
+    assert_eq!(rt; sink.write_all(b"ab"), Ok(()));
+    assert_eq!(rt; sink.write_all(b"cd"), Err(Failed));
+    assert_eq!(rt; sink.write_all(b"ef"), Ok(()));
     assert_eq!(rt; sink.inner.bytes(), b"abef".as_slice());
     assert_eq!(rt; Sink::faults(&sink), 1);
     Ok(())
@@ -68,13 +69,13 @@ fn a_clock_in_memory_repeats_its_last_reading(rt: HostRuntime) -> Result<(), Fai
     Ok(())
 }
 
+const URL: &str = "http://localhost/";
+
 // Whether the exchange at this place has this text and this code.
 fn has_answered(link: &MemLink, place: usize, text: &str, code: u16) -> bool {
     match link.answers.get(place) {
         Some(answer) => {
-            answer.endpoint.as_str() == "http://localhost/"
-                && answer.text.as_str() == text
-                && answer.code == code
+            answer.endpoint.as_str() == URL && answer.text.as_str() == text && answer.code == code
         }
         None => false,
     }
@@ -84,27 +85,19 @@ fn has_answered(link: &MemLink, place: usize, text: &str, code: u16) -> bool {
 fn a_link_in_memory_keeps_to_its_plan(rt: HostRuntime) -> Result<(), Fail> {
     let later = [Err(LinkFault::Failed), Err(LinkFault::NoMemory), Ok(200)].to_vec(rt.alloc())?;
     let mut link = MemLink::new(rt.alloc(), Ok(503), later);
-    let sends = [
-        ("a", Ok(503)),
-        ("b", Err(LinkFault::Failed)),
-        ("c", Err(LinkFault::NoMemory)),
-        ("d", Ok(200)),
-        ("e", Ok(200)),
-    ];
-    for (text, want) in sends {
-        assert_eq!(rt; link.send("http://localhost/", text), want, "at {text}");
-    }
+    assert_eq!(rt; link.send(URL, "a"), Ok(503));
+    assert_eq!(rt; link.send(URL, "b"), Err(LinkFault::Failed));
+    assert_eq!(rt; link.send(URL, "c"), Err(LinkFault::NoMemory));
+    assert_eq!(rt; link.send(URL, "d"), Ok(200));
+    assert_eq!(rt; link.send(URL, "e"), Ok(200));
     assert_eq!(rt; link.faults(), 1);
     assert_eq!(rt; link.answers.len(), 3);
-    for (place, text, code) in [(0, "a", 503), (1, "d", 200), (2, "e", 200)] {
-        assert!(rt; has_answered(&link, place, text, code), "at {text}");
-    }
+    assert!(rt; has_answered(&link, 0, "a", 503));
+    assert!(rt; has_answered(&link, 1, "d", 200));
+    assert!(rt; has_answered(&link, 2, "e", 200));
     let mut silent = MemLink::always(rt.alloc(), Err(LinkFault::Failed));
     for _ in 0..3 {
-        assert_eq!(rt;
-            silent.send("http://localhost/", "{}"),
-            Err(LinkFault::Failed)
-        );
+        assert_eq!(rt; silent.send(URL, "{}"), Err(LinkFault::Failed));
     }
     assert_eq!(rt; silent.faults(), 3);
     Ok(())
@@ -119,6 +112,14 @@ struct Slow {
 }
 
 impl Slow {
+    fn new(fails: u64, bytes: Vec<u8>) -> Slow {
+        Slow {
+            calls: 0,
+            fails,
+            bytes,
+        }
+    }
+
     fn step(&mut self) -> io::Result<()> {
         self.calls = self.calls.saturating_add(1);
         if self.calls == self.fails {
@@ -170,30 +171,16 @@ impl std::time::Clock for Slow {
 #[test]
 fn adapters_try_again_if_interrupted_and_count_failures(rt: HostRuntime) -> Result<(), Fail> {
     let alloc = rt.alloc();
-    let mut source = ReaderSource::new(Slow {
-        calls: 0,
-        fails: 5,
-        bytes: b"abcd".to_vec(alloc)?,
-    });
+    let mut source = ReaderSource::new(Slow::new(5, b"abcd".to_vec(alloc)?));
     let (bytes, failed) = read_all(alloc, &mut source)?;
     assert_eq!(rt; bytes.as_slice(), b"abcd".as_slice());
     assert_eq!(rt; failed, 1);
     assert_eq!(rt; source.faults(), 1);
-
-    let mut sink = WriterSink::new(Slow {
-        calls: 0,
-        fails: 9,
-        bytes: Vec::new(alloc),
-    });
+    let mut sink = WriterSink::new(Slow::new(9, Vec::new(alloc)));
     assert_eq!(rt; sink.write_all(b"ab"), Ok(()));
     assert_eq!(rt; sink.write_all(b"cd"), Err(Failed));
     assert_eq!(rt; sink.faults(), 1);
-
-    let mut clock = SystemClock::new(Slow {
-        calls: 0,
-        fails: 0,
-        bytes: Vec::new(alloc),
-    });
+    let mut clock = SystemClock::new(Slow::new(0, Vec::new(alloc)));
     assert_eq!(rt; clock.now(), 1_700_000_000);
     Ok(())
 }

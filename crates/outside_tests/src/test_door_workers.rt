@@ -1,0 +1,131 @@
+//! Workers at a door in memory, and who of them may stop knocking.
+ghost use Rattle.std.specs.Prelude.{◌<◌, ◌≤◌, length};
+
+use crate::ledger::{Ledger, add, door, make_hall, turns_of};
+use crate::rows::{each_row, flag, number, three};
+use door_workers::{Serving, Work, may_leave, serve_door};
+use std::alloc::Global;
+use std::sync::Wait;
+use std::sync::atomic::{AtomicU64, Ordering};
+use std::test::Fail;
+use std::thread::Threads;
+use turn_book::{Hall, Pass};
+
+/// Each connection is a turn. A worker counts how often it did something else.
+#[derive(Drop)]
+struct Adding<'a, R> {
+    rt: &'a R,
+    served: AtomicU64,
+}
+
+impl<R: Wait, I, O> Work<Ledger, I, O, u32> for Adding<'_, R> {
+    ghost works = { λ _. Unit {0} };
+
+    fn serve(
+        &self,
+        _own: &mut u32,
+        hall: &Hall<Ledger>,
+        pass: &mut Pass<Ledger>,
+        number: u64,
+        _input: &mut I,
+        _output: &mut O,
+    ) -> bool {
+        self.served.fetch_add(1, Ordering::SeqCst);
+        let ledger = hall.take(self.rt, pass);
+        let (ledger, cut) = add(ledger, pass.number(), number);
+        hall.give(pass, ledger);
+        cut
+    }
+
+    fn meanwhile(&self, own: &mut u32, _hall: &Hall<Ledger>, _pass: &mut Pass<Ledger>) {
+        *own = own.saturating_add(1);
+    }
+}
+
+// Serves a door with these plans, with a worker for each count. Returns how it ended, the turns of each connection, how many
+// connections came back and how many were served; and the counts.
+fn served_by<R: Threads + Wait + Sync>(
+    rt: &R,
+    alloc: Global,
+    plans: &str,
+    counts: &[u32],
+    most: Option<u64>,
+) -> Result<(String, Vec<u32>), Fail>
+    requires { (0 < length counts.now) × (length counts.now ≤ 2) }
+{
+    let (hall, mut pass) = make_hall(alloc, 4)?;
+    let counts = counts.to_vec(alloc)?;
+    let door = door(alloc, plans)?;
+    let work = Adding {
+        rt,
+        served: AtomicU64::new(0),
+    };
+    let Serving {
+        door,
+        owns,
+        passes,
+        end,
+    } = serve_door(rt, alloc, &hall, &mut pass, counts, door, most, &work);
+    let turns = turns_of(&hall.close(pass, passes));
+    let (back, served) = (door.back.len(), work.served.load(Ordering::SeqCst));
+    Ok((
+        format!(in alloc; "{end:?} {turns:?} {back} {served}")?,
+        owns,
+    ))
+}
+
+#[test]
+fn two_workers_serve_three_connections(rt: HostRuntime) -> Result<(), Fail> {
+    let (served, _) = served_by(&rt, rt.alloc(), "CCqC", &[0, 0], None)?;
+    assert_eq!(rt; served.as_str(), "Done [0, 1, 1, 1, 0] 3 3");
+    Ok(())
+}
+
+#[test]
+fn one_worker_stops_at_the_limit(rt: HostRuntime) -> Result<(), Fail> {
+    let (served, _) = served_by(&rt, rt.alloc(), "CCC", &[0], Some(2))?;
+    assert_eq!(rt; served.as_str(), "Done [0, 1, 1, 0, 0] 2 2");
+    Ok(())
+}
+
+#[test]
+fn one_worker_is_idle_while_none_comes(rt: HostRuntime) -> Result<(), Fail> {
+    let (served, counts) = served_by(&rt, rt.alloc(), "qCm", &[0], None)?;
+    assert_eq!(rt; served.as_str(), "Done [0, 1, 0, 0, 0] 1 1");
+    assert_eq!(rt; counts.as_slice(), [2].as_slice());
+    Ok(())
+}
+
+#[test]
+fn a_door_that_fails_is_reported(rt: HostRuntime) -> Result<(), Fail> {
+    let (served, _) = served_by(&rt, rt.alloc(), "CfC", &[0, 0], None)?;
+    assert_eq!(rt; served.as_str(), "DoorFault [0, 1, 0, 0, 0] 1 1");
+    Ok(())
+}
+
+// How many workers are busy, this one counted, how many have begun, how many connections are out, how many the door gives at
+// once, and whether this worker may leave: it is the only one; one of two, or of three, is left to knock; none is left to knock,
+// and the door may give a connection; fewer workers began than there should be, and each other one serves a connection, or does
+// not; none is left to knock, and all connections that the door gives at once are out.
+const LEAVES: &str = "1|1|0|1|true
+1|2|0|1|true
+2|3|0|2|true
+2|2|0|1|false
+3|3|1|2|false
+2|2|1|7|true
+3|3|1|7|false
+2|2|1|1|true
+3|3|2|2|true
+";
+
+fn is_leave_met(row: &str) -> Option<bool> {
+    let (busy, begun, rest) = three(row)?;
+    let (out, limit, want) = three(rest)?;
+    let may = may_leave(number(busy)?, number(begun)?, number(out)?, number(limit)?);
+    Some(may == flag(want)?)
+}
+
+#[test]
+fn a_worker_may_leave_if_another_knocks(rt: HostRuntime) {
+    each_row!(rt; LEAVES, 9, row => is_leave_met(row) == Some(true));
+}

@@ -1,0 +1,199 @@
+//! A porch that threads share, over a door in memory.
+ghost use Rattle.std.specs.Prelude.{◌≡◌, All, []};
+ghost use Rattle.turn_book.specs.Passes.{IsFree};
+ghost use Rattle.shared_door.specs.Shown.{shown_by};
+
+use crate::ledger::{Ledger, add, door, make_hall, turns_of};
+use bus_host::Door;
+use shared_door::{Knocked, Naming, Over, Parts, Porch, Tickets};
+use std::alloc::Global;
+use std::marker::Brand;
+use std::sync::{Mutex, Wait};
+use std::test::Fail;
+use std::thread;
+use std::thread::Threads;
+use turn_book::{Hall, Pass};
+
+/// A pass, and a letter for what each knock with it returned.
+#[derive(Drop)]
+struct Worker {
+    pass: Pass<Ledger>,
+    letters: [u8; 5],
+}
+
+// Knocks, and serves the connection that came, if any. Returns a letter for what the knock returned.
+fn knock<R: Wait, D: Door, N: Naming<D::In, D::Out>>(
+    rt: &R,
+    hall: &Hall<Ledger>,
+    porch: &Mutex<Porch<'_, Ledger, D, N>>,
+    pass: &mut Pass<Ledger>,
+) -> u8
+    requires hall { hall.now.table.shared.table_id ≡ N.hall }
+    requires pass { (pass.old.seat.table_id ≡ N.hall) × IsFree pass.old.seat }
+    ensures pass { (pass.new.seat.table_id ≡ N.hall) × IsFree pass.new.seat }
+{
+    let knocked = porch.lock(rt).knock();
+    match knocked {
+        Knocked::Conn(connection) => {
+            let ledger = hall.take(rt, pass);
+            let (ledger, cut) = add(ledger, pass.number(), connection.number());
+            hall.give(pass, ledger);
+            porch.lock(rt).back(connection, cut, pass);
+            b'C'
+        }
+        Knocked::Quiet => b'q',
+        Knocked::Closed => b'c',
+        Knocked::Failed => b'f',
+        Knocked::NoMemory => b'm',
+    }
+}
+
+// Knocks five times.
+fn serve<R: Wait, D: Door, N: Naming<D::In, D::Out>>(
+    rt: &R,
+    hall: &Hall<Ledger>,
+    porch: &Mutex<Porch<'_, Ledger, D, N>>,
+    worker: &mut Worker,
+)
+    requires hall { hall.now.table.shared.table_id ≡ N.hall }
+    requires pass { (worker.old.pass.seat.table_id ≡ N.hall) × IsFree worker.old.pass.seat }
+    ensures pass { (worker.new.pass.seat.table_id ≡ N.hall) × IsFree worker.new.pass.seat }
+{
+    worker.letters = [
+        knock(rt, hall, porch, &mut worker.pass),
+        knock(rt, hall, porch, &mut worker.pass),
+        knock(rt, hall, porch, &mut worker.pass),
+        knock(rt, hall, porch, &mut worker.pass),
+        knock(rt, hall, porch, &mut worker.pass),
+    ];
+}
+
+// Each worker serves in a thread of its own.
+fn serve_all<D: Door, R: Threads + Wait + Sync, N: Naming<D::In, D::Out> + Send>(
+    rt: &R,
+    hall: &Hall<Ledger>,
+    porch: &Mutex<Porch<'_, Ledger, D, N>>,
+    workers: &mut [Worker],
+)
+    requires hall { hall.now.table.shared.table_id ≡ N.hall }
+    requires workers { All (λ w. (w.pass.seat.table_id ≡ N.hall) × IsFree w.pass.seat) workers.old }
+{
+    thread::for_each_mut(
+        rt,
+        workers,
+        2,
+        &|_, worker: &mut Worker|
+            requires { (hall.now.table.shared.table_id ≡ N.hall) × (worker.old.pass.seat.table_id ≡ N.hall) × IsFree worker.old.pass.seat }
+            ensures { (worker.new.pass.seat.table_id ≡ N.hall) × IsFree worker.new.pass.seat }
+        { serve(rt, hall, porch, worker) },
+    );
+}
+
+fn served_by<D: Door, R: Threads + Wait + Sync, N: Naming<D::In, D::Out> + Send>(
+    rt: &R,
+    hall: &Hall<Ledger>,
+    own: Pass<Ledger>,
+    tickets: Tickets<(D::In, D::Out)>,
+    door: D,
+    most: Option<u64>,
+    workers: &mut [Worker],
+) -> Parts<Ledger, D>
+    requires hall { hall.now.table.shared.table_id ≡ N.hall }
+    requires own { (own.seat.table_id ≡ N.hall) × IsFree own.seat }
+    requires tickets { (tickets.seat.table_id ≡ N.tickets) × (tickets.given ≡ 0) × (tickets.seat.me.0.back ≡ []) }
+    requires door { shown_by D.faults D.ahead D.given D.ended door ≡ N.start }
+    requires most { most ≡ N.most }
+    requires workers { All (λ w. (w.pass.seat.table_id ≡ N.hall) × IsFree w.pass.seat) workers.old }
+{
+    let porch: Porch<'_, Ledger, D, N> = Porch::open(door, hall, own, tickets, most);
+    let porch = Mutex::new(porch);
+    serve_all(rt, hall, &porch, workers);
+    porch.into_inner().into_parts()
+}
+
+fn served<D: Door, R: Threads + Wait + Sync>(
+    rt: &R,
+    hall: &Hall<Ledger>,
+    own: Pass<Ledger>,
+    tickets: Tickets<(D::In, D::Out)>,
+    door: D,
+    most: Option<u64>,
+    workers: &mut [Worker],
+) -> Parts<Ledger, D>
+    requires own { (own.seat.table_id ≡ hall.now.table.shared.table_id) × IsFree own.seat }
+    requires tickets { (tickets.given ≡ 0) × (tickets.seat.me.0.back ≡ []) }
+    requires workers { All (λ w. (w.pass.seat.table_id ≡ hall.now.table.shared.table_id) × IsFree w.pass.seat) workers.old }
+{
+    served_by::<D, R, Brand>(rt, hall, own, tickets, door, most, workers)
+}
+
+#[test]
+fn two_threads_serve_four_connections(rt: HostRuntime) -> Result<(), Fail> {
+    let alloc = rt.alloc();
+    let (hall, mut pass) = make_hall(alloc, 4)?;
+    let own = hall.another(&mut pass);
+    let mut workers = [
+        Worker {
+            pass: hall.another(&mut pass),
+            letters: [0; 5],
+        },
+        Worker {
+            pass: hall.another(&mut pass),
+            letters: [0; 5],
+        },
+    ];
+    let tickets = Tickets::make(alloc)?;
+    let door = door(alloc, "CCqCC")?;
+    let parts = served(&rt, &hall, own, tickets, door, None, &mut workers);
+    let Parts {
+        door,
+        pass: _,
+        standing,
+        visits: _,
+    } = parts;
+    assert_eq!(rt; standing.gave, 4);
+    assert!(rt; standing.over == Some(Over::Closed));
+    assert_eq!(rt; door.back.len(), 4);
+    let ledger = hall.take(&rt, &mut pass);
+    assert!(rt; turns_of(&ledger) == [0, 1, 1, 1, 1]);
+    Ok(())
+}
+
+// Whether five knocks at a door with these plans return these letters, and the door gets this many connections back.
+fn returns<R: Threads + Wait + Sync>(
+    rt: &R,
+    alloc: Global,
+    plans: &str,
+    most: Option<u64>,
+    letters: [u8; 5],
+    back: usize,
+) -> Result<bool, Fail> {
+    let (hall, mut pass) = make_hall(alloc, 2)?;
+    let own = hall.another(&mut pass);
+    let mut workers = [Worker {
+        pass,
+        letters: [0; 5],
+    }];
+    let tickets = Tickets::make(alloc)?;
+    let door = door(alloc, plans)?;
+    let parts = served(rt, &hall, own, tickets, door, most, &mut workers);
+    let Parts {
+        door,
+        pass: _,
+        standing: _,
+        visits: _,
+    } = parts;
+    Ok(workers[0].letters == letters && door.back.len() == back)
+}
+
+#[test]
+fn a_porch_returns_what_its_door_returns(rt: HostRuntime) -> Result<(), Fail> {
+    assert!(rt; returns(&rt, rt.alloc(), "qCmfC", None, *b"qCmff", 1)?);
+    Ok(())
+}
+
+#[test]
+fn a_porch_gives_no_more_than_it_may(rt: HostRuntime) -> Result<(), Fail> {
+    assert!(rt; returns(&rt, rt.alloc(), "CCC", Some(2), *b"CCccc", 2)?);
+    Ok(())
+}
