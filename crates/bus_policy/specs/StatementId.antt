@@ -3,6 +3,6 @@ use Rattle.std.specs.Prelude.{ℕ, List}
 use Rattle.event_shape.specs.Names.{IsNameOf, is_queue_byte}
 
 -- The syntax of a StatementId: from 1 to 64 bytes of `A-Z a-z 0-9 - _`.
--- Shown by: bus_policy tests.rt: ids_have_1_to_64_bytes_of_letters_digits_and_two_signs.
+-- Shown by: event_tests test_bus_policy.rt: ids_have_1_to_64_bytes_of_letters_digits_and_two_signs.
 abbrev pub IsStatementId : List ℕ → Type 0
 IsStatementId sid = IsNameOf is_queue_byte 64 sid

@@ -17,8 +17,6 @@ mod reading;
 mod statement;
 mod statement_id;
 mod storing;
-#[cfg(test)]
-mod tests;
 mod text_test;
 mod verdict;
 mod verdicts;

@@ -6,7 +6,7 @@ use Rattle.json_text.specs.View.{tree_of}
 use Rattle.event_shape.specs.declared.entry.EventEntry.{EventEntry}
 
 -- An entry of a PutEvents: time, source, resources, detail type, detail and bus, each as given or absent.
--- Shown by: event_shape tests.rt: the_first_fault_is_reported.
+-- Shown by: event_tests test_event_shape.rt: the_first_fault_is_reported.
 pub record Entry : Type 0 where
   pub time : Option Tree
   pub source : Option (List ℕ)
@@ -16,7 +16,7 @@ pub record Entry : Type 0 where
   pub bus : Option (List ℕ)
 
 -- What contracts see of the code's `EventEntry`.
--- Shown by: event_shape tests.rt: the_first_fault_is_reported.
+-- Shown by: event_tests test_event_shape.rt: the_first_fault_is_reported.
 abbrev pub entry_of : EventEntry → Entry
 entry_of e = record {
   time = option_map tree_of e.time;
@@ -39,6 +39,6 @@ text_size (Some t) = length t
 
 -- The size of an entry in bytes: 14 for a time, and the bytes of its source, detail type, detail and resources. The bus does not count
 -- (this project's own rule).
--- Shown by: event_shape tests.rt: a_size_is_the_sum_of_its_bytes.
+-- Shown by: event_tests test_event_shape.rt: a_size_is_the_sum_of_its_bytes.
 abbrev pub size_of : Entry → ℕ
 size_of e = time_size e.time + text_size e.source + text_size e.detail_type + text_size e.detail + sum_by length e.resources

@@ -17,7 +17,7 @@ use Rattle.event_shape.specs.Entry.{Entry}
 use Rattle.event_shape.specs.Fault.{HasFault, IsDetail, IsReserved}
 
 -- The members of an event except version and region, which are the same in all. Its id is given by its number.
--- Shown by: event_shape tests.rt: an_event_has_its_exact_text.
+-- Shown by: event_tests test_event_shape.rt: an_event_has_its_exact_text.
 pub record Event : Type 0 where
   pub number : ℕ
   pub detail_type : List ℕ
@@ -43,7 +43,7 @@ replay_member None = []
 replay_member (Some name) = (codes "replay-name", text name) ∷ []
 
 -- The members of the event envelope of EventBridge, in their order.
--- Shown by: event_shape tests.rt: an_event_has_its_exact_text.
+-- Shown by: event_tests test_event_shape.rt: an_event_has_its_exact_text.
 abbrev pub event_members : Event → List (List ℕ × Tree)
 event_members e =
     (codes "version", text (codes "0"))
@@ -63,12 +63,12 @@ IsUtf8IfGiven None = Unit {0}
 IsUtf8IfGiven (Some t) = IsUtf8 t
 
 -- The event as a JSON object. A replayed event has the member `replay-name` last.
--- Shown by: event_shape tests.rt: an_event_has_its_exact_text.
+-- Shown by: event_tests test_event_shape.rt: an_event_has_its_exact_text.
 abbrev pub event_tree : Event → Option (List ℕ) → Tree
 event_tree e replay = object (members_of (event_members e ++ replay_member replay))
 
 -- The members of an entry without a fault.
--- Shown by: event_shape tests.rt: the_first_fault_is_reported.
+-- Shown by: event_tests test_event_shape.rt: the_first_fault_is_reported.
 pub record Checked : Type 0 where
   pub source : List ℕ
   pub detail_type : List ℕ
@@ -95,7 +95,7 @@ IsBusOf None bus = bus ≡ default_bus
 IsBusOf (Some t) bus = IsBusGiven t bus
 
 -- The entry has no fault, and these are its members as they were read; the detail has no other value.
--- Shown by: event_shape tests.rt: the_first_fault_is_reported.
+-- Shown by: event_tests test_event_shape.rt: the_first_fault_is_reported.
 pub record IsCheckedOf (entry : Entry) (c : Checked) : Type 0 where
   pub faultless : (fault : EntryFault) → ¬ HasFault entry fault
   pub source : entry.source ≡ Some c.source
@@ -108,7 +108,7 @@ pub record IsCheckedOf (entry : Entry) (c : Checked) : Type 0 where
 
 -- Each member of the event is the checked entry's, except the number and the account. The time is the reading of the clock if the entry has
 -- none.
--- Shown by: event_shape tests.rt: an_event_has_its_exact_text.
+-- Shown by: event_tests test_event_shape.rt: an_event_has_its_exact_text.
 pub record IsMade (c : Checked) (n reading : ℕ) (caller : List ℕ) (e : Event) : Type 0 where
   pub number : e.number ≡ n
   pub detail_type : e.detail_type ≡ c.detail_type
@@ -119,14 +119,14 @@ pub record IsMade (c : Checked) (n reading : ℕ) (caller : List ℕ) (e : Event
   pub detail : e.detail ≡ c.detail
 
 -- The source, detail type and resources of an entry are UTF-8.
--- Shown by: event_shape tests.rt: an_event_has_its_exact_text.
+-- Shown by: event_tests test_event_shape.rt: an_event_has_its_exact_text.
 pub record HasTexts (entry : Entry) : Type 0 where
   pub source : IsUtf8IfGiven entry.source
   pub detail_type : IsUtf8IfGiven entry.detail_type
   pub resources : All IsUtf8 entry.resources
 
 -- What an event takes over from an entry: source, detail type, resources and detail, each as `IsEvent` has it.
--- Shown by: event_shape tests.rt: an_event_is_read_from_its_text_alone.
+-- Shown by: event_tests test_event_shape.rt: an_event_is_read_from_its_text_alone.
 pub record IsContent (source detail_type : List ℕ) (resources : List (List ℕ)) (detail : Tree) : Type 0 where
   pub source_some : source ≢ []
   pub source_utf8 : IsUtf8 source
@@ -154,12 +154,12 @@ pub record IsEventAt (moment : ℕ) (e : Event) : Type 0 where
 -- Which members an event can have: a number below 2^64; a detail type and a source that are not empty; a source that does not begin with
 -- `aws.`; resources and an account, all texts in UTF-8; a time that is the text of a moment; a detail that is a JSON object within 99
 -- levels.
--- Shown by: event_shape tests.rt: an_event_is_read_from_its_text_alone.
+-- Shown by: event_tests test_event_shape.rt: an_event_is_read_from_its_text_alone.
 abbrev pub IsEvent : Event → Type 0
 IsEvent e = (moment : ℕ) × IsEventAt moment e
 
 -- The bytes are the compact text of the tree of this event, without a replay's name.
--- Shown by: event_shape tests.rt: an_event_is_read_from_its_text_alone.
+-- Shown by: event_tests test_event_shape.rt: an_event_is_read_from_its_text_alone.
 pub record IsEventText (bytes : List ℕ) (e : Event) : Type 0 where
   pub written : bytes ≡ compact_text (event_tree e None)
   pub is_event : IsEvent e

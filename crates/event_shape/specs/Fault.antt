@@ -28,7 +28,7 @@ IsNoBus None = ⊥
 IsNoBus (Some t) = (bus : List ℕ) → ¬ IsBusGiven t bus
 
 -- The text spells this JSON object within 99 levels: in the event the object is one level deeper.
--- Shown by: event_shape tests.rt: a_detail_has_at_most_99_levels.
+-- Shown by: event_tests test_event_shape.rt: a_detail_has_at_most_99_levels.
 abbrev pub IsDetail : List ℕ → Tree → Type 0
 IsDetail bytes tree = (n : Node) × IsText 99 bytes n × (tree ≡ value_of n) × IsObject tree
 
@@ -44,7 +44,7 @@ IsReserved (Some t) = (rest : List ℕ) × (t ≡ codes "aws." ++ rest)
 
 -- The entry has this fault: source or detail type absent or empty, detail absent, a time that gives no moment, a bus that is neither a name
 -- nor an ARN, a detail that is no JSON object, or a source that begins with `aws.`. The source `aws` has no fault.
--- Shown by: event_shape tests.rt: the_first_fault_is_reported.
+-- Shown by: event_tests test_event_shape.rt: the_first_fault_is_reported.
 abbrev pub HasFault : entry.Entry → EntryFault → Type 0
 HasFault e Source = LacksText e.source
 HasFault e DetailType = LacksText e.detail_type
@@ -55,7 +55,7 @@ HasFault e Malformed = IsNoDetail e.detail
 HasFault e NotAuthorized = IsReserved e.source
 
 -- The order in which faults are found: `Source`, `DetailType`, `Detail`, `Time`, `Bus`, `Malformed`, `NotAuthorized`, 1 to 7.
--- Shown by: event_shape tests.rt: the_first_fault_is_reported.
+-- Shown by: event_tests test_event_shape.rt: the_first_fault_is_reported.
 abbrev pub place_of : EntryFault → ℕ
 place_of Source = 1
 place_of DetailType = 2
@@ -71,7 +71,7 @@ IsMemoryOr NoMemory fault condition = Unit {0}
 IsMemoryOr (Entry f) fault condition = (f ≡ fault) × condition
 
 -- The entry has this fault and none of an earlier place.
--- Shown by: event_shape tests.rt: the_first_fault_is_reported.
+-- Shown by: event_tests test_event_shape.rt: the_first_fault_is_reported.
 pub record IsFirstFault (e : entry.Entry) (fault : EntryFault) : Type 0 where
   pub there : HasFault e fault
   pub first : (other : EntryFault) → place_of other < place_of fault → ¬ HasFault e other

@@ -17,47 +17,47 @@ abbrev pub is_name_byte : ℕ → Bool
 is_name_byte b = is_queue_byte b || (b == 46)
 
 -- From 1 to `most` bytes, each of which passes the test.
--- Shown by: event_shape tests.rt: a_name_has_its_length, a_name_has_its_letters.
+-- Shown by: event_tests test_event_shape.rt: a_name_has_its_length, a_name_has_its_letters.
 abbrev pub IsNameOf : (ℕ → Bool) → ℕ → List ℕ → Type 0
 IsNameOf test most name = (1 ≤ length name) × (length name ≤ most) × IsTrue (list_all test name)
 
 -- The name of a rule, a target or a replay: 1 to 64 of `A-Z a-z 0-9 . - _`.
--- Shown by: event_shape tests.rt: a_name_has_its_length, a_name_has_its_letters.
+-- Shown by: event_tests test_event_shape.rt: a_name_has_its_length, a_name_has_its_letters.
 abbrev pub IsShortName : List ℕ → Type 0
 IsShortName name = IsNameOf is_name_byte 64 name
 
 -- The name of an archive: 1 to 48 of `A-Z a-z 0-9 . - _`.
--- Shown by: event_shape tests.rt: a_name_has_its_length, a_name_has_its_letters.
+-- Shown by: event_tests test_event_shape.rt: a_name_has_its_length, a_name_has_its_letters.
 abbrev pub IsArchiveName : List ℕ → Type 0
 IsArchiveName name = IsNameOf is_name_byte 48 name
 
 -- The name of a bus: 1 to 256 of `A-Z a-z 0-9 . - _`. `/` would begin the name of a partner's bus.
--- Shown by: event_shape tests.rt: a_name_has_its_length, a_name_has_its_letters.
+-- Shown by: event_tests test_event_shape.rt: a_name_has_its_length, a_name_has_its_letters.
 abbrev pub IsBusName : List ℕ → Type 0
 IsBusName name = IsNameOf is_name_byte 256 name
 
 -- The name of a queue: 1 to 80 of `A-Z a-z 0-9 - _`.
--- Shown by: event_shape tests.rt: a_name_has_its_length, a_name_has_its_letters.
+-- Shown by: event_tests test_event_shape.rt: a_name_has_its_length, a_name_has_its_letters.
 abbrev pub IsQueueName : List ℕ → Type 0
 IsQueueName name = IsNameOf is_queue_byte 80 name
 
 -- The text is an account: twelve digits.
--- Shown by: event_shape tests.rt: arns_are_as_they_are_spelled.
+-- Shown by: event_tests test_event_shape.rt: arns_are_as_they_are_spelled.
 abbrev pub is_account : List ℕ → Bool
 is_account account = (length account == 12) && list_all is_ascii_digit account
 
 -- The account that owns every bus, `111122223333`.
--- Shown by: event_shape tests.rt: arns_are_as_they_are_spelled.
+-- Shown by: event_tests test_event_shape.rt: arns_are_as_they_are_spelled.
 abbrev pub owner : List ℕ
 owner = codes "111122223333"
 
 -- The region of every bus, `us-east-1`.
--- Shown by: event_shape tests.rt: arns_are_as_they_are_spelled.
+-- Shown by: event_tests test_event_shape.rt: arns_are_as_they_are_spelled.
 abbrev pub region : List ℕ
 region = codes "us-east-1"
 
 -- The bus that always exists, `default`.
--- Shown by: event_shape tests.rt: arns_are_as_they_are_spelled.
+-- Shown by: event_tests test_event_shape.rt: arns_are_as_they_are_spelled.
 abbrev pub default_bus : List ℕ
 default_bus = codes "default"
 
@@ -66,38 +66,38 @@ abbrev pub events_arn : List ℕ → List ℕ
 events_arn resource = codes "arn:aws:events:us-east-1:111122223333:" ++ resource
 
 -- `arn:aws:events:us-east-1:111122223333:event-bus/` and the bus.
--- Shown by: event_shape tests.rt: arns_are_as_they_are_spelled.
+-- Shown by: event_tests test_event_shape.rt: arns_are_as_they_are_spelled.
 abbrev pub bus_arn : List ℕ → List ℕ
 bus_arn bus = events_arn (codes "event-bus/" ++ bus)
 
 -- `arn:aws:events:us-east-1:111122223333:rule/` and the rule; the bus and `/` come before the rule unless the bus is `default`.
--- Shown by: event_shape tests.rt: arns_are_as_they_are_spelled.
+-- Shown by: event_tests test_event_shape.rt: arns_are_as_they_are_spelled.
 abbrev pub rule_arn : List ℕ → List ℕ → List ℕ
 rule_arn bus rule =
     if bytes_eq bus default_bus then events_arn (codes "rule/" ++ rule)
     else events_arn (codes "rule/" ++ (bus ++ (codes "/" ++ rule)))
 
 -- `arn:aws:events:us-east-1:111122223333:archive/` and the archive.
--- Shown by: event_shape tests.rt: arns_are_as_they_are_spelled.
+-- Shown by: event_tests test_event_shape.rt: arns_are_as_they_are_spelled.
 abbrev pub archive_arn : List ℕ → List ℕ
 archive_arn archive = events_arn (codes "archive/" ++ archive)
 
 -- `arn:aws:events:us-east-1:111122223333:replay/` and the replay.
--- Shown by: event_shape tests.rt: arns_are_as_they_are_spelled.
+-- Shown by: event_tests test_event_shape.rt: arns_are_as_they_are_spelled.
 abbrev pub replay_arn : List ℕ → List ℕ
 replay_arn replay = events_arn (codes "replay/" ++ replay)
 
 -- `arn:aws:sqs:us-east-1:111122223333:` and the queue.
--- Shown by: event_shape tests.rt: arns_are_as_they_are_spelled.
+-- Shown by: event_tests test_event_shape.rt: arns_are_as_they_are_spelled.
 abbrev pub queue_arn : List ℕ → List ℕ
 queue_arn queue = codes "arn:aws:sqs:us-east-1:111122223333:" ++ queue
 
 -- The text is the ARN of the queue of this name, which has the syntax of a queue's name.
--- Shown by: event_shape tests.rt: arns_are_as_they_are_spelled.
+-- Shown by: event_tests test_event_shape.rt: an_arn_shows_its_name.
 abbrev pub IsQueueArn : List ℕ → List ℕ → Type 0
 IsQueueArn text queue = IsQueueName queue × (text ≡ queue_arn queue)
 
 -- The text is the name of this bus, or its ARN.
--- Shown by: event_shape tests.rt: arns_are_as_they_are_spelled.
+-- Shown by: event_tests test_event_shape.rt: arns_are_as_they_are_spelled.
 abbrev pub IsBusGiven : List ℕ → List ℕ → Type 0
 IsBusGiven text bus = IsBusName bus × ((text ≡ bus) ⊎ (text ≡ bus_arn bus))

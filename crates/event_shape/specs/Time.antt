@@ -7,14 +7,14 @@ use Rattle.event_time.specs.Time.{IsTimeText}
 
 -- A number without an exponent (RFC 8259, section 6) gives its whole part; the fraction is dropped. A number below 0 gives none, but `-0`
 -- and `-0.5` give 0.
--- Shown by: event_shape tests.rt: a_time_gives_its_moment_or_none.
+-- Shown by: event_tests test_event_shape.rt: a_time_gives_its_moment_or_none.
 abbrev pub IsTimeNumber : List ℕ → ℕ → Type 0
 IsTimeNumber spelling moment = (fraction : List ℕ) × IsFraction fraction
     × ((spelling ≡ decimal moment ++ fraction) ⊎ ((moment ≡ 0) × (spelling ≡ 45 ∷ (decimal 0 ++ fraction))))
 
 -- A JSON value gives this moment: a number by `IsTimeNumber`, or a text that event_time's `IsTimeText` reads, within `IsMoment`.
 -- `1700000000.9` gives 1700000000; `-1`, `1.7e9` and `250000000001` give none.
--- Shown by: event_shape tests.rt: a_time_gives_its_moment_or_none.
+-- Shown by: event_tests test_event_shape.rt: a_time_gives_its_moment_or_none.
 abbrev pub IsTime : Tree → ℕ → Type 0
 IsTime null moment = ⊥
 IsTime (truth b) moment = ⊥

@@ -7,7 +7,7 @@ use Rattle.json_text.specs.Compact.{compact_text, more_members_text}
 use Rattle.event_shape.specs.Event.{Event, text_code, event_code, event_members, event_tree, IsEventAt}
 
 -- An event that has no number yet, and the name of its bus. The number 0 represents the open number.
--- Shown by: event_shape tests.rt: an_event_gets_its_number_last.
+-- Shown by: event_tests test_event_shape.rt: an_event_gets_its_number_last.
 pub record Unnumbered : Type 0 where
   pub bus : List ℕ
   pub event : Event
@@ -17,7 +17,7 @@ abbrev pub unnumbered_code : Coded Unnumbered
 unnumbered_code = code_by (List ℕ × Event) (coded× text_code event_code) (λ u. (u.bus, u.event)) (λ (b, e). record { bus = b; event = e }) (λ _. refl)
 
 -- The same event with this number, so with this number's id.
--- Shown by: event_shape tests.rt: an_event_gets_its_number_last.
+-- Shown by: event_tests test_event_shape.rt: an_event_gets_its_number_last.
 abbrev pub with_number : ℕ → Event → Event
 with_number number e = record e { number = number }
 

@@ -27,6 +27,3 @@ pub use names::{
 };
 pub use time::{iso, read_time};
 pub use unnumbered::Unnumbered;
-
-#[cfg(test)]
-mod tests;

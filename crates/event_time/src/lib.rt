@@ -4,6 +4,3 @@
 mod time;
 
 pub use time::{iso, text_moment};
-
-#[cfg(test)]
-mod tests;

@@ -9,8 +9,6 @@ mod laws;
 mod leaf;
 mod pattern;
 mod quick;
-#[cfg(test)]
-mod tests;
 mod walk;
 
 pub use comparison::{Comparison, Operator};

@@ -11,8 +11,6 @@ mod leaf;
 mod numeric;
 mod pattern_text;
 mod reading;
-#[cfg(test)]
-mod tests;
 
 pub use fault::{PatternFault, Why};
 pub use laws::faults_decide;

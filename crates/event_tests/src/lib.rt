@@ -1,0 +1,15 @@
+//! Tests of events, patterns and policies: a module for each crate, and what they say of a row.
+#![tactic(auto)]
+
+#[cfg(test)]
+mod rows;
+#[cfg(test)]
+mod test_bus_policy;
+#[cfg(test)]
+mod test_event_shape;
+#[cfg(test)]
+mod test_event_time;
+#[cfg(test)]
+mod test_pattern_meaning;
+#[cfg(test)]
+mod test_pattern_read;
