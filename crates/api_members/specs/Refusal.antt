@@ -23,7 +23,7 @@ use Rattle.api_members.specs.Event.{GivesEvent}
 use Rattle.api_members.specs.Value.{IsValid}
 
 -- The text is no pattern for this reason, at this path.
--- Shown by: api_wire tests.rt: a_rule_is_refused_for_its_first_member.
+-- Shown by: wire_tests test_api_wire.rt: a_rule_is_refused_for_its_first_member.
 abbrev pub IsPatternRefusal : List ℕ → Cause → Type 0
 IsPatternRefusal t c = (why : Why) × (keys : List (List ℕ)) × IsRefused t why keys × (c ≡ cause.NotAPattern (why_name why) (path_text keys))
 
@@ -33,12 +33,12 @@ policy_cause policy.TooLong place = cause.PolicyTooLong
 policy_cause why place = cause.NotAPolicy (policy_why_name why) place
 
 -- The text is no policy for this reason, with the place of the statement that has it; a text that is too long has a cause of its own.
--- Shown by: api_members tests.rt: a_text_is_no_policy_for_its_reason.
+-- Shown by: wire_tests test_api_members.rt: a_text_is_no_policy_for_its_reason.
 abbrev pub IsPolicyRefusal : List ℕ → Cause → Type 0
 IsPolicyRefusal t c = (why : PolicyCause) × (place : ℕ) × IsTextFault t why place × (c ≡ policy_cause why place)
 
 -- The value is refused for this cause: a text that is no pattern or no policy for its own reason, any other value as not valid.
--- Shown by: api_wire tests.rt: a_rule_is_refused_for_its_first_member, a_permission_is_refused_for_its_first_member.
+-- Shown by: wire_tests test_api_wire.rt: a_rule_is_refused_for_its_first_member, a_permission_is_refused_for_its_first_member.
 abbrev pub IsValueRefused : Syntax → Member → Tree → Cause → Type 0
 IsValueRefused syntax.Pattern m (text t) c = IsPatternRefusal t c
 IsValueRefused syntax.Policy m (text t) c = IsPolicyRefusal t c
@@ -55,25 +55,25 @@ RefusedOr absent s m None c = absent
 RefusedOr absent s m (Some tree) c = IsValueRefused s m tree c
 
 -- The member is given and valid, or optional and absent.
--- Shown by: api_wire tests.rt: a_message_has_its_first_refusal.
+-- Shown by: wire_tests test_api_wire.rt: a_message_has_its_first_refusal.
 abbrev pub IsSoundMember : Asked → Members → Type 0
 IsSoundMember (Required m s) ms = ValidOr ⊥ s (given m ms)
 IsSoundMember (Optional m s) ms = ValidOr (Unit {0}) s (given m ms)
 
 -- The member is absent though required, or its value is refused.
--- Shown by: api_wire tests.rt: a_message_has_its_first_refusal.
+-- Shown by: wire_tests test_api_wire.rt: a_message_has_its_first_refusal.
 abbrev pub IsMemberRefused : Asked → Members → Cause → Type 0
 IsMemberRefused (Required m s) ms c = RefusedOr (c ≡ cause.Required m) s m (given m ms) c
 IsMemberRefused (Optional m s) ms c = RefusedOr ⊥ s m (given m ms) c
 
 -- Each member of a list is sound.
--- Shown by: api_wire tests.rt: a_message_has_its_first_refusal.
+-- Shown by: wire_tests test_api_wire.rt: a_message_has_its_first_refusal.
 abbrev pub AreSound : List Asked → Members → Type 0
 AreSound [] ms = Unit {0}
 AreSound (a ∷ asked) ms = IsSoundMember a ms × AreSound asked ms
 
 -- One member of the list is refused for this cause, and those before it are sound.
--- Shown by: api_wire tests.rt: a_message_has_its_first_refusal.
+-- Shown by: wire_tests test_api_wire.rt: a_message_has_its_first_refusal.
 pub record IsFirstRefusal (asked : List Asked) (ms : Members) (c : Cause) : Type 0 where
   pub before : List Asked
   pub here : Asked
@@ -83,7 +83,7 @@ pub record IsFirstRefusal (asked : List Asked) (ms : Members) (c : Cause) : Type
   pub refused : IsMemberRefused here ms c
 
 -- The fault is the first refusal, or out of memory.
--- Shown by: api_wire tests.rt: a_message_has_its_first_refusal.
+-- Shown by: wire_tests test_api_wire.rt: a_message_has_its_first_refusal.
 abbrev pub FirstFault : List Asked → Members → CallFault → Type 0
 FirstFault asked ms (Refused c) = IsFirstRefusal asked ms c
 FirstFault asked ms NoMemory = Unit {0}

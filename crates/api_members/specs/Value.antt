@@ -52,12 +52,12 @@ is_truth (truth b) = true
 is_truth _ = false
 
 -- What is given, or else the default.
--- Shown by: api_wire tests/requests.rt: a_request_has_what_the_message_gives.
+-- Shown by: wire_tests test_api_wire/requests.rt: a_request_has_what_the_message_gives.
 abbrev pub GivesOr : {X : Type 0} → (X → Type 0) → X → X → Type 0
 GivesOr {X} Gives default x = Gives x ⊎ ((x ≡ default) × ((other : X) → ¬ Gives other))
 
 -- The member gives this bus, by its name or its ARN.
--- Shown by: api_wire tests.rt: a_rule_is_refused_for_its_first_member.
+-- Shown by: wire_tests test_api_wire.rt: a_rule_is_refused_for_its_first_member.
 abbrev pub HasBus : Option (List ℕ) → List ℕ → Type 0
 HasBus None bus = ⊥
 HasBus (Some t) bus = IsBusGiven t bus
@@ -74,7 +74,7 @@ is_list_of test most tree = must_pass (are_few test most) (list_in tree)
 -- pattern's text, an event's text, a state, a whole number within limits, a list of 1 to 10 entries, of 1 to 100 targets or of 1 to 100
 -- targets' ids, a policy's text, a StatementId, `events:PutEvents`, an account or `*`, a truth value. A member that is not served is never
 -- valid.
--- Shown by: api_members tests.rt: a_value_is_valid.
+-- Shown by: wire_tests test_api_members.rt: a_value_is_valid.
 abbrev pub IsValid : Syntax → Tree → Type 0
 IsValid syntax.QueueName tree = IsTextThat IsQueueName tree
 IsValid syntax.RuleName tree = IsTextThat IsShortName tree

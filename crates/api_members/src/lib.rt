@@ -26,6 +26,3 @@ pub use laws::one_first_refusal;
 pub use members::{given, members_in, text_given, text_of, values_in};
 pub use target::{age_given, attempts_given, read_dead_letter};
 pub use value::bus_given;
-
-#[cfg(test)]
-mod tests;

@@ -88,7 +88,7 @@ pub record Incoming : Type 0 where
 
 -- What `WireIn::next` returns and leaves: a message, which is taken from the front; `None` if the bytes are awaited; `Refused` with the
 -- reason if they are refused, and then forever; or out of memory, only if a message is whole.
--- Shown by: api_messages tests.rt: messages_follow_one_another_in_any_pieces.
+-- Shown by: wire_tests test_api_messages.rt: messages_follow_one_another_in_any_pieces.
 abbrev pub Answers : Incoming → Incoming → Result (Option Message) WireFault → Type 0
 Answers old new (Ok (Some m)) = HoldsMessage old.rest m new.rest × (new.refused ≡ None)
 Answers old new (Ok None) = IsAwaited old.rest × (new ≡ old)

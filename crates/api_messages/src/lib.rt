@@ -13,6 +13,3 @@ pub use laws::{awaited_is_short, no_message_is_empty, one_reading, one_refusal};
 pub use message::{Message, Refusal, WireFault};
 pub use method::Method;
 pub use wire::WireIn;
-
-#[cfg(test)]
-mod tests;

@@ -38,7 +38,7 @@ use Rattle.api_wire.specs.declared.call.operation.Operation.TheVariants.{CreateQ
 use Rattle.api_messages.specs.declared.message.Message.{Message}
 
 -- The operations that are this project's own: those whose name begins with `RouterLocal.`
--- Shown by: api_wire tests.rt: a_deletion_has_its_first_refusal.
+-- Shown by: wire_tests test_api_wire.rt: a_deletion_has_its_first_refusal.
 abbrev pub local_operation : List ℕ → Option Operation
 local_operation name =
     if bytes_eq name (codes "RouterLocal.CreateQueue") then Some CreateQueue else (
@@ -49,7 +49,7 @@ local_operation name =
     if bytes_eq name (codes "RouterLocal.DutyCounts") then Some DutyCounts else None)))))
 
 -- The operation of an X-Amz-Target, compared exactly: `RouterLocal.CreateQueue` has one, `routerlocal.createqueue` has none.
--- Shown by: api_wire tests.rt: a_message_has_its_first_refusal.
+-- Shown by: wire_tests test_api_wire.rt: a_message_has_its_first_refusal.
 abbrev pub named_operation : List ℕ → Option Operation
 named_operation name =
     if bytes_eq name (codes "AWSEvents.CreateEventBus") then Some CreateEventBus else (
@@ -72,14 +72,14 @@ named_operation name =
     if bytes_eq name (codes "AWSEvents.TestEventPattern") then Some TestEventPattern else local_operation name)))))))))))))))))
 
 -- The operation of an optional X-Amz-Target. A message without the field has none.
--- Shown by: api_wire tests.rt: a_message_has_its_first_refusal.
+-- Shown by: wire_tests test_api_wire.rt: a_message_has_its_first_refusal.
 abbrev pub operation_of : Option (List ℕ) → Option Operation
 operation_of None = None
 operation_of (Some name) = named_operation name
 
 -- What a PutPermission asks: with a Policy nothing of a statement. A Condition is refused after the other members, but before a fault of
 -- the policy.
--- Shown by: api_wire tests.rt: a_permission_is_refused_for_its_first_member.
+-- Shown by: wire_tests test_api_wire.rt: a_permission_is_refused_for_its_first_member.
 abbrev pub permission_asked : Option Tree → List Asked
 permission_asked None = Optional member.EventBusName syntax.Bus ∷ Required member.StatementId syntax.StatementId
     ∷ Required member.Action syntax.PutEventsAction ∷ Required member.Principal syntax.Principal ∷ Optional member.Condition syntax.Unserved ∷ []
@@ -87,7 +87,7 @@ permission_asked (Some policy) = Optional member.EventBusName syntax.Bus ∷ Req
     ∷ Optional member.Condition syntax.Unserved ∷ Required member.Policy syntax.Policy ∷ []
 
 -- What each operation asks of its members, in the order in which they are checked. A PutPermission asks otherwise if a Policy is given.
--- Shown by: api_wire tests.rt: a_rule_is_refused_for_its_first_member, a_call_on_a_bus_has_its_first_refusal,
+-- Shown by: wire_tests test_api_wire.rt: a_rule_is_refused_for_its_first_member, a_call_on_a_bus_has_its_first_refusal,
 -- a_removal_has_its_first_refusal.
 abbrev pub asked : Operation → Members → List Asked
 asked CreateEventBus ms = Required member.Name syntax.BusName ∷ []
@@ -118,33 +118,33 @@ asked DeliverDue ms = Optional member.Budget (syntax.Count 1 1000) ∷ []
 asked DutyCounts ms = []
 
 -- The bus whose name or ARN this member gives, or else `default`.
--- Shown by: api_wire tests.rt: a_call_on_a_bus_has_its_first_refusal.
+-- Shown by: wire_tests test_api_wire.rt: a_call_on_a_bus_has_its_first_refusal.
 abbrev pub NamesBusIn : Member → Members → List ℕ → Type 0
 NamesBusIn m ms bus = GivesOr (HasBus (text_given m ms)) default_bus bus
 
 -- The `NamesBusIn` of the member EventBusName.
--- Shown by: api_wire tests/requests.rt: a_request_has_what_the_message_gives.
+-- Shown by: wire_tests test_api_wire/requests.rt: a_request_has_what_the_message_gives.
 abbrev pub NamesBus : Members → List ℕ → Type 0
 NamesBus ms bus = NamesBusIn member.EventBusName ms bus
 
 -- Whom a Principal names: `*` is everyone, any other text an account.
--- Shown by: api_wire tests/requests.rt: a_permission_has_what_the_message_gives.
+-- Shown by: wire_tests test_api_wire/requests.rt: a_permission_has_what_the_message_gives.
 abbrev pub account_in : List ℕ → Option (List ℕ)
 account_in principal = if bytes_eq principal (codes "*") then None else Some principal
 
 -- The text as which the policy of this text is stored.
--- Shown by: api_wire tests/requests.rt: a_permission_has_what_the_message_gives.
+-- Shown by: wire_tests test_api_wire/requests.rt: a_permission_has_what_the_message_gives.
 abbrev pub IsStoredAs : List ℕ → List ℕ → Type 0
 IsStoredAs given_text stored = (policy : Tree) × IsPolicyText given_text policy × (stored ≡ compact_text policy)
 
 -- RemoveAllPermissions is given as `true`.
--- Shown by: api_wire tests/requests.rt: a_removal_has_what_the_message_gives.
+-- Shown by: wire_tests test_api_wire/requests.rt: a_removal_has_what_the_message_gives.
 abbrev pub removes_all : Option Tree → Bool
 removes_all (Some (truth b)) = b
 removes_all _ = false
 
 -- A rule is enabled unless its State is `DISABLED`.
--- Shown by: api_wire tests/requests.rt: a_request_has_what_the_message_gives.
+-- Shown by: wire_tests test_api_wire/requests.rt: a_request_has_what_the_message_gives.
 abbrev pub is_enabled : Option (List ℕ) → Bool
 is_enabled None = true
 is_enabled (Some state) = not (bytes_eq state (codes "DISABLED"))
@@ -156,7 +156,7 @@ first_given [] ms = None
 first_given (m ∷ others) ms = if is_some (given m ms) then Some m else first_given others ms
 
 -- The members of a target that are not supported yet: Input, InputPath, InputTransformer.
--- Shown by: api_wire tests/requests.rt: a_target_has_its_retry_policy_and_its_dead_letter_queue.
+-- Shown by: wire_tests test_api_wire/requests.rt: a_target_has_its_retry_policy_and_its_dead_letter_queue.
 abbrev pub unsupported : List Member
 unsupported = member.Input ∷ member.InputPath ∷ member.InputTransformer ∷ []
 
@@ -167,7 +167,7 @@ retry_given None = None
 retry_given (Some policy) = Some (record { attempts = attempts_given (members_in policy); age = age_given (members_in policy) })
 
 -- The target with these members: its id, ARN, retry policy and dead-letter queue, and the first member that is not supported yet.
--- Shown by: api_wire tests/requests.rt: a_request_has_what_the_message_gives.
+-- Shown by: wire_tests test_api_wire/requests.rt: a_request_has_what_the_message_gives.
 abbrev pub target_with : Members → Target
 target_with ms = record {
   id = text_of member.Id ms;
@@ -183,7 +183,7 @@ abbrev pub targets_of : List Tree → List Target
 targets_of values = map (λ tree. target_with (members_in tree)) values
 
 -- The members of an operation make this action of the caller, if they are sound.
--- Shown by: api_wire tests/requests.rt: a_request_has_what_the_message_gives.
+-- Shown by: wire_tests test_api_wire/requests.rt: a_request_has_what_the_message_gives.
 abbrev pub IsAction : Operation → List ℕ → Members → ℕ → Action → Type 0
 IsAction CreateEventBus caller ms reading (create_event_bus name) = name ≡ text_of member.Name ms
 IsAction DeleteEventBus caller ms reading (delete_event_bus name) = name ≡ text_of member.Name ms
@@ -226,26 +226,26 @@ IsAction DutyCounts caller ms reading duty_counts = Unit {0}
 IsAction _ _ _ _ _ = ⊥
 
 -- The body is JSON within 100 levels, and an object with these members. An empty body counts as `{}`.
--- Shown by: api_wire tests.rt: a_message_has_its_first_refusal.
+-- Shown by: wire_tests test_api_wire.rt: a_message_has_its_first_refusal.
 abbrev pub IsBody : List ℕ → Members → Type 0
 IsBody [] members = members ≡ no_members
 IsBody (b ∷ bytes) members = (node : Node) × IsText 100 (b ∷ bytes) node × (value_of node ≡ object members)
 
 -- The account that asks: the one of the field `x-caller-account`, or the owner if there is no such field.
--- Shown by: api_wire tests/requests.rt: an_event_has_the_account_of_its_caller.
+-- Shown by: wire_tests test_api_wire/requests.rt: an_event_has_the_account_of_its_caller.
 abbrev pub caller_of : Option (List ℕ) → List ℕ
 caller_of None = owner
 caller_of (Some account) = account
 
 -- Only the owner calls any operation but PutEvents.
--- Shown by: api_wire tests.rt: a_caller_is_refused_before_the_members.
+-- Shown by: wire_tests test_api_wire.rt: a_caller_is_refused_before_the_members.
 abbrev pub MayCall : Operation → List ℕ → Type 0
 MayCall PutEvents caller = Unit {0}
 MayCall _ caller = caller ≡ owner
 
 -- The message asks for this request: its caller is an account that may call its operation, whose sound members make the action; the request
 -- has this caller and this reading.
--- Shown by: api_wire tests/requests.rt: a_request_has_what_the_message_gives.
+-- Shown by: wire_tests test_api_wire/requests.rt: a_request_has_what_the_message_gives.
 pub record IsAsked (m : Message) (reading : ℕ) (request : Request) : Type 0 where
   pub operation : Operation
   pub named : operation_of m.target ≡ Some operation
@@ -260,7 +260,7 @@ pub record IsAsked (m : Message) (reading : ℕ) (request : Request) : Type 0 wh
 
 -- The message's first refusal: its operation is unknown; its caller is no account; its body is no object; the caller may not call the
 -- operation; or the first refusal of the members that the operation asks for.
--- Shown by: api_wire tests.rt: a_message_has_its_first_refusal, a_caller_is_refused_before_the_members.
+-- Shown by: wire_tests test_api_wire.rt: a_message_has_its_first_refusal, a_caller_is_refused_before_the_members.
 pub data IsCallRefused (m : Message) (c : Cause) : Type 0 where
   unknown : operation_of m.target ≡ None → c ≡ cause.UnknownOperation → IsCallRefused m c
   no_account : IsSome (operation_of m.target) → ¬ IsTrue (is_account (caller_of m.caller)) → c ≡ cause.NotValid member.CallerAccount

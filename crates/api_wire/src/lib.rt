@@ -15,6 +15,3 @@ pub use api_replies::{
 };
 pub use call::read_call;
 pub use laws::{entitled, one_call};
-
-#[cfg(test)]
-mod tests;
