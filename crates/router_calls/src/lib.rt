@@ -20,8 +20,6 @@ mod remove_targets;
 mod reply;
 mod requests;
 mod test_event_pattern;
-#[cfg(test)]
-mod tests;
 
 pub use laws::{a_stranger_only_publishes, one_answer, only_its_request};
 pub use requests::decide;

@@ -10,8 +10,6 @@ mod released;
 mod request;
 mod seen;
 mod tables;
-#[cfg(test)]
-mod tests;
 
 pub use api_replies::{Cause, Kind, Member, Reply, limit_reply, push_failure, refused_reply};
 pub use batch::{AcceptedEvent, Batch, Entry};
