@@ -7,7 +7,8 @@
 //! 3. the status and body of the reply; or the state of the delivery after the attempt, `none` if no delivery is due
 //! 4. four numbers after it: of batches, of changes of the configuration, of events, and of pending deliveries
 //!
-//! All rows are worked out by hand.
+//! Replies and states are worked out by hand. The numbers are counted from them: a change that is made is a batch, and so are the
+//! accepted entries of one PutEvents, a deletion of messages, and each attempt that is recorded.
 ghost use Rattle.std.specs.Prelude.{◌≡◌, ◌≤◌, false};
 ghost use Rattle.json_text.specs.Moment.{IsMoment};
 ghost use Rattle.router_core.specs.Tables.{is_full};
