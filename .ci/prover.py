@@ -13,7 +13,7 @@ def read_graph():
     """The crates that each crate names, in the order of crates.txt."""
     found = {}
     for line in (TOP / "crates.txt").read_text(encoding="utf-8").split("\n"):
-        if at := re.match(r"([a-z0-9_]+)(?: [^:#]*)?:([^#]*)", line):
+        if at := re.match(r"\s*([a-z0-9_]+)(?: [^:#]*)?:([^#]*)", line):
             found[at[1]] = at[2].split()
     return found
 
@@ -44,7 +44,7 @@ def check_words(crate):
     """The words of a check from nothing, to be run in the crate's folder or in a copy of it."""
     kit = Path(os.path.realpath(shutil.which("rt"))).parent.parent
     root = "src/main.rt" if (CRATES / crate / "src" / "main.rt").is_file() else "src/lib.rt"
-    said = ["rattle", "check", "--crate-name", crate, root]
+    said = [str(kit / "bin" / "rattle"), "check", "--crate-name", crate, root]
     for name in ["std", *USES[crate]]:
         said += ["--extern", f"{name}={rlib_of(name) if name in USES else kit / 'rlibs' / f'{name}.rlib'}"]
     said += ["-L", f"dependency={kit}/rlibs"]
@@ -54,8 +54,22 @@ def check_words(crate):
     return [*said, "--links", f"{crate}=", "--jobs", "1"]
 
 
+def group_free():
+    """What the limit of this process's control group leaves of memory, in bytes, if it has one."""
+    for limit, held in (("memory.max", "memory.current"), ("memory/memory.limit_in_bytes", "memory/memory.usage_in_bytes")):
+        try:
+            most, taken = (Path("/sys/fs/cgroup", it).read_text(encoding="utf-8").strip() for it in (limit, held))
+        except OSError:
+            continue
+        if most.isdigit():
+            return int(most) - int(taken)
+    return 1 << 62
+
+
 def job_count():
-    """How many checks the processors and the free memory allow."""
+    """How many checks the processors and the free memory allow; at most RT_JOBS, if it is set."""
     meminfo = Path("/proc/meminfo").read_text(encoding="utf-8")
     free = int(re.search(r"MemAvailable:\s+(\d+)", meminfo)[1]) * 1024
-    return max(1, min(len(os.sched_getaffinity(0)), free // JOB_BYTES))
+    asked = os.environ.get("RT_JOBS", "")
+    most = int(asked) if asked.isdigit() else 1 << 10
+    return max(1, min(len(os.sched_getaffinity(0)), most, min(free, group_free()) // JOB_BYTES))
