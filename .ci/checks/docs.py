@@ -58,7 +58,7 @@ class Clause:
 class Function:
     def __init__(self, name, owner, file, line, public):
         self.name, self.owner, self.file, self.line, self.public = name, owner, file, line, public
-        self.clauses = []
+        self.clauses, self.is_test = [], False
 
     @property
     def full_name(self):
@@ -130,6 +130,7 @@ class Source:
     def read_function(self, at, end, owner, public, is_pub):
         name = re.compile(NAME).search(self.code, at, end)
         made = Function(name[0], owner, self.path, self.line_of(at), is_pub or public == "trait")
+        made.is_test = bool(re.search(r"#\[test\]\s*(?:#\[[^\]]*\]\s*)*(?:pub\s+)?fn$", self.code[:at]))
         self.functions.append(made)
         at = name.end()
         mark = re.compile(r"[({\[;]|\b(ensures|requires)\b\*?\s*([a-z_0-9]*)\s*(?=\{)")
@@ -276,6 +277,7 @@ def lines_of(root, page, crates):
     part, block, holds = None, False, True
     for number, text in enumerate((root / page).read_text(encoding="utf-8").split("\n"), 1):
         if text.startswith("```"):
+            check(block == (text.rstrip() == "```"), f"{page}:{number}", "a block of code begins with ``` and a word, and ends with ``` alone")
             block = not block
         elif not block:
             if text.startswith("## "):
@@ -284,6 +286,7 @@ def lines_of(root, page, crates):
                 holds = page != "docs/DECISIONS.md" or not re.search(r"· (replaced|gone)\b[^·]*$", text)
             if holds:
                 yield Line(page, number, text, part)
+    check(not block, page, "a block of code does not end")
 
 
 def cells_of(text):
@@ -348,7 +351,7 @@ def check_shown(root, crates, laws, place, shown, others):
             sources = [it for it in crates[crate].sources if it.path == crates[crate].folder / "src" / file] if crate in crates else []
             check(sources and sources[0].is_test, place, f"{crate} has no file of tests {file}")
             for name in names.split(", ") if sources else ():
-                check(any(it.name == name for it in sources[0].functions), place, f"{crate} {file} has no test {name}")
+                check(any(it.name == name and it.is_test for it in sources[0].functions), place, f"{crate} {file} has no test {name}")
         elif item.endswith(".edit"):
             check(any(item in it.edits for it in crates.values()), place, f"there is no edit {item}")
         elif item.startswith("law "):
@@ -415,7 +418,7 @@ def check_pair(crates, line, crate, file, names):
 def printed(root, *words):
     """What a script of bin/ prints; nothing if it does not run."""
     try:
-        return subprocess.run([root / "bin" / words[0], *words[1:]], capture_output=True, text=True, check=True).stdout
+        return subprocess.run([root / "bin" / words[0], *words[1:]], capture_output=True, encoding="utf-8", check=True).stdout
     except (OSError, subprocess.CalledProcessError):
         return ""
 
@@ -432,20 +435,44 @@ def check_defined(crates, line):
     """A row of docs/DEFINITIONS.md whose second cell has a crate and a file of specs/: the names of the first cell are in it."""
     cells = cells_of(line.text)
     where = re.match(r"([a-z0-9_]+) `(specs/[\w/]+\.antt)`$", cells[1]) if len(cells) > 1 else None
+    check(where or not any("specs/" in it for it in cells[1:2]), line.place, "the second cell is not a crate and a file of specs/ alone")
     for name in re.findall(r"`([^`]+)`", cells[0]) if where else ():
         crate, file = where.groups()
         has = crate in crates and name in crates[crate].definitions.get(file, ())
         check(has, line.place, f"{crate} {file} has no definition {name}")
 
 
-CODE_NAME = re.compile(r"(?:[A-Z]\w*::)*(?:[a-z]\w*_\w+|[A-Z][a-z0-9]+(?:[A-Z][a-z0-9]+)+|Is[A-Z]\w*)$")
+CODE_NAME = re.compile(r"(?:[A-Z]\w*::)*[A-Za-z]\w*[a-z]\w*$")
+# The pages whose names in backticks are those of code, of requests and of their members.
+CODE_PAGES = [f"docs/{it}.md" for it in ("ARCHITECTURE", "CLAIMS", "DECISIONS", "THEOREM")]
 
 
 def check_current_names(line, words_of_repository):
-    """An entry of docs/DECISIONS.md that holds today: each name of code in backticks is somewhere outside docs/."""
+    """Each name in backticks is somewhere outside docs/."""
     for word in re.findall(r"`([^`]+)`", line.text):
         if CODE_NAME.match(word):
             check(set(word.split("::")) <= words_of_repository, line.place, f"nothing is named {word}")
+
+
+LIST = rf"{TICKED}(?:(?:,| and) {TICKED})*"
+RUNS = re.compile(rf"\bruns? ({LIST})")
+CLAUSES_OF = re.compile(rf"({LIST}) of ({TICKED}(?:(?:,| and) {TICKED}(?! of))*)")
+
+
+def check_shown_by(root, crates, line):
+    """A line `Shown by` of docs/DECISIONS.md, or a row of its tables: the stored runs, and the clauses of public calls."""
+    for part in line.text.split("; ") if line.text.startswith(("Shown by", "|")) else ():
+        for name in re.findall(r"`([^`]+)`", " ".join(RUNS.findall(part))):
+            check((root / "examples" / f"{name}.http").is_file(), line.place, f"there is no stored run {name}")
+        for labels, calls in CLAUSES_OF.findall(part) if re.search(r"\bclauses? `", part) else ():
+            for call in re.findall(r"`([^`]+)`", calls):
+                made = [it for crate in crates.values() for _, it in crate.public_functions() if call in (it.name, it.full_name)]
+                for label in re.findall(r"`([^`]+)`", labels):
+                    check(promises(made, label), line.place, f"no public call {call} has a clause {label}")
+
+
+def promises(functions, label):
+    return any(it.label == label and it.kind == "ensures" for function in functions for it in function.clauses)
 
 
 def words_outside_docs(root):
@@ -562,13 +589,29 @@ def check_architecture(root, crates, lines):
 # ---- docs/CLAIMS.md
 
 
+# The parts of the page that are about no single crate.
+OTHER_PARTS = ("Three things that hold for all crates", "Trusted", "Bodies that `rt plant` found")
 CALL = r"`[\w:]+`"
 CLAIM = re.compile(
     rf"((?:{CALL}(?:, | and |: ))*{CALL}): (?:the )?clauses? (without a label|({TICKED}(?:(?:,| and|, and) {TICKED}(?!:))*))|((?:{CALL}(?:, | and |: ))*{CALL}): the clauses without a label"
 )
 
 
-def check_claims(root, crates, line):
+def check_parts(crates, lines):
+    """Each crate but those of tests alone has one part. If the crate has a public `ensures`, its part names a clause."""
+    page = "docs/CLAIMS.md"
+    heads = [it.part or it.text[3:].strip() for it in lines if it.text.startswith("## ")]
+    for name in heads:
+        check(name in crates or name in OTHER_PARTS, page, f"the part {name} is of no crate")
+    with_claims = {it.part for it in lines if CLAIM.search(it.text)}
+    for crate in crates.values():
+        count = heads.count(crate.name)
+        check(count == 1 or count == 0 and crate.name.endswith("_tests"), page, f"crate {crate.name} has {count} parts")
+        has = any(it.kind == "ensures" for _, function in crate.public_functions() for it in function.clauses)
+        check(not has or crate.name in with_claims, page, f"no clause of crate {crate.name} is named in its part")
+
+
+def check_claims(crates, line):
     if not line.part:
         return
     for found in CLAIM.finditer(line.text):
@@ -584,14 +627,14 @@ def check_claims(root, crates, line):
 
 def check_claim(crates, line, crate, call, labels):
     owner, _, name = call.rpartition("::")
-    made = [it for _, it in crates[crate].public_functions() if it.name == name and (not owner or it.owner == owner)]
+    made = [it for _, it in crates[crate].public_functions() if it.name == name and it.owner == owner]
     check(made, line.place, f"{crate} has no public call {call}")
     for label in labels if made else ():
-        has = any(label == clause.label for it in made for clause in it.clauses)
-        check(has, line.place, f"{crate} {call} has no clause {label or 'without a label'}")
+        check(promises(made, label), line.place, f"{crate} {call} promises no clause {label or 'without a label'}")
 
 
 def main():
+    sys.stdout.reconfigure(encoding="utf-8")
     root = Path(sys.argv[1] if len(sys.argv) > 1 else os.curdir).resolve()
     crates = crates_of(root)
     check_definitions(root, crates)
@@ -604,14 +647,18 @@ def main():
         check_sentences(lines)
         if page == "docs/ARCHITECTURE.md":
             check_architecture(root, crates, lines)
+        if page == "docs/CLAIMS.md":
+            check_parts(crates, lines)
         for line in lines:
             check_names(root, crates, line)
             if page == "docs/DEFINITIONS.md":
                 check_defined(crates, line)
             if page == "docs/CLAIMS.md":
-                check_claims(root, crates, line)
-            if page == "docs/DECISIONS.md":
+                check_claims(crates, line)
+            if page in CODE_PAGES:
                 check_current_names(line, words)
+            if page == "docs/DECISIONS.md":
+                check_shown_by(root, crates, line)
     for line in sorted(set(failures)):
         print(line)
     print(f"{passed} passed, {len(set(failures))} failed")

@@ -1,7 +1,7 @@
 #!/usr/bin/env bash
 # Makes each run of examples/ through bin/ebusd, and compares what it writes, its faults and its status; then the first
-# run again with its input in single bytes, and two runs whose input or output fails. A run that fails has a line.
-# The last line is `N passed, M failed`.
+# run again with its input in single bytes, and two runs whose input or output fails. A run that fails has a line, and so
+# has a file of a run without its .http. The last line is `N passed, M failed`.
 set -u
 cd "$(dirname "$0")/../.." || exit 1
 
@@ -67,6 +67,11 @@ for file in examples/*.http; do
   status=$?
   check_run "examples/$name.replies" "examples/$name.faults" "examples/$name.status"
   [[ $name == first-run ]] && found=yes
+done
+for file in examples/*.{words,replies,faults,status}; do
+  [[ -e ${file%.*}.http ]] && continue
+  echo "$file: there is no ${file%.*}.http"
+  failed=$((failed + 1))
 done
 if [[ ! $found ]]; then
   echo "first-run: there is no such run"

@@ -20,6 +20,7 @@ PATIENCE = 120  # seconds for all lines
 AGAIN = 100  # times that a PeekMessages is run again, a tenth of a second apart
 EMPTY = '{"Messages":[]}'
 SLOW = "bin/try "  # takes a minute, so it runs only by the word `all`
+NEEDED = (SLOW, "bin/ebusd once ", "bin/ebusd serve ", "PutEvents", "PeekMessages")  # each is in some line
 
 
 def lines_of(text):
@@ -34,6 +35,9 @@ def lines_of(text):
             lines[-1][1].append(line[3:])
         elif line.strip():
             lines.append((line, []))
+    lacking = [it for it in NEEDED if not any(it in line for line, _ in lines)]
+    if lacking:
+        sys.exit(f"the quick start of README.md has no line with {', '.join(lacking)}\n0 passed, 1 failed")
     return lines
 
 
@@ -85,7 +89,12 @@ def is_free(port):
 
 
 def main():
-    lines = [it for it in lines_of(README.read_text(encoding="utf-8")) if "all" in sys.argv[1:] or not it[0].startswith(SLOW)]
+    lines = []
+    for it in lines_of(README.read_text(encoding="utf-8")):
+        if "all" in sys.argv[1:] or not it[0].startswith(SLOW):
+            lines.append(it)
+        else:
+            print(f"quickstart: without the word `all` this line is left out: {it[0]}")
     if not is_free(PORT):
         print(f"quickstart: port {PORT} of 127.0.0.1 is in use: end what listens there, the quick start needs this port")
         print(f"0 passed, {len(lines)} failed")

@@ -7,7 +7,8 @@ a client that sends a byte a second has 60. A reply that has to come at once has
 connection may be late by 1.5 s. boto3 is Debian's python3-boto3, which is installed if it is not there. If it cannot be, the check
 says so, and the cases are made without it.
 
-A word names another program to run. The last line is `N passed, M failed`.
+A word names another program to run. SERVE_CASES in the environment chooses cases by their names; serve.sh makes all. The last line is
+`N passed, M failed`.
 """
 import json
 import os
@@ -728,10 +729,14 @@ CASES = [
 
 
 def main():
+    only = os.environ.get("SERVE_CASES", "").split()
+    cases = [(it.__name__, it) for it in CASES if not only or it.__name__ in only]
+    if not cases:
+        print("SERVE_CASES names no case\n0 passed, 1 failed")
+        return 1
     COMMAND.extend(command_of(sys.argv[1:]))
     BOTO3.extend(find_boto3())
-    only = os.environ.get("SERVE_CASES", "").split()
-    return side_by_side([(it.__name__, it) for it in CASES if not only or it.__name__ in only])
+    return side_by_side(cases)
 
 
 if __name__ == "__main__":

@@ -3,4 +3,5 @@
 # side and take about 65 seconds, almost all of them asleep. A word names another program to run. The last line is
 # `N passed, M failed`.
 cd "$(dirname "$0")/../.." || exit 1
-exec python3 -B .ci/checks/serve.py "$@"
+unset SERVE_CASES # a check makes all cases
+exec python3 -E -B .ci/checks/serve.py "$@"
