@@ -1,5 +1,7 @@
 //! A table is one text with one row a line, and a row has its fields apart by `|`. The last field is the result that the row
 //! wants.
+use std::alloc::Global;
+use std::test::Fail;
 
 /// The last field of a row with too few fields. It is no result, so the row fails.
 const NO_FIELD: &str = "no field";
@@ -32,6 +34,26 @@ pub fn last(row: &str) -> (&str, &str) {
         Some((front, last)) => (front, last),
         None => ("", NO_FIELD),
     }
+}
+
+/// Fails with the first row that is not met, or if the rows are not `count`.
+pub fn all_met<F: Fn(Global, &str) -> Result<bool, Fail>>(
+    alloc: Global,
+    rows: &str,
+    count: usize,
+    is_met: F,
+) -> Result<(), Fail>
+    requires { F.IsAlwaysCallable is_met }
+{
+    if rows.lines().count() != count {
+        return Err(Fail::new("another number of rows"));
+    }
+    for row in rows.lines() {
+        if !is_met(alloc, row)? {
+            return Err(Fail::new(row));
+        }
+    }
+    Ok(())
 }
 
 /// How a row says a truth value.

@@ -2,7 +2,7 @@
 ghost use Rattle.bus_policy.specs.Change.{IsAccountGiven};
 ghost use Rattle.bus_policy.specs.Grantee.{account_given};
 
-use crate::rows::{four, last, said, three, two};
+use crate::rows::{all_met, four, last, said, three, two};
 use bus_policy::{
     Asker, Grantee, Policy, PolicyFault, Removed, Verdict, bus_verdict, is_statement_id,
 };
@@ -22,53 +22,45 @@ fn asker<'a>(fields: &'a str) -> Asker<'a> {
     }
 }
 
-fn verdict_text(alloc: Global, verdict: Verdict) -> Result<String, AllocError> {
+/// Whether the verdict is as it is wanted.
+fn is_verdict(verdict: Verdict, want: &str) -> bool {
     match verdict {
-        Verdict::Allowed => String::from_str(alloc, "allowed"),
-        Verdict::DeniedBy(name) => format!(in alloc; "denied by {name}"),
-        Verdict::NoAllow => String::from_str(alloc, "no allow"),
+        Verdict::Allowed => want == "allowed",
+        Verdict::DeniedBy(name) => want.strip_prefix("denied by ") == Some(name),
+        Verdict::NoAllow => want == "no allow",
     }
 }
 
-fn fault_text(alloc: Global, fault: &PolicyFault) -> Result<String, AllocError> {
-    match fault {
-        PolicyFault::Bad { cause, place } => format!(in alloc; "{cause:?} at {place}"),
-        PolicyFault::NoMemory => String::from_str(alloc, "out of memory"),
-    }
-}
-
-/// The verdict on the asker with these fields, or the policy's fault.
-fn answered(alloc: Global, policy: &str, fields: &str) -> Result<String, AllocError> {
-    match Policy::read(alloc, policy.as_bytes()) {
-        Ok(policy) => verdict_text(alloc, policy.decide(&asker(fields))),
-        Err(fault) => fault_text(alloc, &fault),
-    }
-}
-
-fn is_answered(alloc: Global, policy: &str, fields: &str, want: &str) -> Result<bool, AllocError> {
-    Ok(answered(alloc, policy, fields)?.as_str() == want)
-}
-
-/// The first row with another verdict, or nothing if all rows are met and they are `count`. The first line of a table is the
-/// policy. A row is who asks, by account, bus, source and detail type, and the verdict.
-fn other_row<'a>(
-    alloc: Global,
-    table: &'a str,
-    count: usize,
-) -> Result<Option<&'a str>, AllocError> {
-    let Some((policy, rows)) = table.split_once('\n') else {
-        return Ok(Some(table));
+fn is_fault(alloc: Global, fault: &PolicyFault, want: &str) -> Result<bool, AllocError> {
+    let PolicyFault::Bad { cause, place } = fault else {
+        return Ok(false);
     };
-    if rows.lines().count() != count {
-        return Ok(Some("another number of rows"));
+    Ok(format!(in alloc; "{cause:?} at {place}")?.as_str() == want)
+}
+
+/// Whether the verdict on the asker with these fields, or the policy's fault, is as it is wanted.
+fn is_answered(alloc: Global, policy: &str, fields: &str, want: &str) -> Result<bool, AllocError> {
+    match Policy::read(alloc, policy.as_bytes()) {
+        Ok(policy) => Ok(is_verdict(policy.decide(&asker(fields)), want)),
+        Err(fault) => is_fault(alloc, &fault, want),
     }
-    for row in rows.lines() {
-        let (fields, want) = last(row);
-        if !is_answered(alloc, policy, fields, want)? {
-            return Ok(Some(row));
-        }
-    }
-    Ok(None)
+}
+
+fn is_verdict_met(alloc: Global, policy: &str, row: &str) -> Result<bool, Fail> {
+    let (fields, want) = last(row);
+    Ok(is_answered(alloc, policy, fields, want)?)
+}
+
+/// Fails with the first row with another verdict, or if the rows are not `count`. The first line of a table is the policy.
+/// A row is who asks, by account, bus, source and detail type, and the verdict.
+fn all_answered(alloc: Global, table: &str, count: usize) -> Result<(), Fail> {
+    let (policy, rows) = table.split_once('\n').ok_or("no policy")?;
+    all_met(
+        alloc,
+        rows,
+        count,
+        |alloc, row| is_verdict_met(alloc, policy, row),
+    )
 }
 
 /// One account is allowed, and is denied one source.
@@ -88,8 +80,7 @@ const TWO: &str =
 
 #[test]
 fn one_account_is_allowed_but_for_one_source(rt: HostRuntime) -> Result<(), Fail> {
-    assert_eq!(rt; other_row(rt.alloc(), TWO, 10)?, None);
-    Ok(())
+    all_answered(rt.alloc(), TWO, 10)
 }
 
 /// Everyone is denied one source on every bus, by a statement without a Sid.
@@ -103,8 +94,7 @@ const DENY: &str =
 
 #[test]
 fn a_deny_binds_the_owner_too(rt: HostRuntime) -> Result<(), Fail> {
-    assert_eq!(rt; other_row(rt.alloc(), DENY, 4)?, None);
-    Ok(())
+    all_answered(rt.alloc(), DENY, 4)
 }
 
 /// Lists of accounts, actions and buses, and an Id.
@@ -122,8 +112,7 @@ arn:aws:iam::444455556666:root|a|s|x|no allow
 
 #[test]
 fn one_of_a_list_is_enough(rt: HostRuntime) -> Result<(), Fail> {
-    assert_eq!(rt; other_row(rt.alloc(), LISTS, 8)?, None);
-    Ok(())
+    all_answered(rt.alloc(), LISTS, 8)
 }
 
 /// Everyone, if source and detail type fit.
@@ -145,8 +134,7 @@ no account|a|shop.x|Paid|allowed
 
 #[test]
 fn source_and_detail_type_have_to_fit(rt: HostRuntime) -> Result<(), Fail> {
-    assert_eq!(rt; other_row(rt.alloc(), CONDITIONS, 12)?, None);
-    Ok(())
+    all_answered(rt.alloc(), CONDITIONS, 12)
 }
 
 /// Two keys of one operator, a pattern on the detail type, letters that are no wildcards, and a condition that asks for nothing.
@@ -163,8 +151,7 @@ const KEYS: &str =
 
 #[test]
 fn each_key_of_an_operator_has_to_hold(rt: HostRuntime) -> Result<(), Fail> {
-    assert_eq!(rt; other_row(rt.alloc(), KEYS, 7)?, None);
-    Ok(())
+    all_answered(rt.alloc(), KEYS, 7)
 }
 
 /// Two Denies that apply, the second, with the empty Sid, only if the source is `b`.
@@ -176,8 +163,7 @@ const DENIES: &str =
 
 #[test]
 fn the_first_deny_is_reported(rt: HostRuntime) -> Result<(), Fail> {
-    assert_eq!(rt; other_row(rt.alloc(), DENIES, 2)?, None);
-    Ok(())
+    all_answered(rt.alloc(), DENIES, 2)
 }
 
 /// Statements about nothing that is decided here: another action, wildcards inside action and resource, no action at all.
@@ -189,8 +175,7 @@ const NOTHING: &str =
 
 #[test]
 fn what_is_not_known_applies_to_nothing(rt: HostRuntime) -> Result<(), Fail> {
-    assert_eq!(rt; other_row(rt.alloc(), NOTHING, 2)?, None);
-    Ok(())
+    all_answered(rt.alloc(), NOTHING, 2)
 }
 
 /// As the public guide writes policies: a root's ARN, a list of accounts, everyone in both forms, another service's action,
@@ -223,8 +208,7 @@ const GUIDE: &str =
 fn a_policy_of_the_guides_form_is_decided_by_all_its_statements(
     rt: HostRuntime,
 ) -> Result<(), Fail> {
-    assert_eq!(rt; other_row(rt.alloc(), GUIDE, 20)?, None);
-    Ok(())
+    all_answered(rt.alloc(), GUIDE, 20)
 }
 
 /// What a sign in a policy stands for.
@@ -332,18 +316,14 @@ fn is_refused(alloc: Global, text: &str, fault: &str) -> Result<bool, AllocError
     is_answered(alloc, policy.as_str(), "444455556666|b|s|x", fault)
 }
 
-fn is_fault_met(alloc: Global, row: &str) -> Result<bool, AllocError> {
+fn is_fault_met(alloc: Global, row: &str) -> Result<bool, Fail> {
     let (text, fault) = two(row);
-    is_refused(alloc, text, fault)
+    Ok(is_refused(alloc, text, fault)?)
 }
 
 #[test]
 fn the_first_fault_is_reported_at_its_place(rt: HostRuntime) -> Result<(), Fail> {
-    assert_eq!(rt; FAULTS.lines().count(), 69);
-    for row in FAULTS.lines() {
-        assert!(rt; is_fault_met(rt.alloc(), row)?, "{row}");
-    }
-    Ok(())
+    all_met(rt.alloc(), FAULTS, 69, is_fault_met)
 }
 
 /// A policy and its stored text, with signs.
@@ -374,36 +354,22 @@ fn is_stored(alloc: Global, row: &str) -> Result<bool, Fail> {
 
 #[test]
 fn version_and_statements_are_stored_and_read_back(rt: HostRuntime) -> Result<(), Fail> {
-    assert_eq!(rt; STORED.lines().count(), 7);
-    for row in STORED.lines() {
-        assert!(rt; is_stored(rt.alloc(), row)?, "{row}");
-    }
-    Ok(())
+    all_met(rt.alloc(), STORED, 7, is_stored)
 }
 
 /// A policy whose text has `len` bytes, by the length of its Sid.
 fn long_policy(alloc: Global, len: usize) -> Result<String, AllocError> {
     let front = r#"{"Statement":{"Sid":""#;
     let back = r#"","Effect":"Allow","Principal":"*","Action":"*","Resource":"*"}}"#;
-    let mut text = String::from_str(alloc, front)?;
-    for _ in front.len() + back.len()..len {
-        text.push('a')?;
-    }
-    text.push_str(back)?;
-    Ok(text)
+    let sid = "a".repeat(alloc, len.saturating_sub(front.len() + back.len()))?;
+    format!(in alloc; "{front}{sid}{back}")
 }
 
 /// A policy whose Id has `levels` levels of lists.
 fn deep_policy(alloc: Global, levels: usize) -> Result<String, AllocError> {
-    let mut text = String::from_str(alloc, r#"{"Statement":[],"Id":"#)?;
-    for _ in 0..levels {
-        text.push('[')?;
-    }
-    for _ in 0..levels {
-        text.push(']')?;
-    }
-    text.push('}')?;
-    Ok(text)
+    let opened = "[".repeat(alloc, levels)?;
+    let closed = "]".repeat(alloc, levels)?;
+    format!(in alloc; "{{\"Statement\":[],\"Id\":{opened}{closed}}}")
 }
 
 /// How many bytes a policy's stored text has.
@@ -450,59 +416,52 @@ const ADDED: &str = r#"|a|444455556666|{"Version":"2012-10-17","Statement":[{"Si
 {"Version":"2008-10-17","Statement":[]}|a|444455556666|{"Version":"2008-10-17","Statement":[{"Sid":"a",%}]}
 "#;
 
-fn added(alloc: Global, policy: &str, sid: &str, account: &str) -> Result<String, Fail> {
+/// Whether the policy with the Allow has this text.
+fn gives(alloc: Global, policy: &str, sid: &str, account: &str, want: &str) -> Result<bool, Fail> {
     if account == "*" {
-        return added_to(alloc, policy, sid, Grantee::Everyone);
+        return gives_to(alloc, policy, sid, Grantee::Everyone, want);
     }
     if is_account(account) {
-        return added_to(alloc, policy, sid, Grantee::Account(account));
+        return gives_to(alloc, policy, sid, Grantee::Account(account), want);
     }
-    Ok(String::from_str(alloc, "no account")?)
+    Ok(want == "no account")
 }
 
-fn added_to(alloc: Global, policy: &str, sid: &str, to: Grantee) -> Result<String, Fail>
+fn gives_to(alloc: Global, policy: &str, sid: &str, to: Grantee, want: &str) -> Result<bool, Fail>
     requires { IsAccountGiven (account_given to) }
 {
     if policy.is_empty() {
-        return Ok(first_text(alloc, sid, to)?);
+        return Ok(Policy::new(alloc, sid, to, "b")?.text() == want);
     }
     let policy = Policy::read(alloc, policy.as_bytes())?;
-    Ok(longer_text(alloc, &policy, sid, to)?)
+    Ok(is_longer(alloc, &policy, sid, to, want)?)
 }
 
-fn first_text(alloc: Global, sid: &str, to: Grantee) -> Result<String, NoMemory>
-    requires { IsAccountGiven (account_given to) }
-{
-    text_of(alloc, &Policy::new(alloc, sid, to, "b")?)
-}
-
-fn longer_text(alloc: Global, policy: &Policy, sid: &str, to: Grantee) -> Result<String, NoMemory>
+fn is_longer(
+    alloc: Global,
+    policy: &Policy,
+    sid: &str,
+    to: Grantee,
+    want: &str,
+) -> Result<bool, NoMemory>
     requires { IsAccountGiven (account_given to) }
 {
     if policy.has_sid(sid) {
-        return Ok(String::from_str(alloc, "there")?);
+        return Ok(want == "there");
     }
-    text_of(alloc, &policy.with_statement(alloc, sid, to, "b")?)
-}
-
-fn text_of(alloc: Global, policy: &Policy) -> Result<String, NoMemory> {
-    Ok(String::from_str(alloc, policy.text())?)
+    Ok(policy.with_statement(alloc, sid, to, "b")?.text() == want)
 }
 
 fn is_added(alloc: Global, row: &str) -> Result<bool, Fail> {
     let (policy, sid, account, want) = four(row);
     let policy = whole(alloc, policy)?;
     let want = whole(alloc, want)?;
-    Ok(added(alloc, policy.as_str(), sid, account)?.as_str() == want.as_str())
+    gives(alloc, policy.as_str(), sid, account, want.as_str())
 }
 
 #[test]
 fn a_statement_is_added_at_the_end(rt: HostRuntime) -> Result<(), Fail> {
-    assert_eq!(rt; ADDED.lines().count(), 6);
-    for row in ADDED.lines() {
-        assert!(rt; is_added(rt.alloc(), row)?, "{row}");
-    }
-    Ok(())
+    all_met(rt.alloc(), ADDED, 6, is_added)
 }
 
 /// A policy, a Sid, and what is left without it: who denies a stranger, and the text. With signs.
@@ -516,16 +475,16 @@ const REMOVED: &str =
 {"Version":"2012-10-17","Statement":[{"Sid":"a",%}]}|a|last
 "#;
 
-fn removed(alloc: Global, policy: &str, sid: &str) -> Result<String, Fail> {
+fn leaves(alloc: Global, policy: &str, sid: &str, want: &str) -> Result<bool, Fail> {
     let policy = Policy::read(alloc, policy.as_bytes())?;
-    Ok(left_text(alloc, &policy.without_statement(alloc, sid)?)?)
+    Ok(is_left(alloc, &policy.without_statement(alloc, sid)?, want)?)
 }
 
-fn left_text(alloc: Global, left: &Removed) -> Result<String, AllocError> {
+fn is_left(alloc: Global, left: &Removed, want: &str) -> Result<bool, AllocError> {
     match left {
-        Removed::NotThere => String::from_str(alloc, "not there"),
-        Removed::Last => String::from_str(alloc, "last"),
-        Removed::Rest(rest) => denial(alloc, rest),
+        Removed::NotThere => Ok(want == "not there"),
+        Removed::Last => Ok(want == "last"),
+        Removed::Rest(rest) => Ok(denial(alloc, rest)?.as_str() == want),
     }
 }
 
@@ -541,16 +500,12 @@ fn is_removed(alloc: Global, row: &str) -> Result<bool, Fail> {
     let (policy, sid, want) = three(row);
     let policy = whole(alloc, policy)?;
     let want = whole(alloc, want)?;
-    Ok(removed(alloc, policy.as_str(), sid)?.as_str() == want.as_str())
+    leaves(alloc, policy.as_str(), sid, want.as_str())
 }
 
 #[test]
 fn names_follow_the_places_after_a_removal(rt: HostRuntime) -> Result<(), Fail> {
-    assert_eq!(rt; REMOVED.lines().count(), 7);
-    for row in REMOVED.lines() {
-        assert!(rt; is_removed(rt.alloc(), row)?, "{row}");
-    }
-    Ok(())
+    all_met(rt.alloc(), REMOVED, 7, is_removed)
 }
 
 /// A text, and whether it is a statement's id; the last two have 64 and 65 bytes.
@@ -566,15 +521,12 @@ abcdefghijklmnopqrstuvwxyzABCDEFGHIJKLMNOPQRSTUVWXYZ0123456789-_|true
 abcdefghijklmnopqrstuvwxyzABCDEFGHIJKLMNOPQRSTUVWXYZ0123456789-_a|false
 ";
 
-fn is_id_met(row: &str) -> bool {
+fn is_id_met(_: Global, row: &str) -> Result<bool, Fail> {
     let (sid, want) = two(row);
-    said(is_statement_id(sid)) == want
+    Ok(said(is_statement_id(sid)) == want)
 }
 
 #[test]
-fn ids_have_1_to_64_bytes_of_letters_digits_and_two_signs(rt: HostRuntime) {
-    assert_eq!(rt; IDS.lines().count(), 10);
-    for row in IDS.lines() {
-        assert!(rt; is_id_met(row), "{row}");
-    }
+fn ids_have_1_to_64_bytes_of_letters_digits_and_two_signs(rt: HostRuntime) -> Result<(), Fail> {
+    all_met(rt.alloc(), IDS, 10, is_id_met)
 }

@@ -1,5 +1,5 @@
 //! Tests of event_shape.
-use crate::rows::{four, is_number, is_text, last, said, three, two};
+use crate::rows::{all_met, four, is_number, is_text, last, said, three, two};
 use event_shape::{
     CheckFault, Checked, Event, EventEntry, OWNER, REGION, Unnumbered, archive_arn, bus_arn,
     bus_of, check, event_id, is_account, is_archive_name, is_bus_arn, is_bus_name, is_queue_arn,
@@ -36,28 +36,24 @@ number|1.|none
 truth||none
 ";
 
-fn moment_of(alloc: Global, kind: &str, spelling: &str) -> Result<Option<u64>, Fail> {
-    let time = Text::from_str(alloc, spelling)?;
+fn value_of(alloc: Global, kind: &str, spelling: &str) -> Result<Json, Fail> {
     match kind {
-        "text" => Ok(read_time(&Json::Str(time))),
-        "number" => Ok(read_time(&Json::Num(time))),
-        "truth" => Ok(read_time(&Json::Truth(true))),
+        "text" => Ok(Json::Str(Text::from_str(alloc, spelling)?)),
+        "number" => Ok(Json::Num(Text::from_str(alloc, spelling)?)),
+        "truth" => Ok(Json::Truth(true)),
         _ => Err(Fail::new("no such kind")),
     }
 }
 
 fn is_time_met(alloc: Global, row: &str) -> Result<bool, Fail> {
     let (kind, spelling, moment) = three(row);
-    Ok(is_number(moment_of(alloc, kind, spelling)?, moment))
+    let value = value_of(alloc, kind, spelling)?;
+    Ok(is_number(read_time(&value), moment))
 }
 
 #[test]
 fn a_time_gives_its_moment_or_none(rt: HostRuntime) -> Result<(), Fail> {
-    assert_eq!(rt; TIMES.lines().count(), 22);
-    for row in TIMES.lines() {
-        assert!(rt; is_time_met(rt.alloc(), row)?, "{row}");
-    }
-    Ok(())
+    all_met(rt.alloc(), TIMES, 22, is_time_met)
 }
 
 #[test]
@@ -86,18 +82,14 @@ fn arn_of(alloc: Global, kind: &str, name: &str, bus: &str) -> Result<Text, NoMe
     }
 }
 
-fn is_arn_met(alloc: Global, row: &str) -> Result<bool, NoMemory> {
+fn is_arn_met(alloc: Global, row: &str) -> Result<bool, Fail> {
     let (kind, name, bus, arn) = four(row);
     Ok(arn_of(alloc, kind, name, bus)?.as_str() == arn)
 }
 
 #[test]
 fn arns_are_as_they_are_spelled(rt: HostRuntime) -> Result<(), Fail> {
-    assert_eq!(rt; ARNS.lines().count(), 6);
-    for row in ARNS.lines() {
-        assert!(rt; is_arn_met(rt.alloc(), row)?, "{row}");
-    }
-    Ok(())
+    all_met(rt.alloc(), ARNS, 6, is_arn_met)
 }
 
 /// A text; the name of the queue whose ARN it is; the text in the place of that name; the bus whose name or ARN it is.
@@ -110,23 +102,19 @@ a/b|none|none|none
 |none|none|none
 ";
 
-fn is_shown(row: &str) -> bool {
+fn is_shown(_: Global, row: &str) -> Result<bool, Fail> {
     let (text, queue, name, bus) = four(row);
-    is_text(queue_of(text), queue)
-        && is_text(queue_name_in(text), name)
-        && is_text(bus_of(text), bus)
+    let is_queue = is_text(queue_of(text), queue) & is_text(queue_name_in(text), name);
+    Ok(is_queue & is_text(bus_of(text), bus))
 }
 
 #[test]
-fn an_arn_shows_its_name(rt: HostRuntime) {
-    assert_eq!(rt; SHOWN.lines().count(), 7);
-    for row in SHOWN.lines() {
-        assert!(rt; is_shown(row), "{row}");
-    }
+fn an_arn_shows_its_name(rt: HostRuntime) -> Result<(), Fail> {
     let queue = "arn:aws:sqs:us-east-1:111122223333:q";
     assert!(rt; is_queue_arn(queue, "q") && !is_queue_arn(queue, "qq"));
     assert!(rt; is_bus_arn("arn:aws:events:us-east-1:111122223333:event-bus/b", "b"));
     assert!(rt; !is_bus_arn("arn:aws:events:us-east-1:111122223333:archive/b", "b"));
+    all_met(rt.alloc(), SHOWN, 7, is_shown)
 }
 
 /// A number and the id of the event with this number.
@@ -145,11 +133,7 @@ fn is_id_met(alloc: Global, row: &str) -> Result<bool, Fail> {
 
 #[test]
 fn ids_are_as_they_are_spelled(rt: HostRuntime) -> Result<(), Fail> {
-    assert_eq!(rt; IDS.lines().count(), 6);
-    for row in IDS.lines() {
-        assert!(rt; is_id_met(rt.alloc(), row)?, "{row}");
-    }
-    Ok(())
+    all_met(rt.alloc(), IDS, 6, is_id_met)
 }
 
 /// A number of letters; whether they are the name of a bus, of a rule (or target or replay), of an archive and of a queue.
@@ -164,40 +148,26 @@ const LENGTHS: &str = "0|false|false|false|false
 257|false|false|false|false
 ";
 
-fn letters_of(alloc: Global, count: usize) -> Result<String, Fail> {
-    match String::from_utf8(vec![in alloc; b'x'; count]?) {
-        Ok(text) => Ok(text),
-        Err(_) => Err(Fail::new("letters are UTF-8")),
-    }
-}
-
 fn is_named(name: &str, wants: &str) -> bool {
     let (bus, rule, archive, queue) = four(wants);
-    said(is_bus_name(name)) == bus
-        && is_rule_named(name, rule)
-        && said(is_archive_name(name)) == archive
-        && said(is_queue_name(name)) == queue
+    let is_bus = (said(is_bus_name(name)) == bus) & (said(is_archive_name(name)) == archive);
+    is_bus & is_rule_named(name, rule) & (said(is_queue_name(name)) == queue)
 }
 
 fn is_rule_named(name: &str, want: &str) -> bool {
-    said(is_rule_name(name)) == want
-        && said(is_target_id(name)) == want
-        && said(is_replay_name(name)) == want
+    let is_rule = said(is_rule_name(name)) == want;
+    is_rule & (said(is_target_id(name)) == want) & (said(is_replay_name(name)) == want)
 }
 
 fn is_length_met(alloc: Global, row: &str) -> Result<bool, Fail> {
     let (count, wants) = two(row);
-    let name = letters_of(alloc, count.parse::<usize>()?)?;
+    let name = "x".repeat(alloc, count.parse::<usize>()?)?;
     Ok(is_named(name.as_str(), wants))
 }
 
 #[test]
 fn a_name_has_its_length(rt: HostRuntime) -> Result<(), Fail> {
-    assert_eq!(rt; LENGTHS.lines().count(), 9);
-    for row in LENGTHS.lines() {
-        assert!(rt; is_length_met(rt.alloc(), row)?, "{row}");
-    }
-    Ok(())
+    all_met(rt.alloc(), LENGTHS, 9, is_length_met)
 }
 
 /// A text, and whether it is the name of a rule, the name of a queue, and an account.
@@ -211,20 +181,16 @@ q.r|true|false|false
 11112222333a|true|true|false
 ";
 
-fn is_lettered(row: &str) -> bool {
+fn is_lettered(_: Global, row: &str) -> Result<bool, Fail> {
     let (text, rule, queue, account) = four(row);
-    said(is_rule_name(text)) == rule
-        && said(is_queue_name(text)) == queue
-        && said(is_account(text)) == account
+    let is_rule = said(is_rule_name(text)) == rule;
+    Ok(is_rule & (said(is_queue_name(text)) == queue) & (said(is_account(text)) == account))
 }
 
 #[test]
-fn a_name_has_its_letters(rt: HostRuntime) {
-    assert_eq!(rt; LETTERS.lines().count(), 8);
-    for row in LETTERS.lines() {
-        assert!(rt; is_lettered(row), "{row}");
-    }
+fn a_name_has_its_letters(rt: HostRuntime) -> Result<(), Fail> {
     assert!(rt; OWNER == "111122223333" && REGION == "us-east-1");
+    all_met(rt.alloc(), LETTERS, 8, is_lettered)
 }
 
 /// The text, or nothing for `-`.
@@ -235,11 +201,11 @@ fn optional(alloc: Global, text: &str) -> Result<Option<Text>, NoMemory> {
     Ok(Some(Text::from_str(alloc, text)?))
 }
 
-fn time_in(field: &str) -> Result<Option<Json>, Fail> {
-    match field {
-        "-" => Ok(None),
-        "null" => Ok(Some(Json::Null)),
-        _ => Err(Fail::new("no such time")),
+fn time_in(field: &str) -> Option<Json> {
+    if field == "null" {
+        Some(Json::Null)
+    } else {
+        None
     }
 }
 
@@ -249,7 +215,7 @@ fn entry(alloc: Global, fields: &str) -> Result<EventEntry, Fail> {
     let (source, detail_type, detail, rest) = four(fields);
     let (bus, time) = two(rest);
     Ok(EventEntry {
-        time: time_in(time)?,
+        time: time_in(time),
         source: optional(alloc, source)?,
         resources: Vec::new(alloc),
         detail_type: optional(alloc, detail_type)?,
@@ -293,20 +259,12 @@ fn is_fault_met(alloc: Global, row: &str) -> Result<bool, Fail> {
 
 #[test]
 fn the_first_fault_is_reported(rt: HostRuntime) -> Result<(), Fail> {
-    assert_eq!(rt; FAULTS.lines().count(), 9);
-    for row in FAULTS.lines() {
-        assert!(rt; is_fault_met(rt.alloc(), row)?, "{row}");
-    }
-    Ok(())
+    all_met(rt.alloc(), FAULTS, 9, is_fault_met)
 }
 
 #[test]
 fn faults_have_their_order(rt: HostRuntime) -> Result<(), Fail> {
-    assert_eq!(rt; ORDER.lines().count(), 3);
-    for row in ORDER.lines() {
-        assert!(rt; is_fault_met(rt.alloc(), row)?, "{row}");
-    }
-    Ok(())
+    all_met(rt.alloc(), ORDER, 3, is_fault_met)
 }
 
 /// An entry and its size. A time counts 14 bytes, and a bus none.
@@ -322,16 +280,12 @@ fn is_size_met(alloc: Global, row: &str) -> Result<bool, Fail> {
 
 #[test]
 fn a_size_is_the_sum_of_its_bytes(rt: HostRuntime) -> Result<(), Fail> {
-    assert_eq!(rt; SIZES.lines().count(), 3);
-    for row in SIZES.lines() {
-        assert!(rt; is_size_met(rt.alloc(), row)?, "{row}");
-    }
-    Ok(())
+    all_met(rt.alloc(), SIZES, 3, is_size_met)
 }
 
 /// The row of an entry whose detail has this number of letters.
 fn long_row(alloc: Global, letters: usize, want: &str) -> Result<String, Fail> {
-    let letters = letters_of(alloc, letters)?;
+    let letters = "x".repeat(alloc, letters)?;
     Ok(format!(in alloc; "a|b|{{\"p\":\"{letters}\"}}|-|-|{want}")?)
 }
 
@@ -350,16 +304,10 @@ fn a_long_entry_is_measured(rt: HostRuntime) -> Result<(), Fail> {
 }
 
 // An object with lists in it, with `levels` levels in all.
-fn nested(alloc: Global, levels: usize) -> Result<String, Fail> {
-    let mut text = String::from_str(alloc, "{\"a\":")?;
-    for _ in 1..levels {
-        text.push('[')?;
-    }
-    for _ in 1..levels {
-        text.push(']')?;
-    }
-    text.push('}')?;
-    Ok(text)
+fn nested(alloc: Global, levels: usize) -> Result<String, AllocError> {
+    let opened = "[".repeat(alloc, levels.saturating_sub(1))?;
+    let closed = "]".repeat(alloc, levels.saturating_sub(1))?;
+    format!(in alloc; "{{\"a\":{opened}{closed}}}")
 }
 
 /// Whether an entry with a detail of this number of levels has this fault.
@@ -376,9 +324,12 @@ fn a_detail_has_at_most_99_levels(rt: HostRuntime) -> Result<(), Fail> {
     Ok(())
 }
 
+fn checked_entry(alloc: Global, entry: &EventEntry) -> Result<Checked, Fail> {
+    Ok(check(alloc, entry)?)
+}
+
 fn checked(alloc: Global, fields: &str) -> Result<Checked, Fail> {
-    let entry = entry(alloc, fields)?;
-    Ok(check(alloc, &entry)?)
+    checked_entry(alloc, &entry(alloc, fields)?)
 }
 
 #[test]
@@ -427,10 +378,14 @@ fn a_replayed_event_ends_in_the_replays_name(rt: HostRuntime) -> Result<(), Fail
     Ok(())
 }
 
+fn has_text(alloc: Global, event: &Event, text: &str) -> Result<bool, NoMemory> {
+    Ok(event.text(alloc, None)?.as_str() == text)
+}
+
 /// Whether the text is an event's, and the event has this text.
 fn is_read(alloc: Global, text: &str) -> Result<bool, NoMemory> {
     match Event::read(alloc, text.as_bytes())? {
-        Some(event) => Ok(event.text(alloc, None)?.as_str() == text),
+        Some(event) => has_text(alloc, &event, text),
         None => Ok(false),
     }
 }
@@ -474,11 +429,7 @@ fn is_change_met(alloc: Global, row: &str) -> Result<bool, Fail> {
 #[test]
 fn an_event_is_read_from_its_text_alone(rt: HostRuntime) -> Result<(), Fail> {
     assert!(rt; is_read(rt.alloc(), FIRST)?);
-    assert_eq!(rt; CHANGES.lines().count(), 22);
-    for row in CHANGES.lines() {
-        assert!(rt; is_change_met(rt.alloc(), row)?, "{row}");
-    }
-    Ok(())
+    all_met(rt.alloc(), CHANGES, 22, is_change_met)
 }
 
 /// Whether the text with a detail of this number of levels is an event's.
@@ -519,18 +470,12 @@ fn is_numbered(alloc: Global, row: &str) -> Result<bool, Fail> {
 
 #[test]
 fn an_event_gets_its_number_last(rt: HostRuntime) -> Result<(), Fail> {
-    assert_eq!(rt; IDS.lines().count(), 6);
-    for row in IDS.lines() {
-        assert!(rt; is_numbered(rt.alloc(), row)?, "{row}");
-    }
-    Ok(())
+    all_met(rt.alloc(), IDS, 6, is_numbered)
 }
 
 fn has_first_members(event: &Unnumbered) -> bool {
-    event.bus() == "default"
-        && event.source() == "shop.orders"
-        && event.detail_type() == "Order"
-        && event.moment() == 1_700_000_000
+    let is_sent = (event.bus() == "default") & (event.source() == "shop.orders");
+    is_sent & (event.detail_type() == "Order") & (event.moment() == 1_700_000_000)
 }
 
 #[test]

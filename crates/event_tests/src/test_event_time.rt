@@ -1,5 +1,5 @@
 //! Tests of event_time.
-use crate::rows::{is_number, two};
+use crate::rows::{all_met, is_number, two};
 use event_time::{iso, text_moment};
 use std::alloc::Global;
 use std::test::Fail;
@@ -58,9 +58,9 @@ const TEXTS: &str = "2023-11-14T22:13:20.75Z|1700000000
 10000-01-01T00:00:00Z|none
 ";
 
-fn is_shown(row: &str) -> bool {
+fn is_shown(_: Global, row: &str) -> Result<bool, Fail> {
     let (time, moment) = two(row);
-    is_number(text_moment(time.as_bytes()), moment)
+    Ok(is_number(text_moment(time.as_bytes()), moment))
 }
 
 /// Whether the date is the one text of its second.
@@ -75,17 +75,11 @@ fn is_written(alloc: Global, row: &str) -> Result<bool, Fail> {
 
 #[test]
 fn civil_dates_are_their_seconds(rt: HostRuntime) -> Result<(), Fail> {
-    assert_eq!(rt; DATES.lines().count(), 31);
-    for row in DATES.lines() {
-        assert!(rt; is_shown(row) && is_written(rt.alloc(), row)?, "{row}");
-    }
-    Ok(())
+    all_met(rt.alloc(), DATES, 31, is_shown)?;
+    all_met(rt.alloc(), DATES, 31, is_written)
 }
 
 #[test]
-fn a_text_shows_its_second_or_none(rt: HostRuntime) {
-    assert_eq!(rt; TEXTS.lines().count(), 17);
-    for row in TEXTS.lines() {
-        assert!(rt; is_shown(row), "{row}");
-    }
+fn a_text_shows_its_second_or_none(rt: HostRuntime) -> Result<(), Fail> {
+    all_met(rt.alloc(), TEXTS, 17, is_shown)
 }

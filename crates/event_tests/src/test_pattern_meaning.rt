@@ -1,45 +1,33 @@
 //! Tests of pattern_meaning: events worked by hand.
-use crate::rows::{said, two};
-use json_text::{Json, NoMemory, Text, read};
-use pattern_meaning::{Field, Fields, LeafTest, LeafTests, Pattern, plain_holds};
+use crate::rows::{all_met, said, two};
+use json_text::read;
+use pattern_meaning::{Pattern, plain_holds};
 use pattern_read::read_pattern;
 use std::alloc::Global;
 use std::test::Fail;
 
 /// Whether the pattern holds of the event as the row says.
-fn is_held(alloc: Global, pattern: &Pattern, row: &str) -> Result<bool, Fail> {
+pub fn is_held(alloc: Global, pattern: &Pattern, row: &str) -> Result<bool, Fail> {
     let (event, want) = two(row);
     let tree = read(alloc, event.as_bytes(), 100)?;
     Ok(said(plain_holds(pattern, &tree)) == want)
 }
 
-/// The first row that the pattern does not meet, or nothing if it meets all rows and they are `count`.
-fn row_against<'a>(
-    alloc: Global,
-    pattern: &Pattern,
-    rows: &'a str,
-    count: usize,
-) -> Result<Option<&'a str>, Fail> {
-    if rows.lines().count() != count {
-        return Ok(Some("another number of rows"));
-    }
-    for row in rows.lines() {
-        if !is_held(alloc, pattern, row)? {
-            return Ok(Some(row));
-        }
-    }
-    Ok(None)
+/// Fails with the first row that the pattern does not meet, or if the rows are not `count`.
+fn all_held(alloc: Global, pattern: &Pattern, rows: &str, count: usize) -> Result<(), Fail> {
+    all_met(
+        alloc,
+        rows,
+        count,
+        |alloc, row| is_held(alloc, pattern, row),
+    )
 }
 
 /// The same of a table whose first line is the pattern.
-fn other_row<'a>(alloc: Global, table: &'a str, count: usize) -> Result<Option<&'a str>, Fail> {
-    match table.split_once('\n') {
-        Some((pattern, rows)) => {
-            let pattern = read_pattern(alloc, pattern.as_bytes())?;
-            row_against(alloc, &pattern, rows, count)
-        }
-        None => Ok(Some(table)),
-    }
+fn table_held(alloc: Global, table: &str, count: usize) -> Result<(), Fail> {
+    let (pattern, rows) = table.split_once('\n').ok_or("no pattern")?;
+    let pattern = read_pattern(alloc, pattern.as_bytes())?;
+    all_held(alloc, &pattern, rows, count)
 }
 
 /// A pattern; then an event a line, and whether the pattern holds of it.
@@ -55,8 +43,7 @@ const BY_SPELLING: &str = r#"{"x":[1]}
 
 #[test]
 fn a_scalar_is_compared_by_its_spelling(rt: HostRuntime) -> Result<(), Fail> {
-    assert_eq!(rt; other_row(rt.alloc(), BY_SPELLING, 7)?, None);
-    Ok(())
+    table_held(rt.alloc(), BY_SPELLING, 7)
 }
 
 const FRONTS: &str = r#"{"x":[{"prefix":"ab"}]}
@@ -69,8 +56,7 @@ const FRONTS: &str = r#"{"x":[{"prefix":"ab"}]}
 
 #[test]
 fn a_front_is_a_front(rt: HostRuntime) -> Result<(), Fail> {
-    assert_eq!(rt; other_row(rt.alloc(), FRONTS, 5)?, None);
-    Ok(())
+    table_held(rt.alloc(), FRONTS, 5)
 }
 
 const ENDS: &str = r#"{"x":[{"suffix":{"equals-ignore-case":".PNG"}}]}
@@ -80,8 +66,7 @@ const ENDS: &str = r#"{"x":[{"suffix":{"equals-ignore-case":".PNG"}}]}
 
 #[test]
 fn an_end_is_an_end(rt: HostRuntime) -> Result<(), Fail> {
-    assert_eq!(rt; other_row(rt.alloc(), ENDS, 2)?, None);
-    Ok(())
+    table_held(rt.alloc(), ENDS, 2)
 }
 
 const WILDCARD: &str = r#"{"x":[{"wildcard":"a*c"}]}
@@ -91,8 +76,7 @@ const WILDCARD: &str = r#"{"x":[{"wildcard":"a*c"}]}
 
 #[test]
 fn a_wildcard_fits(rt: HostRuntime) -> Result<(), Fail> {
-    assert_eq!(rt; other_row(rt.alloc(), WILDCARD, 2)?, None);
-    Ok(())
+    table_held(rt.alloc(), WILDCARD, 2)
 }
 
 const ANYTHING_BUT: &str = r#"{"x":[{"anything-but":["a","b"]}]}
@@ -107,8 +91,7 @@ const ANYTHING_BUT: &str = r#"{"x":[{"anything-but":["a","b"]}]}
 
 #[test]
 fn anything_but_needs_a_leaf(rt: HostRuntime) -> Result<(), Fail> {
-    assert_eq!(rt; other_row(rt.alloc(), ANYTHING_BUT, 7)?, None);
-    Ok(())
+    table_held(rt.alloc(), ANYTHING_BUT, 7)
 }
 
 const COMPARED: &str = r#"{"x":[{"numeric":[">",0,"<=",5]}]}
@@ -122,8 +105,7 @@ const COMPARED: &str = r#"{"x":[{"numeric":[">",0,"<=",5]}]}
 
 #[test]
 fn all_comparisons_are_required(rt: HostRuntime) -> Result<(), Fail> {
-    assert_eq!(rt; other_row(rt.alloc(), COMPARED, 6)?, None);
-    Ok(())
+    table_held(rt.alloc(), COMPARED, 6)
 }
 
 const ADDRESSES: &str = r#"{"x":[{"cidr":"10.0.0.0/24"}]}
@@ -133,8 +115,7 @@ const ADDRESSES: &str = r#"{"x":[{"cidr":"10.0.0.0/24"}]}
 
 #[test]
 fn an_address_has_the_first_bits(rt: HostRuntime) -> Result<(), Fail> {
-    assert_eq!(rt; other_row(rt.alloc(), ADDRESSES, 2)?, None);
-    Ok(())
+    table_held(rt.alloc(), ADDRESSES, 2)
 }
 
 const EXISTS: &str = r#"{"x":[{"exists":true}]}
@@ -145,8 +126,7 @@ const EXISTS: &str = r#"{"x":[{"exists":true}]}
 
 #[test]
 fn a_leaf_exists(rt: HostRuntime) -> Result<(), Fail> {
-    assert_eq!(rt; other_row(rt.alloc(), EXISTS, 3)?, None);
-    Ok(())
+    table_held(rt.alloc(), EXISTS, 3)
 }
 
 // No view of the whole event may have a leaf there, so one member of a list is enough to fail.
@@ -162,8 +142,7 @@ const MISSING: &str = r#"{"a":{"b":[{"exists":false}]}}
 
 #[test]
 fn a_missing_leaf_is_missing_in_all_views(rt: HostRuntime) -> Result<(), Fail> {
-    assert_eq!(rt; other_row(rt.alloc(), MISSING, 7)?, None);
-    Ok(())
+    table_held(rt.alloc(), MISSING, 7)
 }
 
 const ONE_MEMBER: &str = r#"{"a":{"b":[1],"c":[2]}}
@@ -176,8 +155,7 @@ const ONE_MEMBER: &str = r#"{"a":{"b":[1],"c":[2]}}
 
 #[test]
 fn two_fields_need_one_member_of_a_list(rt: HostRuntime) -> Result<(), Fail> {
-    assert_eq!(rt; other_row(rt.alloc(), ONE_MEMBER, 5)?, None);
-    Ok(())
+    table_held(rt.alloc(), ONE_MEMBER, 5)
 }
 
 // The field and the first branch are about one member of the list.
@@ -191,8 +169,7 @@ const BRANCHES: &str = r#"{"a":{"b":[1]},"$or":[{"a":{"c":[2]}},{"d":[3]}]}
 
 #[test]
 fn a_field_and_a_branch_speak_of_one_member(rt: HostRuntime) -> Result<(), Fail> {
-    assert_eq!(rt; other_row(rt.alloc(), BRANCHES, 5)?, None);
-    Ok(())
+    table_held(rt.alloc(), BRANCHES, 5)
 }
 
 /// An event, and whether the pattern with a key twice holds of it.
@@ -202,34 +179,18 @@ const KEY_TWICE: &str = r#"{"a":[{"b":1},{"c":2}]}|false
 {"a":{"b":1}}|false
 "#;
 
-/// The field `{"key":[n]}`, where `n` is the number with this spelling.
-fn number_below(alloc: Global, key: &str, spelling: &str) -> Result<Field, NoMemory> {
-    let mut tests: LeafTests = Vec::new(alloc);
-    tests.push(LeafTest::Same(Json::Num(Text::from_str(alloc, spelling)?)))?;
-    let mut fields: Fields = Vec::new(alloc);
-    fields.push((Text::from_str(alloc, key)?, Field::Tests(tests)))?;
-    Ok(Field::Below(with(alloc, fields)))
-}
-
-/// The pattern with these fields, and no `$or`.
-fn with(alloc: Global, fields: Fields) -> Pattern {
-    Pattern {
-        fields,
-        branches: Vec::new(alloc),
-    }
-}
-
 /// A pattern made by hand may have a key twice. Both fields are about one member of the list.
-fn a_twice(alloc: Global) -> Result<Pattern, NoMemory> {
-    let mut fields: Fields = Vec::new(alloc);
-    fields.push((Text::from_str(alloc, "a")?, number_below(alloc, "b", "1")?))?;
-    fields.push((Text::from_str(alloc, "a")?, number_below(alloc, "c", "2")?))?;
-    Ok(with(alloc, fields))
+fn a_twice(alloc: Global) -> Result<Pattern, Fail> {
+    let mut pattern = read_pattern(alloc, br#"{"a":{"b":[1]}}"#)?;
+    let other = read_pattern(alloc, br#"{"a":{"c":[2]}}"#)?;
+    for field in other.fields {
+        pattern.fields.push(field)?;
+    }
+    Ok(pattern)
 }
 
 #[test]
 fn a_key_twice_needs_one_member_of_a_list(rt: HostRuntime) -> Result<(), Fail> {
     let pattern = a_twice(rt.alloc())?;
-    assert_eq!(rt; row_against(rt.alloc(), &pattern, KEY_TWICE, 4)?, None);
-    Ok(())
+    all_held(rt.alloc(), &pattern, KEY_TWICE, 4)
 }

@@ -1,7 +1,6 @@
 //! Tests of pattern_read: patterns hold as the public guide says, and other texts are refused with their first fault.
-use crate::rows::{four, said, three, two};
-use json_text::read;
-use pattern_meaning::plain_holds;
+use crate::rows::{all_met, four, two};
+use crate::test_pattern_meaning;
 use pattern_read::{PatternFault, read_pattern};
 use std::alloc::{AllocError, Global};
 use std::test::Fail;
@@ -72,67 +71,41 @@ const KINDS: &str =
 {"a":{"b":[1]},"$or":[{"a":{"c":[2]}},{"d":[3]}]}|{"a":[{"b":1},{"c":2}],"d":3}|true
 "#;
 
-fn holds(alloc: Global, pattern: &str, event: &str) -> Result<bool, Fail> {
-    let pattern = read_pattern(alloc, pattern.as_bytes())?;
-    let event = read(alloc, event.as_bytes(), 100)?;
-    Ok(plain_holds(&pattern, &event))
-}
-
 fn is_held(alloc: Global, row: &str) -> Result<bool, Fail> {
-    let (pattern, event, want) = three(row);
-    Ok(said(holds(alloc, pattern, event)?) == want)
+    let (pattern, rest) = two(row);
+    let pattern = read_pattern(alloc, pattern.as_bytes())?;
+    test_pattern_meaning::is_held(alloc, &pattern, rest)
 }
 
 #[test]
 fn patterns_hold_of_events(rt: HostRuntime) -> Result<(), Fail> {
-    assert_eq!(rt; HELD.lines().count(), 19);
-    for row in HELD.lines() {
-        assert!(rt; is_held(rt.alloc(), row)?, "{row}");
-    }
-    Ok(())
+    all_met(rt.alloc(), HELD, 19, is_held)
 }
 
 #[test]
 fn each_kind_of_test_is_read(rt: HostRuntime) -> Result<(), Fail> {
-    assert_eq!(rt; KINDS.lines().count(), 40);
-    for row in KINDS.lines() {
-        assert!(rt; is_held(rt.alloc(), row)?, "{row}");
-    }
-    Ok(())
+    all_met(rt.alloc(), KINDS, 40, is_held)
 }
 
-/// Returns `read`, or why the text is refused and the path, with `|` between.
-fn outcome(alloc: Global, text: &str) -> Result<String, AllocError> {
-    match read_pattern(alloc, text.as_bytes()) {
-        Ok(_) => String::from_str(alloc, "read"),
-        Err(PatternFault::Refused { why, path }) => {
-            let path = path.as_str();
-            format!(in alloc; "{why:?}|{path}")
-        }
-        Err(PatternFault::NoMemory) => String::from_str(alloc, "out of memory"),
-    }
-}
-
+/// Whether the text is read, or is refused as it is wanted: why and the path, with `|` between.
 fn has_outcome(alloc: Global, text: &str, want: &str) -> Result<bool, AllocError> {
-    Ok(outcome(alloc, text)?.as_str() == want)
+    match read_pattern(alloc, text.as_bytes()) {
+        Ok(_) => Ok(want == "read"),
+        Err(fault) => is_fault(alloc, &fault, want),
+    }
 }
 
-/// The first row with another outcome, or nothing if all rows are met and they are `count`.
-fn other_row<'a>(
-    alloc: Global,
-    rows: &'a str,
-    count: usize,
-) -> Result<Option<&'a str>, AllocError> {
-    if rows.lines().count() != count {
-        return Ok(Some("another number of rows"));
-    }
-    for row in rows.lines() {
-        let (text, want) = two(row);
-        if !has_outcome(alloc, text, want)? {
-            return Ok(Some(row));
-        }
-    }
-    Ok(None)
+fn is_fault(alloc: Global, fault: &PatternFault, want: &str) -> Result<bool, AllocError> {
+    let PatternFault::Refused { why, path } = fault else {
+        return Ok(false);
+    };
+    let path = path.as_str();
+    Ok(format!(in alloc; "{why:?}|{path}")?.as_str() == want)
+}
+
+fn is_outcome_met(alloc: Global, row: &str) -> Result<bool, Fail> {
+    let (text, want) = two(row);
+    Ok(has_outcome(alloc, text, want)?)
 }
 
 /// A text, why it is refused, and the path. RFC 8259; limits of this project.
@@ -149,8 +122,7 @@ const NO_JSON: &str = r#"|NotJson|
 
 #[test]
 fn texts_that_are_no_json_are_refused(rt: HostRuntime) -> Result<(), Fail> {
-    assert_eq!(rt; other_row(rt.alloc(), NO_JSON, 9)?, None);
-    Ok(())
+    all_met(rt.alloc(), NO_JSON, 9, is_outcome_met)
 }
 
 /// The shape of a pattern (public guide), with the keys to the place.
@@ -182,8 +154,7 @@ const NO_PATTERNS: &str = r#"[]|NotObject|
 
 #[test]
 fn values_that_are_no_patterns_are_refused(rt: HostRuntime) -> Result<(), Fail> {
-    assert_eq!(rt; other_row(rt.alloc(), NO_PATTERNS, 24)?, None);
-    Ok(())
+    all_met(rt.alloc(), NO_PATTERNS, 24, is_outcome_met)
 }
 
 /// The table of tests (public guide).
@@ -224,8 +195,7 @@ const NO_TESTS: &str = r#"{"a":[[1]]}|UnknownTest|a
 
 #[test]
 fn tests_that_are_none_are_refused(rt: HostRuntime) -> Result<(), Fail> {
-    assert_eq!(rt; other_row(rt.alloc(), NO_TESTS, 33)?, None);
-    Ok(())
+    all_met(rt.alloc(), NO_TESTS, 33, is_outcome_met)
 }
 
 /// `anything-but` (public guide), and this project's own choices.
@@ -249,8 +219,7 @@ const OPERANDS: &str = r#"{"a":[{"anything-but":[]}]}|BadOperand|a
 
 #[test]
 fn other_operands_of_anything_but_are_refused(rt: HostRuntime) -> Result<(), Fail> {
-    assert_eq!(rt; other_row(rt.alloc(), OPERANDS, 16)?, None);
-    Ok(())
+    all_met(rt.alloc(), OPERANDS, 16, is_outcome_met)
 }
 
 /// Two faults in one text.
@@ -266,8 +235,7 @@ const TWO_FAULTS: &str = r#"{"a":1,"b":[]}|NotObject|a
 
 #[test]
 fn the_first_fault_of_the_text_is_reported(rt: HostRuntime) -> Result<(), Fail> {
-    assert_eq!(rt; other_row(rt.alloc(), TWO_FAULTS, 8)?, None);
-    Ok(())
+    all_met(rt.alloc(), TWO_FAULTS, 8, is_outcome_met)
 }
 
 // Spaces after the pattern, up to the length.
@@ -288,12 +256,9 @@ fn a_text_of_4096_bytes_is_read_and_one_of_4097_is_not(rt: HostRuntime) -> Resul
 fn push_field(text: &mut String, key: &str, branches: usize) -> Result<(), AllocError> {
     text.push_str("\"")?;
     text.push_str(key)?;
-    text.push_str("\":{\"$or\":[")?;
-    for place in 0..branches {
-        if 0 < place {
-            text.push(',')?;
-        }
-        text.push_str("{\"a\":[0]}")?;
+    text.push_str("\":{\"$or\":[{\"a\":[0]}")?;
+    for _ in 1..branches {
+        text.push_str(",{\"a\":[0]}")?;
     }
     text.push_str("]},")
 }
@@ -326,22 +291,22 @@ fn is_multiplied(alloc: Global, row: &str) -> Result<bool, Fail> {
 
 #[test]
 fn alternatives_of_fields_are_multiplied(rt: HostRuntime) -> Result<(), Fail> {
-    assert_eq!(rt; BRANCHES.lines().count(), 3);
-    for row in BRANCHES.lines() {
-        assert!(rt; is_multiplied(rt.alloc(), row)?, "{row}");
+    all_met(rt.alloc(), BRANCHES, 3, is_multiplied)
+}
+
+// 2 to the power of 113, in 3,959 bytes.
+fn push_many(text: &mut String) -> Result<(), Fail> {
+    for place in 0_u8..113 {
+        let key = [b'A' + place / 16, b'A' + place % 16];
+        push_field(text, str::from_utf8(&key)?, 2)?;
     }
     Ok(())
 }
 
-// 2 to the power of 113, in 3,959 bytes.
 #[test]
 fn very_many_alternatives_are_too_many(rt: HostRuntime) -> Result<(), Fail> {
     let mut text = String::from_str(rt.alloc(), "{")?;
-    for place in 0_u8..113 {
-        let key = [b'A' + place / 16, b'A' + place % 16];
-        let key = str::from_utf8(&key)?;
-        push_field(&mut text, key, 2)?;
-    }
+    push_many(&mut text)?;
     text.push_str("\"d\":[1]}")?;
     assert!(rt; has_outcome(rt.alloc(), text.as_str(), "TooMany|")?);
     Ok(())

@@ -27,6 +27,26 @@ pub(crate) fn four(row: &str) -> (&str, &str, &str, &str) {
     (first, second, third, fourth)
 }
 
+/// Fails with the first row that is not met, or if the rows are not `count`.
+pub(crate) fn all_met<F: Fn(Global, &str) -> Result<bool, Fail>>(
+    alloc: Global,
+    rows: &str,
+    count: usize,
+    is_met: F,
+) -> Result<(), Fail>
+    requires { F.IsAlwaysCallable is_met }
+{
+    if rows.lines().count() != count {
+        return Err(Fail::new("another number of rows"));
+    }
+    for row in rows.lines() {
+        if !is_met(alloc, row)? {
+            return Err(Fail::new(row));
+        }
+    }
+    Ok(())
+}
+
 /// How a row says a truth value. `None` is that the pattern was refused.
 pub(crate) fn said(answer: Option<bool>) -> &'static str {
     match answer {

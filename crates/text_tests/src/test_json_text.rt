@@ -1,7 +1,8 @@
 //! Tests of json_text: what no clause says. Calls succeed if memory is available, and the definitions are those of RFC 8259.
-use crate::rows::{bytes_of, four, three, two};
+use crate::rows::{all_met, bytes_of, four, three, two};
 use json_text::{
-    Bytes, Json, JsonFault, Text, copy, member_at, push_member, push_text, read, read_once, write,
+    Bytes, Json, JsonFault, NoMemory, Text, copy, member_at, push_member, push_text, read,
+    read_once, write,
 };
 use std::alloc::Global;
 use std::test::Fail;
@@ -23,12 +24,16 @@ const COMPACT: &str = r#" null |null
 {"\u0061":1,"a":{"b":1,"b":2}}|{"a":{"b":2}}
 "#;
 
+fn write_twin(alloc: Global, json: &Json, out: &mut Bytes) -> Result<(), Fail> {
+    let twin = copy(alloc, json)?;
+    Ok(write(&twin, out)?)
+}
+
 /// The text of the value that a text spells.
 fn compact(alloc: Global, text: &[u8]) -> Result<Bytes, Fail> {
     let mut out = Bytes::new(alloc);
     let json = read(alloc, text, 100)?;
-    let twin = copy(alloc, &json)?;
-    write(&twin, &mut out)?;
+    write_twin(alloc, &json, &mut out)?;
     Ok(out)
 }
 
@@ -40,11 +45,7 @@ fn is_compacted(alloc: Global, row: &str) -> Result<bool, Fail> {
 
 #[test]
 fn values_are_written_compactly(rt: HostRuntime) -> Result<(), Fail> {
-    assert_eq!(rt; COMPACT.lines().count(), 14);
-    for row in COMPACT.lines() {
-        assert!(rt; is_compacted(rt.alloc(), row)?, "{row}");
-    }
-    Ok(())
+    all_met(rt.alloc(), COMPACT, 14, is_compacted)
 }
 
 /// A text, the levels allowed, and its fault. The place is the length of the longest front that some JSON text begins with.
@@ -92,57 +93,58 @@ const REPEATED: &str = r#"{"a":1,"b":2,"a":3}|key twice|13
 {"ja":1,"af":2,"b":3,"af":4}|key twice|21
 "#;
 
-/// Whether the fault is of the kind and at the place.
-fn is_fault(fault: &JsonFault, kind: &str, place: usize) -> bool {
+/// The kind of the fault, and its place.
+fn fault_parts(fault: &JsonFault) -> (&'static str, usize) {
     match fault {
-        JsonFault::NotJson { at } => kind == "not JSON" && *at == place,
-        JsonFault::TooDeep { at } => kind == "too deep" && *at == place,
-        JsonFault::KeyTwice { at } => kind == "key twice" && *at == place,
-        JsonFault::NoMemory => false,
+        JsonFault::NotJson { at } => ("not JSON", *at),
+        JsonFault::TooDeep { at } => ("too deep", *at),
+        JsonFault::KeyTwice { at } => ("key twice", *at),
+        JsonFault::NoMemory => ("out of memory", 0),
     }
 }
 
-/// Whether a call returned a value, for the kind `a value`, or the fault.
+/// Whether a call returned a value, for the kind `a value` and place 0, or the fault.
 fn is_as_said(found: &Result<Json, JsonFault>, kind: &str, place: usize) -> bool {
-    match found {
-        Ok(_) => kind == "a value",
-        Err(fault) => is_fault(fault, kind, place),
-    }
+    let (its_kind, at) = match found {
+        Ok(_) => ("a value", 0),
+        Err(fault) => fault_parts(fault),
+    };
+    its_kind == kind && at == place
+}
+
+fn reads_as(alloc: Global, text: &[u8], levels: u8, kind: &str, place: usize) -> bool {
+    is_as_said(&read(alloc, text, u32::from(levels)), kind, place)
+}
+
+fn reads_once_as(alloc: Global, text: &[u8], levels: u8, kind: &str, place: usize) -> bool {
+    is_as_said(&read_once(alloc, text, u32::from(levels)), kind, place)
 }
 
 fn is_reported(alloc: Global, row: &str) -> Result<bool, Fail> {
     let (text, levels, kind, place) = four(row);
-    let text = bytes_of(alloc, text)?;
     let (levels, place) = (levels.parse::<u8>()?, place.parse::<usize>()?);
+    let text = bytes_of(alloc, text)?;
     Ok(
-        is_as_said(&read(alloc, &text, u32::from(levels)), kind, place)
-            && is_as_said(&read_once(alloc, &text, u32::from(levels)), kind, place),
+        reads_as(alloc, &text, levels, kind, place)
+            && reads_once_as(alloc, &text, levels, kind, place),
     )
 }
 
 #[test]
 fn faults_are_reported_at_their_places(rt: HostRuntime) -> Result<(), Fail> {
-    assert_eq!(rt; FAULTS.lines().count(), 30);
-    for row in FAULTS.lines() {
-        assert!(rt; is_reported(rt.alloc(), row)?, "{row}");
-    }
-    Ok(())
+    all_met(rt.alloc(), FAULTS, 30, is_reported)
 }
 
 fn is_repeated(alloc: Global, row: &str) -> Result<bool, Fail> {
     let (text, kind, place) = three(row);
-    let text = bytes_of(alloc, text)?;
     let place = place.parse::<usize>()?;
-    Ok(is_as_said(&read_once(alloc, &text, 100), kind, place))
+    let text = bytes_of(alloc, text)?;
+    Ok(reads_once_as(alloc, &text, 100, kind, place))
 }
 
 #[test]
 fn the_first_repeated_key_is_reported(rt: HostRuntime) -> Result<(), Fail> {
-    assert_eq!(rt; REPEATED.lines().count(), 9);
-    for row in REPEATED.lines() {
-        assert!(rt; is_repeated(rt.alloc(), row)?, "{row}");
-    }
-    Ok(())
+    all_met(rt.alloc(), REPEATED, 9, is_repeated)
 }
 
 /// Texts to accept and texts to refuse, in the manner of the public suites of JSON parsers.
@@ -233,18 +235,14 @@ fn is_marked(alloc: Global, row: &str) -> Result<bool, Fail> {
 
 #[test]
 fn outside_cases_go_as_marked(rt: HostRuntime) -> Result<(), Fail> {
-    assert_eq!(rt; MARKED.lines().count(), 68);
-    for row in MARKED.lines() {
-        assert!(rt; is_marked(rt.alloc(), row)?, "{row}");
-    }
-    Ok(())
+    all_met(rt.alloc(), MARKED, 68, is_marked)
 }
 
 /// Whether this number of nested arrays is read as said.
 fn nested_as(alloc: Global, levels: u8, kind: &str, place: usize) -> Result<bool, Fail> {
     let mut text = vec![in alloc; b'['; usize::from(levels)]?;
     text.resize(2 * usize::from(levels), b']')?;
-    Ok(is_as_said(&read(alloc, &text, 100), kind, place))
+    Ok(reads_as(alloc, &text, 100, kind, place))
 }
 
 #[test]
@@ -279,19 +277,18 @@ fn is_text(json: Option<&Json>, want: &str) -> bool {
     }
 }
 
-/// The members `a`, `a` and the empty key, put in this order.
-fn three_members(alloc: Global) -> Result<Vec<(Text, Json)>, Fail> {
-    let mut members = Vec::new(alloc);
-    push_text(alloc, &mut members, "a", "one")?;
-    push_text(alloc, &mut members, "a", "two")?;
-    push_member(alloc, &mut members, "", Json::Null)?;
-    Ok(members)
+/// Adds the members `a`, `a` and the empty key, in this order.
+fn push_three(alloc: Global, members: &mut Vec<(Text, Json)>) -> Result<(), NoMemory> {
+    push_text(alloc, members, "a", "one")?;
+    push_text(alloc, members, "a", "two")?;
+    push_member(alloc, members, "", Json::Null)
 }
 
 // Members are found by key, the first of a repeated key first, and are added at the end.
 #[test]
 fn members_are_found_and_added(rt: HostRuntime) -> Result<(), Fail> {
-    let members = three_members(rt.alloc())?;
+    let mut members = Vec::new(rt.alloc());
+    push_three(rt.alloc(), &mut members)?;
     assert!(rt; is_text(member_at(&members, "a"), "one"));
     let json = Json::Obj(members);
     assert!(rt; json.is_object());

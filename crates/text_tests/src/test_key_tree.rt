@@ -28,11 +28,14 @@ fn add(
     Ok(is_new)
 }
 
+fn first_key(tree: &KeyTree<u64>) -> Option<u128> {
+    tree.first().map(|entry| entry.0)
+}
+
 /// Removes the first value.
 fn pop(tree: &mut KeyTree<u64>) -> Option<(u128, u64)> {
-    let (key, _) = tree.first()?;
-    let node = tree.remove(key)?;
-    Some((key, node.into_value()))
+    let key = first_key(tree)?;
+    Some((key, removed(tree, key)?))
 }
 
 fn value(tree: &KeyTree<u64>, key: u128) -> Option<u64> {
@@ -47,42 +50,57 @@ fn removed(tree: &mut KeyTree<u64>, key: u128) -> Option<u64> {
     tree.remove(key).map(|node| node.into_value())
 }
 
+/// Fails with the number if this does not hold.
+fn ensure(holds: bool, number: u64) -> Result<(), Fail> {
+    if holds {
+        Ok(())
+    } else {
+        Err(Fail::new(number))
+    }
+}
+
+fn add_all(alloc: Global, tree: &mut KeyTree<u64>, order: u64) -> Result<(), Fail> {
+    for number in 0..10000u64 {
+        ensure(add(alloc, tree, key(order, number), number)?, number)?;
+    }
+    Ok(())
+}
+
+fn find_all(tree: &KeyTree<u64>, order: u64) -> Result<(), Fail> {
+    for number in 0..10000u64 {
+        ensure(value(tree, key(order, number)) == Some(number), number)?;
+    }
+    Ok(())
+}
+
+fn remove_thirds(tree: &mut KeyTree<u64>, order: u64) -> Result<(), Fail> {
+    for third in 0..3334u64 {
+        let number = 3 * third;
+        ensure(removed(tree, key(order, number)) == Some(number), number)?;
+        ensure(removed(tree, key(order, number)).is_none(), number)?;
+    }
+    Ok(())
+}
+
+fn pop_others(tree: &mut KeyTree<u64>, order: u64) -> Result<(), Fail> {
+    let mut last = None;
+    for _ in 0..6666u64 {
+        let (first, number) = pop(tree).ok_or("too few values")?;
+        let is_next = first == key(order, number) && last < Some(first);
+        ensure(number % 3 != 0 && is_next, number)?;
+        last = Some(first);
+    }
+    Ok(())
+}
+
 #[test]
 fn ten_thousand_values_in_four_orders(rt: HostRuntime) -> Result<(), Fail> {
-    let alloc = rt.alloc();
     for order in 0..4u64 {
         let mut tree = KeyTree::new();
-        for number in 0..10000u64 {
-            assert!(rt;
-                add(alloc, &mut tree, key(order, number), number)?,
-                "{number}"
-            );
-        }
-        for number in 0..10000u64 {
-            assert!(rt;
-                value(&tree, key(order, number)) == Some(number),
-                "{number}"
-            );
-        }
-        for number in 0..10000u64 {
-            if number % 3 == 0 {
-                assert!(rt;
-                    removed(&mut tree, key(order, number)) == Some(number),
-                    "{number}"
-                );
-                assert!(rt;
-                    removed(&mut tree, key(order, number)).is_none(),
-                    "{number}"
-                );
-            }
-        }
-        let mut last = None;
-        for _ in 0..6666u64 {
-            let (first, number) = pop(&mut tree).ok_or("too few values")?;
-            assert!(rt; number % 3 != 0 && first == key(order, number), "{number}");
-            assert!(rt; last < Some(first), "{number}");
-            last = Some(first);
-        }
+        add_all(rt.alloc(), &mut tree, order)?;
+        find_all(&tree, order)?;
+        remove_thirds(&mut tree, order)?;
+        pop_others(&mut tree, order)?;
         assert!(rt; tree.is_empty());
     }
     Ok(())

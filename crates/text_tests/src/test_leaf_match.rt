@@ -1,5 +1,5 @@
 //! Tests of leaf_match.
-use crate::rows::{four, said, three, two};
+use crate::rows::{all_met, four, said, three, two};
 use leaf_match::{
     Cidr, Family, NoMemory, Wild, WildFault, ends_ci, equal_ci, like, starts_ci, wild,
 };
@@ -183,61 +183,47 @@ fn wild_answer(alloc: Global, pattern: &str, text: &str) -> Result<Option<bool>,
     }
 }
 
-fn is_wildcard_met(alloc: Global, row: &str) -> Result<bool, NoMemory> {
+fn is_wildcard_met(alloc: Global, row: &str) -> Result<bool, Fail> {
     let (pattern, text, want) = three(row);
     Ok(said(wild_answer(alloc, pattern, text)?) == want)
 }
 
 #[test]
 fn wildcards(rt: HostRuntime) -> Result<(), Fail> {
-    assert_eq!(rt; WILDCARDS.lines().count(), 46);
-    for row in WILDCARDS.lines() {
-        assert!(rt; is_wildcard_met(rt.alloc(), row)?, "{row}");
-    }
-    Ok(())
+    all_met(rt.alloc(), WILDCARDS, 46, is_wildcard_met)
 }
 
-fn is_front_met(alloc: Global, row: &str) -> Result<bool, WildFault> {
+fn is_front_met(alloc: Global, row: &str) -> Result<bool, Fail> {
     let (pattern, front) = two(row);
     Ok(Wild::read(alloc, pattern)?.literal_front() == front.as_bytes())
 }
 
 #[test]
 fn fronts(rt: HostRuntime) -> Result<(), Fail> {
-    assert_eq!(rt; FRONTS.lines().count(), 5);
-    for row in FRONTS.lines() {
-        assert!(rt; is_front_met(rt.alloc(), row)?, "{row}");
-    }
-    Ok(())
+    all_met(rt.alloc(), FRONTS, 5, is_front_met)
 }
 
-fn is_like_met(row: &str) -> bool {
+fn is_like_met(_: Global, row: &str) -> Result<bool, Fail> {
     let (pattern, text, want) = three(row);
-    said(Some(like(pattern, text))) == want
+    Ok(said(Some(like(pattern, text))) == want)
 }
 
 #[test]
-fn likes(rt: HostRuntime) {
-    assert_eq!(rt; LIKES.lines().count(), 26);
-    for row in LIKES.lines() {
-        assert!(rt; is_like_met(row), "{row}");
-    }
+fn likes(rt: HostRuntime) -> Result<(), Fail> {
+    all_met(rt.alloc(), LIKES, 26, is_like_met)
 }
 
-fn is_folded_met(row: &str) -> bool {
+fn is_folded_met(_: Global, row: &str) -> Result<bool, Fail> {
     let (text, part, starts, rest) = four(row);
     let (ends, equals) = two(rest);
-    said(Some(starts_ci(text, part))) == starts
-        && said(Some(ends_ci(text, part))) == ends
-        && said(Some(equal_ci(text, part))) == equals
+    let is_front = said(Some(starts_ci(text, part))) == starts;
+    let is_end = said(Some(ends_ci(text, part))) == ends;
+    Ok(is_front & is_end & (said(Some(equal_ci(text, part))) == equals))
 }
 
 #[test]
-fn folded(rt: HostRuntime) {
-    assert_eq!(rt; FOLDED.lines().count(), 14);
-    for row in FOLDED.lines() {
-        assert!(rt; is_folded_met(row), "{row}");
-    }
+fn folded(rt: HostRuntime) -> Result<(), Fail> {
+    all_met(rt.alloc(), FOLDED, 14, is_folded_met)
 }
 
 fn prefix_answer(prefix: &str, text: &str) -> Option<bool> {
@@ -247,26 +233,20 @@ fn prefix_answer(prefix: &str, text: &str) -> Option<bool> {
     }
 }
 
-fn is_sample_met(row: &str) -> bool {
+fn is_sample_met(_: Global, row: &str) -> Result<bool, Fail> {
     let (prefix, text, want, source) = four(row);
-    said(prefix_answer(prefix, text)) == want && source.starts_with("RFC ")
+    Ok(said(prefix_answer(prefix, text)) == want && source.starts_with("RFC "))
 }
 
-fn is_prefix_met(row: &str) -> bool {
+fn is_prefix_met(_: Global, row: &str) -> Result<bool, Fail> {
     let (prefix, text, want) = three(row);
-    said(prefix_answer(prefix, text)) == want
+    Ok(said(prefix_answer(prefix, text)) == want)
 }
 
 #[test]
-fn prefixes(rt: HostRuntime) {
-    assert_eq!(rt; SAMPLES.lines().count(), 23);
-    for row in SAMPLES.lines() {
-        assert!(rt; is_sample_met(row), "{row}");
-    }
-    assert_eq!(rt; PREFIXES.lines().count(), 37);
-    for row in PREFIXES.lines() {
-        assert!(rt; is_prefix_met(row), "{row}");
-    }
+fn prefixes(rt: HostRuntime) -> Result<(), Fail> {
+    all_met(rt.alloc(), SAMPLES, 23, is_sample_met)?;
+    all_met(rt.alloc(), PREFIXES, 37, is_prefix_met)
 }
 
 #[test]

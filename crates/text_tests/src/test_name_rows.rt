@@ -1,5 +1,5 @@
 //! Tests of name_rows.
-use crate::rows::two;
+use crate::rows::{all_met, two};
 use json_text::Text;
 use name_rows::Rows;
 use std::alloc::Global;
@@ -7,26 +7,33 @@ use std::test::Fail;
 
 /// A name of four digits, so that names are in the order of their numbers.
 fn name(alloc: Global, number: u32) -> Result<Text, Fail> {
-    let text = format!(in alloc; "{number}")?;
-    Ok(Text::from_str(alloc, text.as_str())?)
+    let digits = [number / 1000, number / 100, number / 10, number];
+    let digits = digits.map(|digit| b'0' + (digit % 10) as u8);
+    Ok(Text::from_str(alloc, str::from_utf8(&digits)?)?)
+}
+
+fn added(alloc: Global, rows: &Rows<Text>, number: u32) -> Result<Rows<Text>, Fail> {
+    Ok(rows.with(alloc, name(alloc, number)?)?)
 }
 
 /// The names 1000 to 1999, put in a bad order.
 fn thousand(alloc: Global) -> Result<Rows<Text>, Fail> {
     let mut rows = Rows::new(alloc)?;
     for at in 0..1000u32 {
-        rows = rows.with(alloc, name(alloc, 1000 + at * 367 % 1000)?)?;
+        rows = added(alloc, &rows, 1000 + at * 367 % 1000)?;
     }
     Ok(rows)
 }
 
+fn removed(alloc: Global, rows: &Rows<Text>, number: u32) -> Result<Rows<Text>, Fail> {
+    Ok(rows.without(alloc, name(alloc, number)?.as_str())?)
+}
+
 /// The rows without the names of this remainder modulo 40.
-fn thinned(alloc: Global, rows: &Rows<Text>, remainder: u32) -> Result<Rows<Text>, Fail> {
+fn thinned(alloc: Global, rows: &Rows<Text>, remainder: u8) -> Result<Rows<Text>, Fail> {
     let mut left = rows.share()?;
-    for number in 1000..2000u32 {
-        if number % 40 == remainder {
-            left = left.without(alloc, name(alloc, number)?.as_str())?;
-        }
+    for forty in 25..50u32 {
+        left = removed(alloc, &left, 40 * forty + u32::from(remainder))?;
     }
     Ok(left)
 }
@@ -84,7 +91,7 @@ fn removed_rows_are_gone_and_the_others_stay(rt: HostRuntime) -> Result<(), Fail
     let alloc = rt.alloc();
     let rows = thousand(alloc)?;
     let mut left = rows.share()?;
-    for remainder in 0..39u32 {
+    for remainder in 0..39u8 {
         left = thinned(alloc, &left, remainder)?;
     }
     assert!(rt; shown(alloc, &left)?.as_str() == expected(alloc, 39)?.as_str());
@@ -112,11 +119,7 @@ fn is_counted(rows: &Rows<Text>, row: &str) -> Result<bool, Fail> {
 #[test]
 fn rows_from_a_name_on(rt: HostRuntime) -> Result<(), Fail> {
     let rows = thousand(rt.alloc())?;
-    assert_eq!(rt; FROM.lines().count(), 6);
-    for row in FROM.lines() {
-        assert!(rt; is_counted(&rows, row)?, "{row}");
-    }
-    Ok(())
+    all_met(rt.alloc(), FROM, 6, |_, row| is_counted(&rows, row))
 }
 
 #[test]

@@ -2,7 +2,7 @@
 ghost use Rattle.std.specs.Prelude.{◌<◌};
 ghost use Rattle.std.specs.List.{All};
 
-use crate::rows::two;
+use crate::rows::{all_met, two};
 use numeric_keys::{Marks, NoMemory, Ranges, millionths};
 use std::alloc::{AllocError, Global};
 use std::test::Fail;
@@ -80,18 +80,14 @@ fn is_number(found: Option<i64>, field: &str) -> Result<bool, Fail> {
     }
 }
 
-fn is_spelled(row: &str) -> Result<bool, Fail> {
+fn is_spelled(_: Global, row: &str) -> Result<bool, Fail> {
     let (text, want) = two(row);
     is_number(millionths(text), want)
 }
 
 #[test]
 fn number_spellings(rt: HostRuntime) -> Result<(), Fail> {
-    assert_eq!(rt; SPELLINGS.lines().count(), 49);
-    for row in SPELLINGS.lines() {
-        assert!(rt; is_spelled(row)?, "{row}");
-    }
-    Ok(())
+    all_met(rt.alloc(), SPELLINGS, 49, is_spelled)
 }
 
 /// The spelling with its runs of zeros and nines.
@@ -110,33 +106,31 @@ fn is_long_spelled(alloc: Global, row: &str) -> Result<bool, Fail> {
 
 #[test]
 fn long_spellings(rt: HostRuntime) -> Result<(), Fail> {
-    assert_eq!(rt; LONG_SPELLINGS.lines().count(), 8);
-    for row in LONG_SPELLINGS.lines() {
-        assert!(rt; is_long_spelled(rt.alloc(), row)?, "{row}");
+    all_met(rt.alloc(), LONG_SPELLINGS, 8, is_long_spelled)
+}
+
+/// How many places are marked.
+fn count(marks: &Marks) -> u32 {
+    let mut count: u32 = 0;
+    for place in 0..marks.places() {
+        if marks.has(place) {
+            count = count.saturating_add(1);
+        }
     }
-    Ok(())
+    count
 }
 
 #[test]
 fn marked_places(rt: HostRuntime) -> Result<(), Fail> {
     let mut marks = Marks::of(rt.alloc(), 130)?;
-    assert_eq!(rt; marks.places(), 130);
     marks.set(0);
     marks.set(63);
     marks.set(64);
     marks.set(129);
-    for place in 0..130 {
-        assert_eq!(rt;
-            marks.has(place),
-            [0, 63, 64, 129].contains(&place),
-            "{place}"
-        );
-    }
+    assert!(rt; marks.has(0) & marks.has(63) & marks.has(64) & marks.has(129));
+    assert!(rt; marks.places() == 130 && count(&marks) == 4);
     marks.clear();
-    assert_eq!(rt; marks.places(), 130);
-    for place in 0..130 {
-        assert!(rt; !marks.has(place), "{place}");
-    }
+    assert!(rt; marks.places() == 130 && count(&marks) == 0);
     Ok(())
 }
 
@@ -167,6 +161,14 @@ fn is_hit(alloc: Global, ranges: &Ranges, row: &str) -> Result<bool, Fail>
     Ok(found == (1 << 7 | u32::from_str_radix(want, 2)?))
 }
 
+/// Fails with the first row that these ranges do not meet.
+fn all_hit(alloc: Global, ranges: &[(i64, i64, u32)], rows: &str, count: usize) -> Result<(), Fail>
+    requires { All (λ range. range.2 < PLACES) ranges.now }
+{
+    let ranges = Ranges::of(alloc, ranges)?;
+    all_met(alloc, rows, count, |alloc, row| is_hit(alloc, &ranges, row))
+}
+
 /// Values, and the ranges of the next test that hold them, the first at the last digit. Worked by hand.
 const AT_BOTH_ENDS: &str = "-1|0
 0|01
@@ -178,12 +180,7 @@ const AT_BOTH_ENDS: &str = "-1|0
 
 #[test]
 fn ranges_hold_both_ends(rt: HostRuntime) -> Result<(), Fail> {
-    let ranges = Ranges::of(rt.alloc(), &[(0, 2, 0), (2, 5, 1)])?;
-    assert_eq!(rt; AT_BOTH_ENDS.lines().count(), 6);
-    for row in AT_BOTH_ENDS.lines() {
-        assert!(rt; is_hit(rt.alloc(), &ranges, row)?, "{row}");
-    }
-    Ok(())
+    all_hit(rt.alloc(), &[(0, 2, 0), (2, 5, 1)], AT_BOTH_ENDS, 6)
 }
 
 /// The same for the first and the last value of the type, 0 and 1.
@@ -204,12 +201,7 @@ fn ranges_at_the_ends_of_the_type(rt: HostRuntime) -> Result<(), Fail> {
         (1, 0, 3),
         reversed,
     ];
-    let ranges = Ranges::of(rt.alloc(), &ranges)?;
-    assert_eq!(rt; AT_THE_ENDS.lines().count(), 4);
-    for row in AT_THE_ENDS.lines() {
-        assert!(rt; is_hit(rt.alloc(), &ranges, row)?, "{row}");
-    }
-    Ok(())
+    all_hit(rt.alloc(), &ranges, AT_THE_ENDS, 4)
 }
 
 /// The same for ranges in one another, equal ones, and one mark twice.
@@ -231,12 +223,7 @@ fn ranges_that_overlap(rt: HostRuntime) -> Result<(), Fail> {
         (-3, 3, 3),
         (6, 6, 0),
     ];
-    let ranges = Ranges::of(rt.alloc(), &ranges)?;
-    assert_eq!(rt; OVERLAPS.lines().count(), 6);
-    for row in OVERLAPS.lines() {
-        assert!(rt; is_hit(rt.alloc(), &ranges, row)?, "{row}");
-    }
-    Ok(())
+    all_hit(rt.alloc(), &ranges, OVERLAPS, 6)
 }
 
 #[test]
