@@ -1,13 +1,31 @@
 -- Entries are checked in one way: `one_checking`, each once: `checked_len`. `check_entries` also cites `checked_more`.
-use Rattle.std.proofs.Common.{◌≡◌, ℕ, List, [], ◌∷◌, ◌++◌, length, Ok, Err, sym, refl, ap, ◌∙◌, subst, append_assoc, arith}
-use Rattle.std.specs.Prelude.{Result}
+use Rattle.std.proofs.Common.{◌≡◌, ◌⊎◌, inl, inr, ℕ, List, [], ◌∷◌, ◌++◌, length, Ok, Err, sym, refl, ap, ◌∙◌, subst, append_assoc, arith}
+use Rattle.std.specs.Prelude.{Result, unwrap_or}
 use Rattle.event_shape.specs.Entry.{Entry}
 use Rattle.event_shape.specs.Event.{Checked, IsMade}
 use Rattle.event_shape.specs.Unnumbered.{Unnumbered}
 use Rattle.event_shape.specs.declared.entry.EntryFault.{EntryFault}
 use Rattle.event_shape.proofs.CheckedOnce.{checked_once, made_once}
-use Rattle.event_shape.proofs.CheckLemmas.{first_once}
+use Rattle.json_text.specs.Checks.{AllHold, IsFirst}
+use Rattle.event_shape.specs.Fault.{entry_checks}
 use Rattle.api_members.specs.CheckedEntry.{IsChecked, AreChecked}
+
+-- one condition of two lists of conditions that agree
+once_more : {F : Type 0} {A R S : Type 0} {x f g : F} → (R → S → f ≡ g) → ((f ≡ x) × (¬ A)) ⊎ (A × R) → ((g ≡ x) × (¬ A)) ⊎ (A × S) → f ≡ g
+once_more rest (inl p) (inl q) = p.0 ∙ sym q.0
+once_more rest (inl p) (inr q) = absurd (p.1 q.0)
+once_more rest (inr p) (inl q) = absurd (q.1 p.0)
+once_more rest (inr p) (inr q) = rest p.1 q.1
+
+first_once : (e : Entry) (f g : EntryFault) → IsFirst (entry_checks e) f → IsFirst (entry_checks e) g → f ≡ g
+first_once e f g = once_more (once_more (once_more (once_more (once_more (once_more (once_more (λ p q. absurd p)))))))
+
+never_more : {A X H R : Type 0} → (H → R → ⊥) → A × H → (X × (¬ A)) ⊎ (A × R) → ⊥
+never_more rest h (inl p) = p.1 h.0
+never_more rest h (inr p) = rest h.1 p.1
+
+no_fault : (e : Entry) (f : EntryFault) → AllHold (entry_checks e) → IsFirst (entry_checks e) f → ⊥
+no_fault e f = never_more (never_more (never_more (never_more (never_more (never_more (never_more (λ h p. p)))))))
 
 one_entry : (reading : ℕ) (caller : List ℕ) (e : Entry) (a b : Result Unnumbered EntryFault)
     → IsChecked reading caller e a → IsChecked reading caller e b → a ≡ b
@@ -16,9 +34,10 @@ one_entry reading caller e (Ok u) (Ok v) p q =
     let made : IsMade p.0 0 reading caller v.event = rw same q.2 in
     let event = made_once p.0 0 reading caller u.event v.event p.2 made in
     let bus : u.bus ≡ v.bus = p.3 ∙ ap (λ (c : Checked). c.bus) same ∙ sym q.3 in
-    λ i. Ok (record { bus = bus i; event = event i })
-one_entry reading caller e (Ok u) (Err fault) p q = absurd (p.1.faultless fault q.there)
-one_entry reading caller e (Err fault) (Ok v) p q = absurd (q.1.faultless fault p.there)
+    let moment : u.moment ≡ v.moment = p.4 ∙ ap (λ (c : Checked). unwrap_or c.time reading) same ∙ sym q.4 in
+    λ i. Ok (record { bus = bus i; moment = moment i; event = event i })
+one_entry reading caller e (Ok u) (Err fault) p q = absurd (no_fault e fault p.1.faultless q)
+one_entry reading caller e (Err fault) (Ok v) p q = absurd (no_fault e fault q.1.faultless p)
 one_entry reading caller e (Err f) (Err g) p q = ap Err (first_once e f g p q)
 
 pub one_checking : (reading : ℕ) (caller : List ℕ) (es : List Entry) (xs ys : List (Result Unnumbered EntryFault))

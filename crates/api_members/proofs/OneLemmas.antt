@@ -1,9 +1,7 @@
--- Sound members have no refusal, and members have at most one first refusal. Other files cite `sound_no_first` and `one_first`, and
--- `one_bus` (what is given is read in one way).
+-- Sound members have no refusal, and members have at most one first refusal. Other files cite `sound_no_first` and `one_first`.
 use Rattle.std.proofs.Common.{◌≡◌, ℕ, inl, inr, ◌⊎◌, List, [], ◌∷◌, ◌++◌, Some, None, sym, ◌∙◌}
 use Rattle.std.specs.Prelude.{Option}
 use Rattle.json_text.specs.Tree.{Tree, text, Members}
-use Rattle.event_shape.proofs.CheckedOnce.{bus_once}
 use Rattle.api_replies.specs.declared.member.Member.{Member}
 use Rattle.api_replies.specs.declared.cause.Cause.{Cause}
 use Rattle.api_replies.specs.declared.cause.Cause.TheVariants as cause
@@ -17,7 +15,7 @@ use Rattle.api_members.proofs.PatternLemmas.{one_pattern_refusal}
 use Rattle.api_members.proofs.PolicyLemmas.{never_faulty, one_fault}
 use Rattle.api_members.specs.Why.{why_name}
 use Rattle.api_members.specs.Given.{given}
-use Rattle.api_members.specs.Value.{IsValid, HasBus, GivesOr}
+use Rattle.api_members.specs.Value.{IsValid}
 use Rattle.api_members.specs.Refusal.{policy_cause, IsValueRefused, ValidOr, RefusedOr, IsSoundMember, IsMemberRefused, AreSound, IsFirstRefusal}
 
 valid_not_refused : (s : Syntax) (m : Member) (t : Tree) (c : Cause) → IsValid s t → IsValueRefused s m t c → ⊥
@@ -124,17 +122,3 @@ one_first (a ∷ asked) ms c d f g =
         | inr q ↦ one_first asked ms c d p.1 q.1
       ]
     ]
-
-one_or : {X : Type 0} (Gives : X → Type 0) (default : X) → ((x y : X) → Gives x → Gives y → x ≡ y) → (x y : X) → GivesOr Gives default x
-    → GivesOr Gives default y → x ≡ y
-one_or Gives default one x y (inl p) (inl q) = one x y p q
-one_or Gives default one x y (inl p) (inr q) = absurd (q.1 x p)
-one_or Gives default one x y (inr p) (inl q) = absurd (p.1 y q)
-one_or Gives default one x y (inr p) (inr q) = p.0 ∙ sym q.0
-
-one_bus_given : (t : Option (List ℕ)) (a b : List ℕ) → HasBus t a → HasBus t b → a ≡ b
-one_bus_given None a b p q = absurd p
-one_bus_given (Some t) a b p q = bus_once t a b p q
-
-pub one_bus : (t : Option (List ℕ)) (default a b : List ℕ) → GivesOr (HasBus t) default a → GivesOr (HasBus t) default b → a ≡ b
-one_bus t default a b = one_or (HasBus t) default (one_bus_given t) a b

@@ -14,7 +14,8 @@ use Rattle.api_members.specs.declared.asked.Syntax.TheVariants as syntax
 use Rattle.api_members.specs.declared.asked.Asked.TheVariants.{Required}
 use Rattle.api_members.specs.Given.{given, text_of}
 use Rattle.api_members.specs.Event.{IsEventGiven, GivesEvent}
-use Rattle.api_members.specs.Value.{IsTextThat, IsPattern, IsValid}
+use Rattle.api_members.specs.Value.{IsPattern, IsValid}
+use Rattle.json_text.specs.Access.{IsTextThat}
 use Rattle.api_members.specs.Refusal.{ValidOr, IsSoundMember}
 
 text_that : (P : List ℕ → Type 0) (t : Tree) → IsTextThat P t → P (unwrap_or (text_in t) [])

@@ -1,8 +1,8 @@
 -- The members that are given. Null counts as absent, members that no call names are ignored. If two members have one key, the first
 -- counts.
-use Rattle.std.specs.Prelude.{ℕ, List, [], ◌∷◌, Option, Some, None, option_and_then, unwrap_or}
-use Rattle.json_text.specs.Tree.{Tree, null, list, object, Items, no_items, item, Members, no_members}
-use Rattle.json_text.specs.Access.{member_in, text_in}
+use Rattle.std.specs.Prelude.{ℕ, List, [], Option, Some, None, option_and_then, unwrap_or}
+use Rattle.json_text.specs.Tree.{Tree, null, list, object, Members, no_members}
+use Rattle.json_text.specs.Access.{member_in, text_in, trees_in}
 use Rattle.api_replies.specs.Name.{member_name}
 use Rattle.api_replies.specs.declared.member.Member.{Member}
 
@@ -36,14 +36,9 @@ abbrev pub object_in : Tree → Option Members
 object_in (object members) = Some members
 object_in _ = None
 
--- the items as a list
-abbrev pub values_of : Items → List Tree
-values_of no_items = []
-values_of (item t items) = t ∷ values_of items
-
 -- the values of a list
 abbrev pub list_in : Tree → Option (List Tree)
-list_in (list items) = Some (values_of items)
+list_in (list items) = Some (trees_in items)
 list_in _ = None
 
 -- The values of a member's list; none if no list is given.

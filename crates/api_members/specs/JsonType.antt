@@ -2,14 +2,9 @@
 use Rattle.std.specs.Prelude.{Bool, true, false, ◌&&◌, Option, Some, None}
 use Rattle.std.specs.List.{list_all}
 use Rattle.json_text.specs.Tree.{Tree, number, text, list, object, Members, no_members, member}
-use Rattle.api_members.specs.Given.{values_of}
+use Rattle.json_text.specs.Access.{is_text, trees_in}
 use Rattle.api_members.specs.declared.json_type.JsonType.{JsonType}
 use Rattle.api_members.specs.declared.json_type.JsonType.TheVariants as is
-
--- the value is a text
-abbrev pub is_text : Tree → Bool
-is_text (text t) = true
-is_text _ = false
 
 -- each value of the object passes
 abbrev pub each_value : (Tree → Bool) → Members → Bool
@@ -23,7 +18,7 @@ has_type is.Text tree = is_text tree
 has_type is.Number (number spelling) = true
 has_type is.NumberOrText (number spelling) = true
 has_type is.NumberOrText (text t) = true
-has_type is.Texts (list items) = list_all is_text (values_of items)
+has_type is.Texts (list items) = list_all is_text (trees_in items)
 has_type is.TextMap (object members) = each_value is_text members
 has_type _ _ = false
 

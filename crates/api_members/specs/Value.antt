@@ -1,8 +1,8 @@
 -- Which values are valid for a member.
-use Rattle.std.specs.Prelude.{◌≡◌, ℕ, ◌≤◌, nat_le, ◌⊎◌, Bool, true, false, ◌&&◌, List, length, Option, Some, None, codes, IsSome, IsTrue, All}
+use Rattle.std.specs.Prelude.{◌≡◌, ℕ, ◌≤◌, nat_le, ◌⊎◌, Bool, true, false, ◌&&◌, List, length, Option, Some, None, is_some, option_and_then, unwrap_or, codes, IsSome, IsTrue, All}
 use Rattle.std.specs.List.{list_all}
 use Rattle.json_text.specs.Tree.{Tree, truth, text}
-use Rattle.event_shape.specs.Names.{IsQueueName, IsShortName, IsBusName, IsBusGiven, is_account}
+use Rattle.event_shape.specs.Names.{IsQueueName, IsShortName, IsBusName, bus_in, default_bus, is_account}
 use Rattle.bus_policy.specs.Text.{IsPolicyText}
 use Rattle.bus_policy.specs.StatementId.{IsStatementId}
 use Rattle.pattern_meaning.specs.Pattern.{Pattern}
@@ -11,20 +11,16 @@ use Rattle.config_changes.specs.TargetForm.{IsTargetArn}
 use Rattle.api_members.specs.declared.asked.Syntax.{Syntax}
 use Rattle.api_members.specs.declared.asked.Syntax.TheVariants as syntax
 use Rattle.api_members.specs.Given.{list_in}
-use Rattle.api_members.specs.JsonType.{is_text, must_pass}
+use Rattle.api_members.specs.JsonType.{must_pass}
+use Rattle.json_text.specs.Access.{is_text, IsTextThat}
 use Rattle.api_members.specs.Count.{count_of}
 use Rattle.api_members.specs.Entry.{is_entry}
 use Rattle.api_members.specs.Target.{is_target}
 use Rattle.api_members.specs.Event.{GivesEvent}
 
--- a text with this property
-abbrev pub IsTextThat : (List ℕ → Type 0) → Tree → Type 0
-IsTextThat P (text t) = P t
-IsTextThat P _ = ⊥
-
 -- a bus's name or its ARN
 abbrev pub GivesBus : List ℕ → Type 0
-GivesBus t = (bus : List ℕ) × IsBusGiven t bus
+GivesBus t = IsTrue (is_some (bus_in t))
 
 -- the text is some pattern
 abbrev pub IsPattern : List ℕ → Type 0
@@ -51,16 +47,10 @@ abbrev pub is_truth : Tree → Bool
 is_truth (truth b) = true
 is_truth _ = false
 
--- What is given, or else the default.
--- Shown by: wire_tests test_api_wire/requests.rt: a_request_has_what_the_message_gives.
-abbrev pub GivesOr : {X : Type 0} → (X → Type 0) → X → X → Type 0
-GivesOr {X} Gives default x = Gives x ⊎ ((x ≡ default) × ((other : X) → ¬ Gives other))
-
--- The member gives this bus, by its name or its ARN.
+-- The bus whose name or ARN is given, or else `default`.
 -- Shown by: wire_tests test_api_wire.rt: a_rule_is_refused_for_its_first_member.
-abbrev pub HasBus : Option (List ℕ) → List ℕ → Type 0
-HasBus None bus = ⊥
-HasBus (Some t) bus = IsBusGiven t bus
+abbrev pub bus_or_default : Option (List ℕ) → List ℕ
+bus_or_default given = unwrap_or (option_and_then bus_in given) default_bus
 
 -- 1 to `most` values, each of which passes
 abbrev pub are_few : (Tree → Bool) → ℕ → List Tree → Bool

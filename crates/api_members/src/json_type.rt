@@ -3,6 +3,7 @@ ghost use Rattle.std.specs.Prelude.{◌≡◌};
 ghost use Rattle.std.specs.List.{list_all};
 ghost use Rattle.json_text.specs.Tree.{members_of};
 ghost use Rattle.json_text.specs.View.{tree_of, trees_of, pairs_of};
+ghost use Rattle.json_text.specs.Access.{is_text};
 ghost use Rattle.api_members.specs.Given.{value_at};
 ghost use Rattle.api_members.specs.JsonType as spec;
 
@@ -55,7 +56,7 @@ fn has_type(value: &Json, json_type: JsonType) -> bool
 
 /// Whether the value is a text.
 pub(crate) fn is_text(value: &Json) -> bool
-    ensures { result ≡ spec.is_text (tree_of value.now) }
+    ensures { result ≡ is_text (tree_of value.now) }
 {
     match value {
         Json::Str(_) => true,
@@ -64,7 +65,7 @@ pub(crate) fn is_text(value: &Json) -> bool
 }
 
 fn are_texts(items: &[Json]) -> bool
-    ensures { result ≡ list_all spec.is_text (trees_of items.now) }
+    ensures { result ≡ list_all is_text (trees_of items.now) }
 {
     for item in items {
         if !is_text(item) {
@@ -75,7 +76,7 @@ fn are_texts(items: &[Json]) -> bool
 }
 
 fn is_text_map(members: &[(Text, Json)]) -> bool
-    ensures { result ≡ spec.each_value spec.is_text (members_of (pairs_of members.now)) }
+    ensures { result ≡ spec.each_value is_text (members_of (pairs_of members.now)) }
 {
     for (_key, value) in members {
         if !is_text(value) {

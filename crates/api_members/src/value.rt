@@ -4,7 +4,8 @@ ghost use Rattle.std.specs.List.{list_all};
 ghost use Rattle.std.specs.Option.{option_copied};
 ghost use Rattle.json_text.specs.Tree.{members_of};
 ghost use Rattle.json_text.specs.View.{tree_of, trees_of, pairs_of};
-ghost use Rattle.event_shape.specs.Names.{IsBusName, IsQueueName, IsShortName, default_bus};
+ghost use Rattle.json_text.specs.Access.{IsTextThat};
+ghost use Rattle.event_shape.specs.Names.{IsBusName, IsQueueName, IsShortName};
 ghost use Rattle.bus_policy.specs.StatementId.{IsStatementId};
 ghost use Rattle.config_changes.specs.TargetForm.{IsTargetArn};
 ghost use Rattle.api_members.specs.Given.{text_given};
@@ -24,7 +25,7 @@ use json_text::{Json, NoMemory, Text};
 use std::alloc::Global;
 
 pub(crate) fn is_queue(value: &Json) -> bool
-    ensures { IsTrue result ↔ spec.IsTextThat IsQueueName (tree_of value.now) }
+    ensures { IsTrue result ↔ IsTextThat IsQueueName (tree_of value.now) }
 {
     match value {
         Json::Str(text) => is_queue_name(text.as_str()),
@@ -33,7 +34,7 @@ pub(crate) fn is_queue(value: &Json) -> bool
 }
 
 pub(crate) fn is_rule(value: &Json) -> bool
-    ensures { IsTrue result ↔ spec.IsTextThat IsShortName (tree_of value.now) }
+    ensures { IsTrue result ↔ IsTextThat IsShortName (tree_of value.now) }
 {
     match value {
         Json::Str(text) => is_rule_name(text.as_str()),
@@ -43,7 +44,7 @@ pub(crate) fn is_rule(value: &Json) -> bool
 
 /// Whether the value is the name of a bus; an ARN is none.
 pub(crate) fn is_named_bus(value: &Json) -> bool
-    ensures { IsTrue result ↔ spec.IsTextThat IsBusName (tree_of value.now) }
+    ensures { IsTrue result ↔ IsTextThat IsBusName (tree_of value.now) }
 {
     match value {
         Json::Str(text) => is_bus_name(text.as_str()),
@@ -52,7 +53,7 @@ pub(crate) fn is_named_bus(value: &Json) -> bool
 }
 
 pub(crate) fn is_bus(value: &Json) -> bool
-    ensures { IsTrue result ↔ spec.IsTextThat spec.GivesBus (tree_of value.now) }
+    ensures { IsTrue result ↔ IsTextThat spec.GivesBus (tree_of value.now) }
 {
     match value {
         Json::Str(text) => gives_bus(text.as_str()),
@@ -71,13 +72,13 @@ fn gives_bus(text: &str) -> bool
 
 /// The name of the bus that the member gives as a name or as an ARN, or `default` if it gives none.
 pub fn bus_given(alloc: Global, members: &[(Text, Json)], member: Member) -> Result<Text, NoMemory>
-    ensures { IfOk result (λ bus. spec.GivesOr (spec.HasBus (text_given member (members_of (pairs_of members.now)))) default_bus bus) }
+    ensures { IfOk result (λ bus. bus ≡ spec.bus_or_default (text_given member (members_of (pairs_of members.now)))) }
 {
     Text::from_str(alloc, bus_name(text_given(members, member)))
 }
 
 fn bus_name(text: Option<&str>) -> &str
-    ensures { spec.GivesOr (spec.HasBus (option_copied text.entry)) default_bus result.now }
+    ensures { result.now ≡ spec.bus_or_default (option_copied text.entry) }
 {
     match text {
         Some(text) => match bus_of(text) {
@@ -90,7 +91,7 @@ fn bus_name(text: Option<&str>) -> &str
 
 /// Whether the value is the ARN of a queue, or an endpoint.
 pub(crate) fn is_target_arn(alloc: Global, value: &Json) -> Result<bool, NoMemory>
-    ensures { IfOk result (λ b. IsTrue b ↔ spec.IsTextThat IsTargetArn (tree_of value.now)) }
+    ensures { IfOk result (λ b. IsTrue b ↔ IsTextThat IsTargetArn (tree_of value.now)) }
 {
     match value {
         Json::Str(text) => config_changes::is_target_arn(alloc, text.as_str()),
@@ -100,7 +101,7 @@ pub(crate) fn is_target_arn(alloc: Global, value: &Json) -> Result<bool, NoMemor
 
 /// Whether the value has the syntax of a StatementId.
 pub(crate) fn is_sid(value: &Json) -> bool
-    ensures { IsTrue result ↔ spec.IsTextThat IsStatementId (tree_of value.now) }
+    ensures { IsTrue result ↔ IsTextThat IsStatementId (tree_of value.now) }
 {
     match value {
         Json::Str(text) => is_statement_id(text.as_str()),
@@ -109,7 +110,7 @@ pub(crate) fn is_sid(value: &Json) -> bool
 }
 
 pub(crate) fn is_put_events(value: &Json) -> bool
-    ensures { IsTrue result ↔ spec.IsTextThat (λ t. t ≡ codes "events:PutEvents") (tree_of value.now) }
+    ensures { IsTrue result ↔ IsTextThat (λ t. t ≡ codes "events:PutEvents") (tree_of value.now) }
 {
     match value {
         Json::Str(text) => text.as_str() == "events:PutEvents",
@@ -118,7 +119,7 @@ pub(crate) fn is_put_events(value: &Json) -> bool
 }
 
 pub(crate) fn is_principal(value: &Json) -> bool
-    ensures { IsTrue result ↔ spec.IsTextThat spec.IsGrantee (tree_of value.now) }
+    ensures { IsTrue result ↔ IsTextThat spec.IsGrantee (tree_of value.now) }
 {
     match value {
         Json::Str(text) => is_grantee(text.as_str()),
@@ -142,7 +143,7 @@ pub(crate) fn is_truth(value: &Json) -> bool
 }
 
 pub(crate) fn is_state(value: &Json) -> bool
-    ensures { IsTrue result ↔ spec.IsTextThat spec.IsState (tree_of value.now) }
+    ensures { IsTrue result ↔ IsTextThat spec.IsState (tree_of value.now) }
 {
     match value {
         Json::Str(text) => is_state_name(text.as_str()),
@@ -216,7 +217,7 @@ pub(crate) fn are_ids(value: &Json) -> bool
 }
 
 fn all_ids(values: &[Json]) -> bool
-    ensures { IsTrue result ↔ All (spec.IsTextThat IsShortName) (trees_of values.now) }
+    ensures { IsTrue result ↔ All (IsTextThat IsShortName) (trees_of values.now) }
 {
     for value in values {
         if !is_id(value) {
@@ -227,7 +228,7 @@ fn all_ids(values: &[Json]) -> bool
 }
 
 fn is_id(value: &Json) -> bool
-    ensures { IsTrue result ↔ spec.IsTextThat IsShortName (tree_of value.now) }
+    ensures { IsTrue result ↔ IsTextThat IsShortName (tree_of value.now) }
 {
     match value {
         Json::Str(text) => is_target_id(text.as_str()),

@@ -4,7 +4,6 @@ use Rattle.std.specs.Prelude.{IsSome}
 use Rattle.std.proofs.lemmas.Bool.{false≢true}
 use Rattle.json_text.specs.Tree.{Tree, Members}
 use Rattle.json_text.specs.Compact.{compact_text}
-use Rattle.event_shape.specs.Names.{default_bus}
 use Rattle.bus_policy.proofs.ReadLemmas.{one_policy}
 use Rattle.router_core.specs.Request.{Action, create_event_bus, delete_event_bus, describe_event_bus, list_event_buses, put_rule, delete_rule}
 use Rattle.router_core.specs.Request.{put_rule_state, describe_rule, list_rules, put_targets, remove_targets, list_targets_by_rule}
@@ -16,7 +15,6 @@ use Rattle.api_members.specs.Given.{given, text_given, text_of, values_in}
 use Rattle.api_members.specs.Entry.{texts_of, entries_of}
 use Rattle.api_members.specs.Count.{count_given}
 use Rattle.api_members.proofs.CheckedLemmas.{one_checking}
-use Rattle.api_members.proofs.OneLemmas.{one_bus}
 use Rattle.api_members.proofs.TextLemmas.{one_event}
 use Rattle.api_wire.specs.declared.call.operation.Operation.{Operation}
 use Rattle.api_wire.specs.declared.call.operation.Operation.TheVariants.{CreateEventBus, DeleteEventBus, DescribeEventBus, ListEventBuses}
@@ -32,7 +30,7 @@ OneAction operation = (caller : List ℕ) (ms : Members) (reading : ℕ) (a b : 
     → IsAction operation caller ms reading b → a ≡ b
 
 same_bus_in : (m : Member) (ms : Members) (a b : List ℕ) → NamesBusIn m ms a → NamesBusIn m ms b → a ≡ b
-same_bus_in m ms a b = one_bus (text_given m ms) default_bus a b
+same_bus_in m ms a b is so = is ∙ sym so
 
 same_bus : (ms : Members) (a b : List ℕ) → NamesBus ms a → NamesBus ms b → a ≡ b
 same_bus ms a b = same_bus_in member.EventBusName ms a b

@@ -9,9 +9,9 @@ use Rattle.json_text.specs.Tree.{Tree, text, Members}
 use Rattle.json_text.specs.Compact.{IsValue, compact_text}
 use Rattle.json_text.proofs.ValueLemmas.{text_is_value}
 use Rattle.json_text.specs.Access.{text_in}
-use Rattle.event_shape.specs.Names.{IsBusName, IsShortName, IsQueueName, default_bus, is_account}
+use Rattle.event_shape.specs.Names.{IsBusName, IsShortName, IsQueueName, default_bus, bus_in, bus_of_entry, is_account}
+use Rattle.event_shape.proofs.NameLemmas.{bus_given}
 use Rattle.event_shape.specs.Entry.{Entry}
-use Rattle.event_shape.specs.Event.{IsBusOf}
 use Rattle.event_shape.specs.Unnumbered.{Unnumbered}
 use Rattle.event_shape.specs.declared.entry.EntryFault.{EntryFault}
 use Rattle.bus_policy.specs.Change.{IsAccountGiven}
@@ -30,7 +30,8 @@ use Rattle.api_members.specs.CheckedEntry.{IsChecked, AreChecked}
 use Rattle.api_members.specs.Target.{is_target}
 use Rattle.api_members.specs.Count.{count_given}
 use Rattle.config_changes.specs.TargetForm.{IsTargetArn}
-use Rattle.api_members.specs.Value.{IsTextThat, IsGrantee, are_few, is_list_of, HasBus, GivesOr, IsValid}
+use Rattle.api_members.specs.Value.{IsGrantee, are_few, is_list_of, bus_or_default, IsValid}
+use Rattle.json_text.specs.Access.{IsTextThat}
 use Rattle.api_members.specs.Refusal.{ValidOr, IsSoundMember}
 use Rattle.api_members.proofs.CheckedLemmas.{checked_len}
 use Rattle.api_members.proofs.CountLemmas.{within_limits}
@@ -39,16 +40,19 @@ use Rattle.api_wire.specs.Call.{NamesBusIn, account_in, IsStoredAs, target_with,
 
 -- `default` is a bus's name
 default_is_name : IsBusName default_bus
-default_is_name = (omega arith, omega arith, refl)
+default_is_name = refl
 
-bus_in : (v : Option (List ℕ)) (bus : List ℕ) → GivesOr (HasBus v) default_bus bus → IsBusName bus
-bus_in v bus (inr is) = rw is.0 default_is_name
-bus_in None bus (inl is) = absurd is
-bus_in (Some t) bus (inl is) = is.0
+found_bus : (t : List ℕ) (o : Option (List ℕ)) → bus_in t ≡ o → IsBusName (unwrap_or o default_bus)
+found_bus t None is = default_is_name
+found_bus t (Some bus) is = ((bus_given t bus).0 is).0
+
+bus_is_name : (v : Option (List ℕ)) → IsBusName (bus_or_default v)
+bus_is_name None = default_is_name
+bus_is_name (Some t) = found_bus t (bus_in t) refl
 
 -- a member that gives a bus, or `default`
 pub bus_named : (m : Member) (ms : Members) (bus : List ℕ) → NamesBusIn m ms bus → IsBusName bus
-bus_named m ms bus is = bus_in (text_given m ms) bus is
+bus_named m ms bus is = rw is (bus_is_name (text_given m ms))
 
 -- a required name of a rule, of a bus, or of a queue
 pub short_name : (m : Member) (ms : Members) → IsSoundMember (Required m syntax.RuleName) ms → IsShortName (text_of m ms)
@@ -114,9 +118,9 @@ entry_bounds ms reading caller all sound checked =
     let each = checked_len reading caller (entries_of values) all checked in
     (omega (arith, some.0, same, each), omega (arith, some.1, same, each))
 
-entry_bus : (o : Option (List ℕ)) (bus : List ℕ) → IsBusOf o bus → IsBusName bus
-entry_bus None bus is = rw is default_is_name
-entry_bus (Some t) bus is = is.0
+entry_bus : (o : Option (List ℕ)) (bus : List ℕ) → bus_of_entry o ≡ Some bus → IsBusName bus
+entry_bus None bus is = let same : default_bus ≡ bus = cc in subst IsBusName same default_is_name
+entry_bus (Some t) bus is = ((bus_given t bus).0 is).0
 
 -- what holds of each event for a bus name, and of each fault, holds of each checked entry
 pub each_checked : (P : Result Unnumbered EntryFault → Type 0) (reading : ℕ) (caller : List ℕ) (entries : List Entry)

@@ -6,7 +6,7 @@ use Rattle.json_text.specs.Tree.{Tree, truth, object, Members, no_members}
 use Rattle.json_text.specs.Compact.{compact_text}
 use Rattle.json_text.specs.Node.{Node, value_of}
 use Rattle.json_text.specs.Grammar.{IsText}
-use Rattle.event_shape.specs.Names.{default_bus, owner, is_account}
+use Rattle.event_shape.specs.Names.{owner, is_account}
 use Rattle.bus_policy.specs.Text.{IsPolicyText}
 use Rattle.config_changes.specs.declared.control.RetryPolicy.{RetryPolicy}
 use Rattle.config_changes.specs.declared.control.Target.{Target}
@@ -27,7 +27,7 @@ use Rattle.api_members.specs.CheckedEntry.{AreChecked, total_size}
 use Rattle.api_members.specs.Event.{IsEventGiven}
 use Rattle.api_members.specs.Count.{count_given}
 use Rattle.api_members.specs.Target.{attempts_given, age_given, dead_letter_given}
-use Rattle.api_members.specs.Value.{GivesOr, HasBus}
+use Rattle.api_members.specs.Value.{bus_or_default}
 use Rattle.api_members.specs.Refusal.{AreSound, IsFirstRefusal}
 use Rattle.api_wire.specs.declared.call.operation.Operation.{Operation}
 use Rattle.api_wire.specs.declared.call.operation.Operation.TheVariants.{CreateEventBus, DeleteEventBus, DescribeEventBus, ListEventBuses}
@@ -120,7 +120,7 @@ asked DutyCounts ms = []
 -- The bus whose name or ARN this member gives, or else `default`.
 -- Shown by: wire_tests test_api_wire.rt: a_call_on_a_bus_has_its_first_refusal.
 abbrev pub NamesBusIn : Member → Members → List ℕ → Type 0
-NamesBusIn m ms bus = GivesOr (HasBus (text_given m ms)) default_bus bus
+NamesBusIn m ms bus = bus ≡ bus_or_default (text_given m ms)
 
 -- The `NamesBusIn` of the member EventBusName.
 -- Shown by: wire_tests test_api_wire/requests.rt: a_request_has_what_the_message_gives.

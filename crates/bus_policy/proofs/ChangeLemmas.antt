@@ -14,7 +14,8 @@ use Rattle.json_text.proofs.WrittenUtf8.{small_utf8}
 use Rattle.event_shape.specs.Names.{is_account, bus_arn}
 use Rattle.json_text.specs.Access.{member_of}
 use Rattle.bus_policy.specs.Parts.{statements_of, has_sid, root_arn}
-use Rattle.bus_policy.specs.Grammar.{each_item, is_object, is_principal_value, statement_fault, first_fault}
+use Rattle.bus_policy.specs.Grammar.{each_item, is_principal_value, statement_fault, first_fault}
+use Rattle.json_text.specs.Access.{is_object}
 use Rattle.bus_policy.specs.Stored.{default_version, policy_with, IsStored}
 use Rattle.bus_policy.specs.Change.{IsAccountGiven, principal_for, allow_for, with_last, first_policy, with_statement, without_sid}
 use Rattle.bus_policy.specs.Change.{without_statement, some_has_sid}

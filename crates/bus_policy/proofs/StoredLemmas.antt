@@ -10,7 +10,8 @@ use Rattle.bus_policy.specs.declared.fault.PolicyCause.{PolicyCause}
 use Rattle.bus_policy.specs.declared.fault.PolicyCause.TheVariants.{NotObject, BadVersion}
 use Rattle.json_text.specs.Access.{member_in, member_of}
 use Rattle.bus_policy.specs.Parts.{statements_in, statements_of, text_passes}
-use Rattle.bus_policy.specs.Grammar.{each_item, is_object, are_statements, member_is, is_version, first_fault, IsPolicy}
+use Rattle.bus_policy.specs.Grammar.{each_item, are_statements, member_is, is_version, first_fault, IsPolicy}
+use Rattle.json_text.specs.Access.{is_object}
 use Rattle.bus_policy.specs.Stored.{default_version, policy_with, stored_of, IsStored}
 
 -- the value is one, if there is one

@@ -10,7 +10,7 @@ use Rattle.bus_policy.specs.declared.fault.PolicyCause.{PolicyCause}
 use Rattle.bus_policy.specs.declared.fault.PolicyCause.TheVariants.{TooLong, NotJson, TooDeep, KeyTwice, NotObject, BadVersion, BadSid}
 use Rattle.bus_policy.specs.declared.fault.PolicyCause.TheVariants.{BadEffect, BadPrincipal, BadAction, BadResource, BadCondition}
 use Rattle.bus_policy.specs.declared.fault.PolicyCause.TheVariants.{UnknownMember}
-use Rattle.json_text.specs.Access.{member_of}
+use Rattle.json_text.specs.Access.{is_object, member_of}
 use Rattle.bus_policy.specs.Parts.{statements_of, text_passes, has_sid, root_arn}
 
 abbrev pub each_item : (Tree → Bool) → Items → Bool
@@ -20,14 +20,6 @@ each_item test (item t items) = test t && each_item test items
 abbrev pub each_member : (List ℕ → Tree → Bool) → Members → Bool
 each_member test no_members = true
 each_member test (member key t members) = test key t && each_member test members
-
-abbrev pub is_object : Tree → Bool
-is_object (object inside) = true
-is_object null = false
-is_object (truth b) = false
-is_object (number spelling) = false
-is_object (text t) = false
-is_object (list items) = false
 
 -- an object, each of whose members passes the test
 abbrev pub is_object_of : (List ℕ → Tree → Bool) → Tree → Bool

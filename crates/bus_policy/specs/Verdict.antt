@@ -7,7 +7,7 @@ use Rattle.json_text.specs.Tree.{Tree, null, truth, number, text, list, object, 
 use Rattle.leaf_match.specs.Piece.{Fits}
 use Rattle.leaf_match.specs.Like.{like_pieces}
 use Rattle.event_shape.specs.Names.{is_account, owner, bus_arn}
-use Rattle.json_text.specs.Access.{member_of}
+use Rattle.json_text.specs.Access.{IsTextThat, member_of}
 use Rattle.bus_policy.specs.Parts.{has_effect, root_arn, statements_of}
 
 -- Who asks to put which event on which bus, each by its text; the bus by its name.
@@ -24,15 +24,6 @@ pub data Verdict : Type 0 where
   allowed : Verdict
   denied_by : List ℕ → Verdict
   no_allow : Verdict
-
--- the value is a text that is such
-abbrev pub IsTextThat : (List ℕ → Type 0) → Tree → Type 0
-IsTextThat P (text t) = P t
-IsTextThat P null = ⊥
-IsTextThat P (truth b) = ⊥
-IsTextThat P (number spelling) = ⊥
-IsTextThat P (list items) = ⊥
-IsTextThat P (object inside) = ⊥
 
 abbrev pub SomeItem : (List ℕ → Type 0) → Items → Type 0
 SomeItem P no_items = ⊥

@@ -2,7 +2,7 @@
 ghost use Rattle.std.specs.Prelude.{◌≡◌, true, false, [], Some, codes};
 ghost use Rattle.json_text.specs.Tree.{items_of};
 ghost use Rattle.json_text.specs.View.{tree_of, trees_of};
-ghost use Rattle.json_text.specs.Access.{member_of};
+ghost use Rattle.json_text.specs.Access.{is_object, member_of};
 ghost use Rattle.bus_policy.specs.Grammar as spec;
 ghost use Rattle.bus_policy.specs.Parts as part;
 
@@ -44,23 +44,14 @@ fn are_statements(json: &Json) -> bool
 }
 
 fn each_object(items: &[Json]) -> bool
-    ensures { result ≡ spec.each_item spec.is_object (items_of (trees_of items.now)) }
+    ensures { result ≡ spec.each_item is_object (items_of (trees_of items.now)) }
 {
     for item in items {
-        if !is_object(item) {
+        if !item.is_object() {
             return false;
         }
     }
     true
-}
-
-fn is_object(json: &Json) -> bool
-    ensures { result ≡ spec.is_object (tree_of json.now) }
-{
-    match json {
-        Json::Obj(_) => true,
-        _ => false,
-    }
 }
 
 /// No version, or one of the two that there are.

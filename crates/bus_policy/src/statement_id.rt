@@ -1,12 +1,12 @@
 //! The syntax of a statement's id.
-ghost use Rattle.std.specs.Prelude.{◌≡◌, ◌↔◌, IsTrue};
+ghost use Rattle.std.specs.Prelude.{◌≡◌};
 ghost use Rattle.std.specs.List.{list_all};
 ghost use Rattle.event_shape.specs.Names.{is_queue_byte as passes};
-ghost use Rattle.bus_policy.specs.StatementId.{IsStatementId};
+ghost use Rattle.bus_policy.specs.StatementId as spec;
 
 /// A StatementId has 1 to 64 bytes of `A-Z a-z 0-9 - _`.
 pub fn is_statement_id(sid: &str) -> bool
-    ensures { IsTrue result ↔ IsStatementId sid.now }
+    ensures { result ≡ spec.is_statement_id sid.now }
 {
     !sid.is_empty() && sid.len() <= 64 && are_id_bytes(sid)
 }

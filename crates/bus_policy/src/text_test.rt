@@ -2,7 +2,8 @@
 ghost use Rattle.std.specs.Prelude.{◌≡◌, ◌↔◌, ℕ, List, IsTrue};
 ghost use Rattle.json_text.specs.Tree.{items_of};
 ghost use Rattle.json_text.specs.View.{tree_of, trees_of};
-ghost use Rattle.bus_policy.specs.Verdict.{IsTextThat, SomeItem, SomeText};
+ghost use Rattle.bus_policy.specs.Verdict.{SomeItem, SomeText};
+ghost use Rattle.json_text.specs.Access.{IsTextThat};
 
 use json_text::Json;
 

@@ -1,68 +1,21 @@
 -- A target is well formed or has one first member that is not: `form_decided`, `one_member`, `faulty_not_formed`; of ARNs of queues
--- `arn_decided` and `one_queue`; and `by_option`, `some_once`, `not_both`, `true_and_false`.
-use Rattle.std.proofs.Common.{◌≡◌, ◌⊎◌, ℕ, Bool, true, false, List, length, drop, Option, Some, None}
-use Rattle.std.proofs.Common.{inl, inr, refl, sym, ap, ◌∙◌, subst, arith}
-use Rattle.std.specs.List.{list_all}
-use Rattle.std.specs.Str.{bytes_eq}
+-- `queue_or_endpoint`, `queue_is_target`, `endpoint_is_target`, `dead_letter_queue`; and `by_option`,
+-- `some_once`, `not_both`, `true_and_false`.
+use Rattle.std.proofs.Common.{◌≡◌, ◌⊎◌, ◌||◌, ℕ, Bool, true, false, is_some, List, Option, Some, None}
+use Rattle.std.proofs.Common.{inl, inr, refl, sym, ap, ◌∙◌}
+use Rattle.std.specs.Prelude.{IsTrue}
 use Rattle.std.proofs.lemmas.Bool.{false≢true}
-use Rattle.std.proofs.lemmas.Bool.Decides.{leb_tells}
-use Rattle.std.proofs.lemmas.Slice.Eq.{bytes_eq-Decides}
-use Rattle.event_shape.specs.Names.{is_name_byte, is_queue_byte, IsNameOf, IsShortName, IsQueueName, IsQueueArn, queue_arn}
+use Rattle.event_shape.specs.Names.{is_short_name, IsShortName, IsQueueArn, queue_in}
+use Rattle.event_shape.proofs.NameLemmas.{queue_named, no_queue}
 use Rattle.http_target.specs.Endpoint.{is_endpoint}
 use Rattle.api_replies.specs.declared.member.Member.{Member}
 use Rattle.name_rows.proofs.RowLemmas.{by_test}
 use Rattle.config_changes.specs.declared.control.Target.{Target}
 use Rattle.config_changes.specs.Retry.{is_retry_valid}
-use Rattle.config_changes.specs.TargetForm.{IsTargetArn, IsDeadLetterArn, IsWellFormedTarget}
+use Rattle.config_changes.specs.TargetForm.{is_target_arn, is_dead_letter_arn, IsTargetArn, IsWellFormedTarget}
 use Rattle.config_changes.specs.TargetForm.{HasMemberFault, bad_id, bad_arn, unsupported, bad_retry, bad_dead_letter}
 
--- ---- what can be decided
-
-name_decided : (test : ℕ → Bool) (most : ℕ) (name : List ℕ) → IsNameOf test most name ⊎ (¬ IsNameOf test most name)
-name_decided test most name = elim (leb_tells 1 (length name)) [
-  | inr (_, short) ↦ inr (λ h. omega (arith, h.0, short))
-  | inl (_, some) ↦ elim (leb_tells (length name) most) [
-    | inr (_, long) ↦ inr (λ h. omega (arith, h.1, long))
-    | inl (_, few) ↦ by_test (list_all test name)
-        (λ all. inl (some, few, all))
-        (λ not_all. inr (λ h. false≢true (sym not_all ∙ h.2)))
-  ]
-]
-
--- the text after the 35 bytes of a queue ARN's prefix
-abbrev name_in : List ℕ → List ℕ
-name_in arn = drop 35 arn
-
-name_in_arn : (queue : List ℕ) → name_in (queue_arn queue) ≡ queue
-name_in_arn queue = refl
-
-pub one_queue : (arn a b : List ℕ) → IsQueueArn arn a → IsQueueArn arn b → a ≡ b
-one_queue arn a b (_, is) (_, so) = sym (name_in_arn a) ∙ ap name_in (sym is ∙ so) ∙ name_in_arn b
-
-pub arn_decided : (arn : List ℕ) → ((queue : List ℕ) × IsQueueArn arn queue) ⊎ ((queue : List ℕ) → ¬ IsQueueArn arn queue)
-arn_decided arn =
-    let same = bytes_eq-Decides arn (queue_arn (name_in arn)) in
-    by_test (bytes_eq arn (queue_arn (name_in arn)))
-    (λ e. elim (name_decided is_queue_byte 80 (name_in arn)) [
-      | inl valid ↦ inl (name_in arn, (valid, same.0 e))
-      | inr invalid ↦ inr (λ queue (valid, is). invalid (subst IsQueueName (sym (ap name_in is ∙ name_in_arn queue)) valid))
-    ])
-    (λ e. inr (λ queue (valid, is).
-    let inside : queue_arn (name_in arn) ≡ queue_arn queue = ap queue_arn (ap name_in is ∙ name_in_arn queue) in
-    false≢true (sym e ∙ same.1 (is ∙ sym inside))))
-
--- the kind of an ARN is decided by whether it is a queue's, and then by whether it is an endpoint
-target_arn_decided : (arn : List ℕ) → IsTargetArn arn ⊎ (¬ IsTargetArn arn)
-target_arn_decided arn = elim (arn_decided arn) [
-  | inl queue ↦ inl (inl queue)
-  | inr none ↦ by_test (is_endpoint arn)
-      (λ e. inl (inr e))
-      (λ e. inr (λ is. elim is [ inl named ↦ none named.0 named.1 | inr endpoint ↦ false≢true (sym e ∙ endpoint) ]))
-]
-
-pub dead_letter_decided : (arn : Option (List ℕ)) → IsDeadLetterArn arn ⊎ (¬ IsDeadLetterArn arn)
-dead_letter_decided None = inl tt
-dead_letter_decided (Some arn) = elim (arn_decided arn) [ inl queue ↦ inl queue | inr none ↦ inr (λ is. none is.0 is.1) ]
+-- ---- values that are there or not
 
 pub by_option : {A G : Type 0} (o : Option A) → (o ≡ None → G) → ((a : A) → o ≡ Some a → G) → G
 by_option None none some = none refl
@@ -77,7 +30,34 @@ not_both o a p q = cc
 pub true_and_false : (b : Bool) → b ≡ true → b ≡ false → ⊥
 true_and_false b t f = false≢true (sym f ∙ t)
 
+-- ---- ARNs of queues
+
+pub queue_or_endpoint : (arn : List ℕ) → IsTargetArn arn
+    → ((queue : List ℕ) × IsQueueArn arn queue) ⊎ (((queue : List ℕ) → ¬ IsQueueArn arn queue) × (is_endpoint arn ≡ true))
+queue_or_endpoint arn is = by_option (queue_in arn)
+    (λ none. inr (no_queue arn none, sym (ap (λ o. is_some o || is_endpoint arn) none) ∙ is))
+    (λ queue some. inl (queue, (queue_named arn queue).0 some))
+
+pub queue_is_target : (arn queue : List ℕ) → IsQueueArn arn queue → IsTargetArn arn
+queue_is_target arn queue is = ap (λ o. is_some o || is_endpoint arn) ((queue_named arn queue).1 is)
+
+either_true : (b : Bool) → (b || true) ≡ true
+either_true true = refl
+either_true false = refl
+
+pub endpoint_is_target : (arn : List ℕ) → is_endpoint arn ≡ true → IsTargetArn arn
+endpoint_is_target arn is = ap (λ b. is_some (queue_in arn) || b) is ∙ either_true (is_some (queue_in arn))
+
+pub dead_letter_queue : (arn : List ℕ) → IsTrue (is_dead_letter_arn (Some arn)) → (queue : List ℕ) × IsQueueArn arn queue
+dead_letter_queue arn is = by_option (queue_in arn)
+    (λ none. absurd (false≢true (sym (ap is_some none) ∙ is)))
+    (λ queue some. (queue, (queue_named arn queue).0 some))
+
 -- ---- the members of one target
+
+decided : (b : Bool) → IsTrue b ⊎ (¬ IsTrue b)
+decided true = inl refl
+decided false = inr false≢true
 
 abbrev IsFormDecided : Target → Type 0
 IsFormDecided target = IsWellFormedTarget target ⊎ ((first : Member) × HasMemberFault target first)
@@ -85,16 +65,16 @@ IsFormDecided target = IsWellFormedTarget target ⊎ ((first : Member) × HasMem
 retry_decided : (target : Target) → IsShortName target.id → IsTargetArn target.arn → target.unbuilt ≡ None → IsFormDecided target
 retry_decided target id arn none =
     by_test (is_retry_valid target.retry)
-    (λ valid. elim (dead_letter_decided target.dead_letter) [
+    (λ valid. elim (decided (is_dead_letter_arn target.dead_letter)) [
       | inl dead ↦ inl (record { id = id; arn = arn; supported = none; retry = valid; dead_letter = dead })
       | inr wrong ↦ inr (_, bad_dead_letter id arn none valid wrong)
     ])
     (λ wrong. inr (_, bad_retry id arn none wrong))
 
 pub form_decided : (target : Target) → IsFormDecided target
-form_decided target = elim (name_decided is_name_byte 64 target.id) [
+form_decided target = elim (decided (is_short_name target.id)) [
   | inr wrong ↦ inr (_, bad_id wrong)
-  | inl id ↦ elim (target_arn_decided target.arn) [
+  | inl id ↦ elim (decided (is_target_arn target.arn)) [
     | inr absent ↦ inr (_, bad_arn id absent)
     | inl arn ↦ by_option target.unbuilt
         (λ none. retry_decided target id arn none)

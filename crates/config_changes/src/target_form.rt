@@ -1,6 +1,7 @@
 //! Targets that are well formed, whatever the rule set is.
-ghost use Rattle.std.specs.Prelude.{◌↔◌, IfOk, IsTrue, MatchOption};
-ghost use Rattle.config_changes.specs.TargetForm.{IsTargetArn, IsDeadLetterArn, IsWellFormedTarget, HasMemberFault};
+ghost use Rattle.std.specs.Prelude.{◌≡◌, IfOk, MatchOption};
+ghost use Rattle.config_changes.specs.TargetForm.{IsWellFormedTarget, HasMemberFault};
+ghost use Rattle.config_changes.specs.TargetForm as spec;
 
 use crate::control::Target;
 use crate::retry::is_retry_valid;
@@ -34,7 +35,7 @@ pub fn member_fault(alloc: Global, target: &Target) -> Result<Option<Member>, No
 
 /// Whether the text is the ARN of a queue or the URL of an HTTP endpoint.
 pub fn is_target_arn(alloc: Global, arn: &str) -> Result<bool, NoMemory>
-    ensures { IfOk result (λ yes. IsTrue yes ↔ IsTargetArn arn.now) }
+    ensures { IfOk result (λ yes. yes ≡ spec.is_target_arn arn.now) }
 {
     if queue_of(arn).is_some() {
         return Ok(true);
@@ -44,7 +45,7 @@ pub fn is_target_arn(alloc: Global, arn: &str) -> Result<bool, NoMemory>
 
 /// Whether there is no dead-letter queue, or its ARN is that of a queue.
 fn is_dead_letter_arn(arn: &Option<Text>) -> bool
-    ensures { IsTrue result ↔ IsDeadLetterArn arn.now }
+    ensures { result ≡ spec.is_dead_letter_arn arn.now }
 {
     match arn {
         Some(arn) => queue_of(arn.as_str()).is_some(),

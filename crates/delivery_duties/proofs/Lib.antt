@@ -13,6 +13,7 @@ mod RetryLemmas
 mod EntryLemmas
 mod RowsLemmas
 mod OrderLemmas
+mod RowLemmas
 mod FromLemmas
 mod MessageLemmas
 mod QueueLemmas

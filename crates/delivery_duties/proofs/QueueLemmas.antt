@@ -1,7 +1,8 @@
 -- Queues in the byte order of their names: one more (`created_before`, `created_here`, `sorted_created`) one less
 -- (`removed_here`, `sorted_removed`), and the messages of one (`messages_named`,
--- `some_left`, `none_left`).
-use Rattle.std.proofs.Common.{Bool, cond, true, false, not, Option, Some, None, ◌≡◌, ℕ, suc, ◌+◌, List, [], ◌∷◌, ◌++◌, length, take, drop, refl, sym, ap, ◌∙◌, subst, arith, append_assoc}
+-- `some_left`).
+use Rattle.std.proofs.lemmas.Bool.Decides.{nat_tests}
+use Rattle.std.proofs.Common.{◌==◌, Bool, cond, true, false, not, Option, Some, None, ◌≡◌, ℕ, suc, ◌+◌, List, [], ◌∷◌, ◌++◌, length, take, drop, refl, sym, ap, ◌∙◌, subst, arith, append_assoc}
 use Rattle.std.specs.Prelude.{IsTrue, ◌↔◌}
 use Rattle.std.specs.List.{insert}
 use Rattle.std.proofs.lemmas.List.Edits.{insert_end, insert-append_left}
@@ -73,9 +74,9 @@ messages_named name (m ∷ ms) found e =
       | false ↦ λ h. messages_named name ms found h
     ]) e
 
-pub some_left : (b : Bool) (ms all : List StoredMessage) → all ≡ ms → IsTrue b ↔ (ms ≡ []) → IsTrue (not b) ↔ (all ≡ [] → ⊥)
-some_left true ms all e h = (λ t. absurd (cc), λ n. absurd (n (e ∙ h.0 refl)))
-some_left false ms all e h = (λ t i. let b = h.1 (sym e ∙ i) in absurd (cc), λ n. refl)
-
-pub none_left : (all : List StoredMessage) → all ≡ [] → IsTrue false ↔ (all ≡ [] → ⊥)
-none_left all e = (λ t. absurd (cc), λ n. absurd (n e))
+pub some_left : (b : Bool) (ms all : List StoredMessage) → all ≡ ms → IsTrue b ↔ (ms ≡ []) → not b ≡ not (length all == 0)
+some_left true ms all e h = ap (λ (l : List StoredMessage). not (length l == 0)) (sym (e ∙ h.0 refl))
+some_left false [] all e h = absurd (let b = h.1 refl in cc)
+some_left false (m ∷ ms) all e h =
+    let some : not (length (m ∷ ms) == 0) ≡ true = grind (arith, nat_tests) in
+    sym (ap (λ (l : List StoredMessage). not (length l == 0)) e ∙ some)

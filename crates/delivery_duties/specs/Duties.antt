@@ -1,6 +1,6 @@
 -- Duties and their fates. A duty is the delivery of one event to one target. An endpoint is the ARN of a queue or the URL of an HTTP
 -- endpoint. This project's own rules.
-use Rattle.std.specs.Prelude.{◌≡◌, ℕ, ◌+◌, ◌<◌, ◌≤◌, ◌⊎◌, Bool, true, false, if◌then◌else◌, List, [], ◌∷◌, ◌++◌}
+use Rattle.std.specs.Prelude.{◌≡◌, ℕ, ◌+◌, ◌<◌, ◌≤◌, ◌⊎◌, Bool, true, false, not, ◌==◌, ◌||◌, if◌then◌else◌, List, [], ◌∷◌, ◌++◌}
 use Rattle.std.specs.Prelude.{length, Option, Some, None, Any, Contains, filter}
 use Rattle.event_shape.specs.Names.{queue_arn}
 use Rattle.key_tree.specs.Entries.{placed, value_at, without, AreSorted}
@@ -17,6 +17,7 @@ use Rattle.delivery_duties.specs.declared.verdict.Verdict.{Verdict}
 use Rattle.delivery_duties.specs.declared.verdict.Verdict.TheVariants.{Deliver, Retry, Fail}
 use Rattle.delivery_duties.specs.Retry.{Attempt, begun, retried, verdict_of, too_long, dead_letter_queue, failed_fate}
 use Rattle.std.specs.List.{list_any}
+use Rattle.std.specs.Str.{bytes_eq}
 use Rattle.delivery_duties.specs.Queues.{Queue, has_arn, sent_to, messages_of, with_queue, without_queue, deleted_through}
 
 -- The pending duties by number; the duties that ended, in the order of their ends; the queues, in the byte order of their names; and the
@@ -244,13 +245,17 @@ forgotten name s = record s { queues = without_queue name s.queues }
 abbrev pub with_deleted : List ℕ → ℕ → Duties → Duties
 with_deleted queue through s = record s { queues = deleted_through queue through s.queues }
 
+-- the text is given
+abbrev pub is_given_as : List ℕ → Option (List ℕ) → Bool
+is_given_as text None = false
+is_given_as text (Some given) = bytes_eq given text
+
 -- The duty is for the queue, or its dead letter would be.
 -- Shown by: table_tests test_delivery_duties.rt: dead_letters.
-abbrev pub IsForQueue : List ℕ → DutyRow → Type 0
-IsForQueue queue row = (row.duty.target.endpoint ≡ queue_arn queue) ⊎ (row.duty.target.dead_letter ≡ Some (queue_arn queue))
+abbrev pub is_for_queue : List ℕ → DutyRow → Bool
+is_for_queue queue row = bytes_eq row.duty.target.endpoint (queue_arn queue) || is_given_as (queue_arn queue) row.duty.target.dead_letter
 
 -- A pending duty or a message names the queue.
 -- Shown by: a_queue_with_messages_is_deleted.edit.
-abbrev pub IsNamed : List ℕ → Duties → Type 0
-IsNamed queue s = ((n : ℕ) × (row : DutyRow) × (pending_row n s ≡ Some row) × IsForQueue queue row)
-    ⊎ (messages_of queue s.queues ≡ [] → ⊥)
+abbrev pub is_named : List ℕ → Duties → Bool
+is_named queue s = list_any (λ p. is_for_queue queue p.1) s.pending || not (length (messages_of queue s.queues) == 0)

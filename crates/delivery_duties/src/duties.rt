@@ -1,5 +1,5 @@
 //! The duties and queues of a router.
-ghost use Rattle.std.specs.Prelude.{◌≡◌, ◌≢◌, ◌↔◌, ◌+◌, ◌^◌, ◌<◌, ◌≤◌, ℕ, true, false};
+ghost use Rattle.std.specs.Prelude.{◌≡◌, ◌≢◌, ◌↔◌, ◌==◌, not, ◌+◌, ◌^◌, ◌<◌, ◌≤◌, ℕ, true, false};
 ghost use Rattle.std.specs.Prelude.{[], None, Some, IfOk, IfSome, IfNone, IsTrue, MatchOption, All, List, length, map, take};
 ghost use Rattle.json_text.specs.Moment.{IsMoment};
 ghost use Rattle.event_shape.specs.Names.{queue_arn};
@@ -247,14 +247,14 @@ impl Duties {
 
     /// Whether a pending duty or a message names the queue. Visits all pending duties.
     pub fn names(&self, queue: &str) -> bool
-        ensures { IsTrue result ↔ spec.IsNamed queue.now self.now }
+        ensures { result ≡ spec.is_named queue.now self.now }
     {
-        self.has_messages(queue) || self.pending.names(queue)
+        self.pending.names(queue) || self.has_messages(queue)
     }
 
     /// Whether the queue has a message.
     fn has_messages(&self, queue: &str) -> bool
-        ensures { IsTrue result ↔ ¬ (messages_of queue.now self.now.queues ≡ []) }
+        ensures { result ≡ not (length (messages_of queue.now self.now.queues) == 0) }
     {
         match self.queues.find(queue) {
             Some(found) => !found.is_empty(),

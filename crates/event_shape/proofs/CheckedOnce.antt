@@ -1,16 +1,14 @@
--- A value gives one moment, a text one bus, an entry one record of members and such a record one event:
--- `given_once`, `bus_once`, `checked_once`, `made_once`.
+-- A value gives one moment, an entry one record of members and such a record one event:
+-- `given_once`, `checked_once`, `made_once`.
 use Rattle.std.proofs.Common.{◌≡◌, ℕ, ◌<◌, ◌^◌, inl, inr, List, [], ◌∷◌, ◌++◌, Option, Some, None, sym, refl, ap, ◌∙◌, arith, decimal, unwrap_or}
 use Rattle.std.proofs.lemmas.Fmt.{decimal_injective}
 use Rattle.std.proofs.lemmas.List.{append-nil}
 use Rattle.json_text.specs.Number.{IsFraction}
 use Rattle.json_text.specs.Tree.{Tree, null, truth, number, text, list, object}
 use Rattle.event_time.proofs.ClockLemmas.{time_once, iso_once}
-use Rattle.event_shape.specs.Names.{IsBusGiven}
 use Rattle.event_shape.specs.Time.{IsTimeNumber, IsTime}
 use Rattle.event_shape.specs.Entry.{Entry}
-use Rattle.event_shape.specs.Event.{Event, Checked, IsTimeOf, IsBusOf, IsCheckedOf, IsMade}
-use Rattle.event_shape.proofs.NameLemmas.{bus_by_arn}
+use Rattle.event_shape.specs.Event.{Event, Checked, IsTimeOf, IsCheckedOf, IsMade}
 use Rattle.event_shape.proofs.NumberLemmas.{whole_with_places, minus_number}
 use Rattle.event_shape.proofs.OnceLemmas.{same_event}
 
@@ -39,15 +37,6 @@ time_of_once : (given : Option Tree) (a b : Option ℕ) → IsTimeOf given a →
 time_of_once None a b p q = p ∙ sym q
 time_of_once (Some tree) a b (n, e, p) (m, f, q) = e ∙ ap Some (given_once tree n m p q) ∙ sym f
 
-pub bus_once : (t a b : List ℕ) → IsBusGiven t a → IsBusGiven t b → a ≡ b
-bus_once t a b (named, inl e) (also, inl f) = sym e ∙ f
-bus_once t a b p (also, inr f) = bus_by_arn t b f a p
-bus_once t a b (named, inr e) q = sym (bus_by_arn t a e b q)
-
-bus_of_once : (given : Option (List ℕ)) (a b : List ℕ) → IsBusOf given a → IsBusOf given b → a ≡ b
-bus_of_once None a b p q = p ∙ sym q
-bus_of_once (Some t) a b p q = bus_once t a b p q
-
 some_once : {A : Type 0} {o : Option A} {x y : A} → o ≡ Some x → o ≡ Some y → x ≡ y
 some_once {x = x} {y = y} e f = let same : Some x ≡ Some y = sym e ∙ f in cc
 
@@ -65,7 +54,7 @@ pub checked_once : (entry : Entry) (c d : Checked) → IsCheckedOf entry c → I
 checked_once entry c d p q =
     let (bytes, given, detail) = p.detail in
     same_checked c d (some_once p.source q.source) (some_once p.detail_type q.detail_type) (sym p.resources ∙ q.resources)
-    (time_of_once entry.time c.time d.time p.time q.time) (q.only bytes c.detail given detail) (bus_of_once entry.bus c.bus d.bus p.bus q.bus)
+    (time_of_once entry.time c.time d.time p.time q.time) (q.only bytes c.detail given detail) (some_once p.bus q.bus)
 
 pub made_once : (c : Checked) (n reading : ℕ) (caller : List ℕ) (e f : Event) → IsMade c n reading caller e → IsMade c n reading caller f → e ≡ f
 made_once c n reading caller e f p q =

@@ -1,14 +1,14 @@
 -- The events are exactly what entries without a fault become: `event_is_made`, `made_is_event`.
-use Rattle.std.proofs.Common.{◌≡◌, ℕ, ◌<◌, ◌^◌, Some, None, List, sym, subst, refl, unwrap_or}
+use Rattle.std.proofs.Common.{◌≡◌, ℕ, ◌<◌, ◌^◌, Some, None, List, not, sym, ap, subst, refl, unwrap_or}
 use Rattle.std.specs.Str.{IsUtf8}
 use Rattle.json_text.specs.Moment.{IsMoment}
 use Rattle.json_text.specs.Compact.{compact_text}
-use Rattle.event_shape.specs.declared.entry.EntryFault.{EntryFault}
-use Rattle.event_shape.specs.declared.entry.EntryFault.TheVariants.{Source, DetailType, Detail, Time, Bus, Malformed, NotAuthorized}
+use Rattle.json_text.specs.Checks.{AllHold}
 use Rattle.event_shape.specs.Names.{default_bus}
 use Rattle.event_shape.specs.Entry.{Entry}
-use Rattle.event_shape.specs.Fault.{IsDetail, HasFault}
+use Rattle.event_shape.specs.Fault.{IsDetail, entry_checks}
 use Rattle.event_shape.specs.Event.{Event, Checked, HasTexts, IsCheckedOf, IsContent, IsMade, IsEvent}
+use Rattle.event_shape.proofs.CheckLemmas.{text_some}
 use Rattle.event_shape.proofs.MakeLemmas.{checked_members, moment_fits}
 use Rattle.event_shape.proofs.OnceLemmas.{detail_spelled, detail_once}
 
@@ -31,14 +31,8 @@ Content e = IsContent e.source e.detail_type e.resources e.detail
 own_detail : (e : Event) → Content e → IsDetail (compact_text e.detail) e.detail
 own_detail e h = detail_spelled e.detail h.detail_value h.detail_object h.detail_levels
 
-faultless : (e : Event) → Content e → (fault : EntryFault) → ¬ HasFault (entry_with e) fault
-faultless e h Source x = h.source_some x
-faultless e h DetailType x = h.detail_type_some x
-faultless e h Detail x = absurd cc
-faultless e h Time x = x
-faultless e h Bus x = x
-faultless e h Malformed x = x e.detail (own_detail e h)
-faultless e h NotAuthorized x = h.unreserved x
+faultless : (e : Event) → Content e → AllHold (entry_checks (entry_with e))
+faultless e h = (text_some e.source h.source_some, (text_some e.detail_type h.detail_type_some, (refl, (tt, (refl, ((e.detail, own_detail e h), (ap not h.unreserved, tt)))))))
 
 checked_of_event : (e : Event) → Content e → IsCheckedOf (entry_with e) (checked_with e)
 checked_of_event e h = record {

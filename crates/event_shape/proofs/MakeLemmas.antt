@@ -1,15 +1,15 @@
 -- What an entry without a fault becomes: `checked_members` (what is left of it), `made_at` and `event_at` (the event).
-use Rattle.std.proofs.Common.{◌≡◌, ℕ, ◌<◌, ◌≤◌, ◌^◌, List, Option, Some, None, All, IfSome, sym, subst, refl, unwrap_or}
+use Rattle.std.proofs.Common.{◌≡◌, ℕ, Bool, true, false, not, IsTrue, ap, ◌∙◌, ◌<◌, ◌≤◌, ◌^◌, List, Option, Some, None, All, IfSome, sym, subst, refl, unwrap_or}
 use Rattle.std.specs.Str.{IsUtf8}
 use Rattle.json_text.specs.Moment.{IsMoment}
 use Rattle.json_text.specs.Tree.{Tree, null, truth, number, text, list, object}
 use Rattle.json_text.specs.Compact.{IsValue, tree_levels}
 use Rattle.json_text.proofs.ValueLemmas.{text_is_value, text_within}
 use Rattle.event_time.specs.Time.{IsIso}
-use Rattle.event_shape.specs.declared.entry.EntryFault.TheVariants.{Source, DetailType, NotAuthorized}
 use Rattle.event_shape.specs.Time.{IsTime}
 use Rattle.event_shape.specs.Entry.{Entry}
-use Rattle.event_shape.specs.Fault.{LacksText, IsReserved, IsDetail}
+use Rattle.event_shape.specs.Fault.{is_free, is_reserved, IsDetail}
+use Rattle.event_shape.proofs.CheckLemmas.{some_bytes}
 use Rattle.event_shape.specs.Event.{Event, Checked, IsTimeOf, IsUtf8IfGiven, HasTexts, IsCheckedOf, IsChecked, IsMade, IsEventAt}
 
 time_is_moment : (tree : Tree) (n : ℕ) → IsTime tree n → IsMoment n
@@ -30,16 +30,23 @@ value_of_detail bytes detail (n, spelled, is, inside) = subst IsValue (sym is) (
 detail_within : (bytes : List ℕ) (detail : Tree) → IsDetail bytes detail → tree_levels detail ≤ 99
 detail_within bytes detail (n, spelled, is, inside) = subst (λ d. tree_levels d ≤ 99) (sym is) (text_within 99 bytes n spelled)
 
+unreserved : (given : Option (List ℕ)) (s : List ℕ) → given ≡ Some s → IsTrue (is_free given) → is_reserved s ≡ false
+unreserved given s is free = not_true (is_reserved s) (sym (ap is_free is) ∙ free)
+  where
+    not_true : (b : Bool) → not b ≡ true → b ≡ false
+    not_true true e = absurd cc
+    not_true false e = refl
+
 -- what is left of an entry of UTF-8 texts without a fault
 pub checked_members : (entry : Entry) (c : Checked) → HasTexts entry → IsCheckedOf entry c → IsChecked c
 checked_members entry c texts is =
     let (bytes, given, detail) = is.detail in
     record {
       content = record {
-        source_some = λ e. is.faultless Source (subst LacksText (sym is.source) e);
+        source_some = some_bytes entry.source c.source is.source is.faultless.0;
         source_utf8 = subst IsUtf8IfGiven is.source texts.source;
-        unreserved = λ r. is.faultless NotAuthorized (subst IsReserved (sym is.source) r);
-        detail_type_some = λ e. is.faultless DetailType (subst LacksText (sym is.detail_type) e);
+        unreserved = unreserved entry.source c.source is.source is.faultless.1.1.1.1.1.1.0;
+        detail_type_some = some_bytes entry.detail_type c.detail_type is.detail_type is.faultless.1.0;
         detail_type_utf8 = subst IsUtf8IfGiven is.detail_type texts.detail_type;
         resources_utf8 = subst (All IsUtf8) is.resources texts.resources;
         detail_value = value_of_detail bytes c.detail detail;

@@ -1,7 +1,7 @@
 -- From an event's tree to its parts and back: `values_are`, `parts_are`, `parts_valid`.
 -- What `Event::read` returns: `read_as`, `found_as`, `only_as`, `none_as`.
 use Rattle.std.proofs.Common.{◌≡◌, ◌≢◌, ℕ, ◌≤◌, Option, Some, None, Result, Ok, Err, IfOk, MatchOption, MatchResult, All, List, [], ◌∷◌}
-use Rattle.std.proofs.Common.{◌++◌, map, sym, ap, ◌∙◌, subst, refl, arith}
+use Rattle.std.proofs.Common.{false, ◌++◌, map, sym, ap, ◌∙◌, subst, refl, arith}
 use Rattle.std.proofs.lemmas.List.Elements.{All-nil, All-cons}
 use Rattle.json_text.specs.Tree.{Tree, text, list, object, items_of, members_of}
 use Rattle.json_text.specs.View.{tree_of, trees_of, pairs_of}
@@ -14,7 +14,7 @@ use Rattle.json_text.specs.declared.fault.JsonFault.TheVariants.{NoMemory}
 use Rattle.event_shape.specs.declared.parts.Parts.{Parts}
 use Rattle.std.specs.Str.{IsUtf8}
 use Rattle.json_text.specs.Access.{IsObject}
-use Rattle.event_shape.specs.Fault.{IsReserved}
+use Rattle.event_shape.specs.Fault.{is_reserved}
 use Rattle.event_shape.specs.Event.{Event, event_tree, event_members, IsEvent, IsEventText}
 use Rattle.event_shape.specs.Parts.{values_in, BeginsWith, ArePartsOf, AreValid}
 use Rattle.event_shape.proofs.SpelledLemmas.{event_spelled}
@@ -110,11 +110,11 @@ not_texts (b ∷ bs) (t ∷ ts) x rest h e = let tails : map text bs ++ x ∷ re
 
 -- what an event's parts may be
 pub allowed_as : (p : Parts) (e : Event) → IsEvent e → ArePartsOf p e
-    → (p.source ≢ []) × (p.detail_type ≢ []) × (¬ (IsReserved (Some p.source))) × IsObject (tree_of p.detail)
+    → (p.source ≢ []) × (p.detail_type ≢ []) × (is_reserved p.source ≡ false) × IsObject (tree_of p.detail)
 allowed_as p e (m, at) are = (
   λ x. at.content.source_some (sym are.source ∙ x),
   λ x. at.content.detail_type_some (sym are.detail_type ∙ x),
-  λ x. at.content.unreserved (subst (λ s. IsReserved (Some s)) are.source x),
+  ap is_reserved are.source ∙ at.content.unreserved,
   subst IsObject (sym are.detail) at.content.detail_object,
 )
 

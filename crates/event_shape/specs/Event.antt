@@ -1,5 +1,5 @@
 -- An event: its members, its tree and its text; and how an entry becomes one.
-use Rattle.std.specs.Prelude.{◌≡◌, ◌≢◌, ◌<◌, ◌≤◌, ◌^◌, ℕ, List, [], ◌∷◌, ◌++◌, Option, Some, None, IfSome, unwrap_or, All, codes, map}
+use Rattle.std.specs.Prelude.{◌≡◌, ◌≢◌, false, ◌<◌, ◌≤◌, ◌^◌, ℕ, List, [], ◌∷◌, ◌++◌, Option, Some, None, IfSome, unwrap_or, All, codes, map}
 use Rattle.std.specs.Prelude.{refl}
 use Rattle.std.specs.Coded.{Coded, code_by, coded×, coded_ℕ, coded_list, coded_option}
 use Rattle.std.specs.Str.{IsUtf8}
@@ -8,13 +8,13 @@ use Rattle.json_text.specs.Moment.{IsMoment}
 use Rattle.json_text.specs.Tree.{Tree, text, list, object, items_of, members_of}
 use Rattle.json_text.specs.Compact.{compact_text, IsValue, tree_levels}
 use Rattle.json_text.specs.Access.{IsObject}
-use Rattle.event_shape.specs.declared.entry.EntryFault.{EntryFault}
-use Rattle.event_shape.specs.Names.{default_bus, region, IsBusGiven}
+use Rattle.json_text.specs.Checks.{AllHold}
+use Rattle.event_shape.specs.Names.{region, bus_of_entry}
 use Rattle.event_time.specs.Time.{IsIso}
 use Rattle.event_shape.specs.Time.{IsTime}
 use Rattle.event_shape.specs.Id.{event_id}
 use Rattle.event_shape.specs.Entry.{Entry}
-use Rattle.event_shape.specs.Fault.{HasFault, IsDetail, IsReserved}
+use Rattle.event_shape.specs.Fault.{entry_checks, IsDetail, is_reserved}
 
 -- The members of an event except version and region, which are the same in all. Its id is given by its number.
 -- Shown by: event_tests test_event_shape.rt: an_event_has_its_exact_text.
@@ -89,22 +89,17 @@ abbrev pub IsTimeOf : Option Tree → Option ℕ → Type 0
 IsTimeOf None time = time ≡ None
 IsTimeOf (Some tree) time = (moment : ℕ) × (time ≡ Some moment) × IsTime tree moment
 
--- the bus that is given, or else `default`
-abbrev pub IsBusOf : Option (List ℕ) → List ℕ → Type 0
-IsBusOf None bus = bus ≡ default_bus
-IsBusOf (Some t) bus = IsBusGiven t bus
-
 -- The entry has no fault, and these are its members as they were read; the detail has no other value.
 -- Shown by: event_tests test_event_shape.rt: the_first_fault_is_reported.
 pub record IsCheckedOf (entry : Entry) (c : Checked) : Type 0 where
-  pub faultless : (fault : EntryFault) → ¬ HasFault entry fault
+  pub faultless : AllHold (entry_checks entry)
   pub source : entry.source ≡ Some c.source
   pub detail_type : entry.detail_type ≡ Some c.detail_type
   pub resources : entry.resources ≡ c.resources
   pub time : IsTimeOf entry.time c.time
   pub detail : (bytes : List ℕ) × (entry.detail ≡ Some bytes) × IsDetail bytes c.detail
   pub only : (bytes : List ℕ) (tree : Tree) → entry.detail ≡ Some bytes → IsDetail bytes tree → tree ≡ c.detail
-  pub bus : IsBusOf entry.bus c.bus
+  pub bus : bus_of_entry entry.bus ≡ Some c.bus
 
 -- Each member of the event is the checked entry's, except the number and the account. The time is the reading of the clock if the entry has
 -- none.
@@ -130,7 +125,7 @@ pub record HasTexts (entry : Entry) : Type 0 where
 pub record IsContent (source detail_type : List ℕ) (resources : List (List ℕ)) (detail : Tree) : Type 0 where
   pub source_some : source ≢ []
   pub source_utf8 : IsUtf8 source
-  pub unreserved : ¬ IsReserved (Some source)
+  pub unreserved : is_reserved source ≡ false
   pub detail_type_some : detail_type ≢ []
   pub detail_type_utf8 : IsUtf8 detail_type
   pub resources_utf8 : All IsUtf8 resources

@@ -1,20 +1,22 @@
 -- An event that has no number yet.
 use Rattle.std.specs.Prelude.{◌≡◌, ℕ, List, [], ◌∷◌, ◌++◌, None, drop, codes}
 use Rattle.std.specs.Prelude.{refl}
-use Rattle.std.specs.Coded.{Coded, code_by, coded×}
+use Rattle.std.specs.Coded.{Coded, code_by, coded×, coded_ℕ}
 use Rattle.json_text.specs.Tree.{Tree, members_of}
 use Rattle.json_text.specs.Compact.{compact_text, more_members_text}
 use Rattle.event_shape.specs.Event.{Event, text_code, event_code, event_members, event_tree, IsEventAt}
 
--- An event that has no number yet, and the name of its bus. The number 0 represents the open number.
+-- An event that has no number yet, the name of its bus and the moment of its time. The number 0 represents the open number.
 -- Shown by: event_tests test_event_shape.rt: an_event_gets_its_number_last.
 pub record Unnumbered : Type 0 where
   pub bus : List ℕ
+  pub moment : ℕ
   pub event : Event
 
 -- for proofs: unequal values have unequal codes
 abbrev pub unnumbered_code : Coded Unnumbered
-unnumbered_code = code_by (List ℕ × Event) (coded× text_code event_code) (λ u. (u.bus, u.event)) (λ (b, e). record { bus = b; event = e }) (λ _. refl)
+unnumbered_code = code_by (List ℕ × (ℕ × Event)) (coded× text_code (coded× coded_ℕ event_code)) (λ u. (u.bus, (u.moment, u.event)))
+    (λ (b, (m, e)). record { bus = b; moment = m; event = e }) (λ _. refl)
 
 -- The same event with this number, so with this number's id.
 -- Shown by: event_tests test_event_shape.rt: an_event_gets_its_number_last.

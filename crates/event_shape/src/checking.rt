@@ -1,16 +1,19 @@
 //! The faults that an entry has by itself, whatever buses and policies there are.
-ghost use Rattle.std.specs.Prelude.{◌≡◌, ◌≢◌, ◌↔◌, ◌≤◌, [], ℕ, All, IsTrue, IfOk, MatchResult, Some, None};
+ghost use Rattle.std.specs.Prelude.{◌≡◌, ◌==◌, ℕ, not, length, take, All, IsTrue, is_some, IfOk, MatchResult, Some, None, unwrap_or};
 ghost use Rattle.std.specs.Option.{option_map};
 ghost use Rattle.std.specs.Str.{IsUtf8};
+ghost use Rattle.json_text.specs.Moment.{IsMoment};
 ghost use Rattle.json_text.specs.Tree.{Tree};
 ghost use Rattle.json_text.specs.View.{tree_of};
 ghost use Rattle.event_shape.specs.Entry.{entry_of};
-ghost use Rattle.event_shape.specs.Fault.{LacksText, IsNoTime, IsNoBus, IsDetail, IsNoDetail, IsReserved, IsMemoryOr, IsFirstFault, place_of};
-ghost use Rattle.event_shape.specs.Event.{IsTimeOf, IsBusOf, IsCheckedOf};
+ghost use Rattle.event_shape.specs.Names.{bus_of_entry};
+ghost use Rattle.json_text.specs.Checks.{IsFirst};
+ghost use Rattle.event_shape.specs.Fault.{has_text, GivesMoment, GivesDetail, is_reserved as reserved, IsDetail, IsMemoryOr, entry_checks, without_memory};
+ghost use Rattle.event_shape.specs.Event.{IsTimeOf, IsCheckedOf};
 ghost use Rattle.event_shape.specs.declared.entry.EntryFault.{EntryFault};
 
 use crate::entry::{CheckFault, EntryFault, EventEntry};
-use crate::names::{DEFAULT_BUS, after_prefix, bus_of};
+use crate::names::{DEFAULT_BUS, bus_of};
 use crate::time::read_time;
 use json_text::{Json, JsonFault, NoMemory, Text, read};
 use std::alloc::Global;
@@ -67,6 +70,15 @@ impl Checked {
     {
         self.bus.as_str()
     }
+
+    /// The moment of the entry's Time, or else the reading of the clock.
+    pub(crate) fn moment(&self, reading: u64) -> u64
+        requires { IsMoment reading }
+        ensures value { result ≡ unwrap_or self.now.time reading }
+        ensures moment { IsMoment result }
+    {
+        self.time.unwrap_or(reading)
+    }
 }
 
 /// The members of the entry as they were read, if it has no fault; else its first fault, in the order of `EntryFault`. The
@@ -74,8 +86,8 @@ impl Checked {
 /// The texts are copied; the detail is read, and its text is not copied.
 pub fn check(alloc: Global, entry: &EventEntry) -> Result<Checked, CheckFault>
     ensures checked { IfOk result (λ c. IsCheckedOf (entry_of entry.now) c) }
-    ensures fault { (f : EntryFault) → result ≡ Err (CheckFault.Entry f) → IsFirstFault (entry_of entry.now) f }
-    ensures before_memory { (f : EntryFault) → place_of f ≤ 5 → IsFirstFault (entry_of entry.now) f
+    ensures fault { (f : EntryFault) → result ≡ Err (CheckFault.Entry f) → IsFirst (entry_checks (entry_of entry.now)) f }
+    ensures before_memory { (f : EntryFault) → IsFirst (take without_memory (entry_checks (entry_of entry.now))) f
         → result ≡ Err (CheckFault.Entry f) }
 {
     let source = given(&entry.source, EntryFault::Source)?;
@@ -101,8 +113,8 @@ pub fn check(alloc: Global, entry: &EventEntry) -> Result<Checked, CheckFault>
 /// The text, if it is given and not empty.
 fn given(text: &Option<Text>, fault: EntryFault) -> Result<&Text, EntryFault>
     ensures { MatchResult result
-        (λ t. (text.now ≡ Some t.now) × (t.now ≢ []) × IsUtf8 t.now)
-        (λ e. LacksText text.now × (e ≡ fault)) }
+        (λ t. (text.now ≡ Some t.now) × IsTrue (has_text text.now) × IsUtf8 t.now)
+        (λ e. (e ≡ fault) × (¬ IsTrue (has_text text.now))) }
 {
     match text {
         Some(text) => {
@@ -117,7 +129,7 @@ fn given(text: &Option<Text>, fault: EntryFault) -> Result<&Text, EntryFault>
 }
 
 fn spelled(detail: &Option<Text>) -> Result<&Text, EntryFault>
-    ensures { MatchResult result (λ t. detail.now ≡ Some t.now) (λ e. (detail.now ≡ None) × (e ≡ EntryFault.Detail)) }
+    ensures { MatchResult result (λ t. detail.now ≡ Some t.now) (λ e. (e ≡ EntryFault.Detail) × (¬ IsTrue (is_some detail.now))) }
 {
     match detail {
         Some(text) => Ok(text),
@@ -128,7 +140,7 @@ fn spelled(detail: &Option<Text>) -> Result<&Text, EntryFault>
 fn moment_given(time: &Option<Json>) -> Result<Option<u64>, EntryFault>
     ensures { MatchResult result
         (λ m. IsTimeOf (option_map tree_of time.now) m)
-        (λ e. IsNoTime (option_map tree_of time.now) × (e ≡ EntryFault.Time)) }
+        (λ e. (e ≡ EntryFault.Time) × (¬ GivesMoment (option_map tree_of time.now))) }
 {
     match time {
         Some(json) => match read_time(json) {
@@ -140,8 +152,9 @@ fn moment_given(time: &Option<Json>) -> Result<Option<u64>, EntryFault>
 }
 
 fn bus_given(alloc: Global, bus: &Option<Text>) -> Result<Text, CheckFault>
-    ensures given { MatchResult result (λ name. IsBusOf bus.now name) (λ e. IsMemoryOr e EntryFault.Bus (IsNoBus bus.now)) }
-    ensures before_memory { IsNoBus bus.now → result ≡ Err (CheckFault.Entry EntryFault.Bus) }
+    ensures given { MatchResult result (λ name. bus_of_entry bus.now ≡ Some name)
+        (λ e. IsMemoryOr e EntryFault.Bus (bus_of_entry bus.now ≡ None)) }
+    ensures before_memory { bus_of_entry bus.now ≡ None → result ≡ Err (CheckFault.Entry EntryFault.Bus) }
 {
     match bus {
         Some(text) => match bus_of(text.as_str()) {
@@ -156,7 +169,7 @@ fn bus_given(alloc: Global, bus: &Option<Text>) -> Result<Text, CheckFault>
 fn detail_given(alloc: Global, detail: &Text) -> Result<Json, CheckFault>
     ensures { MatchResult result
         (λ json. IsDetail detail.now (tree_of json) × ((tree : Tree) → IsDetail detail.now tree → tree ≡ tree_of json))
-        (λ e. IsMemoryOr e EntryFault.Malformed (IsNoDetail (Some detail.now))) }
+        (λ e. IsMemoryOr e EntryFault.Malformed (¬ GivesDetail (Some detail.now))) }
 {
     match read(alloc, detail.as_str().as_bytes(), DETAIL_LEVELS) {
         Ok(json) => {
@@ -172,12 +185,9 @@ fn detail_given(alloc: Global, detail: &Text) -> Result<Json, CheckFault>
 }
 
 pub(crate) fn is_reserved(source: &Text) -> bool
-    ensures { IsTrue result ↔ IsReserved (Some source.now) }
+    ensures { result ≡ reserved source.now }
 {
-    match after_prefix(source.as_str(), RESERVED) {
-        Some(_) => true,
-        None => false,
-    }
+    source.as_str().as_bytes().starts_with(RESERVED.as_bytes())
 }
 
 /// Copies of the texts that an event takes over from its entry.

@@ -1,5 +1,5 @@
 //! Names and ARNs.
-ghost use Rattle.std.specs.Prelude.{◌≡◌, ◌↔◌, ◌++◌, ℕ, List, ◌≤◌, ◌==◌, ◌&&◌, ◌||◌, nat_le, length, codes, IsTrue, IfOk, MatchOption};
+ghost use Rattle.std.specs.Prelude.{◌≡◌, ◌++◌, ℕ, List, [], unwrap_or, ◌==◌, ◌&&◌, ◌||◌, nat_le, length, codes, Some, None, IfOk, MatchOption};
 ghost use Rattle.std.specs.List.{list_all};
 ghost use Rattle.std.specs.Str.{bytes_eq};
 ghost use Rattle.event_shape.specs.Names as spec;
@@ -47,49 +47,49 @@ fn are_queue_bytes(name: &str) -> bool
 
 /// The names of rules, targets and replays have one form.
 fn is_short_name(name: &str) -> bool
-    ensures { IsTrue result ↔ spec.IsShortName name.now }
+    ensures { result ≡ spec.is_short_name name.now }
 {
     !name.is_empty() && name.len() <= 64 && are_name_bytes(name)
 }
 
 /// A rule's name has 1 to 64 bytes of `A-Z a-z 0-9 . - _`.
 pub fn is_rule_name(name: &str) -> bool
-    ensures { IsTrue result ↔ spec.IsShortName name.now }
+    ensures { result ≡ spec.is_short_name name.now }
 {
     is_short_name(name)
 }
 
 /// The id of a target, which is unique in its rule, has 1 to 64 bytes of `A-Z a-z 0-9 . - _`.
 pub fn is_target_id(id: &str) -> bool
-    ensures { IsTrue result ↔ spec.IsShortName id.now }
+    ensures { result ≡ spec.is_short_name id.now }
 {
     is_short_name(id)
 }
 
 /// A replay's name has 1 to 64 bytes of `A-Z a-z 0-9 . - _`.
 pub fn is_replay_name(name: &str) -> bool
-    ensures { IsTrue result ↔ spec.IsShortName name.now }
+    ensures { result ≡ spec.is_short_name name.now }
 {
     is_short_name(name)
 }
 
 /// An archive's name has 1 to 48 bytes of `A-Z a-z 0-9 . - _`.
 pub fn is_archive_name(name: &str) -> bool
-    ensures { IsTrue result ↔ spec.IsArchiveName name.now }
+    ensures { result ≡ spec.is_archive_name name.now }
 {
     !name.is_empty() && name.len() <= 48 && are_name_bytes(name)
 }
 
 /// A queue's name has 1 to 80 bytes of `A-Z a-z 0-9 - _`.
 pub fn is_queue_name(name: &str) -> bool
-    ensures { IsTrue result ↔ spec.IsQueueName name.now }
+    ensures { result ≡ spec.is_queue_name name.now }
 {
     !name.is_empty() && name.len() <= 80 && are_queue_bytes(name)
 }
 
 /// A bus's name has 1 to 256 bytes of `A-Z a-z 0-9 . - _`.
 pub fn is_bus_name(name: &str) -> bool
-    ensures { IsTrue result ↔ spec.IsBusName name.now }
+    ensures { result ≡ spec.is_bus_name name.now }
 {
     !name.is_empty() && name.len() <= 256 && are_name_bytes(name)
 }
@@ -122,24 +122,22 @@ fn bus_name_in(text: &str) -> Option<&str>
     }
 }
 
-fn bus_named(name: &str) -> Option<&str>
-    ensures { MatchOption result
-        (¬ spec.IsBusName name.now)
-        (λ bus. spec.IsBusName name.now × (bus.now ≡ name.now)) }
+/// The text without what comes before the name in the ARN of a bus.
+fn without_bus_arn(text: &str) -> &str
+    ensures { result.now ≡ unwrap_or (spec.after_prefix (spec.bus_arn []) text.now) text.now }
 {
-    if is_bus_name(name) { Some(name) } else { None }
+    match bus_name_in(text) {
+        Some(name) => name,
+        None => text,
+    }
 }
 
 /// The name of the bus, if the text is a bus's name or ARN.
 pub fn bus_of(text: &str) -> Option<&str>
-    ensures { MatchOption result
-        ((bus : List ℕ) → ¬ spec.IsBusGiven text.now bus)
-        (λ bus. spec.IsBusGiven text.now bus.now) }
+    ensures { MatchOption result (spec.bus_in text.now ≡ None) (λ bus. spec.bus_in text.now ≡ Some bus.now) }
 {
-    match bus_name_in(text) {
-        Some(name) => bus_named(name),
-        None => bus_named(text),
-    }
+    let name = without_bus_arn(text);
+    if is_bus_name(name) { Some(name) } else { None }
 }
 
 /// The part of the ARN that is the queue's name. The name is not checked. `None` if the text is no ARN of a queue.
@@ -153,18 +151,14 @@ pub fn queue_name_in(arn: &str) -> Option<&str>
 
 /// The name of the queue, if the text is a queue's ARN.
 pub fn queue_of(arn: &str) -> Option<&str>
-    ensures { MatchOption result
-        ((queue : List ℕ) → ¬ spec.IsQueueArn arn.now queue)
-        (λ queue. spec.IsQueueArn arn.now queue.now) }
+    ensures { MatchOption result (spec.queue_in arn.now ≡ None) (λ queue. spec.queue_in arn.now ≡ Some queue.now) }
 {
     match queue_name_in(arn) {
-        Some(name) => {
-            if is_queue_name(name) {
-                Some(name)
-            } else {
-                None
-            }
-        }
+        Some(name) => if is_queue_name(name) {
+            Some(name)
+        } else {
+            None
+        },
         None => None,
     }
 }

@@ -1,11 +1,11 @@
 //! The event that a text is read to, before the text is compared with that event's own text.
-ghost use Rattle.std.specs.Prelude.{◌≡◌, ◌↔◌, ◌≢◌, ◌≤◌, [], ℕ, List, None, Some, map, IsTrue, IfOk, MatchOption, MatchResult};
+ghost use Rattle.std.specs.Prelude.{◌≡◌, ◌↔◌, ◌≢◌, ◌≤◌, [], ℕ, false, List, None, Some, map, IsTrue, IfOk, MatchOption, MatchResult};
 ghost use Rattle.json_text.specs.Tree.{text};
 ghost use Rattle.json_text.specs.View.{tree_of, trees_of};
 ghost use Rattle.json_text.specs.Compact.{IsValue, tree_levels};
 ghost use Rattle.event_shape.specs.Event.{Event as View, IsEvent, IsEventText, event_tree};
 ghost use Rattle.json_text.specs.Access.{IsObject};
-ghost use Rattle.event_shape.specs.Fault.{IsReserved};
+ghost use Rattle.event_shape.specs.Fault.{is_reserved as reserved};
 ghost use Rattle.event_shape.specs.Parts.{ArePartsOf, AreValid};
 
 use crate::checking::is_reserved;
@@ -73,7 +73,7 @@ fn event_with(alloc: Global, parts: Parts) -> Result<Option<Event>, NoMemory>
 /// Whether an event may have these members.
 fn are_allowed(source: &Text, detail_type: &Text, detail: &Json) -> bool
     ensures { IsTrue result
-        ↔ ((source.now ≢ []) × (detail_type.now ≢ []) × ¬ IsReserved (Some source.now) × IsObject (tree_of detail.now)) }
+        ↔ ((source.now ≢ []) × (detail_type.now ≢ []) × (reserved source.now ≡ false) × IsObject (tree_of detail.now)) }
 {
     !source.as_str().is_empty()
         && !detail_type.as_str().is_empty()

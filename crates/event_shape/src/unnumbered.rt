@@ -1,5 +1,5 @@
 //! Events that have no number yet.
-ghost use Rattle.std.specs.Prelude.{◌≡◌, ◌<◌, ◌^◌, ◌++◌, ℕ, List, None, Some, IfOk};
+ghost use Rattle.std.specs.Prelude.{◌≡◌, ◌<◌, ◌^◌, ◌++◌, ℕ, List, None, Some, unwrap_or, IfOk};
 ghost use Rattle.json_text.specs.Moment.{IsMoment};
 ghost use Rattle.json_text.specs.Tree.{text};
 ghost use Rattle.json_text.specs.View.{tree_of};
@@ -45,7 +45,7 @@ impl Model for Unnumbered {
 
     ghost coded = { unnumbered_code };
 
-    ghost view = { λ u. record { bus = u.bus; event = u.event.value } };
+    ghost view = { λ u. record { bus = u.bus; moment = u.moment; event = u.event.value } };
 
     ghost invariant = { λ u. IsOpenAt u.moment u.event.value (tree_of u.tree) u.text };
 }
@@ -62,9 +62,10 @@ impl Unnumbered {
         requires { IsMoment reading }
         ensures made { IfOk result (λ u. IsMade checked 0 reading account.now u.event) }
         ensures bus { IfOk result (λ u. u.bus ≡ checked.bus) }
+        ensures moment { IfOk result (λ u. u.moment ≡ unwrap_or checked.time reading) }
     {
+        let moment = checked.moment(reading);
         let (event, bus) = Event::with_bus(alloc, checked, 0, reading, account)?;
-        let moment = event.moment();
         let given = Snapshot::of(&event);
         let tree = event.into_tree(alloc)?;
         let text = text_of_value(alloc, &tree)?;
@@ -108,6 +109,7 @@ impl Unnumbered {
 
     /// The moment of the member `time`.
     pub fn moment(&self) -> u64
+        ensures value { result ≡ self.now.moment }
         ensures moment { IsMoment result }
         ensures shown { IsIso result self.now.event.time }
     {

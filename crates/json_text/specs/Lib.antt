@@ -15,3 +15,5 @@ pub mod Once
 pub mod Access
 pub mod Moment
 pub mod Code
+pub mod Checks
+pub mod Limits

@@ -1,10 +1,10 @@
 //! Access to the members of an object and to the text of a string.
-ghost use Rattle.std.specs.Prelude.{◌≡◌, ◌↔◌, ◌++◌, ◌∷◌, [], IsTrue, OnOk, OnErr};
+ghost use Rattle.std.specs.Prelude.{◌≡◌, ◌++◌, ◌∷◌, [], OnOk, OnErr};
 ghost use Rattle.std.specs.Option.{option_map, option_copied};
 ghost use Rattle.std.specs.Str.{IsUtf8};
 ghost use Rattle.json_text.specs.Tree.{text, members_of};
 ghost use Rattle.json_text.specs.View.{tree_of, pairs_of};
-ghost use Rattle.json_text.specs.Access.{member_in, member_of, IsObject, text_in};
+ghost use Rattle.json_text.specs.Access.{member_in, member_of, is_object, text_in};
 
 use super::{Json, Members, NoMemory, Text};
 use std::alloc::Global;
@@ -21,7 +21,7 @@ impl Json {
     }
 
     pub fn is_object(&self) -> bool
-        ensures { IsTrue result ↔ IsObject (tree_of self.now) }
+        ensures { result ≡ is_object (tree_of self.now) }
     {
         match self {
             Json::Obj(_) => true,

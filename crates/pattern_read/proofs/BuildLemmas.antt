@@ -5,7 +5,8 @@ use Rattle.json_text.specs.Tree.{Tree, list, Members, members_of, items_of}
 use Rattle.json_text.specs.View.{pairs_of, trees_of}
 use Rattle.json_text.specs.declared.value.Json.{Json}
 use Rattle.pattern_meaning.specs.Pattern.{Test, Pattern, tests}
-use Rattle.pattern_read.specs.Test.{AreEach, IsTest, trees_in}
+use Rattle.pattern_read.specs.Test.{AreEach, IsTest}
+use Rattle.json_text.specs.Access.{trees_in}
 use Rattle.pattern_read.specs.Value.{HasMember, IsFieldOf, IsOr, AreBranches, are_branches}
 use Rattle.pattern_read.specs.Check.{refused, no_member_checks, members_checks, field_checks, or_checks, branches_checks, test_checks}
 use Rattle.pattern_read.specs.Reading.{IsReported, Gives, Adds}

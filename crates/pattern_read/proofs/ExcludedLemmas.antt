@@ -9,7 +9,8 @@ use Rattle.pattern_meaning.specs.Pattern.{Test, same, anything_but, tests_of}
 use Rattle.pattern_meaning.specs.PatternView.{test_of, test_step}
 use Rattle.pattern_meaning.specs.declared.pattern.LeafTest.{LeafTest, fold-roll-LeafTest}
 use Rattle.pattern_meaning.specs.declared.pattern.LeafTest.TheVariants.{AnythingBut, rolls-AnythingBut}
-use Rattle.pattern_read.specs.Test.{IsOperand, AreExcluded, are_alike, trees_in}
+use Rattle.pattern_read.specs.Test.{IsOperand, AreExcluded, are_alike}
+use Rattle.json_text.specs.Access.{trees_in}
 use Rattle.pattern_read.specs.Check.{operand, operand_checks}
 use Rattle.pattern_read.specs.Reading.{IsReported, Gives}
 use Rattle.pattern_read.specs.declared.fault.Why.TheVariants.{BadOperand}

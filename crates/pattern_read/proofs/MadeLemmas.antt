@@ -7,7 +7,8 @@ use Rattle.json_text.specs.Tree.{Tree, text, list, object, Items, no_items, item
 use Rattle.pattern_meaning.specs.Pattern.{Test, same, prefix, suffix, equals_ignoring_case, wildcard, anything_but, tests_of}
 use Rattle.pattern_meaning.specs.Pattern.{Pattern, pattern, Field, tests, below, fields_of, branches_of}
 use Rattle.pattern_read.specs.Kind.{named_in}
-use Rattle.pattern_read.specs.Test.{IsOperand, IsTest, IsNamedTest, IsTextTest, AreTextTests, AreEach, texts_in, trees_in}
+use Rattle.pattern_read.specs.Test.{IsOperand, IsTest, IsNamedTest, IsTextTest, AreTextTests, AreEach, texts_in}
+use Rattle.json_text.specs.Access.{trees_in}
 use Rattle.pattern_read.specs.Value.{IsPatternOf, AreMembers, IsFieldOf, IsOr, AreBranches, HasMember, HasItem, MayName, is_or, are_branches}
 use Rattle.pattern_read.specs.Check.{Checks, AllPass, refused, text_checks, texts_checks, excluded_checks, operand_checks, named_checks, test_checks}
 use Rattle.pattern_read.specs.Check.{no_member_checks, no_item_checks, id_checks, pattern_checks, members_checks, field_checks, or_checks, branches_checks}

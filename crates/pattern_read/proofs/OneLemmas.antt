@@ -8,7 +8,8 @@ use Rattle.json_text.proofs.OneValue.{one_value}
 use Rattle.pattern_meaning.specs.Pattern.{Test, wildcard, anything_but, numeric, cidr, tests_of, Pattern, pattern, Field, tests, below, fields_of, branches_of}
 use Rattle.pattern_meaning.specs.declared.comparison.Comparison.{Comparison}
 use Rattle.pattern_read.specs.Kind.{named_in}
-use Rattle.pattern_read.specs.Test.{IsOperand, IsTest, IsNamedTest, IsTextTest, AreTextTests, AreExcluded, AreComparisons, IsComparison, AreEach, trees_in}
+use Rattle.pattern_read.specs.Test.{IsOperand, IsTest, IsNamedTest, IsTextTest, AreTextTests, AreExcluded, AreComparisons, IsComparison, AreEach}
+use Rattle.json_text.specs.Access.{trees_in}
 use Rattle.pattern_read.specs.Value.{IsPatternOf, AreMembers, IsFieldOf, IsOr, AreBranches}
 use Rattle.pattern_read.specs.Text.{IsPatternText}
 use Rattle.pattern_read.specs.declared.kind.Kind.{Kind}

@@ -6,7 +6,8 @@ use Rattle.std.proofs.lemmas.Slice.Eq.{bytes_eq-Decides}
 use Rattle.json_text.specs.Tree.{Tree, text, list, object, Items, no_items, item, Members, no_members, member}
 use Rattle.pattern_meaning.specs.Pattern.{Test, Pattern, Field}
 use Rattle.pattern_read.specs.Kind.{named_in}
-use Rattle.pattern_read.specs.Test.{IsOperand, IsTest, IsNamedTest, IsTextTest, AreTextTests, trees_in}
+use Rattle.pattern_read.specs.Test.{IsOperand, IsTest, IsNamedTest, IsTextTest, AreTextTests}
+use Rattle.json_text.specs.Access.{trees_in}
 use Rattle.pattern_read.specs.Value.{IsPatternOf, AreMembers, IsFieldOf, IsOr, AreBranches, HasMember, HasItem, MayName, is_or, are_branches}
 use Rattle.pattern_read.specs.Check.{Checks, AllPass, refused, under, text_checks, texts_checks, excluded_checks, operand_checks, named_checks, test_checks}
 use Rattle.pattern_read.specs.Check.{no_member_checks, no_item_checks, id_checks, pattern_checks, members_checks, field_checks, or_checks, branches_checks}

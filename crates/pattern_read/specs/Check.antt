@@ -6,7 +6,8 @@ use Rattle.json_text.specs.Tree.{Tree, text, list, object, Items, no_items, item
 use Rattle.leaf_match.specs.Wild.{IsWildcard}
 use Rattle.pattern_meaning.specs.Pattern.{Test}
 use Rattle.pattern_read.specs.Kind.{named_in}
-use Rattle.pattern_read.specs.Test.{IsOperand, texts_in, trees_in}
+use Rattle.pattern_read.specs.Test.{IsOperand, texts_in}
+use Rattle.json_text.specs.Access.{trees_in}
 use Rattle.pattern_read.specs.Value.{is_or, are_branches}
 use Rattle.pattern_read.specs.declared.fault.Why.{Why}
 use Rattle.pattern_read.specs.declared.fault.Why.TheVariants.{NotObject, EmptyObject, EmptyArray, BadId, BadOr, UnknownTest, BadOperand, BadNumeric, BadCidr}

@@ -12,14 +12,10 @@ use Rattle.pattern_meaning.specs.Pattern.{wildcard, anything_but, numeric, cidr,
 use Rattle.pattern_meaning.specs.declared.comparison.Comparison.{Comparison}
 use Rattle.pattern_meaning.specs.declared.comparison.Operator.{Operator}
 use Rattle.pattern_meaning.specs.declared.comparison.Operator.TheVariants as operator
+use Rattle.json_text.specs.Access.{is_text, trees_in}
 use Rattle.pattern_read.specs.Kind.{named_in}
 use Rattle.pattern_read.specs.declared.kind.Kind.{Kind}
 use Rattle.pattern_read.specs.declared.kind.Kind.TheVariants.{Prefix, Suffix, EqualsIgnoreCase, Wildcard, AnythingBut, Numeric, Cidr, Exists}
-
--- the values of a list, in order
-abbrev pub trees_in : Items → List Tree
-trees_in no_items = []
-trees_in (item t items) = t ∷ trees_in items
 
 -- the first list's members are, in order, what the second list's are
 abbrev pub AreEach : {X Y : Type 0} → (X → Y → Type 0) → List X → List Y → Type 0
@@ -68,11 +64,6 @@ AreComparisons (list (item a (item b no_items))) cs = (x : Comparison) × IsComp
 AreComparisons (list (item a (item b (item c (item d no_items))))) cs =
     (x y : Comparison) × IsComparison a b x × IsComparison c d y × (cs ≡ x ∷ y ∷ [])
 AreComparisons _ cs = ⊥
-
--- the value is a text
-abbrev pub is_text : Tree → Bool
-is_text (text t) = true
-is_text _ = false
 
 -- the value is a number
 abbrev pub is_number : Tree → Bool

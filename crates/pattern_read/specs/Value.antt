@@ -4,7 +4,8 @@ use Rattle.std.specs.List.{list_all}
 use Rattle.std.specs.Str.{bytes_eq}
 use Rattle.json_text.specs.Tree.{Tree, list, object, Items, no_items, item, Members, no_members, member}
 use Rattle.pattern_meaning.specs.Pattern.{Test, Pattern, pattern, Field, tests, below, fields_of, branches_of}
-use Rattle.pattern_read.specs.Test.{AreEach, IsTest, trees_in}
+use Rattle.pattern_read.specs.Test.{AreEach, IsTest}
+use Rattle.json_text.specs.Access.{is_object, trees_in}
 
 -- the object has a member
 abbrev pub HasMember : Members → Type 0
@@ -15,11 +16,6 @@ HasMember (member key t ms) = Unit {0}
 abbrev pub HasItem : Items → Type 0
 HasItem no_items = ⊥
 HasItem (item t items) = Unit {0}
-
--- the value is an object
-abbrev pub is_object : Tree → Bool
-is_object (object ms) = true
-is_object _ = false
 
 -- two objects at least, and nothing else
 abbrev pub are_branches : List Tree → Bool

@@ -8,7 +8,8 @@ ghost use Rattle.pattern_meaning.specs.Pattern.{Pattern as View};
 ghost use Rattle.pattern_meaning.specs.PatternView.{test_of, field_of, pattern_of};
 ghost use Rattle.pattern_read.specs.Test.{AreEach, IsTest};
 ghost use Rattle.pattern_read.specs.Value as spec;
-ghost use Rattle.pattern_read.specs.Value.{Makes, AreMembers, AreBranches, IsPatternOf, IsFieldOf, IsNamedField, IsOr, is_object};
+ghost use Rattle.pattern_read.specs.Value.{Makes, AreMembers, AreBranches, IsPatternOf, IsFieldOf, IsNamedField, IsOr};
+ghost use Rattle.json_text.specs.Access.{is_object};
 ghost use Rattle.pattern_read.specs.Check.{no_member_checks, members_checks, branches_checks, pattern_checks, field_checks, or_checks, id_checks, test_checks};
 ghost use Rattle.pattern_read.specs.Reading.{Gives, Adds};
 

@@ -1,6 +1,6 @@
 -- A request writes no change of the configuration but the one that it asks for: `its_change`, which the law of src/laws.rt cites. The other
 -- lemmas lead to it.
-use Rattle.std.proofs.Common.{◌≡◌, ℕ, inl, inr, Bool, true, false, List, [], ◌∷◌, length, map, Option, Some, None, sym, refl, subst, arith}
+use Rattle.std.proofs.Common.{◌≡◌, ℕ, inl, inr, Bool, true, false, ◌&&◌, List, [], ◌∷◌, length, map, Option, Some, None, sym, refl, subst, arith}
 use Rattle.std.specs.Prelude.{All, cond}
 use Rattle.std.specs.List.{Contains}
 use Rattle.std.proofs.lemmas.List.Elements.{All-cons, All-map, All-contains}
@@ -8,6 +8,7 @@ use Rattle.json_text.specs.Tree.{Tree}
 use Rattle.config_changes.specs.declared.control.Target.{Target}
 use Rattle.config_changes.specs.Control.{Control, targets_put, targets_removed}
 use Rattle.rule_table.specs.RuleSet.{Bus, RuleSet, has_queue}
+use Rattle.delivery_duties.specs.Duties.{is_named}
 use Rattle.delivery_duties.specs.declared.stored.StoredMessage.{StoredMessage}
 use Rattle.delivery_duties.specs.Queues.{messages_of, messages_through}
 use Rattle.api_replies.specs.declared.cause.Cause.{Cause}
@@ -22,6 +23,7 @@ use Rattle.router_core.specs.Request.{Request}
 use Rattle.router_core.specs.Tables.{Tables, is_full, moment_at}
 use Rattle.router_core.specs.Verdict.{IsPolicyOf}
 use Rattle.router_calls.specs.Accepted.{Given, events_in}
+use Rattle.router_calls.proofs.QueueLemmas.{deleted_case}
 use Rattle.router_calls.specs.Answer.{Answer, IsAnswer, IsAnswerAt, IsControlled, IsPublished, IsTargetsPut, AreTargetsRemoved, IsRuleDeleted, IsQueueDeleted}
 use Rattle.router_calls.specs.Answer.{IsOnBus, IsGranted, IsRevoked, IsStatementRemovedFrom, events_answer, entries_reply, targets_answer, removals_answer}
 use Rattle.call_replies.specs.Replies.{deletion_reply}
@@ -115,8 +117,8 @@ deleted_only t moment bus name a (inr (has, is)) = controlled_only (MayMake (del
 
 queue_deleted_only : (t : Tables) (moment : ℕ) (name : List ℕ) (a : Answer) → IsQueueDeleted t moment name a
     → MakesOnly (MayMake (delete_queue name)) a.batch
-queue_deleted_only t moment name a (inl (there, named, is)) = as_answer _ a _ is tt
-queue_deleted_only t moment name a (inr (free, is)) = controlled_only (MayMake (delete_queue name)) t moment _ _ a is refl
+queue_deleted_only t moment name a = deleted_case (has_queue name t.set && is_named name t.duties) t moment name a
+    (λ is. as_answer _ a _ is tt) (λ is. controlled_only (MayMake (delete_queue name)) t moment _ _ a is refl)
 
 deletion_only : (P : Control → Type 0) (t : Tables) (moment : ℕ) (queue : List ℕ) (through : ℕ) (messages : List StoredMessage)
     → MakesOnly P (deletion_answer t moment queue through messages).batch

@@ -1,5 +1,5 @@
 -- A request has at most one answer: `one_answer`, which the law of src/laws.rt cites. The other lemmas lead to it.
-use Rattle.std.proofs.Common.{◌≡◌, ◌⊎◌, ℕ, ◌+◌, inl, inr, Bool, false, true, List, [], ◌∷◌, ◌++◌, map, drop, Option, Some, None, is_some, Ok, Err}
+use Rattle.std.proofs.Common.{◌≡◌, ◌⊎◌, ℕ, ◌+◌, inl, inr, Bool, false, true, ◌&&◌, List, [], ◌∷◌, ◌++◌, map, drop, Option, Some, None, is_some, Ok, Err}
 use Rattle.std.proofs.Common.{sym, refl, ap, ◌∙◌, subst, arith}
 use Rattle.std.proofs.lemmas.Bool.{false≢true}
 use Rattle.json_text.specs.Tree.{Tree, no_items}
@@ -19,6 +19,7 @@ use Rattle.bus_policy.specs.Parts.{statements_of}
 use Rattle.bus_policy.proofs.LawLemmas.{verdict_once as policy_verdict_once}
 use Rattle.bus_policy.proofs.ReadLemmas.{one_policy}
 use Rattle.rule_table.specs.RuleSet.{Rule, Bus, RuleSet, put_target, rules_of, rule_at, has_bus, has_queue}
+use Rattle.delivery_duties.specs.Duties.{is_named}
 use Rattle.rule_table.proofs.RefusalLemmas.{one_fault, faulty_not_good, no_rule_at, one_refusal, refused_not_allowed}
 use Rattle.delivery_duties.specs.declared.duty.NewDuty.{NewDuty}
 use Rattle.api_replies.specs.declared.kind.Kind.TheVariants as kind
@@ -234,15 +235,17 @@ tested_once pattern event a b (x, is, e) (y, so, f) = e ∙ ap (λ (m : Bool). r
 
 -- ---- queues and rules that are deleted, targets that are removed, policies
 
-free_once : (b : Bool) (Named : Type 0) → (b ≡ false) ⊎ ¬ Named → b ≡ true → Named → ⊥
-free_once b Named (inl none) there named = false≢true (sym none ∙ there)
-free_once b Named (inr unnamed) there named = unnamed named
+by_test : {G : Type 0} (b : Bool) → (b ≡ true → G) → (b ≡ false → G) → G
+by_test true t f = t refl
+by_test false t f = f refl
 
 queue_deleted_once : (t : Tables) (moment : ℕ) (name : List ℕ) (a b : Answer) → IsQueueDeleted t moment name a → IsQueueDeleted t moment name b → a ≡ b
-queue_deleted_once t moment name a b (inl (there, named, e)) (inl (also, so, f)) = e ∙ sym f
-queue_deleted_once t moment name a b (inl (there, named, e)) (inr (free, is)) = absurd (free_once (has_queue name t.set) _ free there named)
-queue_deleted_once t moment name a b (inr (free, is)) (inl (there, named, f)) = absurd (free_once (has_queue name t.set) _ free there named)
-queue_deleted_once t moment name a b (inr (free, is)) (inr (also, so)) = controlled_once t moment _ _ a b is so
+queue_deleted_once t moment name a b p q = by_test (has_queue name t.set && is_named name t.duties)
+    (λ e.
+    let first : a ≡ reply_alone (refused (cause.InUse kind.Queue name)) = rw e at p in
+    let second : b ≡ reply_alone (refused (cause.InUse kind.Queue name)) = rw e at q in
+    first ∙ sym second)
+    (λ e. controlled_once t moment _ _ a b (rw e at p) (rw e at q))
 
 deleted_once : (t : Tables) (moment : ℕ) (bus name : List ℕ) (a b : Answer) → IsRuleDeleted t moment bus name a → IsRuleDeleted t moment bus name b
     → a ≡ b

@@ -1,6 +1,6 @@
--- Queues that are deleted, and messages that are deleted: `queue_deleted_so` (the answer to a DeleteQueue) and `queue_there` (a queue with a message to
+-- Queues that are deleted, and messages that are deleted: `deleted_case` and `queue_deleted_so` (the answer to a DeleteQueue) and `queue_there` (a queue with a message to
 -- delete exists).
-use Rattle.std.proofs.Common.{◌≡◌, ◌⊎◌, ℕ, ◌<◌, inl, inr, Bool, true, false, List, [], ◌∷◌, length, Option, refl, subst, arith}
+use Rattle.std.proofs.Common.{◌≡◌, ℕ, ◌<◌, Bool, true, false, ◌&&◌, List, [], ◌∷◌, length, Option, refl, subst, arith}
 use Rattle.std.specs.Prelude.{cond, Result, Ok, Err, IfOk}
 use Rattle.std.specs.Str.{bytes_eq}
 use Rattle.config_changes.specs.Control.{queue_deleted}
@@ -8,32 +8,29 @@ use Rattle.rule_table.specs.RuleSet.{has_queue}
 use Rattle.delivery_duties.specs.declared.stored.StoredMessage.{StoredMessage}
 use Rattle.delivery_duties.specs.Queues as queues
 use Rattle.delivery_duties.specs.Queues.{Queue, messages_of, messages_through}
-use Rattle.delivery_duties.specs.Duties.{IsNamed}
-use Rattle.api_replies.specs.Reply.{Reply}
+use Rattle.delivery_duties.specs.Duties.{is_named}
+use Rattle.api_replies.specs.declared.kind.Kind.TheVariants as kind
+use Rattle.api_replies.specs.declared.cause.Cause.TheVariants as cause
+use Rattle.api_replies.specs.Reply.{Reply, refused}
 use Rattle.api_replies.specs.declared.reply.Reply.{Reply as CodeReply}
 use Rattle.router_core.specs.Tables.{Tables}
 use Rattle.router_core.specs.declared.ready.Ready.{Ready}
 use Rattle.call_replies.specs.Replies.{empty_reply}
-use Rattle.router_calls.specs.Answer.{IsControlled, IsQueueDeleted}
+use Rattle.router_calls.specs.Answer.{Answer, IsControlled, IsDeletedUnless, IsQueueDeleted, reply_alone}
 use Rattle.router_calls.specs.Decided.{answer_of}
 
--- the queue exists, and a pending duty or a message names it
-abbrev IsInUse : Tables → List ℕ → Type 0
-IsInUse t name = (has_queue name t.set ≡ true) × IsNamed name t.duties
-
-not_both : (b : Bool) (Named : Type 0) → ¬ ((b ≡ true) × Named) → (b ≡ false) ⊎ ¬ Named
-not_both true Named free = inr (λ named. free (refl, named))
-not_both false Named free = inl refl
+pub deleted_case : (b : Bool) (t : Tables) (moment : ℕ) (name : List ℕ) (a : Answer) {G : Type 0}
+    → (a ≡ reply_alone (refused (cause.InUse kind.Queue name)) → G) → (IsControlled t moment (queue_deleted name) empty_reply a → G)
+    → IsDeletedUnless b t moment name a → G
+deleted_case true t moment name a in_use controlled is = in_use is
+deleted_case false t moment name a in_use controlled is = controlled is
 
 pub queue_deleted_so : {E : Type 0} (r : Result (Option Ready × CodeReply) E) (t : Tables) (moment : ℕ) (name given : List ℕ) (reply : Reply)
-    → given ≡ name → ¬ (IsInUse t name) → reply ≡ empty_reply → IfOk r (λ p. IsControlled t moment (queue_deleted given) reply (answer_of p))
-    → IfOk r (λ p. IsQueueDeleted t moment name (answer_of p))
+    → given ≡ name → (has_queue name t.set && is_named name t.duties) ≡ false → reply ≡ empty_reply
+    → IfOk r (λ p. IsControlled t moment (queue_deleted given) reply (answer_of p)) → IfOk r (λ p. IsQueueDeleted t moment name (answer_of p))
 queue_deleted_so (Ok p) t moment name given reply same free is h =
     let other = subst (λ (n : List ℕ). IsControlled t moment (queue_deleted n) reply (answer_of p)) same h in
-    inr (
-      not_both (has_queue name t.set) (IsNamed name t.duties) free,
-      subst (λ (x : Reply). IsControlled t moment (queue_deleted name) x (answer_of p)) is other,
-    )
+    rw free (subst (λ (x : Reply). IsControlled t moment (queue_deleted name) x (answer_of p)) is other)
 queue_deleted_so (Err e) t moment name given reply same free is h = tt
 
 there_step : (b : Bool) (through : ℕ) (xs ys : List StoredMessage) (rest : Bool) → (0 < length (messages_through through ys) → rest ≡ true)

@@ -15,7 +15,7 @@ use Rattle.rule_table.specs.RuleSet.{Rule, Bus, RuleSet, IsAllowed, has_bus, has
 use Rattle.rule_table.specs.Refusal.{IsRefused}
 use Rattle.delivery_duties.specs.declared.stored.StoredMessage.{StoredMessage}
 use Rattle.delivery_duties.specs.Queues.{messages_of, messages_through}
-use Rattle.delivery_duties.specs.Duties.{IsNamed}
+use Rattle.delivery_duties.specs.Duties.{is_named}
 use Rattle.api_replies.specs.declared.kind.Kind.TheVariants as kind
 use Rattle.api_replies.specs.declared.cause.Cause.{Cause}
 use Rattle.api_replies.specs.declared.cause.Cause.TheVariants as cause
@@ -111,13 +111,16 @@ IsPublished t set caller moment entries size a =
 abbrev pub IsTested : List ℕ → Tree → Answer → Type 0
 IsTested pattern event a = (matches : Bool) × IsTestedAs pattern event matches × (a ≡ reply_alone (tested_reply matches))
 
+-- the answer to a DeleteQueue, by whether the queue exists and is named
+abbrev pub IsDeletedUnless : Bool → Tables → ℕ → List ℕ → Answer → Type 0
+IsDeletedUnless true t moment name a = a ≡ reply_alone (refused (cause.InUse kind.Queue name))
+IsDeletedUnless false t moment name a = IsControlled t moment (queue_deleted name) empty_reply a
+
 -- DeleteQueue. An existing queue that a pending delivery or a message names is in use; else it is a change like others. A missing queue is
 -- refused as such, whatever names it.
 -- Shown by: a_queue_with_messages_is_deleted.edit.
 abbrev pub IsQueueDeleted : Tables → ℕ → List ℕ → Answer → Type 0
-IsQueueDeleted t moment name a =
-    ((has_queue name t.set ≡ true) × IsNamed name t.duties × (a ≡ reply_alone (refused (cause.InUse kind.Queue name))))
-    ⊎ (((has_queue name t.set ≡ false) ⊎ ¬ (IsNamed name t.duties)) × IsControlled t moment (queue_deleted name) empty_reply a)
+IsQueueDeleted t moment name a = IsDeletedUnless (has_queue name t.set && is_named name t.duties) t moment name a
 
 -- The answer to a DeleteMessages that is to delete these messages, which have numbers up to `through`: the deletion is one operation of a
 -- batch; without a message nothing is written.

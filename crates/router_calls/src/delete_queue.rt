@@ -1,9 +1,9 @@
 //! DeleteQueue.
-ghost use Rattle.std.specs.Prelude.{◌≡◌, ◌↔◌, ◌≤◌, true, IfOk, IfSome, IsTrue};
+ghost use Rattle.std.specs.Prelude.{◌≡◌, ◌≤◌, ◌&&◌, true, IfOk, IfSome};
 ghost use Rattle.json_text.specs.Moment.{IsMoment};
 ghost use Rattle.event_shape.specs.Names.{IsQueueName};
 ghost use Rattle.rule_table.specs.RuleSet.{has_queue};
-ghost use Rattle.delivery_duties.specs.Duties.{IsNamed};
+ghost use Rattle.delivery_duties.specs.Duties.{is_named};
 ghost use Rattle.router_core.specs.Ready.{IsReadyFor};
 ghost use Rattle.router_calls.specs.Answer.{IsQueueDeleted};
 ghost use Rattle.router_calls.specs.Decided.{answer_of};
@@ -42,7 +42,7 @@ pub(crate) fn delete_queue(
 
 /// Whether the queue exists, and a pending delivery or a message names it.
 fn is_named(tables: &Tables, queue: &str) -> bool
-    ensures { IsTrue result ↔ (has_queue queue.now tables.now.set ≡ true) × IsNamed queue.now tables.now.duties }
+    ensures { result ≡ (has_queue queue.now tables.now.set && is_named queue.now tables.now.duties) }
 {
     tables.set().queue(queue) && tables.duties().names(queue)
 }

@@ -1,9 +1,10 @@
 -- A request writes no record of an attempt: `no_attempt`. The other lemmas lead to it.
-use Rattle.std.proofs.Common.{◌≡◌, ℕ, inl, inr, Bool, true, false, cond, List, [], ◌∷◌, length, map, Option, Some, None, sym, subst}
+use Rattle.std.proofs.Common.{◌≡◌, ℕ, inl, inr, Bool, true, false, ◌&&◌, cond, List, [], ◌∷◌, length, map, Option, Some, None, sym, subst}
 use Rattle.json_text.specs.Tree.{Tree}
 use Rattle.config_changes.specs.declared.control.Target.{Target}
 use Rattle.config_changes.specs.Control.{Control, targets_put, targets_removed}
 use Rattle.rule_table.specs.RuleSet.{Bus, RuleSet, has_queue}
+use Rattle.delivery_duties.specs.Duties.{is_named}
 use Rattle.delivery_duties.specs.declared.stored.StoredMessage.{StoredMessage}
 use Rattle.delivery_duties.specs.Queues.{messages_of, messages_through}
 use Rattle.api_replies.specs.declared.cause.Cause.{Cause}
@@ -21,6 +22,7 @@ use Rattle.router_core.specs.Request.{Request}
 use Rattle.router_core.specs.Tables.{Tables, is_full, moment_at}
 use Rattle.router_core.specs.Verdict.{IsPolicyOf}
 use Rattle.router_calls.specs.Accepted.{Given, events_in}
+use Rattle.router_calls.proofs.QueueLemmas.{deleted_case}
 use Rattle.router_calls.specs.Answer.{Answer, IsAnswer, IsAnswerAt, IsControlled, IsPublished, IsTargetsPut, AreTargetsRemoved}
 use Rattle.router_calls.specs.Answer.{IsRuleDeleted, IsQueueDeleted}
 use Rattle.router_calls.specs.Answer.{IsOnBus, IsGranted, IsRevoked, IsStatementRemovedFrom, events_answer, entries_reply, targets_answer}
@@ -107,8 +109,8 @@ rule_deleted t moment bus name a (inl (lacks, is)) = as_answer a _ is tt
 rule_deleted t moment bus name a (inr (has, is)) = controlled t moment _ _ a is
 
 queue_deleted : (t : Tables) (moment : ℕ) (name : List ℕ) (a : Answer) → IsQueueDeleted t moment name a → HasNoAttempt a.batch
-queue_deleted t moment name a (inl (there, named, is)) = as_answer a _ is tt
-queue_deleted t moment name a (inr (free, is)) = controlled t moment _ _ a is
+queue_deleted t moment name a = deleted_case (has_queue name t.set && is_named name t.duties) t moment name a
+    (λ is. as_answer a _ is tt) (λ is. controlled t moment _ _ a is)
 
 deletion : (t : Tables) (moment : ℕ) (queue : List ℕ) (through : ℕ) (messages : List StoredMessage)
     → HasNoAttempt (deletion_answer t moment queue through messages).batch

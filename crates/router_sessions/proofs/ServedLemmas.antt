@@ -1,5 +1,5 @@
 -- The status of an answer's reply is one of those that replies written from a value have. `Book::turn` cites `answer_served`.
-use Rattle.std.proofs.Common.{◌≡◌, ℕ, inl, inr, Bool, true, false, List, [], ◌∷◌, sym, refl, subst}
+use Rattle.std.proofs.Common.{◌≡◌, ℕ, inl, inr, Bool, true, false, ◌&&◌, List, [], ◌∷◌, sym, refl, subst}
 use Rattle.json_text.specs.Tree.{Tree}
 use Rattle.api_replies.specs.declared.cause.Cause.{Cause}
 use Rattle.api_replies.specs.Reply.{Reply}
@@ -7,6 +7,7 @@ use Rattle.api_replies.specs.Written.{IsServedStatus}
 use Rattle.config_changes.specs.declared.control.Target.{Target}
 use Rattle.config_changes.specs.Control.{Control}
 use Rattle.rule_table.specs.RuleSet.{Rule, Bus, RuleSet, has_queue}
+use Rattle.delivery_duties.specs.Duties.{is_named}
 use Rattle.name_rows.specs.Rows.{named}
 use Rattle.config_views.specs.Views.{on_bus, on_bus_of, on_rule, on_rule_of}
 use Rattle.router_core.specs.Batch as batch
@@ -18,6 +19,7 @@ use Rattle.router_core.specs.Tables.{Tables, is_full, moment_at}
 use Rattle.router_calls.specs.Accepted.{Given, events_in}
 use Rattle.delivery_duties.specs.declared.stored.StoredMessage.{StoredMessage}
 use Rattle.delivery_duties.specs.Queues.{messages_of, messages_through}
+use Rattle.router_calls.proofs.QueueLemmas.{deleted_case}
 use Rattle.router_calls.specs.Answer.{Answer, IsAnswer, IsAnswerAt, IsControlled, IsTargetsPut, IsPublished, IsTested, IsRuleDeleted, IsQueueDeleted}
 use Rattle.router_calls.specs.Answer.{AreTargetsRemoved, IsOnBus, IsGranted, IsRevoked, IsStatementRemovedFrom}
 use Rattle.router_calls.specs.Answer.{writes, targets_answer, removals_answer, events_answer, deletion_answer}
@@ -127,8 +129,8 @@ revoked_served t moment bus None b a is = so_served a _ is (inr (inl refl))
 revoked_served t moment bus (Some sid) b a (policy, of, is) = removal_served t moment bus sid policy a is
 
 queue_deleted_served : (t : Tables) (moment : ℕ) (name : List ℕ) (a : Answer) → IsQueueDeleted t moment name a → IsServed a
-queue_deleted_served t moment name a (inl (there, named, e)) = so_served a _ e (inr (inl refl))
-queue_deleted_served t moment name a (inr (free, is)) = controlled_served t moment _ _ a (inl refl) is
+queue_deleted_served t moment name a = deleted_case (has_queue name t.set && is_named name t.duties) t moment name a
+    (λ e. so_served a _ e (inr (inl refl))) (λ is. controlled_served t moment _ _ a (inl refl) is)
 
 deletion_served : (t : Tables) (moment : ℕ) (queue : List ℕ) (through : ℕ) (messages : List StoredMessage)
     → IsServed (deletion_answer t moment queue through messages)

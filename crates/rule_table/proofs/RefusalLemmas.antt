@@ -1,13 +1,15 @@
 -- Targets and changes are accepted or have one first refusal: `target_decided`, `one_fault`, `faulty_not_good` and `good_form` of a target,
--- `queue_found` and `dead_letter_found` of its queues, `one_refusal` and `refused_not_allowed` of a change, `none_of`, `when_none`, `no_rule_at`;
+-- `queue_found`, `dead_letter_found`, `missing_named` and `not_missing` of its queues, `one_refusal` and `refused_not_allowed` of a change, `none_of`, `when_none`, `no_rule_at`;
 -- `good_few` and `good_there` of targets that are accepted one by one.
 use Rattle.std.proofs.Common.{◌≡◌, ◌≤◌, ◌⊎◌, ℕ, Bool, true, false, List, [], ◌∷◌, length, Option, Some, None}
 use Rattle.std.proofs.Common.{inl, inr, is_some, refl, sym, ap, ◌∙◌, subst, arith}
-use Rattle.std.specs.Prelude.{All, MatchOption}
+use Rattle.std.specs.Prelude.{◌↔◌, not, IsTrue, All, MatchOption}
 use Rattle.std.specs.Str.{bytes_eq}
 use Rattle.std.proofs.lemmas.Bool.{false≢true}
 use Rattle.std.proofs.lemmas.Bool.Decides.{leb_tells}
-use Rattle.event_shape.specs.Names.{default_bus, IsQueueArn}
+use Rattle.event_shape.specs.Names.{default_bus, queue_in, IsQueueArn}
+use Rattle.event_shape.proofs.NameLemmas as name_lemmas
+use Rattle.event_shape.proofs.NameLemmas.{queue_named, one_queue}
 use Rattle.name_rows.specs.Rows.{named, replacing}
 use Rattle.name_rows.proofs.RowLemmas.{by_test, All_placed}
 use Rattle.config_changes.specs.declared.control.Target.{Target}
@@ -17,7 +19,8 @@ use Rattle.config_changes.specs.declared.control.ControlFault.{ControlFault}
 use Rattle.config_changes.specs.Control.{Control, bus_created, bus_deleted, rule_put, rule_deleted, state_put, targets_put, targets_removed, policy_put}
 use Rattle.config_changes.specs.Control.{queue_created, queue_deleted}
 use Rattle.config_changes.specs.TargetForm.{IsTargetArn, IsDeadLetterArn, IsWellFormedTarget}
-use Rattle.config_changes.proofs.MemberLemmas.{arn_decided, one_queue, form_decided, one_member, faulty_not_formed, not_both, true_and_false}
+use Rattle.config_changes.proofs.MemberLemmas.{queue_or_endpoint, queue_is_target, endpoint_is_target, dead_letter_queue}
+use Rattle.config_changes.proofs.MemberLemmas.{form_decided, one_member, faulty_not_formed, not_both, true_and_false}
 use Rattle.rule_table.specs.RuleSet.{Rule, RuleSet, put_target, put_targets, rules_in, rule_at, has_bus, has_queue, is_queue_used, IsQueueThere}
 use Rattle.rule_table.specs.RuleSet.{IsArnThere, IsDeadLetterThere, IsSoundTarget, IsGoodTarget, AreGoodTargets, AreRemovable}
 use Rattle.rule_table.specs.RuleSet.{IsNoneOrStored, ForRule, IsAllowed}
@@ -36,16 +39,17 @@ use Rattle.rule_table.specs.Refusal.{IsQueueRefused, queue_exists, queue_limit, 
 
 -- a queue exists or it is missing, and an endpoint is there
 queue_there : (set : RuleSet) (arn : List ℕ) → IsTargetArn arn → IsArnThere set arn ⊎ IsQueueMissing set arn
-queue_there set arn is = elim (arn_decided arn) [
+queue_there set arn is = elim (queue_or_endpoint arn is) [
   | inl (queue, named) ↦ by_test (has_queue queue set)
       (λ there. inl (inl (queue, named, there)))
       (λ absent. inr (queue, named, absent))
-  | inr none ↦ elim is [ inl named ↦ absurd (none named.0 named.1) | inr endpoint ↦ inl (inr (none, endpoint)) ]
+  | inr other ↦ inl (inr other)
 ]
 
 dead_letter_there : (set : RuleSet) (arn : Option (List ℕ)) → IsDeadLetterArn arn → IsDeadLetterThere set arn ⊎ IsDeadLetterMissing set arn
 dead_letter_there set None is = inl tt
-dead_letter_there set (Some arn) (queue, named) =
+dead_letter_there set (Some arn) is =
+    let (queue, named) = dead_letter_queue arn is in
     by_test (has_queue queue set) (λ there. inl (queue, named, there)) (λ absent. inr (queue, named, absent))
 
 pub queue_found : (set : RuleSet) (arn : List ℕ) → IsTargetArn arn → ¬ IsQueueMissing set arn → IsArnThere set arn
@@ -53,6 +57,17 @@ queue_found set arn is never = elim (queue_there set arn is) [ inl there ↦ the
 
 pub dead_letter_found : (set : RuleSet) (arn : Option (List ℕ)) → IsDeadLetterArn arn → ¬ IsDeadLetterMissing set arn → IsDeadLetterThere set arn
 dead_letter_found set arn is never = elim (dead_letter_there set arn is) [ inl there ↦ there | inr missing ↦ absurd (never missing) ]
+
+pub missing_named : (set : RuleSet) (arn queue : List ℕ) (b : Bool) → queue_in arn ≡ Some queue → b ≡ has_queue queue set
+    → (IsTrue (not b) ↔ IsQueueMissing set arn)
+missing_named set arn queue true named is = (
+  λ never. absurd (false≢true never),
+  λ (other, so, absent). absurd (false≢true (sym absent ∙ ap (λ q. has_queue q set) (one_queue arn other queue so ((queue_named arn queue).0 named)) ∙ sym is)),
+)
+missing_named set arn queue false named is = (λ _. (queue, (queue_named arn queue).0 named, sym is), λ _. refl)
+
+pub not_missing : (set : RuleSet) (arn : List ℕ) → queue_in arn ≡ None → ¬ IsQueueMissing set arn
+not_missing set arn none (queue, is, absent) = name_lemmas.no_queue arn none queue is
 
 no_queue_there : (set : RuleSet) (arn queue : List ℕ) → IsQueueArn arn queue → has_queue queue set ≡ false → ¬ IsQueueThere set arn
 no_queue_there set arn queue is none (other, so, there) =
@@ -119,12 +134,12 @@ one_fault set ts t a b (sixth form arn dead many) (no_dead_letter_queue formed b
 one_fault set ts t a b (sixth form arn dead many) (sixth formed brn lost more) = refl
 
 arn_formed : (set : RuleSet) (arn : List ℕ) → IsArnThere set arn → IsTargetArn arn
-arn_formed set arn (inl (queue, is, there)) = inl (queue, is)
-arn_formed set arn (inr other) = inr other.1
+arn_formed set arn (inl (queue, is, there)) = queue_is_target arn queue is
+arn_formed set arn (inr other) = endpoint_is_target arn other.1
 
 dead_letter_formed : (set : RuleSet) (arn : Option (List ℕ)) → IsDeadLetterThere set arn → IsDeadLetterArn arn
-dead_letter_formed set None there = tt
-dead_letter_formed set (Some arn) (queue, is, there) = (queue, is)
+dead_letter_formed set None there = refl
+dead_letter_formed set (Some arn) (queue, is, there) = ap is_some ((queue_named arn queue).1 is)
 
 pub good_form : (set : RuleSet) (targets : List Target) (target : Target) → IsGoodTarget set targets target → IsWellFormedTarget target
 good_form set targets target g = record {

@@ -1,7 +1,7 @@
 use Rattle.std.proofs.Common.{◌≡◌, drop}
 use Rattle.std.specs.List.{list_all}
 use Rattle.json_text.specs.View.{trees_of}
-use Rattle.api_members.specs.JsonType.{is_text}
+use Rattle.json_text.specs.Access.{is_text}
 use Rattle.api_members.proofs.json_type.are_texts.Given as goal
 
 abbrev pub invariant-loop-item : goal.invariant-loop-item

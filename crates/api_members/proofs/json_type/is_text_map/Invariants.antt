@@ -1,7 +1,8 @@
 use Rattle.std.proofs.Common.{◌≡◌, drop}
 use Rattle.json_text.specs.Tree.{members_of}
 use Rattle.json_text.specs.View.{pairs_of}
-use Rattle.api_members.specs.JsonType.{is_text, each_value}
+use Rattle.api_members.specs.JsonType.{each_value}
+use Rattle.json_text.specs.Access.{is_text}
 use Rattle.api_members.proofs.json_type.is_text_map.Given as goal
 
 abbrev pub invariant-loop-key : goal.invariant-loop-key

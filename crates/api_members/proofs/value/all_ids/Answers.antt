@@ -4,7 +4,7 @@ use Rattle.std.proofs.lemmas.Bool.{false≢true}
 use Rattle.std.proofs.lemmas.List.{at_drop_more}
 use Rattle.json_text.specs.View.{tree_of, trees_of}
 use Rattle.event_shape.specs.Names.{IsShortName}
-use Rattle.api_members.specs.Value.{IsTextThat}
+use Rattle.json_text.specs.Access.{IsTextThat}
 use Rattle.api_members.proofs.IdLemmas.{one_more_id, no_id}
 use Rattle.api_members.proofs.value.all_ids.Goals as goal
 

@@ -2,7 +2,7 @@ use Rattle.std.proofs.Common.{drop}
 use Rattle.std.specs.Prelude.{◌↔◌, All}
 use Rattle.json_text.specs.View.{trees_of}
 use Rattle.event_shape.specs.Names.{IsShortName}
-use Rattle.api_members.specs.Value.{IsTextThat}
+use Rattle.json_text.specs.Access.{IsTextThat}
 use Rattle.api_members.proofs.value.all_ids.Given as goal
 
 abbrev pub invariant-loop-value : goal.invariant-loop-value

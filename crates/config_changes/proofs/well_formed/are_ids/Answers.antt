@@ -1,11 +1,11 @@
-use Rattle.std.proofs.Common.{◌≤◌, length, refl, subst, arith}
+use Rattle.std.proofs.Common.{◌≤◌, length, refl, sym, subst, arith}
 use Rattle.event_shape.specs.Names.{IsShortName}
 use Rattle.config_changes.proofs.FormLemmas.{all_to_end, all_one_more, not_empty}
 use Rattle.config_changes.proofs.well_formed.are_ids.Goals as goal
 
 pub loop-id-preserved : goal.loop-id-preserved
 loop-id-preserved c =
-    let valid = subst IsShortName c.as_str.ensures (c.if-not-is_target_id.ensures.0 refl) in
+    let valid = subst IsShortName c.as_str.ensures (sym c.if-not-is_target_id.ensures) in
     all_one_more IsShortName c.args.ids.now c.loop-id.id-index c.id-item.result c.loop-id-test.true c.id-item.is c.loop-id.invariant valid
 
 pub returns : goal.returns

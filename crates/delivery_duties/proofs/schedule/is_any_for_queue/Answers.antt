@@ -1,5 +1,5 @@
-use Rattle.std.proofs.Common.{◌+◌, ◌<◌, ◌^◌, refl, sym, subst, arith}
-use Rattle.delivery_duties.specs.Duties.{IsForQueue}
+use Rattle.std.proofs.Common.{◌+◌, ◌<◌, ◌^◌, ◌∙◌, IsTrue, refl, sym, ap, subst, arith}
+use Rattle.delivery_duties.specs.Duties.{is_for_queue}
 use Rattle.delivery_duties.proofs.FromLemmas.{from_some, from_none, from_shorter, none_up_to}
 use Rattle.delivery_duties.proofs.RowsLemmas.{entry_has}
 use Rattle.delivery_duties.proofs.schedule.is_any_for_queue.Goals as goal
@@ -7,7 +7,7 @@ use Rattle.delivery_duties.proofs.schedule.is_any_for_queue.Goals as goal
 pub returns-then-is_for_queue : goal.returns-then-is_for_queue
 returns-then-is_for_queue c =
     let first = from_some c.loop-key.from c.in-Some.key c.in-Some.owed.now c.in-Some.ensures.0 c.args.rows.now c.requires.0 c.in-Some.ensures.1 in
-    (λ _. (c.in-Some.key, c.in-Some.owed.now, first.there, subst (IsForQueue c.args.queue.now) c.row.ensures (c.if-is_for_queue.ensures.0 refl)), λ _. refl)
+    (λ _. (c.in-Some.key, c.in-Some.owed.now, first.there, subst (λ r. IsTrue (is_for_queue c.args.queue.now r)) c.row.ensures (sym c.is_for_queue.ensures ∙ c.if-is_for_queue.true)), λ _. refl)
 
 pub overflow_add-from : goal.overflow_add-from
 overflow_add-from c =
@@ -22,8 +22,8 @@ loop-key-smaller c =
 pub loop-key-preserved : goal.loop-key-preserved
 loop-key-preserved c =
     let first = from_some c.loop-key.from c.in-Some.key c.in-Some.owed.now c.in-Some.ensures.0 c.args.rows.now c.requires.0 c.in-Some.ensures.1 in
-    none_up_to (IsForQueue c.args.queue.now) first c.loop-key.invariant
-    (λ f. let test = c.if-is_for_queue.ensures.1 (subst (IsForQueue c.args.queue.now) (sym c.row.ensures) f) in absurd (cc))
+    none_up_to (λ r. IsTrue (is_for_queue c.args.queue.now r)) first c.loop-key.invariant
+    (λ f. let test = c.is_for_queue.ensures ∙ subst (λ r. IsTrue (is_for_queue c.args.queue.now r)) (sym c.row.ensures) f in absurd (cc))
 
 pub returns : goal.returns
 returns c = (

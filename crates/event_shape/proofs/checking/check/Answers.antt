@@ -1,46 +1,39 @@
-use Rattle.std.proofs.Common.{◌≡◌, ◌∙◌, sym, subst, refl, All}
+use Rattle.std.proofs.Common.{◌≡◌, ◌∙◌, inl, inr, Some, None, is_some, sym, ap, subst, refl, All}
 use Rattle.std.specs.Str.{IsUtf8}
-use Rattle.std.proofs.lemmas.Bool.{false≢true}
 use Rattle.json_text.specs.View.{tree_of}
-use Rattle.event_shape.specs.declared.entry.EntryFault.TheVariants.{Source, DetailType, Detail, Time, NotAuthorized}
+use Rattle.event_shape.specs.declared.entry.EntryFault.TheVariants.{Source, DetailType, Detail, Time, Bus, Malformed, NotAuthorized}
 use Rattle.event_shape.specs.Entry.{entry_of}
-use Rattle.event_shape.specs.Fault.{IsFirstFault, IsDetail}
+use Rattle.event_shape.specs.Names.{bus_of_entry}
+use Rattle.json_text.specs.Checks.{IsFirst}
+use Rattle.event_shape.specs.Fault.{IsDetail, GivesDetail, entry_checks}
 use Rattle.event_shape.specs.Event.{Checked, IsCheckedOf, IsUtf8IfGiven}
-use Rattle.event_shape.proofs.CheckLemmas.{Passes, checked, reserved, exit_first, below_source, below_detail_type, below_detail, below_time}
+use Rattle.event_shape.proofs.CheckLemmas.{Passes, checked, reserved, only_here, beyond, exits, found_in, some_given, gives_moment, none_given}
 use Rattle.event_shape.proofs.MakeLemmas.{checked_members}
 use Rattle.event_shape.proofs.checking.check.Goals as goal
 
 pub returns-in_err-source-clause-before_memory : goal.returns-in_err-source-clause-before_memory
-returns-in_err-source-clause-before_memory c =
-    let (lacks, found) = c.in_err-source.ensures in
-    exit_first (entry_of c.args.entry.now) Source c.in_err-source.field-0.0 c.from_residual.result c.from_residual.ensures.1 found
-    (below_source (entry_of c.args.entry.now)) lacks
+returns-in_err-source-clause-before_memory c = λ f is.
+    let (found, fails) = c.in_err-source.ensures in
+    exits c.from_residual.result c.in_err-source.field-0.0 f Source c.from_residual.ensures.1 found (only_here fails is)
 
 pub returns-in_err-detail_type-clause-before_memory : goal.returns-in_err-detail_type-clause-before_memory
-returns-in_err-detail_type-clause-before_memory c =
-    let e = entry_of c.args.entry.now in
-    let (source, some, utf8) = c.in_ok-source.ensures in
-    let (lacks, found) = c.in_err-detail_type.ensures in
-    exit_first e DetailType c.in_err-detail_type.field-0.0 c.from_residual-in_err-detail_type.result c.from_residual-in_err-detail_type.ensures.1 found
-    (below_detail_type e c.in_ok-source.source.now source some) lacks
+returns-in_err-detail_type-clause-before_memory c = λ f is.
+    let (found, fails) = c.in_err-detail_type.ensures in
+    exits c.from_residual-in_err-detail_type.result c.in_err-detail_type.field-0.0 f DetailType c.from_residual-in_err-detail_type.ensures.1 found
+    (only_here fails (beyond c.in_ok-source.ensures.1 is))
 
 pub returns-in_err-detail-clause-before_memory : goal.returns-in_err-detail-clause-before_memory
-returns-in_err-detail-clause-before_memory c =
-    let e = entry_of c.args.entry.now in
-    let (source, some, utf8) = c.in_ok-source.ensures in
-    let (detail_type, any, also) = c.in_ok-detail_type.ensures in
-    let (lacks, found) = c.in_err-detail.ensures in
-    exit_first e Detail c.in_err-detail.field-0.0 c.from_residual-in_err-detail.result c.from_residual-in_err-detail.ensures.1 found
-    (below_detail e c.in_ok-source.source.now c.in_ok-detail_type.detail_type.now source some detail_type any) lacks
+returns-in_err-detail-clause-before_memory c = λ f is.
+    let (found, fails) = c.in_err-detail.ensures in
+    exits c.from_residual-in_err-detail.result c.in_err-detail.field-0.0 f Detail c.from_residual-in_err-detail.ensures.1 found
+    (only_here fails (beyond c.in_ok-detail_type.ensures.1 (beyond c.in_ok-source.ensures.1 is)))
 
 pub returns-in_err-time-clause-before_memory : goal.returns-in_err-time-clause-before_memory
-returns-in_err-time-clause-before_memory c =
-    let e = entry_of c.args.entry.now in
-    let (source, some, utf8) = c.in_ok-source.ensures in
-    let (detail_type, any, also) = c.in_ok-detail_type.ensures in
-    let (lacks, found) = c.in_err-time.ensures in
-    exit_first e Time c.in_err-time.field-0.0 c.from_residual-in_err-time.result c.from_residual-in_err-time.ensures.1 found
-    (below_time e c.in_ok-source.source.now c.in_ok-detail_type.detail_type.now c.in_ok-detail.detail.now source some detail_type any c.in_ok-detail.ensures) lacks
+returns-in_err-time-clause-before_memory c = λ f is.
+    let (found, fails) = c.in_err-time.ensures in
+    exits c.from_residual-in_err-time.result c.in_err-time.field-0.0 f Time c.from_residual-in_err-time.ensures.1 found
+    (only_here fails (beyond (some_given c.args.entry.now.detail c.in_ok-detail.detail.now c.in_ok-detail.ensures)
+    (beyond c.in_ok-detail_type.ensures.1 (beyond c.in_ok-source.ensures.1 is))))
 
 pub returns-then-is_reserved-clause-fault : goal.returns-then-is_reserved-clause-fault
 returns-then-is_reserved-clause-fault c =
@@ -69,7 +62,7 @@ returns-then-is_reserved-clause-fault c =
       bus = c.in_ok-bus.ensures.given;
     } in
     λ f e. let same : NotAuthorized ≡ f = cc in
-    subst (IsFirstFault (entry_of c.args.entry.now)) same (reserved (entry_of c.args.entry.now) members passes (c.if-is_reserved.ensures.0 refl))
+    subst (IsFirst (entry_checks (entry_of c.args.entry.now))) same (reserved (entry_of c.args.entry.now) members passes (sym c.is_reserved.ensures ∙ c.if-is_reserved.true))
 
 members : goal.In_ok-source-2 → Checked
 members c = record {
@@ -100,7 +93,7 @@ is_checked c =
           c.in_ok-detail-2.ensures.1 tree (subst (λ b. IsDetail b tree) same is);
       bus = c.in_ok-bus.ensures.given;
     } in
-    checked (entry_of c.args.entry.now) (members c) passes (λ h. false≢true (c.if-is_reserved.ensures.1 h))
+    checked (entry_of c.args.entry.now) (members c) passes (sym c.is_reserved.ensures ∙ c.if-is_reserved.false)
 
 pub invariant_of-result : goal.invariant_of-result
 unfolding members
@@ -121,3 +114,41 @@ unfolding members
 returns-clause-checked c =
     let copied = c.in_ok-source-2.ensures in
     rw (copied.source, copied.detail_type, copied.resources ∙ c.deref.ensures.value) (is_checked c)
+
+pub returns-in_err-bus-clause-fault : goal.returns-in_err-bus-clause-fault
+returns-in_err-bus-clause-fault c = λ f e.
+    let entry = entry_of c.args.entry.now in
+    let (same, none) = found_in c.from_residual-in_err-bus.result c.in_err-bus.field-0.0 Bus (bus_of_entry entry.bus ≡ None)
+    c.from_residual-in_err-bus.ensures.1 c.in_err-bus.ensures.given f e in
+    inr (
+      c.in_ok-source.ensures.1,
+      inr (
+        c.in_ok-detail_type.ensures.1,
+        inr (
+          some_given entry.detail c.in_ok-detail.detail.now c.in_ok-detail.ensures,
+          inr (gives_moment entry.time c.in_ok-time.time c.in_ok-time.ensures, inl (same, none_given (bus_of_entry entry.bus) none)),
+        ),
+      ),
+    )
+
+pub returns-in_err-detail-2-clause-fault : goal.returns-in_err-detail-2-clause-fault
+returns-in_err-detail-2-clause-fault c = λ f e.
+    let entry = entry_of c.args.entry.now in
+    let (same, fails) = found_in c.from_residual-in_err-detail-2.result c.in_err-detail-2.field-0.0 Malformed (¬ GivesDetail (Some c.in_ok-detail.detail.now))
+    c.from_residual-in_err-detail-2.ensures.1 c.in_err-detail-2.ensures f e in
+    inr (
+      c.in_ok-source.ensures.1,
+      inr (
+        c.in_ok-detail_type.ensures.1,
+        inr (
+          some_given entry.detail c.in_ok-detail.detail.now c.in_ok-detail.ensures,
+          inr (
+            gives_moment entry.time c.in_ok-time.time c.in_ok-time.ensures,
+            inr (
+              ap is_some c.in_ok-bus.ensures.given,
+              inl (same, λ gives. fails (subst GivesDetail c.in_ok-detail.ensures gives)),
+            ),
+          ),
+        ),
+      ),
+    )

@@ -1,4 +1,6 @@
+use Rattle.std.proofs.Common.{◌∙◌}
+use Rattle.event_shape.proofs.NameLemmas.{queue_none, queue_some}
 use Rattle.event_shape.proofs.names.queue_of.Goals as goal
 
 pub returns-in-None : goal.returns-in-None
-returns-in-None c = λ queue given. c.in-None.ensures queue given.1
+returns-in-None c = queue_none c.args.arn.now c.in-None.ensures

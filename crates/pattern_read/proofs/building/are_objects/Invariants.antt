@@ -1,7 +1,7 @@
 use Rattle.std.proofs.Common.{◌≡◌, drop}
 use Rattle.std.specs.List.{list_all}
 use Rattle.json_text.specs.View.{trees_of}
-use Rattle.pattern_read.specs.Value.{is_object}
+use Rattle.json_text.specs.Access.{is_object}
 use Rattle.pattern_read.proofs.building.are_objects.Given as goal
 
 -- all are such if those that are left are

@@ -1,7 +1,7 @@
-use Rattle.std.proofs.Common.{Some, None, sym, ap, ◌∙◌}
+use Rattle.std.proofs.Common.{◌==◌, not, length, Some, None, sym, ap, ◌∙◌}
 use Rattle.delivery_duties.specs.Queues.{messages_of}
 use Rattle.delivery_duties.specs.Duties.{Duties}
-use Rattle.delivery_duties.proofs.QueueLemmas.{messages_named, some_left, none_left}
+use Rattle.delivery_duties.proofs.QueueLemmas.{messages_named, some_left}
 use Rattle.delivery_duties.proofs.duties.Duties.has_messages.Goals as goal
 
 pub returns-in-Some : goal.returns-in-Some
@@ -15,4 +15,4 @@ pub returns-in-None : goal.returns-in-None
 returns-in-None c =
     let queue = c.args.queue.now in
     let all = sym (ap (λ (s : Duties). messages_of queue s.queues) c.self.view_is) ∙ messages_named queue c.self.inside.queues None c.in-None.ensures in
-    none_left (messages_of queue c.args.self.now.queues) all
+    ap (λ l. not (length l == 0)) (sym all)
