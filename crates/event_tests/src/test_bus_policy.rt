@@ -2,7 +2,7 @@
 ghost use Rattle.bus_policy.specs.Change.{IsAccountGiven};
 ghost use Rattle.bus_policy.specs.Grantee.{account_given};
 
-use crate::rows::{all_met, four, last, said, three, two};
+use crate::rows::said;
 use bus_policy::{
     Asker, Grantee, Policy, PolicyFault, Removed, Verdict, bus_verdict, is_statement_id,
 };
@@ -10,6 +10,7 @@ use event_shape::is_account;
 use json_text::NoMemory;
 use std::alloc::{AllocError, Global};
 use std::test::Fail;
+use test_rows::{all_met, four, last, three, two};
 
 /// The asker with this account, bus, source and detail type.
 fn asker<'a>(fields: &'a str) -> Asker<'a> {

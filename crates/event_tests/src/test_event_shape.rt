@@ -1,5 +1,5 @@
 //! Tests of event_shape.
-use crate::rows::{all_met, four, is_number, is_text, last, said, three, two};
+use crate::rows::{is_number, is_text, said};
 use event_shape::{
     CheckFault, Checked, Event, EventEntry, OWNER, REGION, Unnumbered, archive_arn, bus_arn,
     bus_of, check, event_id, is_account, is_archive_name, is_bus_arn, is_bus_name, is_queue_arn,
@@ -9,6 +9,7 @@ use event_shape::{
 use json_text::{Json, LAST_MOMENT, NoMemory, Text};
 use std::alloc::{AllocError, Global};
 use std::test::Fail;
+use test_rows::{all_met, four, last, three, two};
 
 /// A kind of JSON value, its spelling, and its moment: texts at both bounds of moments, one above the upper bound, and
 /// two between, numbers, and a truth value.

@@ -1,8 +1,9 @@
 //! Tests of event_time.
-use crate::rows::{all_met, is_number, two};
+use crate::rows::is_number;
 use event_time::{iso, text_moment};
 use std::alloc::Global;
 use std::test::Fail;
+use test_rows::{all_met, two};
 
 /// Civil dates in UTC and their seconds since 1970, by the rules of the Gregorian calendar, computed outside this project.
 const DATES: &str = "1970-01-01T00:00:00Z|0

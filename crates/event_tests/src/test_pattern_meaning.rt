@@ -1,10 +1,11 @@
 //! Tests of pattern_meaning: events worked by hand.
-use crate::rows::{all_met, said, two};
+use crate::rows::said;
 use json_text::read;
 use pattern_meaning::{Pattern, plain_holds};
 use pattern_read::read_pattern;
 use std::alloc::Global;
 use std::test::Fail;
+use test_rows::{all_met, two};
 
 /// Whether the pattern holds of the event as the row says.
 pub fn is_held(alloc: Global, pattern: &Pattern, row: &str) -> Result<bool, Fail> {

@@ -1,9 +1,9 @@
 //! Tests of pattern_read: patterns hold as the public guide says, and other texts are refused with their first fault.
-use crate::rows::{all_met, four, two};
 use crate::test_pattern_meaning;
 use pattern_read::{PatternFault, read_pattern};
 use std::alloc::{AllocError, Global};
 use std::test::Fail;
+use test_rows::{all_met, four, two};
 
 /// A pattern, an event, and whether the pattern holds of it, worked by hand from the definition by views.
 const HELD: &str = r#"{"a":{"b":["1"],"c":["2"]}}|{"a":[[{"b":"1","c":"2"}]]}|true

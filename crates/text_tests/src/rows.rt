@@ -1,51 +1,6 @@
-//! A table is one text. Each line is a row, whose fields are apart by `|`. The last field is what the row wants.
+//! What the fields of a row say.
 use std::alloc::Global;
 use std::test::Fail;
-
-/// The last field of a row with too few fields. No result is this text, so the row fails.
-const NO_FIELD: &str = "no field";
-
-/// The first field of a row, and the rest.
-pub(crate) fn two(row: &str) -> (&str, &str) {
-    match row.split_once('|') {
-        Some(fields) => fields,
-        None => ("", NO_FIELD),
-    }
-}
-
-/// The first two fields of a row, and the rest.
-pub(crate) fn three(row: &str) -> (&str, &str, &str) {
-    let (first, rest) = two(row);
-    let (second, third) = two(rest);
-    (first, second, third)
-}
-
-/// The first three fields of a row, and the rest.
-pub(crate) fn four(row: &str) -> (&str, &str, &str, &str) {
-    let (first, second, rest) = three(row);
-    let (third, fourth) = two(rest);
-    (first, second, third, fourth)
-}
-
-/// Fails with the first row that is not met, or if the rows are not `count`.
-pub(crate) fn all_met<F: Fn(Global, &str) -> Result<bool, Fail>>(
-    alloc: Global,
-    rows: &str,
-    count: usize,
-    is_met: F,
-) -> Result<(), Fail>
-    requires { F.IsAlwaysCallable is_met }
-{
-    if rows.lines().count() != count {
-        return Err(Fail::new("another number of rows"));
-    }
-    for row in rows.lines() {
-        if !is_met(alloc, row)? {
-            return Err(Fail::new(row));
-        }
-    }
-    Ok(())
-}
 
 /// How a row says a truth value. `None` is that the pattern was refused.
 pub(crate) fn said(answer: Option<bool>) -> &'static str {

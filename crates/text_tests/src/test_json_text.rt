@@ -1,11 +1,12 @@
 //! Tests of json_text: what no clause says. Calls succeed if memory is available, and the definitions are those of RFC 8259.
-use crate::rows::{all_met, bytes_of, four, three, two};
+use crate::rows::bytes_of;
 use json_text::{
     Bytes, Json, JsonFault, NoMemory, Text, copy, member_at, push_member, push_text, read,
     read_once, write,
 };
 use std::alloc::Global;
 use std::test::Fail;
+use test_rows::{all_met, four, three, two};
 
 /// A text and its compact text. Worked by hand from RFC 8259. The last two rows are this project's own rule for a repeated key.
 const COMPACT: &str = r#" null |null

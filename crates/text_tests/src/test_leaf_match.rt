@@ -1,10 +1,11 @@
 //! Tests of leaf_match.
-use crate::rows::{all_met, four, said, three, two};
+use crate::rows::said;
 use leaf_match::{
     Cidr, Family, NoMemory, Wild, WildFault, ends_ci, equal_ci, like, starts_ci, wild,
 };
 use std::alloc::Global;
 use std::test::Fail;
+use test_rows::{all_met, four, three, two};
 
 /// A wildcard, a text, and whether the text fits. Worked by hand.
 const WILDCARDS: &str = r"a*b*|ab|true

@@ -1,9 +1,9 @@
 //! Tests of name_rows.
-use crate::rows::{all_met, two};
 use json_text::Text;
 use name_rows::Rows;
 use std::alloc::Global;
 use std::test::Fail;
+use test_rows::{all_met, two};
 
 /// A name of four digits, so that names are in the order of their numbers.
 fn name(alloc: Global, number: u32) -> Result<Text, Fail> {

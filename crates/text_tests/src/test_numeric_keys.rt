@@ -2,10 +2,10 @@
 ghost use Rattle.std.specs.Prelude.{◌<◌};
 ghost use Rattle.std.specs.List.{All};
 
-use crate::rows::{all_met, two};
 use numeric_keys::{Marks, NoMemory, Ranges, millionths};
 use std::alloc::{AllocError, Global};
 use std::test::Fail;
+use test_rows::{all_met, two};
 
 /// Spellings and their millionths. The first four are samples of RFC 8259, section 13, and the next two of section 6. The others
 /// were worked by hand: zero; a fraction, an exponent, both; the limit and one step inside; past the limit or no whole number of
