@@ -2,7 +2,8 @@
 """Runs bin/ebusd at its limits, with inputs too large to be stored, and compares each reply with what is written here.
 
 A text that is one byte too long for its target is dropped, or becomes an empty dead letter, and one at the limit is delivered
-whole; a session serves 1,048,576 requests and no more; if the system gives no memory the status is 7. A run that fails has a line. The last
+whole; entries of 262,144 bytes together are accepted, and a body of 1,048,576 bytes is read, and no longer ones; a session serves
+1,048,576 requests and no more; if the system gives no memory the status is 7. A run that fails has a line. The last
 line is `N passed, M failed`.
 """
 import json
@@ -16,6 +17,8 @@ PROGRAM = ["crates/ebusd/out/ebusd", *EBUSD[1:]]
 SECONDS = 300
 TEXT_LIMIT = 1_048_576
 REQUEST_LIMIT = 1_048_576
+BODY_LIMIT = 1_048_576
+ENTRIES_LIMIT = 262_144
 QUEUE = "arn:aws:sqs:us-east-1:111122223333:q"
 # The event's text but its source and its detail type.
 ENVELOPE = (
@@ -126,6 +129,28 @@ def a_text_past_the_limit_is_an_empty_dead_letter():
     return run([*asked, message("RouterLocal.DutyCounts", "{}")]), (b"".join(replies), b"", 0)
 
 
+def entries_have_their_limit_together():
+    """The size of an entry is that of its source, detail type and detail: here one byte, one byte, and the rest."""
+    asked = []
+    for size in (ENTRIES_LIMIT, ENTRIES_LIMIT + 1):
+        detail = json.dumps('{"a":"%s"}' % ("x" * (size - 10)))
+        asked.append(message("AWSEvents.PutEvents", '{"Entries":[{"Source":"k","DetailType":"d","Detail":%s}]}' % detail))
+    replies = [
+        reply("200 OK", '{"FailedEntryCount":0,"Entries":[{"EventId":"00000000-0000-8000-8000-000000000001"}]}'),
+        reply("400 Bad Request", '{"__type":"ValidationException","message":"The request is over 262144 bytes."}'),
+    ]
+    return run(asked), (b"".join(replies), b"", 0)
+
+
+def a_body_has_its_limit():
+    asked = [message("RouterLocal.DutyCounts", "{%s}" % (" " * (size - 2))) for size in (BODY_LIMIT, BODY_LIMIT + 1)]
+    replies = [
+        reply("200 OK", '{"Created":0,"Pending":0,"Delivered":0,"DeadLettered":0,"Dropped":0}'),
+        reply("413 Payload Too Large", '{"__type":"TooLarge","message":"The body is over 1048576 bytes."}', close=True),
+    ]
+    return run(asked), (b"".join(replies), b"ebusd: message refused\n", 11)
+
+
 def a_session_ends_after_its_last_request():
     one = message("RouterLocal.Nothing", "")
     block = 4096
@@ -168,6 +193,8 @@ def main():
         a_text_at_the_limit_is_delivered,
         a_text_past_the_limit_is_dropped_at_its_making,
         a_text_past_the_limit_is_an_empty_dead_letter,
+        entries_have_their_limit_together,
+        a_body_has_its_limit,
         a_session_ends_after_its_last_request,
         out_of_memory_the_status_is_7,
     ):

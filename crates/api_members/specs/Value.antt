@@ -1,13 +1,13 @@
 -- Which values are valid for a member.
 use Rattle.std.specs.Prelude.{◌≡◌, ℕ, ◌≤◌, nat_le, ◌⊎◌, Bool, true, false, ◌&&◌, List, length, Option, Some, None, is_some, option_and_then, unwrap_or, codes, IsSome, IsTrue, All}
 use Rattle.std.specs.List.{list_all}
-use Rattle.json_text.specs.Tree.{Tree, truth, text}
+use Rattle.json_text.specs.Tree.{Tree, truth}
 use Rattle.event_shape.specs.Names.{IsQueueName, IsShortName, IsBusName, bus_in, default_bus, is_account}
 use Rattle.bus_policy.specs.Text.{IsPolicyText}
 use Rattle.bus_policy.specs.StatementId.{IsStatementId}
 use Rattle.pattern_meaning.specs.Pattern.{Pattern}
 use Rattle.pattern_read.specs.Text.{IsPatternText}
-use Rattle.config_changes.specs.TargetForm.{IsTargetArn}
+use Rattle.rule_targets.specs.Checks.{IsTargetArn}
 use Rattle.api_members.specs.declared.asked.Syntax.{Syntax}
 use Rattle.api_members.specs.declared.asked.Syntax.TheVariants as syntax
 use Rattle.api_members.specs.Given.{list_in}

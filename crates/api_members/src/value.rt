@@ -7,7 +7,7 @@ ghost use Rattle.json_text.specs.View.{tree_of, trees_of, pairs_of};
 ghost use Rattle.json_text.specs.Access.{IsTextThat};
 ghost use Rattle.event_shape.specs.Names.{IsBusName, IsQueueName, IsShortName};
 ghost use Rattle.bus_policy.specs.StatementId.{IsStatementId};
-ghost use Rattle.config_changes.specs.TargetForm.{IsTargetArn};
+ghost use Rattle.rule_targets.specs.Checks.{IsTargetArn};
 ghost use Rattle.api_members.specs.Given.{text_given};
 ghost use Rattle.api_members.specs.Entry.{is_entry};
 ghost use Rattle.api_members.specs.Target.{is_target};
@@ -94,7 +94,7 @@ pub(crate) fn is_target_arn(alloc: Global, value: &Json) -> Result<bool, NoMemor
     ensures { IfOk result (λ b. IsTrue b ↔ IsTextThat IsTargetArn (tree_of value.now)) }
 {
     match value {
-        Json::Str(text) => config_changes::is_target_arn(alloc, text.as_str()),
+        Json::Str(text) => rule_targets::is_target_arn(alloc, text.as_str()),
         Json::Null | Json::Truth(_) | Json::Num(_) | Json::List(_) | Json::Obj(_) => Ok(false),
     }
 }

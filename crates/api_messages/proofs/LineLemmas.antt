@@ -7,9 +7,9 @@ use Rattle.std.specs.Prelude.{All, IsTrue, ◌==◌}
 use Rattle.std.specs.List.{flat_map}
 use Rattle.std.proofs.lemmas.List.{append_cancel_right, take_at, drop_all, length-map, length-take}
 use Rattle.std.proofs.lemmas.List.Elements.{All-nil, All-cons, All-head, All-tail}
-use Rattle.std.proofs.lemmas.Bool.{cond-true, cond-false, ne_eqb, eqb-true, false≢true}
+use Rattle.std.proofs.lemmas.Bool.{cond-false, ne_eqb, eqb-true, false≢true}
 use Rattle.httparse.specs.Grammar.{LineEnd, crlf, lf, print_end, print_blank, print_version, Field, print_field, IsField, AllPass, is_token_byte, is_uri_byte}
-use Rattle.httparse.specs.Grammar.{is_value_byte, print_section, RequestHead, print_request, IsRequestHead, ReadsRequest, NeverHasRequest}
+use Rattle.httparse.specs.Grammar.{is_value_byte, RequestHead, print_request, IsRequestHead, ReadsRequest, NeverHasRequest}
 use Rattle.httparse.specs.Spans.{RequestExceeds, AreFieldsAt, header_bytes, name_and_value, IsRequestOf, IsRequestWithin, FindsRequest}
 use Rattle.httparse.specs.declared.Status.TheVariants.{Complete}
 use Rattle.httparse.specs.declared.spans.HeaderSpan.{HeaderSpan}

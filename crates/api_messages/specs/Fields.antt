@@ -6,6 +6,7 @@ use Rattle.std.specs.List.{list_all, list_any}
 use Rattle.std.specs.Char.{is_ascii_digit, to_ascii_lowercase}
 use Rattle.std.specs.Str.{is_utf8}
 use Rattle.std.specs.Str.Parse.{digits_value}
+use Rattle.json_text.specs.Limits.{most_body}
 use Rattle.httparse.specs.Grammar.{RequestHead}
 use Rattle.httparse.specs.Spans.{name_and_value}
 use Rattle.api_messages.specs.declared.method.Method.{Method}
@@ -112,7 +113,7 @@ is_length value = (nat_le 1 (length value) && nat_le (length value) 10) && list_
 -- Shown by: wire_tests test_api_messages.rt: heads_that_break_a_rule_are_refused_from_their_last_byte_on.
 unfoldable pub length_of : List ℕ → Result ℕ Refusal
 length_of value =
-    if is_length value then (if nat_le (digits_value 10 value) 1048576 then Ok (digits_value 10 value) else Err TooLarge) else Err BadHead
+    if is_length value then (if nat_le (digits_value 10 value) most_body then Ok (digits_value 10 value) else Err TooLarge) else Err BadHead
 
 -- The length of the body by the Content-Length fields. If there is none, a POST is refused as `LengthRequired`, and another method has no
 -- body. Two are `BadHead`.

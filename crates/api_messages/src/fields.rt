@@ -3,7 +3,7 @@ ghost use Rattle.std.specs.Prelude.{◌≡◌, List, [], ◌∷◌, ◌++◌, �
 ghost use Rattle.std.specs.List.{list_all};
 ghost use Rattle.std.specs.Char.{is_ascii_digit};
 ghost use Rattle.httparse.specs.Spans.{IsHeaderWithin, header_bytes};
-ghost use Rattle.api_messages.specs.Fields.{Pair, known_of, is_named, is_close, is_host_sound, is_absent, is_repeated, is_sound, is_length, length_of, length_at, body_length_by};
+ghost use Rattle.api_messages.specs.Fields.{Pair, known_of, is_named, is_close, is_host_sound, is_absent, is_repeated, is_sound, length_of, length_at, body_length_by};
 ghost use Rattle.api_messages.specs.Reading.{occurrence_in, and_also, known};
 
 use crate::message::Refusal;

@@ -29,7 +29,7 @@ use Rattle.api_members.specs.Entry.{is_entry, texts_of, entry_with, entries_of}
 use Rattle.api_members.specs.CheckedEntry.{IsChecked, AreChecked}
 use Rattle.api_members.specs.Target.{is_target}
 use Rattle.api_members.specs.Count.{count_given}
-use Rattle.config_changes.specs.TargetForm.{IsTargetArn}
+use Rattle.rule_targets.specs.Checks.{IsTargetArn}
 use Rattle.api_members.specs.Value.{IsGrantee, are_few, is_list_of, bus_or_default, IsValid}
 use Rattle.json_text.specs.Access.{IsTextThat}
 use Rattle.api_members.specs.Refusal.{ValidOr, IsSoundMember}

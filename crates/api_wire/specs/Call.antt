@@ -8,8 +8,8 @@ use Rattle.json_text.specs.Node.{Node, value_of}
 use Rattle.json_text.specs.Grammar.{IsText}
 use Rattle.event_shape.specs.Names.{owner, is_account}
 use Rattle.bus_policy.specs.Text.{IsPolicyText}
-use Rattle.config_changes.specs.declared.control.RetryPolicy.{RetryPolicy}
-use Rattle.config_changes.specs.declared.control.Target.{Target}
+use Rattle.rule_targets.specs.declared.target.AskedRetry.{AskedRetry}
+use Rattle.rule_targets.specs.declared.target.AskedTarget.{AskedTarget}
 use Rattle.router_core.specs.Request.{Action, Request, create_event_bus, delete_event_bus, describe_event_bus, list_event_buses, put_rule, delete_rule}
 use Rattle.router_core.specs.Request.{put_rule_state, describe_rule, list_rules, put_targets, remove_targets, list_targets_by_rule}
 use Rattle.router_core.specs.Request.{list_rule_names_by_target, put_policy, put_statement, remove_policy, remove_statement, put_events}
@@ -162,13 +162,13 @@ unsupported = member.Input ∷ member.InputPath ∷ member.InputTransformer ∷ 
 
 -- The retry policy that is given; an absent number is its default, so `{}` has both.
 -- Shown by: an_empty_retry_policy_is_none.edit.
-abbrev pub retry_given : Option Tree → Option RetryPolicy
+abbrev pub retry_given : Option Tree → Option AskedRetry
 retry_given None = None
 retry_given (Some policy) = Some (record { attempts = attempts_given (members_in policy); age = age_given (members_in policy) })
 
 -- The target with these members: its id, ARN, retry policy and dead-letter queue, and the first member that is not supported yet.
 -- Shown by: wire_tests test_api_wire/requests.rt: a_request_has_what_the_message_gives.
-abbrev pub target_with : Members → Target
+abbrev pub target_with : Members → AskedTarget
 target_with ms = record {
   id = text_of member.Id ms;
   arn = text_of member.Arn ms;
@@ -179,7 +179,7 @@ target_with ms = record {
 
 -- The targets that the values of a list are, in order.
 -- Shown by: targets_are_read_in_reverse.edit.
-abbrev pub targets_of : List Tree → List Target
+abbrev pub targets_of : List Tree → List AskedTarget
 targets_of values = map (λ tree. target_with (members_in tree)) values
 
 -- The members of an operation make this action of the caller, if they are sound.

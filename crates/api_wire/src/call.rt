@@ -25,6 +25,7 @@ mod list_rule_names_by_target;
 mod list_rules;
 mod list_targets_by_rule;
 mod operation;
+mod pattern;
 mod peek_messages;
 mod put_events;
 mod put_permission;

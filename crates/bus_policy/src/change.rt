@@ -2,7 +2,7 @@
 ghost use Rattle.std.specs.Prelude.{◌≡◌, ◌≤◌, ◌++◌, ◌∷◌, [], false, length, IfOk, codes};
 ghost use Rattle.json_text.specs.Compact.{compact_text};
 ghost use Rattle.json_text.specs.Tree.{Tree, items_of, members_of, text, object};
-ghost use Rattle.json_text.specs.View.{tree_of, trees_of, pairs_of};
+ghost use Rattle.json_text.specs.View.{tree_of, trees_of};
 ghost use Rattle.bus_policy.specs.Change as spec;
 ghost use Rattle.bus_policy.specs.Grantee.{account_given, IsRemoved};
 ghost use Rattle.bus_policy.specs.Parts.{root_arn, statements_of as statements_seen};

@@ -1,6 +1,6 @@
 //! Conditions: of each operator its keys, of each key its texts.
 ghost use Rattle.std.specs.Prelude.{◌≡◌, ◌&&◌, ℕ, List, Bool, codes};
-ghost use Rattle.json_text.specs.Tree.{Tree, members_of};
+ghost use Rattle.json_text.specs.Tree.{members_of};
 ghost use Rattle.json_text.specs.View.{tree_of, pairs_of};
 ghost use Rattle.bus_policy.specs.Grammar as spec;
 

@@ -1,7 +1,7 @@
 //! What is stored of a policy.
 ghost use Rattle.std.specs.Prelude.{◌≡◌, ◌++◌, ◌∷◌, [], IfOk, Some, codes, unwrap_or};
-ghost use Rattle.json_text.specs.Tree.{items_of, list};
-ghost use Rattle.json_text.specs.View.{tree_of, trees_of, pairs_of};
+ghost use Rattle.json_text.specs.Tree.{items_of};
+ghost use Rattle.json_text.specs.View.{tree_of, trees_of};
 ghost use Rattle.json_text.specs.Compact.{compact_text, IsValue};
 ghost use Rattle.json_text.specs.Access.{member_of};
 ghost use Rattle.bus_policy.specs.Stored as spec;

@@ -1,8 +1,8 @@
 -- The tables after legal turns, claims set aside, are the fold of the batches that the turns wrote: `folds`, `folds_book`.
 use Rattle.std.proofs.Common.{◌≡◌, ℕ, ◌+◌, Bool, max, true, false, cond, eqb, ltb, List, [], ◌∷◌, map, Option, Some, None, refl, sym, ap, ◌∙◌, subst}
 use Rattle.std.specs.Option.{option_map}
-use Rattle.config_changes.specs.Control.{Control, bus_created, bus_deleted, rule_put, rule_deleted, state_put, targets_put, targets_removed, policy_put}
-use Rattle.config_changes.specs.Control.{queue_created, queue_deleted}
+use Rattle.rule_table.specs.Control.{Control, bus_created, bus_deleted, rule_put, rule_deleted, state_put, targets_put, targets_removed, policy_put}
+use Rattle.rule_table.specs.Control.{queue_created, queue_deleted}
 use Rattle.key_tree.specs.Entries.{value_at, placed, without}
 use Rattle.delivery_duties.specs.declared.duty.DutyRow.{DutyRow}
 use Rattle.delivery_duties.specs.declared.duty.NewDuty.{NewDuty}

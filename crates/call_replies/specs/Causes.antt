@@ -1,6 +1,5 @@
 -- Why a change, an entry or a target is refused, as replies report it.
-use Rattle.std.specs.Prelude.{◌≡◌, ℕ, List, Some}
-use Rattle.event_shape.specs.Names.{queue_arn}
+use Rattle.std.specs.Prelude.{ℕ, List, Option, Some, None}
 use Rattle.event_shape.specs.declared.entry.EntryFault.{EntryFault}
 use Rattle.event_shape.specs.declared.entry.EntryFault.TheVariants.{Source, DetailType, Detail, Time, Bus, Malformed, NotAuthorized}
 use Rattle.api_replies.specs.declared.kind.Kind.{Kind}
@@ -8,13 +7,12 @@ use Rattle.api_replies.specs.declared.kind.Kind.TheVariants as kind
 use Rattle.api_replies.specs.declared.member.Member.TheVariants as member
 use Rattle.api_replies.specs.declared.cause.Cause.{Cause}
 use Rattle.api_replies.specs.declared.cause.Cause.TheVariants as cause
-use Rattle.config_changes.specs.Control.{Control, bus_created, bus_deleted, rule_put, rule_deleted, state_put, targets_put}
-use Rattle.config_changes.specs.Control.{targets_removed, policy_put, queue_created, queue_deleted}
-use Rattle.config_changes.specs.declared.control.Target.{Target}
-use Rattle.config_changes.specs.declared.control.TargetFault.{TargetFault}
-use Rattle.config_changes.specs.declared.control.TargetFault.TheVariants as target_fault
-use Rattle.config_changes.specs.declared.control.ControlFault.{ControlFault}
-use Rattle.config_changes.specs.declared.control.ControlFault.TheVariants as fault
+use Rattle.rule_table.specs.Control.{Control, bus_created, bus_deleted, rule_put, rule_deleted, state_put, targets_put}
+use Rattle.rule_table.specs.Control.{targets_removed, policy_put, queue_created, queue_deleted}
+use Rattle.rule_table.specs.declared.control.TargetFault.{TargetFault}
+use Rattle.rule_table.specs.declared.control.TargetFault.TheVariants as target_fault
+use Rattle.rule_table.specs.declared.control.ControlFault.{ControlFault}
+use Rattle.rule_table.specs.declared.control.ControlFault.TheVariants as fault
 
 -- The name that a change has for a thing of this kind: its bus, its rule or its queue.
 -- Shown by: table_tests test_call_replies.rt: each_fault_of_a_change_has_its_cause.
@@ -35,28 +33,26 @@ name_in (policy_put bus policy) _ = bus
 name_in (queue_created name) _ = name
 name_in (queue_deleted name) _ = name
 
--- The refusal of a change that has this fault.
+-- The refusal of a change that has this fault; none if memory is short.
 -- Shown by: table_tests test_call_replies.rt: each_fault_of_a_change_has_its_cause.
-abbrev pub IsCause : Control → ControlFault → Cause → Type 0
-IsCause control (fault.ResourceNotFound kind) c = c ≡ cause.NotFound kind (name_in control kind)
-IsCause control (fault.AlreadyExists kind) c = c ≡ cause.Exists kind (name_in control kind)
-IsCause control (fault.LimitExceeded kind) c = c ≡ cause.LimitReached kind
-IsCause control (fault.InUse kind) c = c ≡ cause.InUse kind (name_in control kind)
-IsCause control fault.HasTargets c = c ≡ cause.HasTargets (name_in control kind.Rule)
-IsCause control fault.DefaultBus c = c ≡ cause.DefaultBusStays
-IsCause control (fault.Validation member) c = c ≡ cause.NotValid member
-IsCause control fault.PolicyTooLong c = c ≡ cause.PolicyTooLong
-IsCause control fault.NoMemory c = ⊥
+abbrev pub change_cause : Control → ControlFault → Option Cause
+change_cause control (fault.ResourceNotFound kind) = Some (cause.NotFound kind (name_in control kind))
+change_cause control (fault.AlreadyExists kind) = Some (cause.Exists kind (name_in control kind))
+change_cause control (fault.LimitExceeded kind) = Some (cause.LimitReached kind)
+change_cause control (fault.InUse kind) = Some (cause.InUse kind (name_in control kind))
+change_cause control fault.HasTargets = Some (cause.HasTargets (name_in control kind.Rule))
+change_cause control fault.DefaultBus = Some cause.DefaultBusStays
+change_cause control (fault.Validation member) = Some (cause.NotValid member)
+change_cause control fault.PolicyTooLong = Some cause.PolicyTooLong
+change_cause control fault.NoMemory = None
 
--- The refusal of a target that has this fault: a missing queue by the name in the target's ARN, a missing dead-letter queue by the name in
--- its own.
+-- The refusal of a target that has this fault: a missing queue and a missing dead-letter queue by their names.
 -- Shown by: the_missing_dead_letter_queue_is_not_named.edit.
-abbrev pub IsTargetCause : Target → TargetFault → Cause → Type 0
-IsTargetCause target (target_fault.Member member) c = c ≡ cause.NotValid member
-IsTargetCause target target_fault.NoQueue c = (queue : List ℕ) × (target.arn ≡ queue_arn queue) × (c ≡ cause.NotFound kind.Queue queue)
-IsTargetCause target target_fault.NoDeadLetterQueue c =
-    (queue : List ℕ) × (target.dead_letter ≡ Some (queue_arn queue)) × (c ≡ cause.NotFound kind.Queue queue)
-IsTargetCause target target_fault.Sixth c = c ≡ cause.LimitReached kind.Target
+abbrev pub target_cause : TargetFault → Cause
+target_cause (target_fault.Member member) = cause.NotValid member
+target_cause (target_fault.NoQueue queue) = cause.NotFound kind.Queue queue
+target_cause (target_fault.NoDeadLetterQueue queue) = cause.NotFound kind.Queue queue
+target_cause target_fault.Sixth = cause.LimitReached kind.Target
 
 -- The refusal of an entry that has this fault of its own.
 -- Shown by: table_tests test_call_replies.rt: each_fault_of_a_target_or_an_entry_has_its_cause.

@@ -1,16 +1,14 @@
 //! Why a change, an entry or a target is refused, as replies report it.
-ghost use Rattle.std.specs.Prelude.{◌≡◌, ℕ, List, Some, IfOk};
-ghost use Rattle.event_shape.specs.Names.{queue_arn};
-ghost use Rattle.config_changes.specs.View.{control_of};
-ghost use Rattle.config_changes.specs.declared.control.TargetFault.TheVariants.{NoDeadLetterQueue, NoQueue};
-ghost use Rattle.api_replies.specs.declared.kind.Kind.TheVariants as kind_is;
-ghost use Rattle.api_replies.specs.declared.cause.Cause.TheVariants as cause_is;
+ghost use Rattle.std.specs.Prelude.{◌≡◌, Some, IfOk};
+ghost use Rattle.rule_table.specs.View.{control_of};
+ghost use Rattle.api_replies.specs.declared.kind.Kind.TheVariants as kind;
+ghost use Rattle.api_replies.specs.declared.cause.Cause.TheVariants as is;
 ghost use Rattle.call_replies.specs.Causes as spec;
 
 use api_replies::{Cause, Kind, Member};
-use config_changes::{Control, ControlFault, Target, TargetFault};
-use event_shape::{EntryFault, queue_name_in};
+use event_shape::EntryFault;
 use json_text::{NoMemory, Text};
+use rule_table::{Control, ControlFault, TargetFault};
 use std::alloc::Global;
 
 /// The refusal of the change for this fault, with the name that the change has for what is missing, exists already or is in use. The
@@ -20,7 +18,7 @@ pub fn change_cause(
     control: &Control,
     fault: ControlFault,
 ) -> Result<Cause, NoMemory>
-    ensures { IfOk result (λ cause. spec.IsCause (control_of control.now) fault cause) }
+    ensures { IfOk result (λ cause. spec.change_cause (control_of control.now) fault ≡ Some cause) }
 {
     match fault {
         ControlFault::ResourceNotFound(kind) => {
@@ -71,34 +69,25 @@ fn name_in(control: &Control, kind: Kind) -> &Text
     }
 }
 
-/// The refusal of the target for this fault. A missing queue is named by its name in the ARN.
-pub fn target_cause(alloc: Global, target: &Target, fault: TargetFault) -> Result<Cause, NoMemory>
-    requires queue { fault ≡ NoQueue → (queue : List ℕ) × (target.now.arn ≡ queue_arn queue) }
-    requires dead_letter_queue { fault ≡ NoDeadLetterQueue → (queue : List ℕ) × (target.now.dead_letter ≡ Some (queue_arn queue)) }
-    ensures { IfOk result (λ cause. spec.IsTargetCause target.now fault cause) }
+/// The refusal of a target for this fault. Takes no memory.
+pub fn target_cause(fault: TargetFault) -> Cause
+    ensures { result ≡ spec.target_cause fault }
 {
     match fault {
-        TargetFault::Member(member) => Ok(Cause::NotValid(member)),
-        TargetFault::NoQueue => no_queue(alloc, target.arn.as_str()),
-        TargetFault::NoDeadLetterQueue => match &target.dead_letter {
-            Some(arn) => no_queue(alloc, arn.as_str()),
-            None => unreachable!(),
-        },
-        TargetFault::Sixth => Ok(Cause::LimitReached(Kind::Target)),
+        TargetFault::Member(member) => Cause::NotValid(member),
+        TargetFault::NoQueue(name) => no_queue(name),
+        TargetFault::NoDeadLetterQueue(name) => no_queue(name),
+        TargetFault::Sixth => Cause::LimitReached(Kind::Target),
     }
 }
 
-/// The refusal that the queue of this ARN does not exist.
-fn no_queue(alloc: Global, arn: &str) -> Result<Cause, NoMemory>
-    requires { (queue : List ℕ) × (arn.now ≡ queue_arn queue) }
-    ensures { IfOk result (λ cause. (queue : List ℕ) × (arn.now ≡ queue_arn queue) × (cause ≡ cause_is.NotFound kind_is.Queue queue)) }
+/// The refusal that the queue of this name does not exist.
+fn no_queue(name: Text) -> Cause
+    ensures { result ≡ is.NotFound kind.Queue name }
 {
-    match queue_name_in(arn) {
-        Some(queue) => Ok(Cause::NotFound {
-            kind: Kind::Queue,
-            name: Text::from_str(alloc, queue)?,
-        }),
-        None => unreachable!(),
+    Cause::NotFound {
+        kind: Kind::Queue,
+        name,
     }
 }
 

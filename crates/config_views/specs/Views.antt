@@ -6,8 +6,8 @@ use Rattle.std.specs.Str.{bytes_eq}
 use Rattle.json_text.specs.Tree.{Tree, number, text, list, object, items_of, members_of}
 use Rattle.event_shape.specs.Names.{bus_arn}
 use Rattle.name_rows.specs.Rows.{named}
-use Rattle.config_changes.specs.declared.control.Target.{Target}
-use Rattle.config_changes.specs.declared.control.RetryPolicy.{RetryPolicy}
+use Rattle.rule_targets.specs.declared.target.Target.{Target}
+use Rattle.rule_targets.specs.declared.target.RetryPolicy.{RetryPolicy}
 use Rattle.rule_table.specs.RuleSet.{Rule, Bus, RuleSet}
 use Rattle.api_replies.specs.declared.kind.Kind.TheVariants as kind
 use Rattle.api_replies.specs.declared.cause.Cause.TheVariants as cause
@@ -106,15 +106,10 @@ rule_items bus prefix rules = map (λ rule. object (members_of (rule_members bus
 abbrev pub listed_rules : List ℕ → Option (List ℕ) → RuleSet → Reply
 listed_rules bus prefix set = on_bus_of set bus (λ b. listing (codes "Rules") (rule_items bus prefix b.rules))
 
--- a number as a member, if it is given
-abbrev pub number_member : List ℕ → Option ℕ → List (List ℕ × Tree)
-number_member key None = []
-number_member key (Some n) = (key, number (decimal n)) ∷ []
-
--- what a reply shows of a retry policy: a target that a rule stores has both numbers
+-- what a reply shows of a retry policy
 abbrev pub retry_members : RetryPolicy → List (List ℕ × Tree)
 retry_members policy =
-    number_member (codes "MaximumRetryAttempts") policy.attempts ++ number_member (codes "MaximumEventAgeInSeconds") policy.age
+    (codes "MaximumRetryAttempts", number (decimal policy.attempts)) ∷ (codes "MaximumEventAgeInSeconds", number (decimal policy.age)) ∷ []
 
 -- A target's retry policy as the member `RetryPolicy`, an object with `MaximumRetryAttempts` and `MaximumEventAgeInSeconds`, if one was
 -- given.

@@ -11,9 +11,9 @@ ghost use Rattle.config_views.specs.Views as spec;
 
 use crate::parts::{listing, no_bus, no_rule};
 use api_replies::Reply;
-use config_changes::RetryPolicy;
 use json_text::{Items, Json, Members, NoMemory, Text, push_member, push_text};
 use rule_table::{Bus, Rule, RuleSet, RuleTarget};
+use rule_targets::RetryPolicy;
 use std::alloc::Global;
 
 /// The reply to a ListTargetsByRule: each target's id, its ARN, its retry policy if one was given, and its dead-letter queue if it has one.
@@ -95,35 +95,11 @@ fn retry_json(alloc: Global, policy: RetryPolicy) -> Result<Json, NoMemory>
     ensures { IfOk result (λ json. tree_of json ≡ object (members_of (spec.retry_members policy))) }
 {
     let mut members: Members = Vec::with_capacity(alloc, 2)?;
-    let attempts = wide(policy.attempts);
-    push_number(alloc, &mut members, "MaximumRetryAttempts", attempts)?;
-    push_number(alloc, &mut members, "MaximumEventAgeInSeconds", policy.age)?;
+    let attempts = number_json(alloc, u32::from(policy.attempts))?;
+    push_member(alloc, &mut members, "MaximumRetryAttempts", attempts)?;
+    let age = number_json(alloc, policy.age)?;
+    push_member(alloc, &mut members, "MaximumEventAgeInSeconds", age)?;
     Ok(Json::Obj(members))
-}
-
-/// The same number.
-fn wide(value: Option<u16>) -> Option<u32>
-    ensures { result ≡ value }
-{
-    match value {
-        Some(value) => Some(u32::from(value)),
-        None => None,
-    }
-}
-
-/// Appends the number, if it is given.
-fn push_number(
-    alloc: Global,
-    members: &mut Members,
-    key: &str,
-    value: Option<u32>,
-) -> Result<(), NoMemory>
-    ensures { OnOk result (pairs_of members.new.items ≡ pairs_of members.old.items ++ spec.number_member key.now value) }
-{
-    match value {
-        Some(value) => push_member(alloc, members, key, number_json(alloc, value)?),
-        None => Ok(()),
-    }
 }
 
 fn number_json(alloc: Global, value: u32) -> Result<Json, NoMemory>

@@ -13,7 +13,7 @@ mod RetryLemmas
 mod EntryLemmas
 mod RowsLemmas
 mod OrderLemmas
-mod RowLemmas
+mod PassLemmas
 mod FromLemmas
 mod MessageLemmas
 mod QueueLemmas

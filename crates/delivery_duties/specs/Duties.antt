@@ -245,7 +245,7 @@ forgotten name s = record s { queues = without_queue name s.queues }
 abbrev pub with_deleted : List ℕ → ℕ → Duties → Duties
 with_deleted queue through s = record s { queues = deleted_through queue through s.queues }
 
--- the text is given
+-- this text is given
 abbrev pub is_given_as : List ℕ → Option (List ℕ) → Bool
 is_given_as text None = false
 is_given_as text (Some given) = bytes_eq given text
@@ -257,5 +257,5 @@ is_for_queue queue row = bytes_eq row.duty.target.endpoint (queue_arn queue) || 
 
 -- A pending duty or a message names the queue.
 -- Shown by: a_queue_with_messages_is_deleted.edit.
-abbrev pub is_named : List ℕ → Duties → Bool
-is_named queue s = list_any (λ p. is_for_queue queue p.1) s.pending || not (length (messages_of queue s.queues) == 0)
+abbrev pub names_queue : List ℕ → Duties → Bool
+names_queue queue s = list_any (λ p. is_for_queue queue p.1) s.pending || not (length (messages_of queue s.queues) == 0)

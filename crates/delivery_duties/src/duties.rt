@@ -247,7 +247,7 @@ impl Duties {
 
     /// Whether a pending duty or a message names the queue. Visits all pending duties.
     pub fn names(&self, queue: &str) -> bool
-        ensures { result ≡ spec.is_named queue.now self.now }
+        ensures { result ≡ spec.names_queue queue.now self.now }
     {
         self.pending.names(queue) || self.has_messages(queue)
     }

@@ -6,7 +6,7 @@ ghost use Rattle.std.specs.Option.{option_map};
 ghost use Rattle.key_tree.specs.Entries.{placed, value_at, without};
 ghost use Rattle.delivery_duties.specs.Order as spec;
 ghost use Rattle.event_shape.specs.Names.{queue_arn};
-ghost use Rattle.delivery_duties.specs.Duties.{is_for_queue as spec_for, is_given_as as spec_given};
+ghost use Rattle.delivery_duties.specs.Duties.{is_for_queue, is_given_as};
 
 use crate::duty::DutyRow;
 use crate::owed::Owed;
@@ -160,7 +160,7 @@ impl Schedule {
 
     /// Whether a duty is for this queue, or its dead letter would be. Visits all duties.
     pub(crate) fn names(&self, queue: &str) -> bool
-        ensures { result ≡ list_any (λ p. spec_for queue.now p.1) self.now }
+        ensures { result ≡ list_any (λ p. is_for_queue queue.now p.1) self.now }
     {
         is_any_for_queue(&self.line, queue) || is_any_for_queue(&self.out, queue)
     }
@@ -176,7 +176,7 @@ fn due_key(due: u64, number: u64) -> u128
 /// Whether one of the duties is for this queue, or its dead letter would be.
 fn is_any_for_queue(rows: &KeyTree<Owed>, queue: &str) -> bool
     requires { spec.AreInReach rows.now }
-    ensures { IsTrue result ↔ ((key : ℕ) × (row : DutyRow) × (value_at key rows.now ≡ Some row) × IsTrue (spec_for queue.now row)) }
+    ensures { IsTrue result ↔ ((key : ℕ) × (row : DutyRow) × (value_at key rows.now ≡ Some row) × IsTrue (is_for_queue queue.now row)) }
 {
     let mut from = 0;
     while let Some((key, owed)) = rows.first_from(from) {
@@ -190,7 +190,7 @@ fn is_any_for_queue(rows: &KeyTree<Owed>, queue: &str) -> bool
 
 /// Whether the duty is for this queue, or its dead letter would be.
 fn is_for_queue(row: &DutyRow, queue: &str) -> bool
-    ensures { result ≡ spec_for queue.now row.now }
+    ensures { result ≡ is_for_queue queue.now row.now }
 {
     is_queue_arn(row.duty.target.endpoint(), queue)
         || is_given_as(row.duty.target.dead_letter(), queue)
@@ -198,7 +198,7 @@ fn is_for_queue(row: &DutyRow, queue: &str) -> bool
 
 /// Whether the text is the ARN of this queue, if it is given.
 fn is_given_as(arn: Option<&str>, queue: &str) -> bool
-    ensures { result ≡ spec_given (queue_arn queue.now) (option_map (λ a. a.now) arn.entry) }
+    ensures { result ≡ is_given_as (queue_arn queue.now) (option_map (λ a. a.now) arn.entry) }
 {
     match arn {
         Some(arn) => is_queue_arn(arn, queue),

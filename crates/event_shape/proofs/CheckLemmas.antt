@@ -11,7 +11,7 @@ use Rattle.event_shape.specs.declared.entry.EntryFault.{EntryFault}
 use Rattle.event_shape.specs.declared.entry.EntryFault.TheVariants.{NotAuthorized}
 use Rattle.event_shape.specs.declared.entry.CheckFault.{CheckFault}
 use Rattle.event_shape.specs.declared.entry.CheckFault.TheVariants as fault
-use Rattle.json_text.specs.Checks.{IsFirst, AllHold}
+use Rattle.json_text.specs.Checks.{IsFirst}
 use Rattle.event_shape.specs.Entry.{Entry}
 use Rattle.event_shape.specs.Names.{bus_of_entry}
 use Rattle.event_shape.specs.Fault.{IsMemoryOr, has_text, GivesMoment, GivesDetail, IsDetail, is_reserved, is_free, entry_checks}

@@ -46,7 +46,7 @@ is_free (Some source) = not (is_reserved source)
 -- The conditions on an entry, in the order in which their faults are reported: a source and a detail type that are not empty; a detail; a
 -- time that gives a moment, and a bus's name or ARN, if they are given; a detail that is a JSON object; a source that does not begin with
 -- `aws.`. The source `aws` has no fault.
--- Shown by: event_tests test_event_shape.rt: the_first_fault_is_reported.
+-- Shown by: event_tests test_event_shape.rt: the_first_fault_is_reported, faults_have_their_order.
 abbrev pub entry_checks : entry.Entry → List (Check EntryFault)
 entry_checks e =
     else_fault (IsTrue (has_text e.source)) Source
@@ -58,8 +58,8 @@ entry_checks e =
     ∷ else_fault (IsTrue (is_free e.source)) NotAuthorized
     ∷ []
 
--- The number of conditions that are asked without memory: those before the detail is read.
--- Shown by: event_tests test_event_shape.rt: the_first_fault_is_reported.
+-- The number of conditions that are checked without memory: those before the detail is read.
+-- Shown by: proofs alone.
 abbrev pub without_memory : ℕ
 without_memory = 5
 

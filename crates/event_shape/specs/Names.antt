@@ -131,7 +131,7 @@ abbrev pub queue_in : List ℕ → Option (List ℕ)
 queue_in text = named is_queue_name (after_prefix (queue_arn []) text)
 
 -- The name of the bus whose name or ARN the text is.
--- Shown by: event_tests test_event_shape.rt: arns_are_as_they_are_spelled.
+-- Shown by: event_tests test_event_shape.rt: an_arn_shows_its_name.
 abbrev pub bus_in : List ℕ → Option (List ℕ)
 bus_in text = named is_bus_name (Some (unwrap_or (after_prefix (bus_arn []) text) text))
 

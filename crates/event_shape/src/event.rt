@@ -95,7 +95,7 @@ impl Event {
         ensures event { IfOk result (λ p. IsEvent p.0) }
         ensures bus { IfOk result (λ p. p.1 ≡ checked.bus) }
     {
-        let moment = checked.time.unwrap_or(time);
+        let moment = checked.moment(time);
         let account = Text::from_str(alloc, account)?;
         let time = iso(alloc, moment)?;
         let Checked {

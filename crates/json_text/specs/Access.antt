@@ -35,7 +35,7 @@ abbrev pub IsObject : Tree → Type 0
 IsObject tree = IsTrue (is_object tree)
 
 -- The value is a string.
--- Shown by: text_tests test_json_text.rt: members_are_found_and_added.
+-- Shown by: wire_tests test_api_members.rt: a_value_is_valid.
 abbrev pub is_text : Tree → Bool
 is_text (text t) = true
 is_text null = false
@@ -45,7 +45,7 @@ is_text (list items) = false
 is_text (object inside) = false
 
 -- The value is a string with this property.
--- Shown by: text_tests test_json_text.rt: members_are_found_and_added.
+-- Shown by: wire_tests test_api_members.rt: a_value_is_valid.
 abbrev pub IsTextThat : (List ℕ → Type 0) → Tree → Type 0
 IsTextThat P (text t) = P t
 IsTextThat P null = ⊥
@@ -55,7 +55,7 @@ IsTextThat P (list items) = ⊥
 IsTextThat P (object inside) = ⊥
 
 -- The values of a list, in order.
--- Shown by: text_tests test_json_text.rt: values_are_written_compactly.
+-- Shown by: wire_tests test_api_members.rt: a_value_is_valid.
 abbrev pub trees_in : Items → List Tree
 trees_in no_items = []
 trees_in (item t items) = t ∷ trees_in items

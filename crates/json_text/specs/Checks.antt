@@ -12,7 +12,7 @@ first_fault [] = None
 first_fault (None ∷ rest) = first_fault rest
 first_fault (Some fault ∷ rest) = Some fault
 
--- A condition that no definition decides, as whether a text spells JSON, and the faults that are there if it fails.
+-- A condition and the faults that are there if it fails. For a condition that no truth value decides, such as whether a text spells JSON.
 pub record Check (F : Type 0) : Type 1 where
   pub holds : Type 0
   pub refuses : F → Type 0
@@ -22,13 +22,13 @@ abbrev pub else_fault : {F : Type 0} → Type 0 → F → Check F
 else_fault condition fault = record { holds = condition; refuses = λ found. (found ≡ fault) × (¬ condition) }
 
 -- Each condition holds.
--- Shown by: event_tests test_event_shape.rt: the_first_fault_is_reported.
+-- Shown by: event_tests test_event_shape.rt: the_first_fault_is_reported, faults_have_their_order.
 abbrev pub AllHold : {F : Type 0} → List (Check F) → Type 0
 AllHold [] = Unit {0}
 AllHold (c ∷ rest) = c.holds × AllHold rest
 
 -- The first condition that fails has this fault.
--- Shown by: event_tests test_event_shape.rt: the_first_fault_is_reported.
+-- Shown by: event_tests test_event_shape.rt: the_first_fault_is_reported, faults_have_their_order.
 abbrev pub IsFirst : {F : Type 0} → List (Check F) → F → Type 0
 IsFirst [] fault = ⊥
 IsFirst (c ∷ rest) fault = c.refuses fault ⊎ (c.holds × IsFirst rest fault)

@@ -1,6 +1,6 @@
 //! One pass over a text, with a stack of the lists and objects that are not closed.
 ghost use Rattle.std.specs.Prelude.{◌≡◌, ◌≤◌, ◌<◌, ◌+◌, ◌^◌, ℕ, List, [], ◌∷◌, Option, Some, None, Ok, Err, Result, IfOk, IfErr, OnOk, MatchOption, MatchBool, false, if◌then◌else◌, length, drop, take, reverse, vec_len};
-ghost use Rattle.json_text.specs.View.{tree_of, trees_of};
+ghost use Rattle.json_text.specs.View.{tree_of};
 ghost use Rattle.json_text.specs.Node.{Node, value_of, first_of, first_repeat, first_repeat_after};
 ghost use Rattle.json_text.specs.Grammar.{is_space, IsSpace};
 ghost use Rattle.json_text.specs.Reading.{State, Waiting, Member, read_text, value, first_item, first_key, next_key, put, between, fields_of};

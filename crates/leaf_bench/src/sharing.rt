@@ -1,8 +1,8 @@
 //! A rule set, shared repeatedly.
 use anyhow::{Context, Result};
-use config_changes::Control;
 use json_text::Text;
-use rule_table::RuleSet;
+use pattern_read::SharedPattern;
+use rule_table::{Control, RuleSet};
 use std::alloc::Global;
 use std::rt::Clock;
 use std::time::{Duration, Instant};
@@ -31,11 +31,13 @@ pub fn measure(rt: &impl Clock, alloc: Global, rules: u32, rounds: u32) -> Resul
 /// The first rule set with this number of rules, at most 300.
 fn with_rules(alloc: Global, rules: u32) -> Result<RuleSet> {
     let mut set = RuleSet::first(alloc)?;
+    let text = Text::from_str(alloc, "{\"source\":[\"shop\"]}")?;
+    let pattern = SharedPattern::read(alloc, text).context("the pattern")?;
     for number in 0..rules {
         let rule = Control::RulePut {
             bus: Text::from_str(alloc, "default")?,
             name: Text::from(format!(in alloc; "r{number}")?),
-            pattern: Text::from_str(alloc, "{\"source\":[\"shop\"]}")?,
+            pattern: pattern.share()?,
             enabled: true,
         };
         if set.control_count() >= 300 {

@@ -2,8 +2,6 @@
 ghost use Rattle.std.specs.Prelude.{◌≡◌, ◌≤◌, ◌+◌, length, drop, take, map, All};
 ghost use Rattle.std.specs.Arc.{arc_value};
 ghost use Rattle.name_rows.specs.Rows.{AreSorted};
-ghost use Rattle.std.specs.Cmp.Lexicographic.{slice_cmp};
-ghost use Rattle.std.specs.Ordering.{nat_cmp};
 ghost use Rattle.name_rows.specs.Blocks.{AreBlocks, rows_in, starts_by};
 ghost use Rattle.name_rows.specs.Place.{IsPlace, IsSmaller, StartsGreater};
 

@@ -2,7 +2,7 @@
 use Rattle.std.specs.Prelude.{◌≡◌, ℕ, Bool, true, false, List, [], ◌∷◌, Option, Some, None, option_map, option_and_then, map, if◌then◌else◌, codes}
 use Rattle.std.specs.List.{list_all}
 use Rattle.std.specs.Str.{bytes_eq}
-use Rattle.json_text.specs.Tree.{Tree, truth, number, text, list, object, Items, no_items, item, Members}
+use Rattle.json_text.specs.Tree.{Tree, truth, number, text, list, object, no_items, item, Members}
 use Rattle.numeric_keys.specs.Number.{IsMillionths}
 use Rattle.leaf_match.specs.Wild.{Spells}
 use Rattle.leaf_match.specs.Cidr.{Prefix as Network, IsPrefixText}

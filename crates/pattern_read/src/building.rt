@@ -1,10 +1,8 @@
 //! JSON values to patterns.
 ghost use Rattle.std.specs.Prelude.{◌≡◌, ◌++◌, List, map, flat_map, IsTrue};
-ghost use Rattle.std.specs.Bool.{MatchBool};
 ghost use Rattle.std.specs.List.{list_all};
 ghost use Rattle.json_text.specs.Tree.{list, items_of, members_of};
 ghost use Rattle.json_text.specs.View.{tree_of, trees_of, pairs_of};
-ghost use Rattle.pattern_meaning.specs.Pattern.{Pattern as View};
 ghost use Rattle.pattern_meaning.specs.PatternView.{test_of, field_of, pattern_of};
 ghost use Rattle.pattern_read.specs.Test.{AreEach, IsTest};
 ghost use Rattle.pattern_read.specs.Value as spec;

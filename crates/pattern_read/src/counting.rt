@@ -1,6 +1,6 @@
 //! How many alternatives a pattern has, up to a limit.
 ghost use Rattle.std.specs.Prelude.{◌≡◌, ◌+◌, ◌*◌, ◌≤◌, min, map};
-ghost use Rattle.pattern_meaning.specs.Alternatives.{alternative_count, field_count, one_count, branch_count, sum_count};
+ghost use Rattle.pattern_meaning.specs.Alternatives.{alternative_count, field_count, one_count, branch_count};
 ghost use Rattle.pattern_meaning.specs.Pattern.{branches_of};
 ghost use Rattle.pattern_meaning.specs.PatternView.{pattern_of, field_of, fields_view};
 

@@ -1,6 +1,6 @@
 //! The operand of `anything-but`.
 ghost use Rattle.std.specs.Prelude.{◌≡◌, [], ◌∷◌, Some, map, flat_map, MatchResult};
-ghost use Rattle.json_text.specs.Tree.{object, list, items_of, members_of};
+ghost use Rattle.json_text.specs.Tree.{members_of};
 ghost use Rattle.json_text.specs.View.{tree_of, trees_of, pairs_of};
 ghost use Rattle.pattern_meaning.specs.Pattern.{same, anything_but, tests_of};
 ghost use Rattle.pattern_meaning.specs.PatternView.{test_of};

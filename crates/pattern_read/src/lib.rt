@@ -11,8 +11,10 @@ mod leaf;
 mod numeric;
 mod pattern_text;
 mod reading;
+mod shared_pattern;
 
 pub use fault::{PatternFault, Why};
 pub use laws::faults_decide;
 pub use pattern_text::PatternText;
 pub use reading::read_pattern;
+pub use shared_pattern::SharedPattern;

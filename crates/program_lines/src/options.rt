@@ -1,7 +1,6 @@
 //! Options of the command line: a name and a value each.
 ghost use Rattle.std.specs.Prelude.{◌≡◌, ◌≤◌, ◌↔◌, ℕ, List, ◌∷◌, MatchOption, map, string_bytes, false};
 ghost use Rattle.program_lines.specs.Number.{IsNumber};
-ghost use Rattle.program_lines.specs.Options.{AreOptions};
 ghost use Rattle.program_lines.specs.Reading.{Completes, AreRead};
 ghost use Rattle.program_lines.specs.declared.options.Options.{Options};
 

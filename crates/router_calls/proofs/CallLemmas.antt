@@ -1,10 +1,11 @@
--- Replies to a request, for the answers of `decide` and of the calls below it: `first_and_rest`, `on_ok_more`, `if_ok_more`, `controlled_so`, `answered`,
--- `decided`, `matched_now` and `bounded_value`.
+-- Replies to a request, for the answers of `decide` and of the calls below it: `first_and_rest`, `on_ok_more`, `if_ok_more`, `controlled_so`,
+-- `rule_there`, `answered`, `decided`, `matched_now` and `bounded_value`.
 use Rattle.std.proofs.Common.{◌≡◌, ℕ, suc, ◌-◌, ◌≤◌, List, [], ◌∷◌, length, get_or, take, drop, sym, refl, ap, ◌∙◌, subst, arith}
-use Rattle.std.specs.Prelude.{Option, Result, Ok, Err, IfOk, OnOk}
+use Rattle.std.specs.Prelude.{Option, Some, Result, Ok, Err, IfOk, OnOk}
 use Rattle.std.proofs.Math.Seq.{take-length}
-use Rattle.config_changes.specs.Control.{Control}
-use Rattle.rule_table.specs.RuleSet.{RuleSet, IsSound}
+use Rattle.rule_table.specs.Control.{Control}
+use Rattle.rule_table.specs.RuleSet.{Rule, RuleSet, rule_at}
+use Rattle.rule_table.specs.Sound.{IsSound}
 use Rattle.api_replies.specs.Reply.{Reply}
 use Rattle.api_replies.specs.declared.reply.Reply.{Reply as CodeReply}
 use Rattle.router_core.specs.Request.{Action, create_event_bus, delete_event_bus, describe_event_bus, list_event_buses, put_rule, delete_rule, put_rule_state}
@@ -18,7 +19,7 @@ use Rattle.router_core.specs.declared.ready.Ready.{Ready}
 use Rattle.router_core.specs.declared.seen.Seen.{Seen}
 use Rattle.router_core.specs.Request.{IsEntitled}
 use Rattle.router_calls.specs.Answer.{Answer, IsAnswer, IsAnswerAt, IsControlled}
-use Rattle.router_calls.specs.Bounds.{IsBounded}
+use Rattle.router_core.specs.Bounds.{IsBounded}
 use Rattle.router_calls.specs.Decided.{answer_of}
 use Rattle.router_calls.specs.Matched.{IsMatchedOn}
 use Rattle.router_calls.specs.Steps.{IsAnsweredBy, IsSeenOn}
@@ -45,6 +46,12 @@ pub controlled_so : {E : Type 0} (r : Result (Option Ready × CodeReply) E) (t :
 controlled_so (Ok p) t moment {c} {d} {reply} {other} same is h =
     subst (λ (x : Control). IsControlled t moment x other (answer_of p)) same (subst (λ (x : Reply). IsControlled t moment c x (answer_of p)) is h)
 controlled_so (Err e) t moment same is h = tt
+
+-- the rule of the tables that was found by copies of its names
+pub rule_there : (t : Tables) (set : RuleSet) (b n bus rule : List ℕ) (r : Rule) → set ≡ t.set → b ≡ bus → n ≡ rule → rule_at b n set ≡ Some r
+    → rule_at bus rule t.set ≡ Some r
+rule_there t set b n bus rule r set_is b_is n_is found =
+    ap (rule_at bus rule) (sym set_is) ∙ ap (λ x. rule_at x rule set) (sym b_is) ∙ ap (λ y. rule_at b y set) (sym n_is) ∙ found
 
 -- what is answered to an action
 pub answered : {E : Type 0} (r : Result (Option Ready × CodeReply) E) (t : Tables) (seen : Seen) (moment : ℕ) {given action : Action} → given ≡ action

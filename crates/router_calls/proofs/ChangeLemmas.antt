@@ -1,14 +1,15 @@
 -- A request writes no change of the configuration but the one that it asks for: `its_change`, which the law of src/laws.rt cites. The other
 -- lemmas lead to it.
-use Rattle.std.proofs.Common.{◌≡◌, ℕ, inl, inr, Bool, true, false, ◌&&◌, List, [], ◌∷◌, length, map, Option, Some, None, sym, refl, subst, arith}
+use Rattle.std.proofs.Common.{◌≡◌, ℕ, inl, inr, Bool, true, false, ◌&&◌, if◌then◌else◌, List, [], ◌∷◌, length, map, Option, Some, None, sym, refl, subst, arith}
 use Rattle.std.specs.Prelude.{All, cond}
 use Rattle.std.specs.List.{Contains}
 use Rattle.std.proofs.lemmas.List.Elements.{All-cons, All-map, All-contains}
 use Rattle.json_text.specs.Tree.{Tree}
-use Rattle.config_changes.specs.declared.control.Target.{Target}
-use Rattle.config_changes.specs.Control.{Control, targets_put, targets_removed}
-use Rattle.rule_table.specs.RuleSet.{Bus, RuleSet, has_queue}
-use Rattle.delivery_duties.specs.Duties.{is_named}
+use Rattle.rule_targets.specs.declared.target.AskedTarget.{AskedTarget}
+use Rattle.rule_targets.specs.declared.target.Target.{Target}
+use Rattle.rule_table.specs.Control.{Control, targets_put, targets_removed}
+use Rattle.rule_table.specs.RuleSet.{Rule, Bus, RuleSet, has_bus, has_queue, rule_at}
+use Rattle.delivery_duties.specs.Duties.{names_queue}
 use Rattle.delivery_duties.specs.declared.stored.StoredMessage.{StoredMessage}
 use Rattle.delivery_duties.specs.Queues.{messages_of, messages_through}
 use Rattle.api_replies.specs.declared.cause.Cause.{Cause}
@@ -23,15 +24,16 @@ use Rattle.router_core.specs.Request.{Request}
 use Rattle.router_core.specs.Tables.{Tables, is_full, moment_at}
 use Rattle.router_core.specs.Verdict.{IsPolicyOf}
 use Rattle.router_calls.specs.Accepted.{Given, events_in}
-use Rattle.router_calls.proofs.QueueLemmas.{deleted_case}
-use Rattle.router_calls.specs.Answer.{Answer, IsAnswer, IsAnswerAt, IsControlled, IsPublished, IsTargetsPut, AreTargetsRemoved, IsRuleDeleted, IsQueueDeleted}
+use Rattle.router_calls.specs.Answer.{Answer, IsAnswer, IsAnswerAt, IsControlled, IsPublished, for_rule, on_rule, targets_put_answer, targets_removed_answer, IsRuleDeleted, IsQueueDeleted}
 use Rattle.router_calls.specs.Answer.{IsOnBus, IsGranted, IsRevoked, IsStatementRemovedFrom, events_answer, entries_reply, targets_answer, removals_answer}
 use Rattle.call_replies.specs.Replies.{deletion_reply}
 use Rattle.router_calls.specs.Answer.{reply_alone, writes, deletion_answer, messages_deletion}
 use Rattle.router_calls.specs.Changes.{MayMake}
 use Rattle.router_calls.specs.Removals.{removed_ids, failed_ids}
-use Rattle.router_calls.proofs.TargetLemmas.{split_within}
+use Rattle.router_calls.specs.Targets.{accepted_targets, failed_targets}
+use Rattle.router_calls.proofs.TargetLemmas.{accepted_within}
 use Rattle.router_calls.proofs.RemovalLemmas.{removed_within}
+use Rattle.router_calls.proofs.QueueLemmas.{deleted_case}
 
 -- each change in the batch, if there is one, satisfies the fact
 abbrev MakesOnly : (Control → Type 0) → Option batch.Batch → Type 0
@@ -94,20 +96,29 @@ published_only P t set caller moment entries size a (inl (large, is)) = as_answe
 published_only P t set caller moment entries size a (inr (small, (all, are, is))) =
     as_answer P a _ is (events_only P t moment (events_in all) (entries_reply all))
 
-put_only : (t : Tables) (moment : ℕ) (bus rule : List ℕ) (targets : List Target) (a : Answer) → IsTargetsPut t moment bus rule targets a
-    → MakesOnly (MayMake (put_targets bus rule targets)) a.batch
-put_only t moment bus rule targets a (inl (none, is)) = as_answer _ a _ is tt
-put_only t moment bus rule targets a (inr (inl (there, lacks, is))) = as_answer _ a _ is tt
-put_only t moment bus rule targets a (inr (inr (r, accepted, failed, found, split, is))) =
-    as_answer _ a _ is (targets_only (MayMake (put_targets bus rule targets)) t moment bus rule accepted failed
-    (accepted, refl, split_within t.set r.targets targets accepted failed split))
+rule_only : (P : Control → Type 0) (o : Option Rule) (name : List ℕ) (answer : Rule → Answer) → ((r : Rule) → MakesOnly P (answer r).batch)
+    → MakesOnly P (for_rule o name answer).batch
+rule_only P None name answer only = tt
+rule_only P (Some r) name answer only = only r
 
-removed_only : (t : Tables) (moment : ℕ) (bus rule : List ℕ) (ids : List (List ℕ)) (a : Answer) → AreTargetsRemoved t moment bus rule ids a
-    → MakesOnly (MayMake (remove_targets bus rule ids)) a.batch
-removed_only t moment bus rule ids a (inl (none, is)) = as_answer _ a _ is tt
-removed_only t moment bus rule ids a (inr (inl (there, lacks, is))) = as_answer _ a _ is tt
-removed_only t moment bus rule ids a (inr (inr (r, found, is))) =
-    as_answer _ a _ is (removals_only (MayMake (remove_targets bus rule ids)) t moment bus rule (removed_ids ids r.targets) (failed_ids ids r.targets)
+either_only : (P : Control → Type 0) (b : Bool) (x y : Answer) → MakesOnly P x.batch → MakesOnly P y.batch → MakesOnly P (cond b x y).batch
+either_only P true x y h g = h
+either_only P false x y h g = g
+
+on_rule_only : (P : Control → Type 0) (t : Tables) (bus rule : List ℕ) (answer : Rule → Answer) → ((r : Rule) → MakesOnly P (answer r).batch)
+    → MakesOnly P (on_rule t bus rule answer).batch
+on_rule_only P t bus rule answer only = either_only P (has_bus bus t.set) _ _ (rule_only P (rule_at bus rule t.set) rule answer only) tt
+
+put_only : (t : Tables) (moment : ℕ) (bus rule : List ℕ) (targets : List AskedTarget)
+    → MakesOnly (MayMake (put_targets bus rule targets)) (targets_put_answer t moment bus rule targets).batch
+put_only t moment bus rule targets = on_rule_only _ t bus rule _ (λ r.
+    targets_only (MayMake (put_targets bus rule targets)) t moment bus rule (accepted_targets t.set r.targets targets) (failed_targets t.set r.targets targets)
+    (accepted_targets t.set r.targets targets, refl, accepted_within t.set r.targets targets))
+
+removed_only : (t : Tables) (moment : ℕ) (bus rule : List ℕ) (ids : List (List ℕ))
+    → MakesOnly (MayMake (remove_targets bus rule ids)) (targets_removed_answer t moment bus rule ids).batch
+removed_only t moment bus rule ids = on_rule_only _ t bus rule _ (λ r.
+    removals_only (MayMake (remove_targets bus rule ids)) t moment bus rule (removed_ids ids r.targets) (failed_ids ids r.targets)
     (removed_ids ids r.targets, refl, removed_within ids r.targets))
 
 deleted_only : (t : Tables) (moment : ℕ) (bus name : List ℕ) (a : Answer) → IsRuleDeleted t moment bus name a
@@ -117,7 +128,7 @@ deleted_only t moment bus name a (inr (has, is)) = controlled_only (MayMake (del
 
 queue_deleted_only : (t : Tables) (moment : ℕ) (name : List ℕ) (a : Answer) → IsQueueDeleted t moment name a
     → MakesOnly (MayMake (delete_queue name)) a.batch
-queue_deleted_only t moment name a = deleted_case (has_queue name t.set && is_named name t.duties) t moment name a
+queue_deleted_only t moment name a = deleted_case (has_queue name t.set && names_queue name t.duties) t moment name a
     (λ is. as_answer _ a _ is tt) (λ is. controlled_only (MayMake (delete_queue name)) t moment _ _ a is refl)
 
 deletion_only : (P : Control → Type 0) (t : Tables) (moment : ℕ) (queue : List ℕ) (through : ℕ) (messages : List StoredMessage)
@@ -126,10 +137,6 @@ deletion_only P t moment queue through [] = tt
 deletion_only P t moment queue through (m ∷ ms) =
     let entry = batch.messages_deleted queue through in
     written_only (is_full t) P moment (entry ∷ []) (refused cause.NumberLimit) (deletion_reply (length (m ∷ ms))) (one_of (IsOnly P) entry tt)
-
-either_only : (P : Control → Type 0) (b : Bool) (x y : Answer) → MakesOnly P x.batch → MakesOnly P y.batch → MakesOnly P (cond b x y).batch
-either_only P true x y h g = h
-either_only P false x y h g = g
 
 messages_only : (P : Control → Type 0) (t : Tables) (moment : ℕ) (queue : List ℕ) (through : ℕ)
     → MakesOnly P (messages_deletion t moment queue through).batch
@@ -176,8 +183,8 @@ answer_only t set caller moment (delete_rule bus name) a h = deleted_only t mome
 answer_only t set caller moment (put_rule_state bus name enabled) a h = controlled_only _ t moment _ _ a h refl
 answer_only t set caller moment (describe_rule bus name) a h = as_answer _ a _ h tt
 answer_only t set caller moment (list_rules bus prefix) a h = as_answer _ a _ h tt
-answer_only t set caller moment (put_targets bus rule targets) a h = put_only t moment bus rule targets a h
-answer_only t set caller moment (remove_targets bus rule ids) a h = removed_only t moment bus rule ids a h
+answer_only t set caller moment (put_targets bus rule targets) a h = as_answer _ a _ h (put_only t moment bus rule targets)
+answer_only t set caller moment (remove_targets bus rule ids) a h = as_answer _ a _ h (removed_only t moment bus rule ids)
 answer_only t set caller moment (list_targets_by_rule bus rule) a h = as_answer _ a _ h tt
 answer_only t set caller moment (list_rule_names_by_target arn bus) a h = as_answer _ a _ h tt
 answer_only t set caller moment (put_policy bus policy) a h = controlled_only _ t moment _ _ a h refl

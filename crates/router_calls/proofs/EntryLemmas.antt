@@ -12,7 +12,8 @@ use Rattle.event_shape.specs.Event.{event_tree}
 use Rattle.event_shape.specs.Unnumbered.{Unnumbered, with_number}
 use Rattle.api_replies.specs.declared.cause.Cause.{Cause}
 use Rattle.api_replies.specs.Reply.{Reply}
-use Rattle.rule_table.specs.RuleSet.{RuleSet, IsSound}
+use Rattle.rule_table.specs.RuleSet.{RuleSet}
+use Rattle.rule_table.specs.Sound.{IsSound}
 use Rattle.router_core.specs.Batch as batch
 use Rattle.router_core.specs.View.{accepted_of, entry_of}
 use Rattle.router_core.specs.Request.{put_events}
@@ -29,7 +30,7 @@ use Rattle.router_core.proofs.MatchingLemmas.{few_matched}
 use Rattle.router_calls.specs.Accepted.{Given, Placed, IsAcceptedAs, IsPlacedBy, IsPlaced, ArePlaced, number_after, events_in, failures_in}
 use Rattle.call_replies.specs.Replies.{items_reply}
 use Rattle.router_calls.specs.Answer.{Answer, IsPublished, entry_report, entries_reply, events_answer}
-use Rattle.router_calls.specs.Bounds.{IsBounded, IsForBus}
+use Rattle.router_core.specs.Bounds.{IsBounded, IsForBus}
 use Rattle.router_calls.specs.Steps.{AddsEntries, AreReady, IsEventAdded, IsRefusalAdded, entries_answer, placed_answer}
 use Rattle.router_calls.specs.declared.put_events.PlacedEntries.{PlacedEntries}
 

@@ -4,23 +4,16 @@ use Rattle.std.proofs.Common.{sym, refl, ap, ◌∙◌, subst, arith}
 use Rattle.std.proofs.lemmas.Bool.{false≢true}
 use Rattle.json_text.specs.Tree.{Tree, no_items}
 use Rattle.event_time.proofs.ClockLemmas.{time_once, iso_is_time}
-use Rattle.event_shape.specs.Names.{queue_arn}
 use Rattle.event_shape.specs.Event.{event_tree}
 use Rattle.event_shape.specs.Unnumbered.{Unnumbered, with_number}
-use Rattle.config_changes.specs.declared.control.Target.{Target}
-use Rattle.config_changes.specs.declared.control.TargetFault.{TargetFault}
-use Rattle.config_changes.specs.declared.control.TargetFault.TheVariants as target_fault
-use Rattle.config_changes.specs.declared.control.ControlFault.{ControlFault}
-use Rattle.config_changes.specs.declared.control.ControlFault.TheVariants as fault
-use Rattle.config_changes.specs.Control.{Control}
+use Rattle.rule_table.specs.Control.{Control}
 use Rattle.name_rows.specs.Rows.{named}
 use Rattle.bus_policy.specs.Verdict.{Asker, Verdict as PolicyVerdict, IsBusVerdict}
 use Rattle.bus_policy.specs.Parts.{statements_of}
 use Rattle.bus_policy.proofs.LawLemmas.{verdict_once as policy_verdict_once}
 use Rattle.bus_policy.proofs.ReadLemmas.{one_policy}
-use Rattle.rule_table.specs.RuleSet.{Rule, Bus, RuleSet, put_target, rules_of, rule_at, has_bus, has_queue}
-use Rattle.delivery_duties.specs.Duties.{is_named}
-use Rattle.rule_table.proofs.RefusalLemmas.{one_fault, faulty_not_good, no_rule_at, one_refusal, refused_not_allowed}
+use Rattle.rule_table.specs.RuleSet.{Rule, Bus, RuleSet, rules_of, has_bus, has_queue}
+use Rattle.delivery_duties.specs.Duties.{names_queue}
 use Rattle.delivery_duties.specs.declared.duty.NewDuty.{NewDuty}
 use Rattle.api_replies.specs.declared.kind.Kind.TheVariants as kind
 use Rattle.api_replies.specs.declared.cause.Cause.{Cause}
@@ -38,14 +31,12 @@ use Rattle.router_core.specs.Request.{put_statement, remove_policy, remove_state
 use Rattle.router_core.specs.Request.{peek_messages, delete_messages, duty_counts, deliver_due}
 use Rattle.router_core.specs.Request.{Request}
 use Rattle.router_core.specs.Tables.{Tables, moment_at}
-use Rattle.call_replies.specs.Causes.{IsCause, IsTargetCause}
+use Rattle.call_replies.specs.Causes.{change_cause}
 use Rattle.router_calls.specs.Accepted.{Given, Placed, IsAcceptedAs, IsPlacedBy, IsPlaced, ArePlaced, number_after, events_in}
-use Rattle.router_calls.specs.Targets.{AreSplit}
-use Rattle.router_calls.specs.Answer.{Answer, IsAnswer, IsAnswerAt, IsControlled, IsPublished, IsTargetsPut, IsTested, targets_answer, events_answer}
+use Rattle.router_calls.specs.Answer.{Answer, IsAnswer, IsAnswerAt, IsControlled, IsPublished, IsTested, events_answer}
 use Rattle.call_replies.specs.Replies.{tested_reply}
-use Rattle.router_calls.specs.Answer.{entries_reply, reply_alone, IsQueueDeleted, IsRuleDeleted, AreTargetsRemoved, removals_answer, IsOnBus}
+use Rattle.router_calls.specs.Answer.{entries_reply, reply_alone, IsQueueDeleted, IsRuleDeleted, IsOnBus}
 use Rattle.router_calls.specs.Answer.{IsGranted, IsStatementPut, IsRevoked, IsStatementRemovedFrom, IsStatementRemoved}
-use Rattle.router_calls.specs.Removals.{removed_ids, failed_ids}
 
 -- ---- the targets that match
 
@@ -134,94 +125,18 @@ published_once t set caller moment entries size a b (inr (small, rest)) (inl (la
 published_once t set caller moment entries size a b (inr (small, (xs, are, e))) (inr (low, (ys, so, f))) =
     e ∙ ap (λ (all : List Placed). events_answer t moment (events_in all) (entries_reply all)) (all_once set caller (t.events + 1) entries xs ys are so) ∙ sym f
 
--- ---- the targets of a PutTargets
-
-name_after : (queue : List ℕ) → drop 35 (queue_arn queue) ≡ queue
-name_after queue = refl
-
-name_once : (a b : List ℕ) → queue_arn a ≡ queue_arn b → a ≡ b
-name_once a b same = sym (name_after a) ∙ ap (drop 35) same ∙ name_after b
-
-queues_once : (arn a b : List ℕ) → arn ≡ queue_arn a → arn ≡ queue_arn b → a ≡ b
-queues_once arn a b p q = name_once a b (sym p ∙ q)
-
-dead_letters_once : (arn : Option (List ℕ)) (a b : List ℕ) → arn ≡ Some (queue_arn a) → arn ≡ Some (queue_arn b) → a ≡ b
-dead_letters_once arn a b p q =
-    let both : Some (queue_arn a) ≡ Some (queue_arn b) = sym p ∙ q in
-    let same : queue_arn a ≡ queue_arn b = cc in
-    name_once a b same
-
-target_cause_once : (target : Target) (f : TargetFault) (c d : Cause) → IsTargetCause target f c → IsTargetCause target f d → c ≡ d
-target_cause_once target (target_fault.Member member) c d p q = p ∙ sym q
-target_cause_once target target_fault.NoQueue c d (a, is, e) (b, so, f) =
-    e ∙ ap (cause.NotFound kind.Queue) (queues_once target.arn a b is so) ∙ sym f
-target_cause_once target target_fault.NoDeadLetterQueue c d (a, is, e) (b, so, f) =
-    e ∙ ap (cause.NotFound kind.Queue) (dead_letters_once target.dead_letter a b is so) ∙ sym f
-target_cause_once target target_fault.Sixth c d p q = p ∙ sym q
-
-split_once : (set : RuleSet) (have targets xs ys : List Target) (fs gs : List (List ℕ × Cause)) → AreSplit set have targets xs fs
-    → AreSplit set have targets ys gs → (xs ≡ ys) × (fs ≡ gs)
-split_once set have [] xs ys fs gs (a, b) (c, d) = (a ∙ sym c, b ∙ sym d)
-split_once set have (target ∷ targets) xs ys fs gs (inl (rest, is, good, more)) (inl (other, so, also, others)) =
-    let next = split_once set (put_target target have) targets rest other fs gs more others in
-    (is ∙ ap (λ ts. target ∷ ts) next.0 ∙ sym so, next.1)
-split_once set have (target ∷ targets) xs ys fs gs (inl (rest, is, good, more)) (inr (f, c, other, so, has, why, others)) =
-    absurd (faulty_not_good set have target f has good)
-split_once set have (target ∷ targets) xs ys fs gs (inr (f, c, rest, is, has, why, more)) (inl (other, so, good, others)) =
-    absurd (faulty_not_good set have target f has good)
-split_once set have (target ∷ targets) xs ys fs gs (inr (f, c, rest, is, has, why, more)) (inr (g, d, other, so, also, too, others)) =
-    let next = split_once set have targets xs ys rest other more others in
-    let same : g ≡ f = one_fault set have target g f also has in
-    let causes : c ≡ d = target_cause_once target f c d why (subst (λ (x : TargetFault). IsTargetCause target x d) same too) in
-    (next.0, is ∙ ap (λ (x : Cause). (target.id, x) ∷ rest) causes ∙ ap (λ ts. (target.id, d) ∷ ts) next.1 ∙ sym so)
-
-no_rule : (set : RuleSet) (bus rule : List ℕ) (r : Rule) → has_bus bus set ≡ false → rule_at bus rule set ≡ Some r → ⊥
-no_rule set bus rule r none found =
-    let both : None ≡ Some r = sym (no_rule_at bus rule set none) ∙ found in
-    cc
-
-targets_once : (t : Tables) (moment : ℕ) (bus rule : List ℕ) (targets : List Target) (a b : Answer) → IsTargetsPut t moment bus rule targets a
-    → IsTargetsPut t moment bus rule targets b → a ≡ b
-targets_once t moment bus rule targets a b (inl (none, e)) (inl (also, f)) = e ∙ sym f
-targets_once t moment bus rule targets a b (inl (none, e)) (inr (inl (there, lacks, f))) = absurd (false≢true (sym none ∙ there))
-targets_once t moment bus rule targets a b (inl (none, e)) (inr (inr (r, xs, fs, found, split, f))) = absurd (no_rule t.set bus rule r none found)
-targets_once t moment bus rule targets a b (inr (inl (there, lacks, e))) (inl (none, f)) = absurd (false≢true (sym none ∙ there))
-targets_once t moment bus rule targets a b (inr (inl (there, lacks, e))) (inr (inl (also, so, f))) = e ∙ sym f
-targets_once t moment bus rule targets a b (inr (inl (there, lacks, e))) (inr (inr (r, xs, fs, found, split, f))) =
-    let both : None ≡ Some r = sym lacks ∙ found in
-    cc
-targets_once t moment bus rule targets a b (inr (inr (r, xs, fs, found, split, e))) (inl (none, f)) = absurd (no_rule t.set bus rule r none found)
-targets_once t moment bus rule targets a b (inr (inr (r, xs, fs, found, split, e))) (inr (inl (there, lacks, f))) =
-    let both : None ≡ Some r = sym lacks ∙ found in
-    cc
-targets_once t moment bus rule targets a b (inr (inr (r, xs, fs, found, split, e))) (inr (inr (s, ys, gs, also, other, f))) =
-    let both : Some r ≡ Some s = sym found ∙ also in
-    let rules : s ≡ r = cc in
-    let so = subst (λ (x : Rule). AreSplit t.set x.targets targets ys gs) rules other in
-    let same = split_once t.set r.targets targets xs ys fs gs split so in
-    e ∙ ap (λ ts. targets_answer t moment bus rule ts fs) same.0 ∙ ap (targets_answer t moment bus rule ys) same.1 ∙ sym f
-
 -- ---- the answer to a request
-
-cause_once : (control : Control) (f : ControlFault) (c d : Cause) → IsCause control f c → IsCause control f d → c ≡ d
-cause_once control (fault.ResourceNotFound kind) c d p q = p ∙ sym q
-cause_once control (fault.AlreadyExists kind) c d p q = p ∙ sym q
-cause_once control (fault.LimitExceeded kind) c d p q = p ∙ sym q
-cause_once control (fault.InUse kind) c d p q = p ∙ sym q
-cause_once control fault.HasTargets c d p q = p ∙ sym q
-cause_once control fault.DefaultBus c d p q = p ∙ sym q
-cause_once control (fault.Validation member) c d p q = p ∙ sym q
-cause_once control fault.PolicyTooLong c d p q = p ∙ sym q
-cause_once control fault.NoMemory c d p q = absurd p
 
 controlled_once : (t : Tables) (moment : ℕ) (control : Control) (reply : Reply) (a b : Answer) → IsControlled t moment control reply a
     → IsControlled t moment control reply b → a ≡ b
 controlled_once t moment control reply a b (inl (is, e)) (inl (so, f)) = e ∙ sym f
-controlled_once t moment control reply a b (inl (is, e)) (inr (f, c, bad, why, so)) = absurd (refused_not_allowed control t.set f bad is)
-controlled_once t moment control reply a b (inr (f, c, bad, why, e)) (inl (is, so)) = absurd (refused_not_allowed control t.set f bad is)
+controlled_once t moment control reply a b (inl (is, e)) (inr (f, c, bad, why, so)) = let never : None ≡ Some f = sym is ∙ bad in absurd cc
+controlled_once t moment control reply a b (inr (f, c, bad, why, e)) (inl (is, so)) = let never : None ≡ Some f = sym is ∙ bad in absurd cc
 controlled_once t moment control reply a b (inr (f, c, bad, why, e)) (inr (g, d, also, other, so)) =
-    let same : g ≡ f = one_refusal control t.set g f also bad in
-    let causes : c ≡ d = cause_once control f c d why (subst (λ (x : ControlFault). IsCause control x d) same other) in
+    let faults : Some f ≡ Some g = sym bad ∙ also in
+    let same : f ≡ g = cc in
+    let both : Some c ≡ Some d = sym why ∙ ap (change_cause control) same ∙ other in
+    let causes : c ≡ d = cc in
     e ∙ ap (λ (x : Cause). reply_alone (refused x)) causes ∙ sym so
 
 same_test : (pattern : List ℕ) (event : Tree) (x y : Bool) → IsTestedAs pattern event x → IsTestedAs pattern event y → x ≡ y
@@ -240,7 +155,7 @@ by_test true t f = t refl
 by_test false t f = f refl
 
 queue_deleted_once : (t : Tables) (moment : ℕ) (name : List ℕ) (a b : Answer) → IsQueueDeleted t moment name a → IsQueueDeleted t moment name b → a ≡ b
-queue_deleted_once t moment name a b p q = by_test (has_queue name t.set && is_named name t.duties)
+queue_deleted_once t moment name a b p q = by_test (has_queue name t.set && names_queue name t.duties)
     (λ e.
     let first : a ≡ reply_alone (refused (cause.InUse kind.Queue name)) = rw e at p in
     let second : b ≡ reply_alone (refused (cause.InUse kind.Queue name)) = rw e at q in
@@ -253,25 +168,6 @@ deleted_once t moment bus name a b (inl (lacks, e)) (inl (also, f)) = e ∙ sym 
 deleted_once t moment bus name a b (inl (lacks, e)) (inr (has, so)) = absurd (false≢true (sym has ∙ lacks))
 deleted_once t moment bus name a b (inr (has, is)) (inl (lacks, f)) = absurd (false≢true (sym has ∙ lacks))
 deleted_once t moment bus name a b (inr (has, is)) (inr (also, so)) = controlled_once t moment _ _ a b is so
-
-removed_once : (t : Tables) (moment : ℕ) (bus rule : List ℕ) (ids : List (List ℕ)) (a b : Answer) → AreTargetsRemoved t moment bus rule ids a
-    → AreTargetsRemoved t moment bus rule ids b → a ≡ b
-removed_once t moment bus rule ids a b (inl (none, e)) (inl (also, f)) = e ∙ sym f
-removed_once t moment bus rule ids a b (inl (none, e)) (inr (inl (there, lacks, f))) = absurd (false≢true (sym none ∙ there))
-removed_once t moment bus rule ids a b (inl (none, e)) (inr (inr (r, found, f))) = absurd (no_rule t.set bus rule r none found)
-removed_once t moment bus rule ids a b (inr (inl (there, lacks, e))) (inl (none, f)) = absurd (false≢true (sym none ∙ there))
-removed_once t moment bus rule ids a b (inr (inl (there, lacks, e))) (inr (inl (also, so, f))) = e ∙ sym f
-removed_once t moment bus rule ids a b (inr (inl (there, lacks, e))) (inr (inr (r, found, f))) =
-    let both : None ≡ Some r = sym lacks ∙ found in
-    cc
-removed_once t moment bus rule ids a b (inr (inr (r, found, e))) (inl (none, f)) = absurd (no_rule t.set bus rule r none found)
-removed_once t moment bus rule ids a b (inr (inr (r, found, e))) (inr (inl (there, lacks, f))) =
-    let both : None ≡ Some r = sym lacks ∙ found in
-    cc
-removed_once t moment bus rule ids a b (inr (inr (r, found, e))) (inr (inr (s, also, f))) =
-    let both : Some r ≡ Some s = sym found ∙ also in
-    let rules : r ≡ s = cc in
-    e ∙ ap (λ (x : Rule). removals_answer t moment bus rule (removed_ids ids x.targets) (failed_ids ids x.targets)) rules ∙ sym f
 
 no_bus : (t : Tables) (bus : List ℕ) (b : Bus) → has_bus bus t.set ≡ false → named (λ (other : Bus). other.name) bus t.set.buses ≡ Some b → ⊥
 no_bus t bus b none found = false≢true (sym none ∙ ap is_some found)
@@ -334,8 +230,8 @@ answer_once t set caller moment (delete_rule bus name) a b p q = deleted_once t 
 answer_once t set caller moment (put_rule_state bus name enabled) a b p q = controlled_once t moment _ _ a b p q
 answer_once t set caller moment (describe_rule bus name) a b p q = p ∙ sym q
 answer_once t set caller moment (list_rules bus prefix) a b p q = p ∙ sym q
-answer_once t set caller moment (put_targets bus rule targets) a b p q = targets_once t moment bus rule targets a b p q
-answer_once t set caller moment (remove_targets bus rule ids) a b p q = removed_once t moment bus rule ids a b p q
+answer_once t set caller moment (put_targets bus rule targets) a b p q = p ∙ sym q
+answer_once t set caller moment (remove_targets bus rule ids) a b p q = p ∙ sym q
 answer_once t set caller moment (list_targets_by_rule bus rule) a b p q = p ∙ sym q
 answer_once t set caller moment (list_rule_names_by_target arn bus) a b p q = p ∙ sym q
 answer_once t set caller moment (put_policy bus policy) a b p q = controlled_once t moment _ _ a b p q

@@ -7,7 +7,7 @@ use Rattle.name_rows.specs.Rows.{named}
 use Rattle.bus_policy.specs.Parts.{statements_of}
 use Rattle.bus_policy.specs.Change.{allow_for, first_policy, with_statement, some_has_sid, without_sid, without_statement}
 use Rattle.bus_policy.specs.Text.{IsPolicyText}
-use Rattle.config_changes.specs.Control.{policy_put}
+use Rattle.rule_table.specs.Control.{policy_put}
 use Rattle.rule_table.specs.RuleSet.{Bus, RuleSet}
 use Rattle.api_replies.specs.declared.reply.Reply.{Reply as CodeReply}
 use Rattle.router_core.specs.Tables.{Tables}
@@ -24,28 +24,28 @@ put_so : (t : Tables) (moment : ℕ) (bus : List ℕ) (a : Answer) (o p : Option
 put_so t moment bus a o p same h = subst (λ (q : Option (List ℕ)). IsControlled t moment (policy_put bus q) empty_reply a) same h
 
 -- the first statement of a bus
-pub first_granted : {E : Type 0} (r : Result (Option Ready × CodeReply) E) (t : Tables) (moment : ℕ) (bus sid on of given written : List ℕ)
-    (account : Option (List ℕ)) (policy : Tree) → on ≡ bus → of ≡ sid → policy ≡ first_policy (allow_for of account on) → given ≡ compact_text policy
-    → written ≡ given → IfOk r (λ p. IsControlled t moment (policy_put bus (Some written)) empty_reply (answer_of p))
+pub first_granted : {E : Type 0} (r : Result (Option Ready × CodeReply) E) (t : Tables) (moment : ℕ) (bus sid on of written : List ℕ)
+    (account : Option (List ℕ)) (policy : Tree) → on ≡ bus → of ≡ sid → policy ≡ first_policy (allow_for of account on) → written ≡ compact_text policy
+    → IfOk r (λ p. IsControlled t moment (policy_put bus (Some written)) empty_reply (answer_of p))
     → IfOk r (λ p. IsGranted t moment bus sid account None (answer_of p))
-first_granted (Ok p) t moment bus sid on of given written account policy on_is of_is is so copied h =
+first_granted (Ok p) t moment bus sid on of written account policy on_is of_is is so h =
     let same : policy ≡ first_policy (allow_for sid account bus) =
     is ∙ ap (λ (s : List ℕ). first_policy (allow_for s account on)) of_is ∙ ap (λ (b : List ℕ). first_policy (allow_for sid account b)) on_is in
-    inr (refl, put_so t moment bus (answer_of p) (Some written) _ (ap Some (copied ∙ so ∙ ap compact_text same)) h)
-first_granted (Err e) t moment bus sid on of given written account policy on_is of_is is so copied h = tt
+    inr (refl, put_so t moment bus (answer_of p) (Some written) _ (ap Some (so ∙ ap compact_text same)) h)
+first_granted (Err e) t moment bus sid on of written account policy on_is of_is is so h = tt
 
 -- one more statement
-pub more_granted : {E : Type 0} (r : Result (Option Ready × CodeReply) E) (t : Tables) (moment : ℕ) (bus sid on of given written : List ℕ)
+pub more_granted : {E : Type 0} (r : Result (Option Ready × CodeReply) E) (t : Tables) (moment : ℕ) (bus sid on of written : List ℕ)
     (account : Option (List ℕ)) (old policy : Tree) → on ≡ bus → of ≡ sid → some_has_sid of (statements_of old) ≡ false
-    → policy ≡ with_statement old (allow_for of account on) → given ≡ compact_text policy → written ≡ given
+    → policy ≡ with_statement old (allow_for of account on) → written ≡ compact_text policy
     → IfOk r (λ p. IsControlled t moment (policy_put bus (Some written)) empty_reply (answer_of p))
     → IfOk r (λ p. IsGranted t moment bus sid account (Some old) (answer_of p))
-more_granted (Ok p) t moment bus sid on of given written account old policy on_is of_is new is so copied h =
+more_granted (Ok p) t moment bus sid on of written account old policy on_is of_is new is so h =
     let same : policy ≡ with_statement old (allow_for sid account bus) =
     is ∙ ap (λ (s : List ℕ). with_statement old (allow_for s account on)) of_is ∙ ap (λ (b : List ℕ). with_statement old (allow_for sid account b)) on_is in
     let none : some_has_sid sid (statements_of old) ≡ false = subst (λ (s : List ℕ). some_has_sid s (statements_of old) ≡ false) of_is new in
-    inr (none, put_so t moment bus (answer_of p) (Some written) _ (ap Some (copied ∙ so ∙ ap compact_text same)) h)
-more_granted (Err e) t moment bus sid on of given written account old policy on_is of_is new is so copied h = tt
+    inr (none, put_so t moment bus (answer_of p) (Some written) _ (ap Some (so ∙ ap compact_text same)) h)
+more_granted (Err e) t moment bus sid on of written account old policy on_is of_is new is so h = tt
 
 -- the bus's policy determines the answer
 pub statement_put : {E : Type 0} (r : Result (Option Ready × CodeReply) E) (t : Tables) (moment : ℕ) (set : RuleSet) (bus on sid : List ℕ)

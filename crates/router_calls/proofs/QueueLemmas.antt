@@ -3,12 +3,12 @@
 use Rattle.std.proofs.Common.{◌≡◌, ℕ, ◌<◌, Bool, true, false, ◌&&◌, List, [], ◌∷◌, length, Option, refl, subst, arith}
 use Rattle.std.specs.Prelude.{cond, Result, Ok, Err, IfOk}
 use Rattle.std.specs.Str.{bytes_eq}
-use Rattle.config_changes.specs.Control.{queue_deleted}
+use Rattle.rule_table.specs.Control.{queue_deleted}
 use Rattle.rule_table.specs.RuleSet.{has_queue}
 use Rattle.delivery_duties.specs.declared.stored.StoredMessage.{StoredMessage}
 use Rattle.delivery_duties.specs.Queues as queues
 use Rattle.delivery_duties.specs.Queues.{Queue, messages_of, messages_through}
-use Rattle.delivery_duties.specs.Duties.{is_named}
+use Rattle.delivery_duties.specs.Duties.{names_queue}
 use Rattle.api_replies.specs.declared.kind.Kind.TheVariants as kind
 use Rattle.api_replies.specs.declared.cause.Cause.TheVariants as cause
 use Rattle.api_replies.specs.Reply.{Reply, refused}
@@ -26,7 +26,7 @@ deleted_case true t moment name a in_use controlled is = in_use is
 deleted_case false t moment name a in_use controlled is = controlled is
 
 pub queue_deleted_so : {E : Type 0} (r : Result (Option Ready × CodeReply) E) (t : Tables) (moment : ℕ) (name given : List ℕ) (reply : Reply)
-    → given ≡ name → (has_queue name t.set && is_named name t.duties) ≡ false → reply ≡ empty_reply
+    → given ≡ name → (has_queue name t.set && names_queue name t.duties) ≡ false → reply ≡ empty_reply
     → IfOk r (λ p. IsControlled t moment (queue_deleted given) reply (answer_of p)) → IfOk r (λ p. IsQueueDeleted t moment name (answer_of p))
 queue_deleted_so (Ok p) t moment name given reply same free is h =
     let other = subst (λ (n : List ℕ). IsControlled t moment (queue_deleted n) reply (answer_of p)) same h in

@@ -1,87 +1,120 @@
--- The targets of a PutTargets: `adds_none`, `adds_target` (one target and those after it) and `all_split`; `targets_answered` (the accepted ones are an allowed change), `put_answered` (of a result) and
--- `targets_unwritten` (there is none); `split_within` (the accepted ones are of those of the request) and `put_form` (their change is well formed).
-use Rattle.std.proofs.Common.{◌≡◌, ℕ, suc, ◌≤◌, ◌<◌, inl, inr, List, [], ◌∷◌, ◌++◌, length, map, Some, sym, refl, ap, ◌∙◌, subst, arith, append_assoc}
-use Rattle.std.proofs.Common.{append-nil}
-use Rattle.std.specs.Prelude.{codes, Option, None, Result, Ok, Err, IfOk, All}
+-- A call on a rule: `on_rule_found`, `on_rule_no_bus`, `on_rule_no_rule`. The targets of a PutTargets: `adds_none`, `adds_target` (one target and those after it) and `all_split`; `targets_answered` (the accepted
+-- ones are an allowed change), `put_answered` (of a result) and `targets_unwritten` (there is none); `accepted_within` (the accepted ones are
+-- of those of the request) and `put_form` (their change is well formed).
+use Rattle.std.proofs.Common.{◌≡◌, ℕ, suc, ◌≤◌, ◌<◌, ◌&&◌, inl, inr, Bool, true, false, not, is_some, List, [], ◌∷◌, ◌++◌, length, map, Some, sym, refl, ap, ◌∙◌, subst, arith}
+use Rattle.std.proofs.Common.{append_assoc, append-nil}
+use Rattle.std.specs.Prelude.{codes, nat_le, Option, None, Result, Ok, Err, IfOk, All}
 use Rattle.std.specs.List.{Contains}
+use Rattle.std.proofs.lemmas.Bool.{le-leb, leb-true}
 use Rattle.std.proofs.lemmas.List.Elements.{All-cons, All-weaker}
 use Rattle.std.proofs.lemmas.List.{length-map}
+use Rattle.json_text.specs.Tree.{Tree}
 use Rattle.json_text.specs.View.{tree_of, trees_of}
-use Rattle.config_changes.specs.declared.control.Target.{Target}
-use Rattle.config_changes.specs.Control.{targets_put}
-use Rattle.rule_table.specs.RuleSet.{Rule, RuleSet, put_target, rule_at, AreGoodTargets, ForRule, IsAllowed}
-use Rattle.config_changes.specs.TargetForm.{IsWellFormedTarget}
+use Rattle.rule_targets.specs.declared.target.AskedTarget.{AskedTarget}
+use Rattle.rule_targets.specs.declared.target.Target.{Target}
+use Rattle.rule_targets.specs.Target.{asked_of, put_as}
+use Rattle.rule_targets.specs.WellFormed.{names_rule, NamesRule, are_few}
+use Rattle.rule_targets.proofs.TargetLemmas.{asked_put}
+use Rattle.rule_table.specs.declared.control.TargetFault.{TargetFault}
+use Rattle.rule_table.specs.declared.control.ControlFault.TheVariants.{Validation}
+use Rattle.api_replies.specs.declared.member.Member.TheVariants as member
+use Rattle.rule_table.specs.Control.{targets_put}
+use Rattle.rule_table.specs.RuleSet.{Rule, RuleSet, put_target, has_bus, rule_at, targets_of}
+use Rattle.rule_table.specs.Refusal.{target_fault, are_put, are_some_put, IsAllowed}
 use Rattle.rule_table.specs.WellFormed.{IsWellFormed}
-use Rattle.config_changes.specs.WellFormed.{NamesRule}
-use Rattle.rule_table.proofs.RefusalLemmas.{good_form, refused_not_allowed}
+use Rattle.rule_table.proofs.AllowedLemmas.{no_member_fault, put_formed, targets_fine}
+use Rattle.rule_table.proofs.ChangeLemmas.{bus_of_rule, after_rule}
+use Rattle.name_rows.specs.Rows.{named}
+use Rattle.api_replies.specs.declared.kind.Kind.TheVariants as kind
+use Rattle.api_replies.specs.declared.cause.Cause.TheVariants as cause
+use Rattle.call_replies.specs.Causes.{target_cause}
 use Rattle.api_replies.specs.declared.cause.Cause.{Cause}
-use Rattle.api_replies.specs.Reply.{Reply}
+use Rattle.api_replies.specs.Reply.{Reply, refused}
 use Rattle.api_replies.specs.declared.reply.Reply.{Reply as CodeReply}
 use Rattle.router_core.specs.declared.ready.Ready.{Ready}
 use Rattle.router_calls.specs.Decided.{answer_of}
 use Rattle.router_core.specs.Batch as batch
 use Rattle.router_core.specs.Tables.{Tables}
-use Rattle.router_calls.specs.Targets.{AreSplit}
+use Rattle.router_calls.specs.Targets.{having, accepted_first, failed_first, accepted_targets, failed_targets}
 use Rattle.call_replies.specs.Replies.{target_report, targets_reply, items_reply}
-use Rattle.router_calls.specs.Answer.{Answer, IsControlled, IsTargetsPut, targets_answer, reply_alone, writes}
+use Rattle.router_calls.specs.Answer.{Answer, IsControlled, on_rule, targets_put_answer, targets_answer, reply_alone, writes}
 use Rattle.router_calls.specs.Steps.{AddsTargets, AreAllSplit, IsOneSplit}
 use Rattle.router_calls.specs.declared.put_targets.SplitTargets.{SplitTargets}
 
-pub adds_none : (set : RuleSet) (old : SplitTargets) → AddsTargets set [] old old
-adds_none set old = record {
-  accepted = [];
-  failed = [];
-  are = (refl, refl);
-  put = sym (append-nil old.accepted.items);
-  reports = sym (append-nil (trees_of old.reports.items));
-}
+pub on_rule_found : (t : Tables) (bus rule : List ℕ) (r : Rule) (answer : Rule → Answer) → rule_at bus rule t.set ≡ Some r → on_rule t bus rule answer ≡ answer r
+on_rule_found t bus rule r answer is = rw (bus_of_rule (named (λ b. b.name) bus t.set.buses) rule r is, is) refl
 
-pub adds_target : (set : RuleSet) (target : Target) (rest : List Target) (old mid new : SplitTargets) → IsOneSplit set target old mid
+pub on_rule_no_bus : (t : Tables) (bus rule : List ℕ) (answer : Rule → Answer) → has_bus bus t.set ≡ false
+    → on_rule t bus rule answer ≡ reply_alone (refused (cause.NotFound kind.EventBus bus))
+on_rule_no_bus t bus rule answer e = rw e refl
+
+pub on_rule_no_rule : (t : Tables) (bus rule : List ℕ) (answer : Rule → Answer) → has_bus bus t.set ≡ true → rule_at bus rule t.set ≡ None
+    → on_rule t bus rule answer ≡ reply_alone (refused (cause.NotFound kind.Rule rule))
+on_rule_no_rule t bus rule answer there none = rw (there, none) refl
+
+pub adds_none : (set : RuleSet) (old : SplitTargets) → AddsTargets set [] old old
+adds_none set old = record { put = sym (append-nil old.accepted.items); reports = sym (append-nil (trees_of old.reports.items)) }
+
+put_step : (o : Option TargetFault) (target : AskedTarget) (before after : List Target)
+    → (before ++ accepted_first o target []) ++ after ≡ before ++ accepted_first o target after
+put_step None target before after = append_assoc before (put_as target ∷ []) after
+put_step (Some fault) target before after = ap (λ ts. ts ++ after) (append-nil before)
+
+report_step : (o : Option TargetFault) (target : AskedTarget) (before : List Tree) (after : List (List ℕ × Cause))
+    → (before ++ map target_report (failed_first o target [])) ++ map target_report after ≡ before ++ map target_report (failed_first o target after)
+report_step None target before after = ap (λ ts. ts ++ map target_report after) (append-nil before)
+report_step (Some fault) target before after = append_assoc before (target_report (target.id, target_cause fault) ∷ []) (map target_report after)
+
+pub adds_target : (set : RuleSet) (target : AskedTarget) (rest : List AskedTarget) (old mid new : SplitTargets) → IsOneSplit set target old mid
     → AddsTargets set rest mid new → AddsTargets set (target ∷ rest) old new
-adds_target set target rest old mid new (inl (good, have, put, same)) more = record {
-  accepted = target ∷ more.accepted;
-  failed = more.failed;
-  are = inl (more.accepted, refl, good, subst (λ h. AreSplit set h rest more.accepted more.failed) have more.are);
-  put = more.put ∙ ap (λ ts. ts ++ more.accepted) put ∙ append_assoc old.accepted.items (target ∷ []) more.accepted;
-  reports = more.reports ∙ ap (λ ts. ts ++ map target_report more.failed) same;
-}
-adds_target set target rest old mid new (inr (fault, c, has, why, have, put, report)) more =
-    let one = target_report (target.id, c) ∷ [] in
+adds_target set target rest old mid new one more =
+    let found = target_fault set old.have.items target in
+    let next = having found target old.have.items in
     record {
-      accepted = more.accepted;
-      failed = (target.id, c) ∷ more.failed;
-      are = inr (fault, c, more.failed, refl, has, why, subst (λ h. AreSplit set h rest more.accepted more.failed) have more.are);
-      put = more.put ∙ ap (λ ts. ts ++ more.accepted) put;
-      reports = more.reports ∙ ap (λ ts. ts ++ map target_report more.failed) report
-          ∙ append_assoc (trees_of old.reports.items) one (map target_report more.failed);
+      put = more.put ∙ ap (λ h. mid.accepted.items ++ accepted_targets set h rest) one.have
+          ∙ ap (λ ts. ts ++ accepted_targets set next rest) one.put ∙ put_step found target old.accepted.items (accepted_targets set next rest);
+      reports = more.reports ∙ ap (λ h. trees_of mid.reports.items ++ map target_report (failed_targets set h rest)) one.have
+          ∙ ap (λ ts. ts ++ map target_report (failed_targets set next rest)) one.reports
+          ∙ report_step found target (trees_of old.reports.items) (failed_targets set next rest);
     }
 
--- the accepted targets are good one after the other
-split_good : (set : RuleSet) (have targets accepted : List Target) (failed : List (List ℕ × Cause)) → AreSplit set have targets accepted failed
-    → AreGoodTargets set accepted have
-split_good set have [] accepted failed (none, _) = subst (λ ts. AreGoodTargets set ts have) (sym none) tt
-split_good set have (target ∷ targets) accepted failed (inl (rest, is, good, more)) =
-    subst (λ ts. AreGoodTargets set ts have) (sym is) (good, split_good set (put_target target have) targets rest failed more)
-split_good set have (target ∷ targets) accepted failed (inr (fault, c, rest, is, has, why, more)) = split_good set have targets accepted rest more
+-- the accepted targets can be put one after the other
+pub both : (a b : Bool) → a ≡ true → b ≡ true → (a && b) ≡ true
+both a b p q = ap (λ x. x && b) p ∙ q
+
+good_first : (set : RuleSet) (have : List Target) (target : AskedTarget) (rest : List Target) (o : Option TargetFault) → target_fault set have target ≡ o
+    → are_put set rest (having o target have) ≡ true → are_put set (accepted_first o target rest) have ≡ true
+good_first set have target rest (Some fault) is good = good
+good_first set have target rest None is good =
+    let same = asked_put target (no_member_fault set have target is) in
+    both (not (is_some (target_fault set have (asked_of (put_as target))))) (are_put set rest (put_target (put_as target) have))
+    (ap (λ t. not (is_some (target_fault set have t))) same ∙ ap (λ o. not (is_some o)) is) good
+
+accepted_good : (set : RuleSet) (have : List Target) (targets : List AskedTarget) → are_put set (accepted_targets set have targets) have ≡ true
+accepted_good set have [] = refl
+accepted_good set have (target ∷ targets) =
+    let next = having (target_fault set have target) target have in
+    good_first set have target (accepted_targets set next targets) (target_fault set have target) refl (accepted_good set next targets)
+
+pub some_of : {A : Type 0} (xs : List A) → 0 < length xs → nat_le 1 (length xs) ≡ true
+some_of xs some = le-leb 1 (length xs) (omega (arith, some))
 
 -- the change of the accepted targets is allowed
-split_allowed : (t : Tables) (bus rule : List ℕ) (r : Rule) (targets accepted : List Target) (failed : List (List ℕ × Cause))
-    → rule_at bus rule t.set ≡ Some r → AreSplit t.set r.targets targets accepted failed → 0 < length accepted
-    → IsAllowed (targets_put bus rule accepted) t.set
-split_allowed t bus rule r targets accepted failed found split some =
-    subst (λ o. ForRule o (λ x. (1 ≤ length accepted) × AreGoodTargets t.set accepted x.targets)) (sym found)
-    (omega (arith, some), split_good t.set r.targets targets accepted failed split)
+split_allowed : (t : Tables) (bus rule : List ℕ) (r : Rule) (targets : List AskedTarget) → rule_at bus rule t.set ≡ Some r
+    → 0 < length (accepted_targets t.set r.targets targets) → IsAllowed (targets_put bus rule (accepted_targets t.set r.targets targets)) t.set
+split_allowed t bus rule r targets found some =
+    let accepted = accepted_targets t.set r.targets targets in
+    after_rule bus rule t.set r (are_some_put t.set accepted) (Validation member.Targets) true found
+    (both (nat_le 1 (length accepted)) (are_put t.set accepted r.targets) (some_of accepted some) (accepted_good t.set r.targets targets))
 
 -- all targets, one after the other, from none
-pub all_split : (set : RuleSet) (have targets : List Target) (old all : SplitTargets) → old.have.items ≡ have → old.accepted.items ≡ []
-    → trees_of old.reports.items ≡ [] → AddsTargets set targets old all → AreAllSplit set have targets all
-all_split set have targets old all is none nothing adds =
-    let put : adds.accepted ≡ all.accepted.items = sym (adds.put ∙ ap (λ ts. ts ++ adds.accepted) none) in
-    record {
-      failed = adds.failed;
-      are = subst (λ ts. AreSplit set have targets ts adds.failed) put (subst (λ h. AreSplit set h targets adds.accepted adds.failed) is adds.are);
-      reports = adds.reports ∙ ap (λ ts. ts ++ map target_report adds.failed) nothing;
-    }
+pub all_split : (set : RuleSet) (have : List Target) (targets : List AskedTarget) (old all : SplitTargets) → old.have.items ≡ have
+    → old.accepted.items ≡ [] → trees_of old.reports.items ≡ [] → AddsTargets set targets old all → AreAllSplit set have targets all
+all_split set have targets old all is none nothing adds = record {
+  accepted = adds.put ∙ ap (λ ts. ts ++ accepted_targets set old.have.items targets) none ∙ ap (λ h. accepted_targets set h targets) is;
+  reports = adds.reports ∙ ap (λ ts. ts ++ map target_report (failed_targets set old.have.items targets)) nothing
+      ∙ ap (λ h. map target_report (failed_targets set h targets)) is;
+}
 
 -- the reply counts the reports
 reply_so : (failed : List (List ℕ × Cause)) (all : SplitTargets) (n : ℕ) (reply : Reply) → trees_of all.reports.items ≡ map target_report failed
@@ -99,43 +132,42 @@ some_answer t moment bus rule [] failed reply a some is allowed controlled = abs
 some_answer t moment bus rule (x ∷ xs) failed reply a some is allowed (inl (_, writes_so)) =
     writes_so ∙ ap (λ (r : Reply). writes t moment (batch.control (targets_put bus rule (x ∷ xs)) ∷ []) r) is
 some_answer t moment bus rule (x ∷ xs) failed reply a some is allowed (inr (fault, c, refused, _, _)) =
-    absurd (refused_not_allowed (targets_put bus rule (x ∷ xs)) t.set fault refused allowed)
+    let never : None ≡ Some fault = sym allowed ∙ refused in absurd cc
 
-pub targets_answered : (t : Tables) (moment : ℕ) (bus rule : List ℕ) (r : Rule) (targets : List Target) (all : SplitTargets) (n : ℕ) (reply : Reply)
+pub targets_answered : (t : Tables) (moment : ℕ) (bus rule : List ℕ) (r : Rule) (targets : List AskedTarget) (all : SplitTargets) (n : ℕ) (reply : Reply)
     (a : Answer) → rule_at bus rule t.set ≡ Some r → AreAllSplit t.set r.targets targets all → n ≡ length all.reports.items
     → 0 < length all.accepted.items → reply ≡ items_reply n (codes "FailedEntries") (trees_of all.reports.items)
-    → IsControlled t moment (targets_put bus rule all.accepted.items) reply a → IsTargetsPut t moment bus rule targets a
+    → IsControlled t moment (targets_put bus rule all.accepted.items) reply a → a ≡ targets_put_answer t moment bus rule targets
 targets_answered t moment bus rule r targets all n reply a found split count some is controlled =
-    let replies = reply_so split.failed all n reply split.reports count is in
-    let allowed = split_allowed t bus rule r targets all.accepted.items split.failed found split.are some in
-    let so = some_answer t moment bus rule all.accepted.items split.failed reply a some replies allowed controlled in
-    inr (inr (r, all.accepted.items, split.failed, found, split.are, so))
+    let accepted = accepted_targets t.set r.targets targets in
+    let failed = failed_targets t.set r.targets targets in
+    let replies = reply_so failed all n reply split.reports count is in
+    let left : 0 < length accepted = omega (arith, some, ap length split.accepted) in
+    let so = subst (λ (ts : List Target). IsControlled t moment (targets_put bus rule ts) reply a) split.accepted controlled in
+    some_answer t moment bus rule accepted failed reply a left replies (split_allowed t bus rule r targets found left) so
+    ∙ sym (on_rule_found t bus rule r _ found)
 
 none_answer : (t : Tables) (moment : ℕ) (bus rule : List ℕ) (accepted : List Target) (failed : List (List ℕ × Cause)) (reply : Reply)
     → length accepted ≡ 0 → reply ≡ targets_reply failed → reply_alone reply ≡ targets_answer t moment bus rule accepted failed
 none_answer t moment bus rule [] failed reply none is = ap reply_alone is
 none_answer t moment bus rule (x ∷ xs) failed reply none is = absurd (omega arith)
 
-pub targets_unwritten : (t : Tables) (moment : ℕ) (bus rule : List ℕ) (r : Rule) (targets : List Target) (all : SplitTargets) (n : ℕ) (reply : Reply)
+pub targets_unwritten : (t : Tables) (moment : ℕ) (bus rule : List ℕ) (r : Rule) (targets : List AskedTarget) (all : SplitTargets) (n : ℕ) (reply : Reply)
     → rule_at bus rule t.set ≡ Some r → AreAllSplit t.set r.targets targets all → n ≡ length all.reports.items → length all.accepted.items ≡ 0
-    → reply ≡ items_reply n (codes "FailedEntries") (trees_of all.reports.items) → IsTargetsPut t moment bus rule targets (reply_alone reply)
+    → reply ≡ items_reply n (codes "FailedEntries") (trees_of all.reports.items) → reply_alone reply ≡ targets_put_answer t moment bus rule targets
 targets_unwritten t moment bus rule r targets all n reply found split count none is =
-    let replies = reply_so split.failed all n reply split.reports count is in
-    inr (inr (
-      r,
-      all.accepted.items,
-      split.failed,
-      found,
-      split.are,
-      none_answer t moment bus rule all.accepted.items split.failed reply none replies,
-    ))
+    let accepted = accepted_targets t.set r.targets targets in
+    let failed = failed_targets t.set r.targets targets in
+    let replies = reply_so failed all n reply split.reports count is in
+    let left : length accepted ≡ 0 = omega (arith, none, ap length split.accepted) in
+    none_answer t moment bus rule accepted failed reply left replies ∙ sym (on_rule_found t bus rule r _ found)
 
 -- what the change of the accepted targets is answered
 pub put_answered : {E : Type 0} (result : Result (Option Ready × CodeReply) E) (t : Tables) (moment : ℕ) (bus rule : List ℕ) (r : Rule)
-    (targets : List Target) (all : SplitTargets) (n : ℕ) (reply : Reply) → rule_at bus rule t.set ≡ Some r → AreAllSplit t.set r.targets targets all
+    (targets : List AskedTarget) (all : SplitTargets) (n : ℕ) (reply : Reply) → rule_at bus rule t.set ≡ Some r → AreAllSplit t.set r.targets targets all
     → n ≡ length all.reports.items → 0 < length all.accepted.items → reply ≡ items_reply n (codes "FailedEntries") (trees_of all.reports.items)
     → IfOk result (λ p. IsControlled t moment (targets_put bus rule all.accepted.items) reply (answer_of p))
-    → IfOk result (λ p. IsTargetsPut t moment bus rule targets (answer_of p))
+    → IfOk result (λ p. answer_of p ≡ targets_put_answer t moment bus rule targets)
 put_answered (Ok p) t moment bus rule r targets all n reply found split count some is controlled =
     targets_answered t moment bus rule r targets all n reply (answer_of p) found split count some is controlled
 put_answered (Err e) t moment bus rule r targets all n reply found split count some is controlled = tt
@@ -157,38 +189,36 @@ within_more y xs ys h = All-weaker (Contains xs) (Contains (y ∷ xs)) (there y 
 pub within_both : {X : Type 0} (y : X) (xs ys : List X) → All (Contains xs) ys → All (Contains (y ∷ xs)) (y ∷ ys)
 within_both y xs ys h = All-cons (Contains (y ∷ xs)) y ys (here y xs) (within_more y xs ys h)
 
-pub split_within : (set : RuleSet) (have targets accepted : List Target) (failed : List (List ℕ × Cause)) → AreSplit set have targets accepted failed
-    → All (Contains targets) accepted
-split_within set have [] accepted failed (none, _) = subst (All (Contains [])) (sym none) (none_of (Contains []))
-split_within set have (target ∷ targets) accepted failed (inl (rest, is, good, more)) =
-    subst (All (Contains (target ∷ targets))) (sym is)
-    (within_both target targets rest (split_within set (put_target target have) targets rest failed more))
-split_within set have (target ∷ targets) accepted failed (inr (fault, c, rest, is, has, why, more)) =
-    within_more target targets accepted (split_within set have targets accepted rest more)
+within_first : (o : Option TargetFault) (target : AskedTarget) (all rest : List Target) → All (Contains all) rest
+    → All (Contains (put_as target ∷ all)) (accepted_first o target rest)
+within_first None target all rest h = within_both (put_as target) all rest h
+within_first (Some fault) target all rest h = within_more (put_as target) all rest h
 
-split_few : (set : RuleSet) (have targets accepted : List Target) (failed : List (List ℕ × Cause)) → AreSplit set have targets accepted failed
-    → length accepted ≤ length targets
-split_few set have [] accepted failed (none, _) = omega (arith, ap length none)
-split_few set have (target ∷ targets) accepted failed (inl (rest, is, good, more)) =
-    omega (arith, ap length is, split_few set (put_target target have) targets rest failed more)
-split_few set have (target ∷ targets) accepted failed (inr (fault, c, rest, is, has, why, more)) =
-    omega (arith, split_few set have targets accepted rest more)
+pub accepted_within : (set : RuleSet) (have : List Target) (targets : List AskedTarget) → All (Contains (map put_as targets)) (accepted_targets set have targets)
+accepted_within set have [] = none_of (Contains [])
+accepted_within set have (target ∷ targets) =
+    let next = having (target_fault set have target) target have in
+    within_first (target_fault set have target) target (map put_as targets) (accepted_targets set next targets) (accepted_within set next targets)
 
-good_formed : (set : RuleSet) (news have : List Target) → AreGoodTargets set news have → All IsWellFormedTarget news
-good_formed set [] have good = none_of IsWellFormedTarget
-good_formed set (new ∷ news) have (good, more) =
-    All-cons IsWellFormedTarget new news (good_form set have new good) (good_formed set news (put_target new have) more)
+few_first : (o : Option TargetFault) (target : AskedTarget) (rest : List Target) (n : ℕ) → length rest ≤ n → length (accepted_first o target rest) ≤ suc n
+few_first None target rest n low = omega (arith, low)
+few_first (Some fault) target rest n low = omega (arith, low)
 
-allowed_formed : (set : RuleSet) (o : Option Rule) (news : List Target) → ForRule o (λ r. (1 ≤ length news) × AreGoodTargets set news r.targets)
-    → (1 ≤ length news) × All IsWellFormedTarget news
-allowed_formed set None news h = absurd h
-allowed_formed set (Some r) news (some, good) = (some, good_formed set news r.targets good)
+accepted_few : (set : RuleSet) (have : List Target) (targets : List AskedTarget) → length (accepted_targets set have targets) ≤ length targets
+accepted_few set have [] = omega arith
+accepted_few set have (target ∷ targets) =
+    let next = having (target_fault set have target) target have in
+    few_first (target_fault set have target) target (accepted_targets set next targets) (length targets) (accepted_few set next targets)
 
-pub put_form : (on set : RuleSet) (b r bus rule : List ℕ) (have targets kept : List Target) (all : SplitTargets) → b ≡ bus → r ≡ rule
-    → NamesRule bus rule → length targets ≤ 100 → AreAllSplit on have targets all → kept ≡ all.accepted.items
+pub few_is : (n : ℕ) → 1 ≤ n → n ≤ 100 → are_few n ≡ true
+few_is n some low = both (nat_le 1 n) (nat_le n 100) (le-leb 1 n some) (le-leb n 100 low)
+
+pub put_form : (on set : RuleSet) (b r bus rule : List ℕ) (have : List Target) (targets : List AskedTarget) (kept : List Target) (all : SplitTargets)
+    → b ≡ bus → r ≡ rule → NamesRule bus rule → length targets ≤ 100 → AreAllSplit on have targets all → kept ≡ all.accepted.items
     → IsAllowed (targets_put b r kept) set → IsWellFormed (targets_put b r kept)
 put_form on set b r bus rule have targets kept all b_is r_is names few split is allowed =
-    let formed = allowed_formed set (rule_at b r set) kept allowed in
-    let count = split_few on have targets all.accepted.items split.failed split.are in
+    let put = targets_fine b r kept set allowed in
+    let count = accepted_few on have targets in
     let named = subst (λ (x : List ℕ). NamesRule x r) (sym b_is) (subst (NamesRule bus) (sym r_is) names) in
-    (named, (formed.0, omega (arith, ap length is, count, few), formed.1))
+    let counted = few_is (length kept) (leb-true 1 (length kept) put.0) (omega (arith, ap length is, ap length split.accepted, count, few)) in
+    (both (names_rule b r) _ named (both (are_few (length kept)) _ counted (put_formed set kept (targets_of b r set) put.1)), tt)

@@ -2,20 +2,22 @@
 use Rattle.std.specs.Prelude.{◌≡◌, ℕ, ◌+◌, ◌<◌, ◌≤◌, ◌⊎◌, is_some, not, ◌&&◌, Bool, true, false, if◌then◌else◌, List, [], ◌∷◌, length, map}
 use Rattle.std.specs.Prelude.{Option, Some, None, Ok, Err, codes}
 use Rattle.json_text.specs.Compact.{compact_text}
+use Rattle.json_text.specs.Limits.{most_together}
 use Rattle.api_replies.specs.declared.member.Member.TheVariants as member
 use Rattle.json_text.specs.Tree.{Tree, text, object, members_of}
 use Rattle.event_shape.specs.Names.{queue_arn, bus_arn, rule_arn}
 use Rattle.event_shape.specs.Id.{event_id}
-use Rattle.config_changes.specs.declared.control.Target.{Target}
-use Rattle.config_changes.specs.declared.control.ControlFault.{ControlFault}
-use Rattle.config_changes.specs.Control.{Control, bus_created, bus_deleted, rule_put, rule_deleted, state_put, targets_put}
-use Rattle.config_changes.specs.Control.{targets_removed, policy_put, queue_created, queue_deleted}
+use Rattle.rule_targets.specs.declared.target.AskedTarget.{AskedTarget}
+use Rattle.rule_targets.specs.declared.target.Target.{Target}
+use Rattle.rule_table.specs.declared.control.ControlFault.{ControlFault}
+use Rattle.rule_table.specs.Control.{Control, bus_created, bus_deleted, rule_put, rule_deleted, state_put, targets_put}
+use Rattle.rule_table.specs.Control.{targets_removed, policy_put, queue_created, queue_deleted}
 use Rattle.name_rows.specs.Rows.{named}
-use Rattle.rule_table.specs.RuleSet.{Rule, Bus, RuleSet, IsAllowed, has_bus, has_queue, rule_at}
-use Rattle.rule_table.specs.Refusal.{IsRefused}
+use Rattle.rule_table.specs.RuleSet.{Rule, Bus, RuleSet, has_bus, has_queue, rule_at}
+use Rattle.rule_table.specs.Refusal.{refusal, IsAllowed}
 use Rattle.delivery_duties.specs.declared.stored.StoredMessage.{StoredMessage}
 use Rattle.delivery_duties.specs.Queues.{messages_of, messages_through}
-use Rattle.delivery_duties.specs.Duties.{is_named}
+use Rattle.delivery_duties.specs.Duties.{names_queue}
 use Rattle.api_replies.specs.declared.kind.Kind.TheVariants as kind
 use Rattle.api_replies.specs.declared.cause.Cause.{Cause}
 use Rattle.api_replies.specs.declared.cause.Cause.TheVariants as cause
@@ -31,11 +33,11 @@ use Rattle.router_core.specs.Matching.{IsTestedAs}
 use Rattle.router_core.specs.Verdict.{IsPolicyOf}
 use Rattle.config_views.specs.Views.{described_bus, listed_buses, described_rule, listed_rules, listed_targets, listed_rule_names}
 use Rattle.router_core.specs.Request.{IsEntitled, IsPublishing}
-use Rattle.router_calls.specs.Bounds.{IsBounded}
-use Rattle.call_replies.specs.Causes.{IsCause}
+use Rattle.router_core.specs.Bounds.{IsBounded}
+use Rattle.call_replies.specs.Causes.{change_cause}
 use Rattle.call_replies.specs.Replies.{empty_reply, items_reply, targets_reply, peeked, deletion_reply, duties_reply, tested_reply}
 use Rattle.router_calls.specs.Accepted.{Given, Placed, ArePlaced, events_in, failures_in}
-use Rattle.router_calls.specs.Targets.{AreSplit}
+use Rattle.router_calls.specs.Targets.{accepted_targets, failed_targets}
 use Rattle.router_calls.specs.Removals.{removed_ids, failed_ids}
 use Rattle.router_calls.specs.Permission.{has_statement, granting, revoking}
 
@@ -62,7 +64,8 @@ writes t moment entries reply =
 abbrev pub IsControlled : Tables → ℕ → Control → Reply → Answer → Type 0
 IsControlled t moment control reply a =
     (IsAllowed control t.set × (a ≡ writes t moment (batch.control control ∷ []) reply))
-    ⊎ ((fault : ControlFault) × (c : Cause) × IsRefused control t.set fault × IsCause control fault c × (a ≡ reply_alone (refused c)))
+    ⊎ ((fault : ControlFault) × (c : Cause) × (refusal control t.set ≡ Some fault) × (change_cause control fault ≡ Some c)
+    × (a ≡ reply_alone (refused c)))
 
 -- The answer to a PutTargets on a rule: the accepted targets are one operation of a batch; without one nothing is written.
 -- Shown by: router_tests test_router_calls.rt: each_request_is_answered.
@@ -71,14 +74,22 @@ targets_answer t moment bus rule [] failed = reply_alone (targets_reply failed)
 targets_answer t moment bus rule (target ∷ targets) failed =
     writes t moment (batch.control (targets_put bus rule (target ∷ targets)) ∷ []) (targets_reply failed)
 
+-- the answer for the rule that is there, or the refusal of a rule of this name
+abbrev pub for_rule : Option Rule → List ℕ → (Rule → Answer) → Answer
+for_rule None name answer = reply_alone (refused (cause.NotFound kind.Rule name))
+for_rule (Some rule) name answer = answer rule
+
+-- The answer to a call on a rule: a missing bus or rule is refused.
+-- Shown by: router_tests test_router_calls.rt: each_request_is_answered.
+abbrev pub on_rule : Tables → List ℕ → List ℕ → (Rule → Answer) → Answer
+on_rule t bus rule answer =
+    if has_bus bus t.set then for_rule (rule_at bus rule t.set) rule answer else reply_alone (refused (cause.NotFound kind.EventBus bus))
+
 -- PutTargets. A missing bus or rule is refused; else each target is accepted or fails by itself.
 -- Shown by: router_tests test_router_calls.rt: each_request_is_answered.
-abbrev pub IsTargetsPut : Tables → ℕ → List ℕ → List ℕ → List Target → Answer → Type 0
-IsTargetsPut t moment bus rule targets a =
-    ((has_bus bus t.set ≡ false) × (a ≡ reply_alone (refused (cause.NotFound kind.EventBus bus))))
-    ⊎ (((has_bus bus t.set ≡ true) × (rule_at bus rule t.set ≡ None) × (a ≡ reply_alone (refused (cause.NotFound kind.Rule rule))))
-    ⊎ ((r : Rule) × (accepted : List Target) × (failed : List (List ℕ × Cause)) × (rule_at bus rule t.set ≡ Some r)
-    × AreSplit t.set r.targets targets accepted failed × (a ≡ targets_answer t moment bus rule accepted failed)))
+abbrev pub targets_put_answer : Tables → ℕ → List ℕ → List ℕ → List AskedTarget → Answer
+targets_put_answer t moment bus rule targets = on_rule t bus rule (λ r.
+    targets_answer t moment bus rule (accepted_targets t.set r.targets targets) (failed_targets t.set r.targets targets))
 
 -- The item of an entry: its event's id, or why it failed.
 -- Shown by: router_tests test_router_calls.rt: each_request_is_answered.
@@ -102,8 +113,8 @@ events_answer t moment (e ∷ es) reply = writes t moment (map batch.accepted (e
 -- Shown by: a_byte_too_many_is_accepted.edit.
 abbrev pub IsPublished : Tables → RuleSet → List ℕ → ℕ → List Given → ℕ → Answer → Type 0
 IsPublished t set caller moment entries size a =
-    ((262144 < size) × (a ≡ reply_alone (refused cause.TooLargeTogether)))
-    ⊎ ((size ≤ 262144) × ((all : List Placed) × ArePlaced set caller (t.events + 1) entries all
+    ((most_together < size) × (a ≡ reply_alone (refused cause.TooLargeTogether)))
+    ⊎ ((size ≤ most_together) × ((all : List Placed) × ArePlaced set caller (t.events + 1) entries all
     × (a ≡ events_answer t moment (events_in all) (entries_reply all))))
 
 -- TestEventPattern: whether the pattern with this text matches the event. Nothing is written.
@@ -120,7 +131,7 @@ IsDeletedUnless false t moment name a = IsControlled t moment (queue_deleted nam
 -- refused as such, whatever names it.
 -- Shown by: a_queue_with_messages_is_deleted.edit.
 abbrev pub IsQueueDeleted : Tables → ℕ → List ℕ → Answer → Type 0
-IsQueueDeleted t moment name a = IsDeletedUnless (has_queue name t.set && is_named name t.duties) t moment name a
+IsQueueDeleted t moment name a = IsDeletedUnless (has_queue name t.set && names_queue name t.duties) t moment name a
 
 -- The answer to a DeleteMessages that is to delete these messages, which have numbers up to `through`: the deletion is one operation of a
 -- batch; without a message nothing is written.
@@ -158,12 +169,9 @@ removals_answer t moment bus rule (id ∷ ids) failed =
 
 -- RemoveTargets. A missing bus or rule is refused; else each id is removed or fails by itself.
 -- Shown by: router_tests test_router_calls.rt: each_change_is_answered.
-abbrev pub AreTargetsRemoved : Tables → ℕ → List ℕ → List ℕ → List (List ℕ) → Answer → Type 0
-AreTargetsRemoved t moment bus rule ids a =
-    ((has_bus bus t.set ≡ false) × (a ≡ reply_alone (refused (cause.NotFound kind.EventBus bus))))
-    ⊎ (((has_bus bus t.set ≡ true) × (rule_at bus rule t.set ≡ None) × (a ≡ reply_alone (refused (cause.NotFound kind.Rule rule))))
-    ⊎ ((r : Rule) × (rule_at bus rule t.set ≡ Some r)
-    × (a ≡ removals_answer t moment bus rule (removed_ids ids r.targets) (failed_ids ids r.targets))))
+abbrev pub targets_removed_answer : Tables → ℕ → List ℕ → List ℕ → List (List ℕ) → Answer
+targets_removed_answer t moment bus rule ids = on_rule t bus rule (λ r.
+    removals_answer t moment bus rule (removed_ids ids r.targets) (failed_ids ids r.targets))
 
 -- A change of the policy of a bus. A missing bus is refused.
 -- Shown by: router_tests test_router_calls.rt: each_change_is_answered.
@@ -227,8 +235,8 @@ IsAnswerAt t set caller moment (delete_rule bus name) a = IsRuleDeleted t moment
 IsAnswerAt t set caller moment (put_rule_state bus name enabled) a = IsControlled t moment (state_put bus name enabled) empty_reply a
 IsAnswerAt t set caller moment (describe_rule bus name) a = a ≡ reply_alone (described_rule bus name t.set)
 IsAnswerAt t set caller moment (list_rules bus prefix) a = a ≡ reply_alone (listed_rules bus prefix t.set)
-IsAnswerAt t set caller moment (put_targets bus rule targets) a = IsTargetsPut t moment bus rule targets a
-IsAnswerAt t set caller moment (remove_targets bus rule ids) a = AreTargetsRemoved t moment bus rule ids a
+IsAnswerAt t set caller moment (put_targets bus rule targets) a = a ≡ targets_put_answer t moment bus rule targets
+IsAnswerAt t set caller moment (remove_targets bus rule ids) a = a ≡ targets_removed_answer t moment bus rule ids
 IsAnswerAt t set caller moment (list_targets_by_rule bus rule) a = a ≡ reply_alone (listed_targets bus rule t.set)
 IsAnswerAt t set caller moment (list_rule_names_by_target arn bus) a = a ≡ reply_alone (listed_rule_names arn bus t.set)
 IsAnswerAt t set caller moment (put_policy bus policy) a = IsPolicyPut t moment bus policy a

@@ -1,9 +1,10 @@
 -- Which change of the configuration an action may make.
-use Rattle.std.specs.Prelude.{◌≡◌, ℕ, List, Option, Some, None, All}
+use Rattle.std.specs.Prelude.{◌≡◌, ℕ, List, map, Option, Some, None, All}
 use Rattle.std.specs.List.{Contains}
-use Rattle.config_changes.specs.declared.control.Target.{Target}
-use Rattle.config_changes.specs.Control.{Control, bus_created, bus_deleted, rule_put, rule_deleted, state_put, targets_put}
-use Rattle.config_changes.specs.Control.{targets_removed, policy_put, queue_created, queue_deleted}
+use Rattle.rule_targets.specs.declared.target.Target.{Target}
+use Rattle.rule_targets.specs.Target.{put_as}
+use Rattle.rule_table.specs.Control.{Control, bus_created, bus_deleted, rule_put, rule_deleted, state_put, targets_put}
+use Rattle.rule_table.specs.Control.{targets_removed, policy_put, queue_created, queue_deleted}
 use Rattle.router_core.specs.Request.{Action, create_event_bus, delete_event_bus, put_rule, delete_rule, put_rule_state, put_targets, remove_targets}
 use Rattle.router_core.specs.Request.{put_policy, put_statement, remove_policy, remove_statement, create_queue, delete_queue}
 
@@ -16,7 +17,7 @@ MayMake (delete_event_bus name) c = c ≡ bus_deleted name
 MayMake (put_rule bus name pattern enabled) c = c ≡ rule_put bus name pattern enabled
 MayMake (delete_rule bus name) c = c ≡ rule_deleted bus name
 MayMake (put_rule_state bus name enabled) c = c ≡ state_put bus name enabled
-MayMake (put_targets bus rule targets) c = (some : List Target) × (c ≡ targets_put bus rule some) × All (Contains targets) some
+MayMake (put_targets bus rule targets) c = (some : List Target) × (c ≡ targets_put bus rule some) × All (Contains (map put_as targets)) some
 MayMake (remove_targets bus rule ids) c = (some : List (List ℕ)) × (c ≡ targets_removed bus rule some) × All (Contains ids) some
 MayMake (put_policy bus policy) c = c ≡ policy_put bus (Some policy)
 MayMake (put_statement bus sid account) c = (policy : List ℕ) × (c ≡ policy_put bus (Some policy))

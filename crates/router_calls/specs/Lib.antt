@@ -2,7 +2,6 @@ pub mod Accepted
 pub mod Targets
 pub mod Removals
 pub mod Permission
-pub mod Bounds
 pub mod Matched
 pub mod Answer
 pub mod Decided

@@ -1,6 +1,7 @@
 -- What a decision asks of the result of matching.
 use Rattle.std.specs.Prelude.{◌≡◌, ◌≤◌}
-use Rattle.rule_table.specs.RuleSet.{RuleSet, IsSound}
+use Rattle.rule_table.specs.RuleSet.{RuleSet}
+use Rattle.rule_table.specs.Sound.{IsSound}
 use Rattle.router_core.specs.Request.{Request, IsPublishing}
 use Rattle.router_core.specs.Tables.{Tables}
 use Rattle.router_core.specs.Matching.{IsSeen}

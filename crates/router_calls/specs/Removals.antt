@@ -3,7 +3,7 @@ use Rattle.std.specs.Prelude.{ℕ, Bool, if◌then◌else◌, List, [], ◌∷�
 use Rattle.std.specs.List.{list_any}
 use Rattle.std.specs.Str.{bytes_eq}
 use Rattle.name_rows.specs.Rows.{without}
-use Rattle.config_changes.specs.declared.control.Target.{Target}
+use Rattle.rule_targets.specs.declared.target.Target.{Target}
 use Rattle.api_replies.specs.declared.kind.Kind.TheVariants as kind
 use Rattle.api_replies.specs.declared.cause.Cause.{Cause}
 use Rattle.api_replies.specs.declared.cause.Cause.TheVariants as cause

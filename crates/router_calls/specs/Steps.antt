@@ -3,10 +3,11 @@ use Rattle.std.specs.Prelude.{◌≡◌, ◌⊎◌, ℕ, ◌+◌, ◌≤◌, Lis
 use Rattle.json_text.specs.Moment.{IsMoment}
 use Rattle.json_text.specs.View.{trees_of}
 use Rattle.event_shape.specs.Names.{owner}
-use Rattle.config_changes.specs.declared.control.Target.{Target}
-use Rattle.rule_table.specs.RuleSet.{RuleSet, put_target, IsGoodTarget, IsSound}
-use Rattle.rule_table.specs.Refusal.{HasTargetFault}
-use Rattle.config_changes.specs.declared.control.TargetFault.{TargetFault}
+use Rattle.rule_targets.specs.declared.target.AskedTarget.{AskedTarget}
+use Rattle.rule_targets.specs.declared.target.Target.{Target}
+use Rattle.rule_table.specs.RuleSet.{RuleSet}
+use Rattle.rule_table.specs.Sound.{IsSound}
+use Rattle.rule_table.specs.Refusal.{target_fault}
 use Rattle.api_replies.specs.declared.cause.Cause.{Cause}
 use Rattle.api_replies.specs.Reply.{Reply}
 use Rattle.router_core.specs.Batch as batch
@@ -22,8 +23,7 @@ use Rattle.router_core.specs.declared.ready.Part.{Part}
 use Rattle.router_core.specs.declared.seen.Seen.{Seen}
 use Rattle.router_core.specs.declared.seen.SeenEntry.{SeenEntry}
 use Rattle.router_calls.specs.Accepted.{Given, Placed, ArePlaced, events_in, failures_in}
-use Rattle.call_replies.specs.Causes.{IsTargetCause}
-use Rattle.router_calls.specs.Targets.{AreSplit}
+use Rattle.router_calls.specs.Targets.{having, accepted_first, failed_first, accepted_targets, failed_targets}
 use Rattle.call_replies.specs.Replies.{target_report, items_reply}
 use Rattle.router_calls.specs.Answer.{Answer, IsAnswerAt, IsPublished, IsTested, entry_report, reply_alone, writes}
 use Rattle.router_calls.specs.declared.put_events.PlacedEntries.{PlacedEntries}
@@ -84,28 +84,22 @@ pub record AreReady (t : Tables) (moment : ℕ) (all : PlacedEntries) : Type 0 w
   pub admitted : AreAdmitted moment (map entry_of all.entries.items) t
   pub parts : ArePartsOf t.set (map entry_of all.entries.items) all.parts.items
 
--- the targets add these accepted ones and reports
-pub record AddsTargets (set : RuleSet) (targets : List Target) (old new : SplitTargets) : Type 0 where
-  pub accepted : List Target
-  pub failed : List (List ℕ × Cause)
-  pub are : AreSplit set old.have.items targets accepted failed
-  pub put : new.accepted.items ≡ old.accepted.items ++ accepted
-  pub reports : trees_of new.reports.items ≡ trees_of old.reports.items ++ map target_report failed
+-- the targets add those that are accepted, and reports of the others
+pub record AddsTargets (set : RuleSet) (targets : List AskedTarget) (old new : SplitTargets) : Type 0 where
+  pub put : new.accepted.items ≡ old.accepted.items ++ accepted_targets set old.have.items targets
+  pub reports : trees_of new.reports.items ≡ trees_of old.reports.items ++ map target_report (failed_targets set old.have.items targets)
 
 -- the targets, put to a rule that has these, are accepted or have reports
-pub record AreAllSplit (set : RuleSet) (have targets : List Target) (all : SplitTargets) : Type 0 where
-  pub failed : List (List ℕ × Cause)
-  pub are : AreSplit set have targets all.accepted.items failed
-  pub reports : trees_of all.reports.items ≡ map target_report failed
+pub record AreAllSplit (set : RuleSet) (have : List Target) (targets : List AskedTarget) (all : SplitTargets) : Type 0 where
+  pub accepted : all.accepted.items ≡ accepted_targets set have targets
+  pub reports : trees_of all.reports.items ≡ map target_report (failed_targets set have targets)
 
 -- one target is put, or its report is added
-abbrev pub IsOneSplit : RuleSet → Target → SplitTargets → SplitTargets → Type 0
-IsOneSplit set target old new =
-    (IsGoodTarget set old.have.items target × (new.have.items ≡ put_target target old.have.items)
-    × (new.accepted.items ≡ old.accepted.items ++ target ∷ []) × (trees_of new.reports.items ≡ trees_of old.reports.items))
-    ⊎ ((fault : TargetFault) × (c : Cause) × HasTargetFault set old.have.items target fault × IsTargetCause target fault c
-    × (new.have.items ≡ old.have.items) × (new.accepted.items ≡ old.accepted.items)
-    × (trees_of new.reports.items ≡ trees_of old.reports.items ++ target_report (target.id, c) ∷ []))
+pub record IsOneSplit (set : RuleSet) (target : AskedTarget) (old new : SplitTargets) : Type 0 where
+  pub have : new.have.items ≡ having (target_fault set old.have.items target) target old.have.items
+  pub put : new.accepted.items ≡ old.accepted.items ++ accepted_first (target_fault set old.have.items target) target []
+  pub reports : trees_of new.reports.items
+      ≡ trees_of old.reports.items ++ map target_report (failed_first (target_fault set old.have.items target) target [])
 
 -- the event is added, with its part and its report
 pub record IsEventAdded (event : AcceptedEvent) (old new : PlacedEntries) : Type 0 where

@@ -1,8 +1,8 @@
 //! Changes of the configuration.
 ghost use Rattle.std.specs.Prelude.{◌≡◌, ◌≤◌, ◌∷◌, [], false, IfOk, IfSome};
 ghost use Rattle.json_text.specs.Moment.{IsMoment};
-ghost use Rattle.rule_table.specs.RuleSet.{IsAllowed};
-ghost use Rattle.config_changes.specs.View.{control_of};
+ghost use Rattle.rule_table.specs.Refusal.{IsAllowed};
+ghost use Rattle.rule_table.specs.View.{control_of};
 ghost use Rattle.rule_table.specs.WellFormed.{IsWellFormed};
 ghost use Rattle.api_replies.specs.View.{reply_of};
 ghost use Rattle.router_core.specs.Admitted.{IsUnnamed};
@@ -15,9 +15,9 @@ ghost use Rattle.router_calls.specs.Decided.{answer_of};
 
 use crate::reply::refused;
 use call_replies::change_cause;
-use config_changes::Control;
 use json_text::NoMemory;
 use router_core::{Batch, Cause, Entry, Part, Ready, Reply, Tables};
+use rule_table::Control;
 use std::alloc::Global;
 use std::collections::VecDeque;
 

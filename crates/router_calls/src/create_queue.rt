@@ -3,7 +3,7 @@ ghost use Rattle.std.specs.Prelude.{◌≤◌, ◌∷◌, [], IfOk, IfSome, code
 ghost use Rattle.json_text.specs.Moment.{IsMoment};
 ghost use Rattle.json_text.specs.Tree.{text};
 ghost use Rattle.event_shape.specs.Names.{IsQueueName, queue_arn};
-ghost use Rattle.config_changes.specs.Control.{queue_created};
+ghost use Rattle.rule_table.specs.Control.{queue_created};
 ghost use Rattle.api_replies.specs.Reply as replies;
 ghost use Rattle.router_core.specs.Ready.{IsReadyFor};
 ghost use Rattle.router_calls.specs.Answer.{IsControlled};
@@ -11,10 +11,10 @@ ghost use Rattle.router_calls.specs.Decided.{answer_of};
 
 use crate::configure::configure;
 use call_replies::text_reply;
-use config_changes::Control;
 use event_shape::queue_arn;
 use json_text::{NoMemory, Text};
 use router_core::{Ready, Reply, Tables};
+use rule_table::Control;
 use std::alloc::Global;
 
 pub(crate) fn create_queue(

@@ -3,7 +3,7 @@ ghost use Rattle.std.specs.Prelude.{◌≡◌, ◌≤◌, ◌&&◌, true, IfOk, 
 ghost use Rattle.json_text.specs.Moment.{IsMoment};
 ghost use Rattle.event_shape.specs.Names.{IsQueueName};
 ghost use Rattle.rule_table.specs.RuleSet.{has_queue};
-ghost use Rattle.delivery_duties.specs.Duties.{is_named};
+ghost use Rattle.delivery_duties.specs.Duties.{names_queue};
 ghost use Rattle.router_core.specs.Ready.{IsReadyFor};
 ghost use Rattle.router_calls.specs.Answer.{IsQueueDeleted};
 ghost use Rattle.router_calls.specs.Decided.{answer_of};
@@ -11,9 +11,9 @@ ghost use Rattle.router_calls.specs.Decided.{answer_of};
 use crate::configure::configure;
 use crate::reply::refused;
 use call_replies::empty_reply;
-use config_changes::Control;
 use json_text::{NoMemory, Text};
 use router_core::{Cause, Kind, Ready, Reply, Tables};
+use rule_table::Control;
 use std::alloc::Global;
 
 /// Deletes the queue. A queue that a target, a dead-letter setting, a pending delivery or a message names is in use.
@@ -29,7 +29,7 @@ pub(crate) fn delete_queue(
     ensures answer { IfOk result (λ p. IsQueueDeleted tables.now moment name.now (answer_of p)) }
     ensures ready { IfOk result (λ p. IfSome p.0 (λ r. IsReadyFor tables.now r)) }
 {
-    if is_named(tables, name.as_str()) {
+    if is_queue_in_use(tables, name.as_str()) {
         let name = name.copy(alloc)?;
         let kind = Kind::Queue;
         return refused(alloc, &Cause::InUse { kind, name });
@@ -41,8 +41,8 @@ pub(crate) fn delete_queue(
 }
 
 /// Whether the queue exists, and a pending delivery or a message names it.
-fn is_named(tables: &Tables, queue: &str) -> bool
-    ensures { result ≡ (has_queue queue.now tables.now.set && is_named queue.now tables.now.duties) }
+fn is_queue_in_use(tables: &Tables, queue: &str) -> bool
+    ensures { result ≡ (has_queue queue.now tables.now.set && names_queue queue.now tables.now.duties) }
 {
     tables.set().queue(queue) && tables.duties().names(queue)
 }

@@ -1,8 +1,8 @@
 //! DeleteRule.
 ghost use Rattle.std.specs.Prelude.{◌≡◌, ◌≤◌, IfOk, IfSome};
 ghost use Rattle.json_text.specs.Moment.{IsMoment};
-ghost use Rattle.config_changes.specs.Control.{rule_deleted};
-ghost use Rattle.config_changes.specs.WellFormed.{NamesRule};
+ghost use Rattle.rule_table.specs.Control.{rule_deleted};
+ghost use Rattle.rule_targets.specs.WellFormed.{NamesRule};
 ghost use Rattle.router_core.specs.Ready.{IsReadyFor};
 ghost use Rattle.call_replies.specs.Replies.{empty_reply};
 ghost use Rattle.router_calls.specs.Answer.{IsControlled, IsRuleDeleted, lacks_rule};
@@ -11,10 +11,9 @@ ghost use Rattle.router_calls.specs.Decided.{answer_of};
 use crate::configure::configure;
 use crate::reply::shown;
 use call_replies::empty_reply;
-use config_changes::Control;
 use json_text::{NoMemory, Text};
 use router_core::{Ready, Reply, Tables};
-use rule_table::RuleSet;
+use rule_table::{Control, RuleSet};
 use std::alloc::Global;
 
 /// Deletes the rule. A rule that does not exist on an existing bus is no fault, and nothing is changed.

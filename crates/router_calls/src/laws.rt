@@ -2,7 +2,7 @@
 ghost use Rattle.std.specs.Prelude.{◌≡◌, ℕ, Some};
 ghost use Rattle.std.specs.List.{Contains};
 ghost use Rattle.event_shape.specs.Names.{owner};
-ghost use Rattle.config_changes.specs.Control.{Control};
+ghost use Rattle.rule_table.specs.Control.{Control};
 ghost use Rattle.rule_table.specs.RuleSet.{RuleSet};
 ghost use Rattle.router_core.specs.Batch.{Batch, control};
 ghost use Rattle.router_core.specs.Request.{Request};

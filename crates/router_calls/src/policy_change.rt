@@ -1,8 +1,10 @@
 //! Changes of the policy of a bus.
-ghost use Rattle.std.specs.Prelude.{◌≡◌, ◌≤◌, None, IfOk, IfSome};
+ghost use Rattle.std.specs.Prelude.{◌≡◌, ◌≤◌, true, None, IfOk, IfSome};
 ghost use Rattle.json_text.specs.Moment.{IsMoment};
 ghost use Rattle.event_shape.specs.Names.{IsBusName};
-ghost use Rattle.config_changes.specs.Control.{policy_put};
+ghost use Rattle.rule_table.specs.Control.{policy_put};
+ghost use Rattle.rule_table.specs.Refusal.{is_short};
+ghost use Rattle.rule_table.specs.WellFormed.{IsNoneOrStored};
 ghost use Rattle.api_replies.specs.declared.kind.Kind.TheVariants as kind_is;
 ghost use Rattle.api_replies.specs.declared.cause.Cause.TheVariants as cause_is;
 ghost use Rattle.api_replies.specs.Reply as replies;
@@ -14,9 +16,9 @@ ghost use Rattle.router_calls.specs.Decided.{answer_of};
 use crate::configure::configure;
 use crate::reply::refused;
 use call_replies::empty_reply;
-use config_changes::Control;
 use json_text::{NoMemory, Text};
 use router_core::{Cause, Kind, Ready, Reply, Tables};
+use rule_table::{Control, StoredPolicy};
 use std::alloc::Global;
 
 /// Gives the bus this policy, or takes its policy away.
@@ -25,7 +27,7 @@ pub(crate) fn change_policy(
     tables: &Tables,
     moment: u64,
     bus: &Text,
-    policy: Option<Text>,
+    policy: Option<StoredPolicy>,
 ) -> Result<(Option<Ready>, Reply), NoMemory>
     requires moment { IsMoment moment }
     requires later { tables.now.moment ≤ moment }
@@ -33,11 +35,21 @@ pub(crate) fn change_policy(
     ensures answer { IfOk result (λ p. IsControlled tables.now moment (policy_put bus.now policy) empty_reply (answer_of p)) }
     ensures ready { IfOk result (λ p. IfSome p.0 (λ r. IsReadyFor tables.now r)) }
 {
+    read_policy(&policy);
     let control = Control::PolicyPut {
         bus: bus.copy(alloc)?,
         policy,
     };
     configure(alloc, tables, moment, control, empty_reply(alloc))
+}
+
+/// Reads the policy for its contract alone: a policy that is not too long has a text that is read back as itself.
+fn read_policy(policy: &Option<StoredPolicy>)
+    ensures { is_short policy.now ≡ true → IsNoneOrStored policy.now }
+{
+    if let Some(policy) = policy {
+        let _text = policy.as_str();
+    }
 }
 
 /// The refusal that the bus does not exist.

@@ -8,7 +8,7 @@ ghost use Rattle.router_core.specs.View.{accepted_of};
 ghost use Rattle.router_core.specs.Matching.{AreMatchedFor, AreSeenEntries, IsSeenEntry};
 ghost use Rattle.router_core.specs.Ready.{IsReadyFor};
 ghost use Rattle.router_calls.specs.Accepted.{IsAcceptedAs, IsPlaced};
-ghost use Rattle.router_calls.specs.Bounds.{IsBounded};
+ghost use Rattle.router_core.specs.Bounds.{IsBounded};
 ghost use Rattle.router_calls.specs.Answer.{IsPublished, entry_report};
 ghost use Rattle.router_calls.specs.Decided.{answer_of};
 ghost use Rattle.router_calls.specs.Steps.{placed_of, placed_answer, AddsEntries, AreReady, AreSeenOn, IsEventAdded, IsRefusalAdded, IsSeenOn};

@@ -13,15 +13,16 @@ use crate::reply::refused;
 use bus_policy::{Grantee, Policy};
 use json_text::{NoMemory, Text};
 use router_core::{Cause, Ready, Reply, Tables};
+use rule_table::StoredPolicy;
 use std::alloc::Global;
 
-/// Gives the bus the policy of this text, which is as it is stored.
+/// Gives the bus this policy.
 pub(crate) fn put_policy(
     alloc: Global,
     tables: &Tables,
     moment: u64,
     bus: &Text,
-    policy: &Text,
+    policy: &StoredPolicy,
 ) -> Result<(Option<Ready>, Reply), NoMemory>
     requires moment { IsMoment moment }
     requires later { tables.now.moment ≤ moment }
@@ -29,7 +30,7 @@ pub(crate) fn put_policy(
     ensures answer { IfOk result (λ p. IsPolicyPut tables.now moment bus.now policy.now (answer_of p)) }
     ensures ready { IfOk result (λ p. IfSome p.0 (λ r. IsReadyFor tables.now r)) }
 {
-    let policy = policy.copy(alloc)?;
+    let policy = policy.share()?;
     change_policy(alloc, tables, moment, bus, Some(policy))
 }
 
@@ -85,8 +86,8 @@ fn add_first(
     ensures ready { IfOk result (λ p. IfSome p.0 (λ r. IsReadyFor tables.now r)) }
 {
     let policy = Policy::new(alloc, sid.as_str(), to, bus.as_str())?;
-    let text = Text::from_str(alloc, policy.text())?;
-    change_policy(alloc, tables, moment, bus, Some(text))
+    let policy = StoredPolicy::new(alloc, policy)?;
+    change_policy(alloc, tables, moment, bus, Some(policy))
 }
 
 /// Adds the statement to the policy that the bus has.
@@ -111,6 +112,6 @@ fn add(
         return refused(alloc, &Cause::StatementExists { sid });
     }
     let policy = old.with_statement(alloc, sid.as_str(), to, bus.as_str())?;
-    let text = Text::from_str(alloc, policy.text())?;
-    change_policy(alloc, tables, moment, bus, Some(text))
+    let policy = StoredPolicy::new(alloc, policy)?;
+    change_policy(alloc, tables, moment, bus, Some(policy))
 }

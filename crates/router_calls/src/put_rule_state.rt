@@ -1,8 +1,8 @@
 //! EnableRule and DisableRule.
 ghost use Rattle.std.specs.Prelude.{◌≤◌, IfOk, IfSome};
 ghost use Rattle.json_text.specs.Moment.{IsMoment};
-ghost use Rattle.config_changes.specs.Control.{state_put};
-ghost use Rattle.config_changes.specs.WellFormed.{NamesRule};
+ghost use Rattle.rule_table.specs.Control.{state_put};
+ghost use Rattle.rule_targets.specs.WellFormed.{NamesRule};
 ghost use Rattle.router_core.specs.Ready.{IsReadyFor};
 ghost use Rattle.call_replies.specs.Replies.{empty_reply};
 ghost use Rattle.router_calls.specs.Answer.{IsControlled};
@@ -10,9 +10,9 @@ ghost use Rattle.router_calls.specs.Decided.{answer_of};
 
 use crate::configure::configure;
 use call_replies::empty_reply;
-use config_changes::Control;
 use json_text::{NoMemory, Text};
 use router_core::{Ready, Reply, Tables};
+use rule_table::Control;
 use std::alloc::Global;
 
 pub(crate) fn put_rule_state(

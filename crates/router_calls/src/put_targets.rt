@@ -2,19 +2,19 @@
 ghost use Rattle.std.specs.Prelude.{◌≡◌, ◌≤◌, length, map, IfOk, IfSome, OnOk};
 ghost use Rattle.json_text.specs.Moment.{IsMoment};
 ghost use Rattle.rule_table.specs.Target.{target_of};
-ghost use Rattle.config_changes.specs.WellFormed.{NamesRule};
+ghost use Rattle.rule_targets.specs.WellFormed.{NamesRule};
 ghost use Rattle.router_core.specs.Ready.{IsReadyFor};
-ghost use Rattle.router_calls.specs.Answer.{IsTargetsPut};
+ghost use Rattle.router_calls.specs.Answer.{targets_put_answer};
 ghost use Rattle.router_calls.specs.Decided.{answer_of};
 ghost use Rattle.router_calls.specs.Steps.{AddsTargets, AreAllSplit, IsOneSplit};
 
 use crate::configure::configure;
 use crate::reply::refused;
 use call_replies::{items_reply, target_cause, target_json};
-use config_changes::{Control, Target};
 use json_text::{Items, NoMemory, Text};
 use router_core::{Cause, Kind, Ready, Reply, Tables};
-use rule_table::{RuleSet, RuleTarget, put_target};
+use rule_table::{Control, RuleSet, RuleTarget, put_target};
+use rule_targets::{AskedTarget, Target};
 use std::alloc::Global;
 
 /// Puts each target that has no fault to the rule, as one change. If all fail, nothing is changed.
@@ -24,13 +24,13 @@ pub(crate) fn put_targets(
     moment: u64,
     bus: &Text,
     rule: &Text,
-    targets: &[Target],
+    targets: &[AskedTarget],
 ) -> Result<(Option<Ready>, Reply), NoMemory>
     requires moment { IsMoment moment }
     requires later { tables.now.moment ≤ moment }
     requires names { NamesRule bus.now rule.now }
     requires few { length targets.now ≤ 100 }
-    ensures answer { IfOk result (λ p. IsTargetsPut tables.now moment bus.now rule.now targets.now (answer_of p)) }
+    ensures answer { IfOk result (λ p. answer_of p ≡ targets_put_answer tables.now moment bus.now rule.now targets.now) }
     ensures ready { IfOk result (λ p. IfSome p.0 (λ r. IsReadyFor tables.now r)) }
 {
     let set = tables.set();
@@ -76,7 +76,7 @@ fn split_all(
     alloc: Global,
     set: &RuleSet,
     have: &[RuleTarget],
-    targets: &[Target],
+    targets: &[AskedTarget],
 ) -> Result<SplitTargets, NoMemory>
     ensures { IfOk result (λ all. AreAllSplit set.now (map target_of have.now) targets.now all) }
 {
@@ -104,7 +104,7 @@ pub(crate) fn copies(alloc: Global, targets: &[RuleTarget]) -> Result<Vec<Target
 fn split(
     alloc: Global,
     set: &RuleSet,
-    targets: &[Target],
+    targets: &[AskedTarget],
     all: &mut SplitTargets,
 ) -> Result<(), NoMemory>
     ensures { OnOk result (AddsTargets set.now targets.now all.old all.new) }
@@ -121,18 +121,18 @@ fn split(
 fn split_one(
     alloc: Global,
     set: &RuleSet,
-    target: &Target,
+    target: &AskedTarget,
     all: &mut SplitTargets,
 ) -> Result<(), NoMemory>
     ensures { OnOk result (IsOneSplit set.now target.now all.old all.new) }
 {
     match set.target_fault(alloc, all.have.as_slice(), target)? {
         None => {
-            put_target(&mut all.have, target.copy(alloc)?)?;
-            all.accepted.push(target.copy(alloc)?)?;
+            put_target(&mut all.have, target.put_as(alloc)?)?;
+            all.accepted.push(target.put_as(alloc)?)?;
         }
         Some(fault) => {
-            let cause = target_cause(alloc, target, fault)?;
+            let cause = target_cause(fault);
             all.reports
                 .push(target_json(alloc, target.id.as_str(), &cause)?)?;
         }

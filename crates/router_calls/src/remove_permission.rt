@@ -4,7 +4,7 @@ ghost use Rattle.json_text.specs.Moment.{IsMoment};
 ghost use Rattle.json_text.specs.Tree.{Tree};
 ghost use Rattle.event_shape.specs.Names.{IsBusName};
 ghost use Rattle.bus_policy.specs.Text.{IsPolicyText};
-ghost use Rattle.config_changes.specs.Control.{policy_put};
+ghost use Rattle.rule_table.specs.Control.{policy_put};
 ghost use Rattle.api_replies.specs.declared.cause.Cause.TheVariants as cause_is;
 ghost use Rattle.api_replies.specs.Reply as replies;
 ghost use Rattle.router_core.specs.Ready.{IsReadyFor};
@@ -17,7 +17,7 @@ use crate::reply::refused;
 use bus_policy::Removed;
 use json_text::{NoMemory, Text};
 use router_core::{Cause, Member, Ready, Reply, Tables};
-use rule_table::SharedPolicy;
+use rule_table::{SharedPolicy, StoredPolicy};
 use std::alloc::Global;
 
 /// Takes the bus's policy away.
@@ -82,7 +82,7 @@ fn remove(
         Removed::NotThere => no_statement(alloc, sid),
         Removed::Last => change_policy(alloc, tables, moment, bus, None),
         Removed::Rest(rest) => {
-            let left = Text::from_str(alloc, rest.text())?;
+            let left = StoredPolicy::new(alloc, rest)?;
             change_policy(alloc, tables, moment, bus, Some(left))
         }
     }

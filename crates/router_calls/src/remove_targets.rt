@@ -4,23 +4,23 @@ ghost use Rattle.json_text.specs.Moment.{IsMoment};
 ghost use Rattle.json_text.specs.View.{tree_of, trees_of};
 ghost use Rattle.event_shape.specs.Names.{IsShortName};
 ghost use Rattle.rule_table.specs.Target.{target_of};
-ghost use Rattle.config_changes.specs.WellFormed.{NamesRule};
+ghost use Rattle.rule_targets.specs.WellFormed.{NamesRule};
 ghost use Rattle.api_replies.specs.declared.kind.Kind.TheVariants as kind_is;
 ghost use Rattle.api_replies.specs.declared.cause.Cause.TheVariants as cause_is;
 ghost use Rattle.router_core.specs.Ready.{IsReadyFor};
 ghost use Rattle.router_calls.specs.Removals.{failed_ids, has_target, removed_ids, without_target};
 ghost use Rattle.call_replies.specs.Replies.{target_report};
-ghost use Rattle.router_calls.specs.Answer.{AreTargetsRemoved};
+ghost use Rattle.router_calls.specs.Answer.{targets_removed_answer};
 ghost use Rattle.router_calls.specs.Decided.{answer_of};
 
 use crate::configure::configure;
 use crate::put_targets::copies;
 use crate::reply::refused;
 use call_replies::{items_reply, target_json};
-use config_changes::{Control, Target};
 use json_text::{Items, Json, NoMemory, Text};
 use router_core::{Cause, Kind, Ready, Reply, Tables};
-use rule_table::RuleTarget;
+use rule_table::{Control, RuleTarget};
+use rule_targets::Target;
 use std::alloc::Global;
 
 /// Removes the target of each id from the rule, as one change. If no id is a target's, nothing is changed.
@@ -37,7 +37,7 @@ pub(crate) fn remove_targets(
     requires names { NamesRule bus.now rule.now }
     requires few { length ids.now ≤ 100 }
     requires ids { All IsShortName ids.now }
-    ensures answer { IfOk result (λ p. AreTargetsRemoved tables.now moment bus.now rule.now ids.now (answer_of p)) }
+    ensures answer { IfOk result (λ p. answer_of p ≡ targets_removed_answer tables.now moment bus.now rule.now ids.now) }
     ensures ready { IfOk result (λ p. IfSome p.0 (λ r. IsReadyFor tables.now r)) }
 {
     let set = tables.set();

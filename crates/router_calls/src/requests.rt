@@ -2,13 +2,14 @@
 ghost use Rattle.std.specs.Prelude.{◌≡◌, ◌≤◌, ℕ, List, IfOk, IfSome};
 ghost use Rattle.std.specs.Option.{option_copied};
 ghost use Rattle.json_text.specs.Moment.{IsMoment};
-ghost use Rattle.rule_table.specs.RuleSet.{RuleSet, IsSound};
+ghost use Rattle.rule_table.specs.RuleSet.{RuleSet};
+ghost use Rattle.rule_table.specs.Sound.{IsSound};
 ghost use Rattle.router_core.specs.Request.{IsOneTurn, IsEntitled};
 ghost use Rattle.router_core.specs.View.{action_of, request_of};
 ghost use Rattle.router_core.specs.Tables.{IsConsistent, moment_at};
 ghost use Rattle.router_core.specs.Ready.{IsReadyFor};
 ghost use Rattle.router_calls.specs.Answer.{IsAnswer};
-ghost use Rattle.router_calls.specs.Bounds.{IsBounded};
+ghost use Rattle.router_core.specs.Bounds.{IsBounded};
 ghost use Rattle.router_calls.specs.Decided.{answer_of};
 ghost use Rattle.router_calls.specs.Matched.{IsMatchedOn};
 ghost use Rattle.router_calls.specs.Steps.{IsAnsweredBy, IsSeenOn};

@@ -1,5 +1,5 @@
--- A rule set may go to another thread, and be read by several: `set_send`, `set_sync`. One
--- lemma for each type, since one search over the whole type stops at its limit.
+-- A rule set may go to another thread, and be read by several: `set_send`, `set_sync`; what a change holds may go too: `shared_pattern_send`,
+-- `stored_policy_send`. One lemma for each type, since one search over the whole type stops at its limit.
 use denote.Param.Send.{IsSend, IsSync, sendable}
 use Rattle.std.proofs.Crossing.{crosses}
 use Rattle.json_text.proofs.base.Text.TheSendSync as text
@@ -10,6 +10,7 @@ use Rattle.pattern_meaning.proofs.comparison.Comparison.TheSendSync as compariso
 use Rattle.pattern_meaning.proofs.pattern.Field.TheLaws.TheKnot as field
 use Rattle.pattern_meaning.proofs.pattern.LeafTest.TheLaws.TheKnot as leaf_test
 use Rattle.pattern_read.specs.contracts.pattern_text.PatternText as pattern
+use Rattle.pattern_read.specs.contracts.shared_pattern.SharedPattern as shared_pattern
 use Rattle.bus_policy.specs.contracts.policy.Policy as policy
 use Rattle.name_rows.proofs.rows.Rows.TheSendSync as rows
 use Rattle.shared_text.proofs.row.TargetRow.TheSendSync as target_row
@@ -17,6 +18,7 @@ use Rattle.shared_text.specs.contracts.row.SharedRow as shared_row
 use Rattle.rule_table.specs.contracts.rule_target.RuleTarget as rule_target
 use Rattle.rule_table.specs.contracts.rule.Rule as rule
 use Rattle.rule_table.specs.contracts.policy.SharedPolicy as shared
+use Rattle.rule_table.specs.contracts.policy.StoredPolicy as stored
 use Rattle.rule_table.specs.contracts.bus.Bus as bus
 use Rattle.rule_table.specs.contracts.rule_set.RuleSet as rule_set
 
@@ -46,6 +48,12 @@ pattern_sync = search (
   comparison.the_sync,
 ) depth 20
 
+pub shared_pattern_send : IsSend shared_pattern.the_row
+shared_pattern_send = search (sendable, crosses, pattern_send, pattern_sync) depth 20
+
+shared_pattern_sync : IsSync shared_pattern.the_row
+shared_pattern_sync = search (sendable, crosses, pattern_send, pattern_sync) depth 20
+
 pub row_send : IsSend shared_row.the_row
 row_send = search (sendable, crosses, target_row.the_send, target_row.the_sync) depth 20
 
@@ -59,10 +67,10 @@ target_sync : IsSync rule_target.the_row
 target_sync = search (sendable, crosses, row_sync) depth 20
 
 rule_send : IsSend rule.the_row
-rule_send = search (sendable, crosses, text.the_send, pattern_send, pattern_sync, target_send) depth 20
+rule_send = search (sendable, crosses, text.the_send, shared_pattern_send, target_send) depth 20
 
 rule_sync : IsSync rule.the_row
-rule_sync = search (sendable, crosses, text.the_sync, pattern_send, pattern_sync, target_sync) depth 20
+rule_sync = search (sendable, crosses, text.the_sync, shared_pattern_sync, target_sync) depth 20
 
 policy_send : IsSend policy.the_row
 policy_send = search (sendable, crosses, text.the_send, json.crosses) depth 20
@@ -75,6 +83,9 @@ shared_send = search (sendable, crosses, policy_send, policy_sync) depth 20
 
 shared_sync : IsSync shared.the_row
 shared_sync = search (sendable, crosses, policy_send, policy_sync) depth 20
+
+pub stored_policy_send : IsSend stored.the_row
+stored_policy_send = search (sendable, crosses, policy_send, policy_sync) depth 20
 
 bus_send : IsSend bus.the_row
 bus_send = search (sendable, crosses, text.the_send, rule_send, rule_sync, shared_send, rows.the_send) depth 20

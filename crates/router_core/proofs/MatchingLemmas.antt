@@ -12,9 +12,10 @@ use Rattle.event_shape.specs.Unnumbered.{Unnumbered, with_number}
 use Rattle.event_shape.specs.declared.entry.EntryFault.{EntryFault}
 use Rattle.pattern_meaning.proofs.UnseenLemmas.{other_text}
 use Rattle.pattern_read.proofs.SoundLemmas.{text_lacks_id}
-use Rattle.config_changes.specs.declared.control.Target.{Target}
+use Rattle.rule_targets.specs.declared.target.Target.{Target}
 use Rattle.name_rows.specs.Rows.{named}
-use Rattle.rule_table.specs.RuleSet.{Rule, Bus, RuleSet, IsSound, HasSoundTargets, rules_of, rules_in}
+use Rattle.rule_table.specs.RuleSet.{Rule, Bus, RuleSet, rules_of, rules_in}
+use Rattle.rule_table.specs.Sound.{IsSound, HasSoundTargets}
 use Rattle.rule_table.specs.Target.{StoredTarget, stored_of}
 use Rattle.router_core.specs.declared.seen.SeenTarget.{SeenTarget}
 use Rattle.router_core.specs.declared.seen.SeenEntry.{SeenEntry}

@@ -1,4 +1,5 @@
--- Tables may go to another thread: `tables_send`. A struct with no view of its own is named by `the_field_send` where it is a field.
+-- Tables may go to another thread, and so may a claimed duty with its record: `tables_send`, `errand_send`. A struct with no view of its own is
+-- named by `the_field_send` where it is a field.
 use denote.Builtin.{u64}
 use denote.Param.Send.{IsSend, sendable}
 use Rattle.std.proofs.Crossing.{crosses}
@@ -15,8 +16,18 @@ use Rattle.delivery_duties.specs.contracts.history.History as history
 use Rattle.delivery_duties.specs.contracts.queue.Queue as queue
 use Rattle.delivery_duties.specs.contracts.queues.Queues as queues
 use Rattle.delivery_duties.specs.contracts.duties.Duties as duties
+use Rattle.delivery_duties.proofs.claim.Claim.TheSendSync as claim
+use Rattle.delivery_duties.proofs.outcome.Outcome.TheSendSync as outcome
+use Rattle.shared_text.proofs.row.SharedRow.TheSendSync as shared_row
+use Rattle.shared_text.proofs.text.SharedText.TheSendSync as shared_text
+use Rattle.rule_targets.proofs.target.Target.TheSendSync as target
+use Rattle.rule_table.specs.contracts.control.Control as control
+use Rattle.router_core.proofs.batch.AcceptedEvent.TheSendSync as accepted
+use Rattle.router_core.specs.contracts.batch.Entry as entry
+use Rattle.router_core.specs.contracts.batch.Batch as batch
+use Rattle.router_core.specs.contracts.errand.Errand as errand
 use Rattle.router_core.specs.contracts.tables.Tables as tables
-use Rattle.router_core.proofs.CrossingLemmas.{set_send}
+use Rattle.router_core.proofs.CrossingLemmas.{set_send, shared_pattern_send, stored_policy_send}
 
 node_send : IsSend (node.the_row u64)
 node_send = search (sendable, crosses, tree.crosses) depth 20
@@ -41,3 +52,15 @@ duties_send = search (sendable, schedule_send, history_send, queues_send) depth 
 
 pub tables_send : IsSend tables.the_row
 tables_send = search (sendable, set_send, duties_send) depth 20
+
+control_send : IsSend control.the_field.row
+control_send = search (sendable, crosses, text.the_send, shared_pattern_send, stored_policy_send, target.the_send) depth 20
+
+entry_send : IsSend entry.the_row
+entry_send = search (sendable, crosses, text.the_send, control_send, accepted.the_field_send, outcome.the_field_send) depth 20
+
+batch_send : IsSend batch.the_field.row
+batch_send = search (sendable, crosses, entry_send) depth 20
+
+pub errand_send : IsSend errand.the_row
+errand_send = search (sendable, crosses, claim.the_field_send, shared_row.the_send, shared_text.the_send, batch_send) depth 20

@@ -11,9 +11,11 @@ use Rattle.std.proofs.lemmas.Slice.Eq.{bytes_eq-Decides}
 use Rattle.std.proofs.lemmas.List.{length-map}
 use Rattle.std.proofs.lemmas.Map.Text.{is_eq-slice_cmp}
 use Rattle.name_rows.specs.Rows.{by_order}
-use Rattle.config_changes.specs.Control.{Control, bus_created, bus_deleted, rule_put, rule_deleted, state_put, targets_put, targets_removed, policy_put}
-use Rattle.config_changes.specs.Control.{queue_created, queue_deleted}
-use Rattle.rule_table.specs.RuleSet.{RuleSet, put_queue, without_queue, applied, IsAllowed}
+use Rattle.rule_table.specs.Control.{Control, bus_created, bus_deleted, rule_put, rule_deleted, state_put, targets_put, targets_removed, policy_put}
+use Rattle.rule_table.specs.Control.{queue_created, queue_deleted}
+use Rattle.rule_table.specs.RuleSet.{RuleSet, put_queue, without_queue, applied}
+use Rattle.rule_table.specs.Refusal.{IsAllowed}
+use Rattle.rule_table.proofs.AllowedLemmas.{queue_new}
 use Rattle.delivery_duties.specs.declared.duty.NewDuty.{NewDuty}
 use Rattle.delivery_duties.specs.Queues.{Queue, with_queue, without_queue as less_queue}
 use Rattle.delivery_duties.specs.Duties.{Duties, added, with_deleted}
@@ -124,7 +126,7 @@ queue_fits (targets_put bus rule targets) queue t name place allowed same is = c
 queue_fits (targets_removed bus rule ids) queue t name place allowed same is = cc
 queue_fits (policy_put bus policy) queue t name place allowed same is = cc
 queue_fits (queue_created n) queue t name place allowed same is =
-    omega (arith, allowed.1, ap length same, length-map t.duties.queues (λ (m : Queue). m.name))
+    omega (arith, queue_new n t.set allowed, ap length same, length-map t.duties.queues (λ (m : Queue). m.name))
 queue_fits (queue_deleted n) queue t name place allowed same is = cc
 
 -- a created queue finds room

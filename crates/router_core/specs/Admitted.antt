@@ -4,14 +4,14 @@ use Rattle.std.specs.Prelude.{◌≡◌, ◌<◌, ◌≤◌, ◌+◌, ◌^◌, �
 use Rattle.json_text.specs.Moment.{IsMoment}
 use Rattle.event_shape.specs.Names.{IsBusName, IsQueueArn}
 use Rattle.event_shape.specs.Event.{Event, IsEventText}
-use Rattle.config_changes.specs.Control.{Control, queue_deleted}
-use Rattle.rule_table.specs.RuleSet.{IsAllowed}
+use Rattle.rule_table.specs.Control.{Control, queue_deleted}
+use Rattle.rule_table.specs.Refusal.{IsAllowed}
 use Rattle.rule_table.specs.WellFormed.{IsWellFormed}
 use Rattle.delivery_duties.specs.declared.duty.DutyRow.{DutyRow}
 use Rattle.delivery_duties.specs.declared.outcome.Outcome.{Outcome}
 use Rattle.delivery_duties.specs.declared.outcome.Outcome.TheVariants.{Accepted}
 use Rattle.delivery_duties.specs.Queues.{has_queue, messages_of, messages_through}
-use Rattle.delivery_duties.specs.Duties.{Duties, is_named, pending_row}
+use Rattle.delivery_duties.specs.Duties.{Duties, names_queue, pending_row}
 use Rattle.router_core.specs.Batch.{Accepted as AcceptedEvent, Entry, control, accepted, attempt, messages_deleted, Batch}
 use Rattle.router_core.specs.Tables.{Tables, after_entry, is_full}
 
@@ -44,7 +44,7 @@ pub record IsDeletionAdmitted (t : Tables) (queue : List ℕ) (through : ℕ) : 
 -- No pending duty and no message names a queue that the change deletes.
 -- Shown by: delete-queue.
 abbrev pub IsUnnamed : Control → Duties → Type 0
-IsUnnamed (queue_deleted name) duties = is_named name duties ≡ false
+IsUnnamed (queue_deleted name) duties = names_queue name duties ≡ false
 IsUnnamed _ duties = Unit {0}
 
 -- The operation is admitted at a moment: a change is well formed, allowed and `IsUnnamed`, and for the others see `IsEventAdmitted`,

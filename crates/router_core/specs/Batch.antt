@@ -2,7 +2,7 @@
 use Rattle.std.specs.Prelude.{ℕ, List}
 use Rattle.delivery_duties.specs.declared.duty.NewDuty.{NewDuty}
 use Rattle.delivery_duties.specs.declared.outcome.Outcome.{Outcome}
-use Rattle.config_changes.specs.Control.{Control}
+use Rattle.rule_table.specs.Control.{Control}
 
 -- An accepted event: its number, its bus, the configuration version `k` that it was matched on, the moment of its `time`, its text and its
 -- duties.

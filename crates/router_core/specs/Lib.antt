@@ -1,4 +1,5 @@
 pub mod Request
+pub mod Bounds
 pub mod Batch
 pub mod View
 pub mod Tables

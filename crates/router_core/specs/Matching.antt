@@ -2,13 +2,14 @@
 use Rattle.std.specs.Prelude.{◌≡◌, ℕ, ◌⊎◌, Bool, true, false, not, nat_le, if◌then◌else◌, List, [], ◌∷◌, ◌++◌, length, map, codes, None, Result, Ok}
 use Rattle.json_text.specs.Tree.{Tree}
 use Rattle.json_text.specs.Compact.{IsValue}
+use Rattle.json_text.specs.Limits.{most_text}
 use Rattle.event_shape.specs.Event.{event_tree}
 use Rattle.event_shape.specs.Unnumbered.{Unnumbered, with_number}
 use Rattle.event_shape.specs.declared.entry.EntryFault.{EntryFault}
 use Rattle.pattern_meaning.specs.Pattern.{Pattern}
 use Rattle.pattern_meaning.specs.Holds.{PatternHolds}
 use Rattle.pattern_read.specs.Text.{IsPatternText}
-use Rattle.config_changes.specs.declared.control.Target.{Target}
+use Rattle.rule_targets.specs.declared.target.Target.{Target}
 use Rattle.rule_table.specs.RuleSet.{Rule, RuleSet, rules_of}
 use Rattle.rule_table.specs.Target.{row_of}
 use Rattle.delivery_duties.specs.declared.duty.NewDuty.{NewDuty}
@@ -109,7 +110,7 @@ pub record IsSeenEvent (set : RuleSet) (bus : List ℕ) (event : Tree) (k : ℕ)
 -- The text has more bytes than a target accepts, which are 1,048,576 (this project's own limit).
 -- Shown by: router_tests test_router_core.rt: each_target_is_owed_one_duty.
 abbrev pub is_too_long : List ℕ → Bool
-is_too_long text = not (nat_le (length text) 1048576)
+is_too_long text = not (nat_le (length text) most_text)
 
 -- The duty of one target: the target's row, and the event's text, or `{}` if that is too long.
 -- Shown by: a_too_long_text_is_sent.edit.

@@ -1,6 +1,6 @@
 -- For private clauses alone: the tables with the part of one entry.
 use Rattle.std.specs.Prelude.{ℕ, ◌+◌, List, Option, Some, None}
-use Rattle.config_changes.specs.Control.{Control, queue_deleted}
+use Rattle.rule_table.specs.Control.{Control, queue_deleted}
 use Rattle.rule_table.specs.RuleSet.{RuleSet}
 use Rattle.delivery_duties.specs.Duties.{Duties, with_new_queue, forgotten}
 use Rattle.router_core.specs.Batch.{Entry, control}

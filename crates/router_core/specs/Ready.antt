@@ -1,6 +1,6 @@
 -- A batch that is ready to be applied: beside it is one part for each entry, with all memory that applying the entry needs.
 use Rattle.std.specs.Prelude.{◌≡◌, ℕ, List, [], ◌∷◌, Option, Some, None}
-use Rattle.config_changes.specs.Control.{Control, queue_created}
+use Rattle.rule_table.specs.Control.{Control, queue_created}
 use Rattle.rule_table.specs.RuleSet.{RuleSet, applied}
 use Rattle.router_core.specs.Batch.{Entry, control, accepted, attempt, messages_deleted}
 use Rattle.router_core.specs.Tables.{Tables}

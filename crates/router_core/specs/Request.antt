@@ -4,7 +4,7 @@ use Rattle.json_text.specs.Tree.{Tree}
 use Rattle.event_shape.specs.Names.{owner}
 use Rattle.event_shape.specs.Unnumbered.{Unnumbered}
 use Rattle.event_shape.specs.declared.entry.EntryFault.{EntryFault}
-use Rattle.config_changes.specs.declared.control.Target.{Target}
+use Rattle.rule_targets.specs.declared.target.AskedTarget.{AskedTarget}
 
 -- What a request asks for: an action with its members. Each bus is given by its name. An entry of a PutEvents is an event without its
 -- number, or has a fault; `size` is the number of bytes of all entries together. `put_policy` has the policy's text as it would be stored.
@@ -20,7 +20,7 @@ pub data Action : Type 0 where
   put_rule_state : (bus name : List ℕ) (enabled : Bool) → Action
   describe_rule : (bus name : List ℕ) → Action
   list_rules : (bus : List ℕ) (prefix : Option (List ℕ)) → Action
-  put_targets : (bus rule : List ℕ) (targets : List Target) → Action
+  put_targets : (bus rule : List ℕ) (targets : List AskedTarget) → Action
   remove_targets : (bus rule : List ℕ) (ids : List (List ℕ)) → Action
   list_targets_by_rule : (bus rule : List ℕ) → Action
   list_rule_names_by_target : (arn bus : List ℕ) → Action

@@ -1,7 +1,7 @@
 -- The tables of the router, as a fold over batches.
 use Rattle.std.specs.Prelude.{◌≡◌, ℕ, ◌+◌, ◌^◌, ◌<◌, ◌≤◌, max, Bool, ◌||◌, nat_le, List, [], ◌∷◌, map}
 use Rattle.json_text.specs.Moment.{IsMoment}
-use Rattle.config_changes.specs.Control.{Control, queue_created, queue_deleted}
+use Rattle.rule_table.specs.Control.{Control, queue_created, queue_deleted}
 use Rattle.rule_table.specs.RuleSet.{RuleSet, first_set, applied}
 use Rattle.delivery_duties.specs.Duties.{Duties, no_duties, with_new_queue, forgotten, with_deleted, added, settled}
 use Rattle.router_core.specs.Batch.{Entry, control, accepted, attempt, messages_deleted, Batch}

@@ -1,7 +1,7 @@
 -- The views of requests and batches in contracts.
 use Rattle.std.specs.Prelude.{map}
 use Rattle.json_text.specs.View.{tree_of}
-use Rattle.config_changes.specs.View.{control_of}
+use Rattle.rule_table.specs.View.{control_of}
 use Rattle.router_core.specs.declared.request.Action.{Action}
 use Rattle.router_core.specs.declared.request.Action.TheVariants as action
 use Rattle.router_core.specs.declared.request.Request.{Request}

@@ -1,7 +1,7 @@
 //! Batches: the changes of one turn, as a journal records them.
-use config_changes::Control;
 use delivery_duties::{NewDuty, Outcome};
 use json_text::Text;
+use rule_table::Control;
 use shared_text::SharedText;
 
 /// An event that is accepted, with its duties.

@@ -54,7 +54,7 @@ fn found(
             Ok(SeenResult::Entries(see_entries(alloc, set, caller, entries)?))
         }
         Action::TestEventPattern { pattern, event } => {
-            Ok(SeenResult::Tested(pattern_matches(pattern, event)))
+            Ok(SeenResult::Tested(pattern_matches(pattern.pattern(), event)))
         }
         Action::CreateEventBus { .. }
         | Action::DeleteEventBus { .. }

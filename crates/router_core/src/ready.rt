@@ -1,9 +1,9 @@
 //! Batches that are ready to be applied.
 ghost use Rattle.std.specs.Prelude.{◌≡◌, ◌⊎◌, ◌<◌, ◌^◌, ◌∷◌, [], ℕ, IfOk, IfErr, IfSome, IfNone, MatchOption, List, Option, map};
-ghost use Rattle.config_changes.specs.Control.{Control as Change};
-ghost use Rattle.rule_table.specs.RuleSet.{RuleSet as Set, IsAllowed};
-ghost use Rattle.rule_table.specs.Refusal.{IsRefused};
-ghost use Rattle.config_changes.specs.View.{control_of};
+ghost use Rattle.rule_table.specs.Control.{Control as Change};
+ghost use Rattle.rule_table.specs.RuleSet.{RuleSet as Set};
+ghost use Rattle.rule_table.specs.Refusal.{IsAllowed, refusal};
+ghost use Rattle.rule_table.specs.View.{control_of};
 ghost use Rattle.router_core.specs.Batch.{control as change, accepted};
 ghost use Rattle.router_core.specs.View.{accepted_of, entry_of};
 ghost use Rattle.router_core.specs.Ready.{IsPartOf, IsOneChange, HasPlace};
@@ -11,10 +11,9 @@ ghost use Rattle.router_core.specs.declared.ready.Part.{Part as PartView};
 ghost use Rattle.router_core.specs.declared.ready.Part.TheVariants.{Configuration};
 
 use crate::batch::{AcceptedEvent, Batch, Entry};
-use config_changes::{Control, ControlFault};
 use delivery_duties::{NewDuties, NewDuty, NewQueue};
 use json_text::NoMemory;
-use rule_table::RuleSet;
+use rule_table::{Control, ControlFault, RuleSet};
 use std::alloc::Global;
 use std::collections::VecDeque;
 
@@ -49,7 +48,7 @@ impl Part {
     pub fn of_control(alloc: Global, set: &RuleSet, control: &Control) -> Result<Part, ControlFault>
         requires { set.now.count < 2 ^ 63 }
         ensures part { IfOk result (λ part. IsAllowed (control_of control.now) set.now × IsPartOf set.now (change (control_of control.now)) part) }
-        ensures refused { IfErr result (λ fault. (fault ≡ ControlFault.NoMemory) ⊎ IsRefused (control_of control.now) set.now fault) }
+        ensures refused { IfErr result (λ fault. (fault ≡ ControlFault.NoMemory) ⊎ (refusal (control_of control.now) set.now ≡ Some fault)) }
     {
         let set = set.apply(alloc, control)?;
         let new_queue = new_queue(alloc, control)?;

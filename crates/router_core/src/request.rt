@@ -1,8 +1,9 @@
 //! Requests.
-use config_changes::Target;
 use event_shape::{EntryFault, Unnumbered};
 use json_text::{Json, Text};
-use pattern_read::PatternText;
+use pattern_read::SharedPattern;
+use rule_table::StoredPolicy;
+use rule_targets::AskedTarget;
 
 /// What a request asks for. Each bus is given by its name.
 #[derive(Drop)]
@@ -23,11 +24,11 @@ pub enum Action {
     ListEventBuses {
         prefix: Option<Text>,
     },
-    /// Create or replace a rule of the bus, with the text of its pattern and its state.
+    /// Create or replace a rule of the bus, with its pattern and its state.
     PutRule {
         bus: Text,
         name: Text,
-        pattern: Text,
+        pattern: SharedPattern,
         enabled: bool,
     },
     /// Delete a rule that has no target. A rule that does not exist is no fault.
@@ -55,7 +56,7 @@ pub enum Action {
     PutTargets {
         bus: Text,
         rule: Text,
-        targets: Vec<Target>,
+        targets: Vec<AskedTarget>,
     },
     /// Remove the targets of these ids from a rule of the bus.
     RemoveTargets {
@@ -73,10 +74,10 @@ pub enum Action {
         arn: Text,
         bus: Text,
     },
-    /// Give the bus this policy. The text is the policy's as it would be stored, and may have more bytes than a policy may.
+    /// Give the bus this policy, which may have more bytes than a policy may.
     PutPolicy {
         bus: Text,
-        policy: Text,
+        policy: StoredPolicy,
     },
     /// Add a statement to the bus's policy that lets this account put events on the bus, or everyone if there is none.
     PutStatement {
@@ -101,7 +102,7 @@ pub enum Action {
     },
     /// Test a pattern on an event, a value that has the members of an event. Nothing is kept.
     TestEventPattern {
-        pattern: PatternText,
+        pattern: SharedPattern,
         event: Json,
     },
     /// Create a queue.

@@ -12,20 +12,20 @@ ghost use Rattle.router_core.specs.Tables.{first_tables, after_entry, after_batc
 ghost use Rattle.router_core.specs.Admitted.{IsAdmitted, IsEntryAdmitted};
 ghost use Rattle.router_core.specs.Ready.{HasPlace, IsPartOf, IsReadyFor};
 ghost use Rattle.router_core.specs.Parts.{deleted_by, deleted_in, with_created, with_forgotten, with_set, with_duties};
-ghost use Rattle.config_changes.specs.Control.{Control as Change};
-ghost use Rattle.rule_table.specs.RuleSet.{IsAllowed, applied};
-ghost use Rattle.config_changes.specs.View.{control_of};
+ghost use Rattle.rule_table.specs.Control.{Control as Change};
+ghost use Rattle.rule_table.specs.Refusal.{IsAllowed};
+ghost use Rattle.rule_table.specs.RuleSet.{applied};
+ghost use Rattle.rule_table.specs.View.{control_of};
 ghost use Rattle.router_core.specs.Steps.{IsErrandOf, IsClaimed, IsRecordedAs, record_of, putting_back, fate_after};
 
 use crate::batch::{Batch, Entry};
 use crate::errand::Errand;
 use crate::ready::{Part, Ready};
 use crate::released::Released;
-use config_changes::Control;
 use delivery_duties::{Duties, Fate, NewDuties, NewQueue, Outcome, RemovedQueue};
 use event_shape::queue_of;
 use json_text::NoMemory;
-use rule_table::RuleSet;
+use rule_table::{Control, RuleSet};
 use shared_text::{SharedRow, SharedText};
 use std::alloc::Global;
 use std::marker::Model;

@@ -6,7 +6,8 @@ use Rattle.std.specs.Option.{option_map}
 use Rattle.api_replies.specs.View.{reply_of}
 use Rattle.api_replies.specs.Written.{reply_text}
 use Rattle.api_replies.specs.declared.reply.Reply.{Reply as CodeReply}
-use Rattle.rule_table.specs.RuleSet.{RuleSet, rule_set_at, IsSound}
+use Rattle.rule_table.specs.RuleSet.{RuleSet, rule_set_at}
+use Rattle.rule_table.specs.Sound.{IsSound}
 use Rattle.router_core.specs.Batch.{Batch}
 use Rattle.router_core.specs.Request.{Action, Request, create_event_bus, delete_event_bus, describe_event_bus, list_event_buses, put_rule, delete_rule}
 use Rattle.router_core.specs.Request.{put_rule_state, describe_rule, list_rules, put_targets, remove_targets, list_targets_by_rule}
@@ -15,7 +16,7 @@ use Rattle.router_core.specs.Request.{test_event_pattern, create_queue, delete_q
 use Rattle.router_core.specs.Matching.{HasValue, IsSeen}
 use Rattle.router_core.specs.Ready.{IsReadyFor}
 use Rattle.router_core.specs.declared.seen.Seen.{Seen}
-use Rattle.router_calls.specs.Bounds.{IsBounded}
+use Rattle.router_core.specs.Bounds.{IsBounded}
 use Rattle.router_calls.specs.Matched.{IsMatchedOn}
 use Rattle.router_core.specs.Tables.{Tables, first_tables, tables_after}
 use Rattle.router_core.specs.View.{batch_of}

@@ -2,7 +2,7 @@
 -- known of a turn that was made: `IsMade`, `is_added`, `latest`, `made_book`, `made_state`, `turn_by`.
 use Rattle.std.proofs.Common.{◌≡◌, ℕ, List, [], ◌∷◌, ◌++◌, length, refl, sym, ap, ◌∙◌, subst}
 use Rattle.std.proofs.Math.Seq.{take-length}
-use Rattle.config_changes.specs.Control.{Control}
+use Rattle.rule_table.specs.Control.{Control}
 use Rattle.rule_table.specs.RuleSet.{RuleSet, first_set, applied_all, rule_set_at}
 use Rattle.router_core.specs.Tables.{Tables, first_tables}
 use Rattle.router_sessions.specs.History.{Ask, Turn, State, IsTurnFor, IsTurnOf, IsLatest, IsLegal, after_ask, after_turn, state_after, begun}

@@ -1,10 +1,11 @@
 -- A request writes no record of an attempt: `no_attempt`. The other lemmas lead to it.
 use Rattle.std.proofs.Common.{◌≡◌, ℕ, inl, inr, Bool, true, false, ◌&&◌, cond, List, [], ◌∷◌, length, map, Option, Some, None, sym, subst}
 use Rattle.json_text.specs.Tree.{Tree}
-use Rattle.config_changes.specs.declared.control.Target.{Target}
-use Rattle.config_changes.specs.Control.{Control, targets_put, targets_removed}
-use Rattle.rule_table.specs.RuleSet.{Bus, RuleSet, has_queue}
-use Rattle.delivery_duties.specs.Duties.{is_named}
+use Rattle.rule_targets.specs.declared.target.AskedTarget.{AskedTarget}
+use Rattle.rule_targets.specs.declared.target.Target.{Target}
+use Rattle.rule_table.specs.Control.{Control, targets_put, targets_removed}
+use Rattle.rule_table.specs.RuleSet.{Rule, Bus, RuleSet, has_bus, has_queue, rule_at}
+use Rattle.delivery_duties.specs.Duties.{names_queue}
 use Rattle.delivery_duties.specs.declared.stored.StoredMessage.{StoredMessage}
 use Rattle.delivery_duties.specs.Queues.{messages_of, messages_through}
 use Rattle.api_replies.specs.declared.cause.Cause.{Cause}
@@ -23,13 +24,12 @@ use Rattle.router_core.specs.Tables.{Tables, is_full, moment_at}
 use Rattle.router_core.specs.Verdict.{IsPolicyOf}
 use Rattle.router_calls.specs.Accepted.{Given, events_in}
 use Rattle.router_calls.proofs.QueueLemmas.{deleted_case}
-use Rattle.router_calls.specs.Answer.{Answer, IsAnswer, IsAnswerAt, IsControlled, IsPublished, IsTargetsPut, AreTargetsRemoved}
+use Rattle.router_calls.specs.Answer.{Answer, IsAnswer, IsAnswerAt, IsControlled, IsPublished, for_rule, on_rule, targets_put_answer, targets_removed_answer}
 use Rattle.router_calls.specs.Answer.{IsRuleDeleted, IsQueueDeleted}
 use Rattle.router_calls.specs.Answer.{IsOnBus, IsGranted, IsRevoked, IsStatementRemovedFrom, events_answer, entries_reply, targets_answer}
 use Rattle.router_calls.specs.Answer.{removals_answer}
 use Rattle.call_replies.specs.Replies.{deletion_reply}
 use Rattle.router_calls.specs.Answer.{reply_alone, deletion_answer, messages_deletion}
-use Rattle.router_calls.specs.Removals.{removed_ids, failed_ids}
 
 -- the entry is no record of an attempt
 abbrev pub IsNoAttempt : batch.Entry → Type 0
@@ -90,26 +90,31 @@ published t set caller moment entries size a (inl (large, is)) = as_answer a _ i
 published t set caller moment entries size a (inr (small, (all, are, is))) =
     as_answer a _ is (events t moment (events_in all) (entries_reply all))
 
-put : (t : Tables) (moment : ℕ) (bus rule : List ℕ) (all : List Target) (a : Answer) → IsTargetsPut t moment bus rule all a
-    → HasNoAttempt a.batch
-put t moment bus rule all a (inl (none, is)) = as_answer a _ is tt
-put t moment bus rule all a (inr (inl (there, lacks, is))) = as_answer a _ is tt
-put t moment bus rule all a (inr (inr (r, accepted, failed, found, split, is))) =
-    as_answer a _ is (targets t moment bus rule accepted failed)
+found_rule : (o : Option Rule) (name : List ℕ) (answer : Rule → Answer) → ((r : Rule) → HasNoAttempt (answer r).batch)
+    → HasNoAttempt (for_rule o name answer).batch
+found_rule None name answer each = tt
+found_rule (Some r) name answer each = each r
 
-removed : (t : Tables) (moment : ℕ) (bus rule : List ℕ) (ids : List (List ℕ)) (a : Answer) → AreTargetsRemoved t moment bus rule ids a
-    → HasNoAttempt a.batch
-removed t moment bus rule ids a (inl (none, is)) = as_answer a _ is tt
-removed t moment bus rule ids a (inr (inl (there, lacks, is))) = as_answer a _ is tt
-removed t moment bus rule ids a (inr (inr (r, found, is))) =
-    as_answer a _ is (removals t moment bus rule (removed_ids ids r.targets) (failed_ids ids r.targets))
+either : (b : Bool) (x y : Answer) → HasNoAttempt x.batch → HasNoAttempt y.batch → HasNoAttempt (cond b x y).batch
+either true x y h g = h
+either false x y h g = g
+
+at_rule : (t : Tables) (bus rule : List ℕ) (answer : Rule → Answer) → ((r : Rule) → HasNoAttempt (answer r).batch)
+    → HasNoAttempt (on_rule t bus rule answer).batch
+at_rule t bus rule answer each = either (has_bus bus t.set) _ _ (found_rule (rule_at bus rule t.set) rule answer each) tt
+
+put : (t : Tables) (moment : ℕ) (bus rule : List ℕ) (all : List AskedTarget) → HasNoAttempt (targets_put_answer t moment bus rule all).batch
+put t moment bus rule all = at_rule t bus rule _ (λ r. targets t moment bus rule _ _)
+
+removed : (t : Tables) (moment : ℕ) (bus rule : List ℕ) (ids : List (List ℕ)) → HasNoAttempt (targets_removed_answer t moment bus rule ids).batch
+removed t moment bus rule ids = at_rule t bus rule _ (λ r. removals t moment bus rule _ _)
 
 rule_deleted : (t : Tables) (moment : ℕ) (bus name : List ℕ) (a : Answer) → IsRuleDeleted t moment bus name a → HasNoAttempt a.batch
 rule_deleted t moment bus name a (inl (lacks, is)) = as_answer a _ is tt
 rule_deleted t moment bus name a (inr (has, is)) = controlled t moment _ _ a is
 
 queue_deleted : (t : Tables) (moment : ℕ) (name : List ℕ) (a : Answer) → IsQueueDeleted t moment name a → HasNoAttempt a.batch
-queue_deleted t moment name a = deleted_case (has_queue name t.set && is_named name t.duties) t moment name a
+queue_deleted t moment name a = deleted_case (has_queue name t.set && names_queue name t.duties) t moment name a
     (λ is. as_answer a _ is tt) (λ is. controlled t moment _ _ a is)
 
 deletion : (t : Tables) (moment : ℕ) (queue : List ℕ) (through : ℕ) (messages : List StoredMessage)
@@ -118,10 +123,6 @@ deletion t moment queue through [] = tt
 deletion t moment queue through (m ∷ ms) =
     written (is_full t) moment (batch.messages_deleted queue through ∷ []) (refused cause.NumberLimit) (deletion_reply (length (m ∷ ms)))
     (tt, tt)
-
-either : (b : Bool) (x y : Answer) → HasNoAttempt x.batch → HasNoAttempt y.batch → HasNoAttempt (cond b x y).batch
-either true x y h g = h
-either false x y h g = g
 
 messages_gone : (t : Tables) (moment : ℕ) (queue : List ℕ) (through : ℕ) → HasNoAttempt (messages_deletion t moment queue through).batch
 messages_gone t moment queue through =
@@ -163,8 +164,8 @@ answered t set caller moment (delete_rule bus name) a h = rule_deleted t moment 
 answered t set caller moment (put_rule_state bus name enabled) a h = controlled t moment _ _ a h
 answered t set caller moment (describe_rule bus name) a h = as_answer a _ h tt
 answered t set caller moment (list_rules bus prefix) a h = as_answer a _ h tt
-answered t set caller moment (put_targets bus rule all) a h = put t moment bus rule all a h
-answered t set caller moment (remove_targets bus rule ids) a h = removed t moment bus rule ids a h
+answered t set caller moment (put_targets bus rule all) a h = as_answer a _ h (put t moment bus rule all)
+answered t set caller moment (remove_targets bus rule ids) a h = as_answer a _ h (removed t moment bus rule ids)
 answered t set caller moment (list_targets_by_rule bus rule) a h = as_answer a _ h tt
 answered t set caller moment (list_rule_names_by_target arn bus) a h = as_answer a _ h tt
 answered t set caller moment (put_policy bus policy) a h = controlled t moment _ _ a h

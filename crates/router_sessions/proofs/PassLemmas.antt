@@ -6,7 +6,7 @@ use Rattle.std.proofs.lemmas.Bool.{eqb-false, ne_eqb}
 use Rattle.std.proofs.lemmas.List.{take-append-le}
 use Rattle.std.proofs.lemmas.List.Elements.{filter-append}
 use Rattle.std.specs.Prelude.{filter, not, ◌==◌}
-use Rattle.config_changes.specs.Control.{Control}
+use Rattle.rule_table.specs.Control.{Control}
 use Rattle.rule_table.specs.RuleSet.{first_set, applied_all, rule_set_at}
 use Rattle.router_core.specs.Batch.{Batch}
 use Rattle.router_sessions.specs.History.{Ask, asked, claims, records, puts_back, Turn, State, Placed, placed, controls_in, turns_by, placed_by, claims_by}

@@ -4,8 +4,8 @@
 use Rattle.std.proofs.Common.{◌≡◌, ◌≢◌, ℕ, ◌+◌, ◌<◌, ◌≤◌, Bool, true, false, cond, eqb, ltb, List, [], ◌∷◌, Option, Some, None, refl, sym, ap, ◌∙◌, subst}
 use Rattle.std.proofs.Common.{arith}
 use Rattle.std.proofs.lemmas.Bool.{eq-eqb, eqb-true, le-ltb}
-use Rattle.config_changes.specs.Control.{Control, bus_created, bus_deleted, rule_put, rule_deleted, state_put, targets_put, targets_removed, policy_put}
-use Rattle.config_changes.specs.Control.{queue_created, queue_deleted}
+use Rattle.rule_table.specs.Control.{Control, bus_created, bus_deleted, rule_put, rule_deleted, state_put, targets_put, targets_removed, policy_put}
+use Rattle.rule_table.specs.Control.{queue_created, queue_deleted}
 use Rattle.key_tree.specs.Entries.{value_at, placed, without, AllKeys, AreSorted}
 use Rattle.key_tree.proofs.EntryLemmas.{AllKeys-weaker, AllKeys-placed, AllKeys-without, others, placed_lower, sorted_placed, sorted_without}
 use Rattle.key_tree.proofs.EntryLemmas.{value_at-placed, value_at-without_same, without_none}

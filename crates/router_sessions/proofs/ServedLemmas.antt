@@ -4,10 +4,11 @@ use Rattle.json_text.specs.Tree.{Tree}
 use Rattle.api_replies.specs.declared.cause.Cause.{Cause}
 use Rattle.api_replies.specs.Reply.{Reply}
 use Rattle.api_replies.specs.Written.{IsServedStatus}
-use Rattle.config_changes.specs.declared.control.Target.{Target}
-use Rattle.config_changes.specs.Control.{Control}
-use Rattle.rule_table.specs.RuleSet.{Rule, Bus, RuleSet, has_queue}
-use Rattle.delivery_duties.specs.Duties.{is_named}
+use Rattle.rule_targets.specs.declared.target.AskedTarget.{AskedTarget}
+use Rattle.rule_targets.specs.declared.target.Target.{Target}
+use Rattle.rule_table.specs.Control.{Control}
+use Rattle.rule_table.specs.RuleSet.{Rule, Bus, RuleSet, has_bus, has_queue, rule_at}
+use Rattle.delivery_duties.specs.Duties.{names_queue}
 use Rattle.name_rows.specs.Rows.{named}
 use Rattle.config_views.specs.Views.{on_bus, on_bus_of, on_rule, on_rule_of}
 use Rattle.router_core.specs.Batch as batch
@@ -20,8 +21,9 @@ use Rattle.router_calls.specs.Accepted.{Given, events_in}
 use Rattle.delivery_duties.specs.declared.stored.StoredMessage.{StoredMessage}
 use Rattle.delivery_duties.specs.Queues.{messages_of, messages_through}
 use Rattle.router_calls.proofs.QueueLemmas.{deleted_case}
-use Rattle.router_calls.specs.Answer.{Answer, IsAnswer, IsAnswerAt, IsControlled, IsTargetsPut, IsPublished, IsTested, IsRuleDeleted, IsQueueDeleted}
-use Rattle.router_calls.specs.Answer.{AreTargetsRemoved, IsOnBus, IsGranted, IsRevoked, IsStatementRemovedFrom}
+use Rattle.router_calls.specs.Answer.{Answer, IsAnswer, IsAnswerAt, IsControlled, targets_put_answer, IsPublished, IsTested, IsRuleDeleted, IsQueueDeleted}
+use Rattle.router_calls.specs.Answer as answers
+use Rattle.router_calls.specs.Answer.{targets_removed_answer, IsOnBus, IsGranted, IsRevoked, IsStatementRemovedFrom}
 use Rattle.router_calls.specs.Answer.{writes, targets_answer, removals_answer, events_answer, deletion_answer}
 use Rattle.router_core.specs.Verdict.{IsPolicyOf}
 use Rattle.std.specs.Prelude.{if◌then◌else◌, Option, Some, None}
@@ -54,10 +56,17 @@ targets_served : (t : Tables) (moment : ℕ) (bus rule : List ℕ) (targets : Li
 targets_served t moment bus rule [] failed = inl refl
 targets_served t moment bus rule (target ∷ targets) failed = writes_served t moment _ _ (inl refl)
 
-put_served : (t : Tables) (moment : ℕ) (bus rule : List ℕ) (targets : List Target) (a : Answer) → IsTargetsPut t moment bus rule targets a → IsServed a
-put_served t moment bus rule targets a (inl (none, e)) = so_served a _ e (inr (inl refl))
-put_served t moment bus rule targets a (inr (inl (there, lacks, e))) = so_served a _ e (inr (inl refl))
-put_served t moment bus rule targets a (inr (inr (r, xs, fs, found, split, e))) = so_served a _ e (targets_served t moment bus rule xs fs)
+found_served : (o : Option Rule) (name : List ℕ) (answer : Rule → Answer) → ((r : Rule) → IsServed (answer r)) → IsServed (answers.for_rule o name answer)
+found_served None name answer each = inr (inl refl)
+found_served (Some r) name answer each = each r
+
+answer_on_rule_served : (t : Tables) (bus rule : List ℕ) (answer : Rule → Answer) → ((r : Rule) → IsServed (answer r))
+    → IsServed (answers.on_rule t bus rule answer)
+answer_on_rule_served t bus rule answer each =
+    one_answer_of (has_bus bus t.set) _ _ (found_served (rule_at bus rule t.set) rule answer each) (inr (inl refl))
+
+put_served : (t : Tables) (moment : ℕ) (bus rule : List ℕ) (targets : List AskedTarget) → IsServed (targets_put_answer t moment bus rule targets)
+put_served t moment bus rule targets = answer_on_rule_served t bus rule _ (λ r. targets_served t moment bus rule _ _)
 
 events_served : (t : Tables) (moment : ℕ) (es : List batch.Accepted) (reply : Reply) → IsServedStatus reply.status
     → IsServed (events_answer t moment es reply)
@@ -99,10 +108,8 @@ removals_served : (t : Tables) (moment : ℕ) (bus rule : List ℕ) (ids : List 
 removals_served t moment bus rule [] failed = inl refl
 removals_served t moment bus rule (id ∷ ids) failed = writes_served t moment _ _ (inl refl)
 
-removed_served : (t : Tables) (moment : ℕ) (bus rule : List ℕ) (ids : List (List ℕ)) (a : Answer) → AreTargetsRemoved t moment bus rule ids a → IsServed a
-removed_served t moment bus rule ids a (inl (none, e)) = so_served a _ e (inr (inl refl))
-removed_served t moment bus rule ids a (inr (inl (there, lacks, e))) = so_served a _ e (inr (inl refl))
-removed_served t moment bus rule ids a (inr (inr (r, found, e))) = so_served a _ e (removals_served t moment bus rule _ _)
+removed_served : (t : Tables) (moment : ℕ) (bus rule : List ℕ) (ids : List (List ℕ)) → IsServed (targets_removed_answer t moment bus rule ids)
+removed_served t moment bus rule ids = answer_on_rule_served t bus rule _ (λ r. removals_served t moment bus rule _ _)
 
 bus_served : (t : Tables) (bus : List ℕ) (IsChanged : Bus → Answer → Type 0) (a : Answer) → ((b : Bus) → IsChanged b a → IsServed a)
     → IsOnBus t bus IsChanged a → IsServed a
@@ -129,7 +136,7 @@ revoked_served t moment bus None b a is = so_served a _ is (inr (inl refl))
 revoked_served t moment bus (Some sid) b a (policy, of, is) = removal_served t moment bus sid policy a is
 
 queue_deleted_served : (t : Tables) (moment : ℕ) (name : List ℕ) (a : Answer) → IsQueueDeleted t moment name a → IsServed a
-queue_deleted_served t moment name a = deleted_case (has_queue name t.set && is_named name t.duties) t moment name a
+queue_deleted_served t moment name a = deleted_case (has_queue name t.set && names_queue name t.duties) t moment name a
     (λ e. so_served a _ e (inr (inl refl))) (λ is. controlled_served t moment _ _ a (inl refl) is)
 
 deletion_served : (t : Tables) (moment : ℕ) (queue : List ℕ) (through : ℕ) (messages : List StoredMessage)
@@ -148,8 +155,8 @@ served_at t set caller moment (put_rule_state bus name enabled) a is = controlle
 served_at t set caller moment (describe_rule bus name) a is =
     so_served a _ is (shown_served t.set bus _ (λ b. rule_served name _ (λ rule. inl refl) b))
 served_at t set caller moment (list_rules bus prefix) a is = so_served a _ is (shown_served t.set bus _ (λ b. inl refl))
-served_at t set caller moment (put_targets bus rule targets) a is = put_served t moment bus rule targets a is
-served_at t set caller moment (remove_targets bus rule ids) a is = removed_served t moment bus rule ids a is
+served_at t set caller moment (put_targets bus rule targets) a is = so_served a _ is (put_served t moment bus rule targets)
+served_at t set caller moment (remove_targets bus rule ids) a is = so_served a _ is (removed_served t moment bus rule ids)
 served_at t set caller moment (list_targets_by_rule bus rule) a is =
     so_served a _ is (shown_served t.set bus _ (λ b. rule_served rule _ (λ r. inl refl) b))
 served_at t set caller moment (list_rule_names_by_target arn bus) a is = so_served a _ is (shown_served t.set bus _ (λ b. inl refl))

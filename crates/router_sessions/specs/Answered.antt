@@ -9,7 +9,7 @@ use Rattle.router_core.specs.Tables.{Tables}
 use Rattle.router_core.specs.Ready.{IsReadyFor}
 use Rattle.router_core.specs.declared.ready.Ready.{Ready}
 use Rattle.api_replies.specs.declared.reply.Reply.{Reply as CodeReply}
-use Rattle.router_calls.specs.Bounds.{IsBounded}
+use Rattle.router_core.specs.Bounds.{IsBounded}
 use Rattle.router_calls.specs.Decided.{answer_of}
 use Rattle.router_calls.specs.Answer.{IsAnswer}
 use Rattle.router_sessions.specs.declared.book.Seat.{Seat}

@@ -17,7 +17,7 @@ use Rattle.courier_run.specs.Turned.{turned_of}
 use Rattle.router_sessions.specs.declared.book.Seat.{Seat}
 use Rattle.router_sessions.specs.declared.held.Held.{Held}
 use Rattle.router_sessions.specs.History as history
-use Rattle.router_sessions.specs.History.{State, Turn, Ask, OpenClaim, open_claim, state_after, Placed, placed, placed_by}
+use Rattle.router_sessions.specs.History.{State, Turn, Ask, open_claim, state_after, Placed, placed, placed_by}
 use Rattle.router_sessions.specs.Book.{BookState, state_of}
 use Rattle.router_sessions.specs.Sent.{AreSent, tries_with}
 

@@ -1,7 +1,7 @@
 -- The history: the turns of the router, oldest first, from the state that it began with.
 use Rattle.std.specs.Prelude.{◌≡◌, ℕ, ◌+◌, ◌<◌, ◌≤◌, false, true, ◌==◌, List, [], ◌∷◌, ◌++◌, length, Option, Some, None, IsSome, filter, find, flat_map, not}
 use Rattle.event_shape.specs.Names.{IsQueueArn}
-use Rattle.config_changes.specs.Control.{Control}
+use Rattle.rule_table.specs.Control.{Control}
 use Rattle.rule_table.specs.RuleSet.{rule_set_at}
 use Rattle.delivery_duties.specs.declared.duty.DutyRow.{DutyRow}
 use Rattle.delivery_duties.specs.declared.outcome.Outcome.{Outcome}

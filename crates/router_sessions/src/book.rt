@@ -5,9 +5,9 @@ ghost use Rattle.router_core.specs.View.{request_of};
 ghost use Rattle.router_core.specs.Tables.{moment_at};
 ghost use Rattle.router_core.specs.Steps.{putting_back};
 ghost use Rattle.courier_run.specs.Claim.{FitsClaim};
-ghost use Rattle.router_sessions.specs.History.{claims, puts_back, IsTurnOf};
+ghost use Rattle.router_sessions.specs.History.{puts_back};
 ghost use Rattle.router_sessions.specs.Book.{book_of, first_book, state_of, recorded_in, IsBook, HasGrown};
-ghost use Rattle.router_sessions.specs.Answered.{IsAskable, IsDecided, IsAnswered, IsRenderable, IsFrom};
+ghost use Rattle.router_sessions.specs.Answered.{IsAskable, IsDecided, IsAnswered, IsRenderable};
 ghost use Rattle.router_sessions.specs.Delivery.{held_claim, IsOpen, IsIdle};
 ghost use Rattle.router_sessions.specs.Turns.{IsLimited, IsAdded, IsClaimedBy, IsPutBackAtLimit, IsUnclaimed, IsRecordedBy};
 

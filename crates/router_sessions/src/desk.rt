@@ -3,7 +3,6 @@ ghost use Rattle.std.specs.Prelude.{◌≡◌, IsSome, IfOk, IfErr, IfSome, IfNo
 ghost use Rattle.json_text.specs.Moment.{IsMoment};
 ghost use Rattle.turn_book.specs.Passes.{IsFree, IsSamePass};
 ghost use Rattle.router_core.specs.View.{request_of};
-ghost use Rattle.courier_run.specs.declared.book.BookFault.{BookFault as Fault};
 ghost use Rattle.courier_run.specs.declared.book.BookFault.TheVariants as faults;
 ghost use Rattle.courier_run.specs.Claim.{FitsClaim};
 ghost use Rattle.router_sessions.specs.History.{puts_back};

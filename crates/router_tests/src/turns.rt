@@ -4,7 +4,7 @@ ghost use Rattle.router_core.specs.Matching.{IsSeen};
 ghost use Rattle.router_core.specs.Request.{IsEntitled, IsOneTurn};
 ghost use Rattle.router_core.specs.View.{action_of, request_of};
 ghost use Rattle.router_core.specs.Ready.{IsReadyFor};
-ghost use Rattle.router_calls.specs.Bounds.{IsBounded};
+ghost use Rattle.router_core.specs.Bounds.{IsBounded};
 
 use api_messages::{Message, Method};
 use api_wire::read_call;

@@ -1,168 +1,232 @@
--- A change that has no refusal cannot but be allowed: `unrefused_allowed`.
-use Rattle.std.proofs.Common.{◌≡◌, ◌≤◌, ◌⊎◌, ℕ, Bool, List, [], ◌∷◌, length, Option, Some, None, inl, inr, is_some, sym, refl, ap, ◌∙◌, subst, arith}
-use Rattle.std.proofs.lemmas.Bool.{false≢true}
-use Rattle.std.proofs.lemmas.Bool.Decides.{leb_tells}
+-- What it says that a change is allowed: `bus_new`, `bus_free`, `rule_room`, `rule_free`, `targets_fine`, `removal_fine`, `queue_new`,
+-- `queue_free`. Of targets that are put one by one: `no_member_fault`, `own_member`, `own_queues`, `fault_found`, `room_decides`, `put_formed`, `good_few`, `good_there`. Of the
+-- queues of a target after a change: `target_still`. Of truth
+-- values and optional values: `not_true`, `not_false`, `both_true`, `either_false`, `some_items`, `no_items`, `none_of`, `by_option`.
+use Rattle.std.proofs.Common.{◌≡◌, ◌<◌, ◌≤◌, ◌⊎◌, ◌&&◌, ◌||◌, ◌++◌, if◌then◌else◌, ℕ, Bool, true, false, not, List, [], ◌∷◌, length, map, Option, Some, None}
+use Rattle.std.proofs.Common.{is_some, suc, inl, inr, refl, sym, ap, ◌∙◌, subst, arith}
+use Rattle.std.specs.Prelude.{All, IsTrue, ◌==◌, nat_le, nat_lt}
+use Rattle.std.specs.List.{list_all}
+use Rattle.std.specs.Option.{option_map, option_and_then}
 use Rattle.std.specs.Str.{bytes_eq}
-use Rattle.event_shape.specs.Names.{default_bus}
-use Rattle.name_rows.specs.Rows.{named, without}
-use Rattle.name_rows.proofs.RowLemmas.{by_test}
-use Rattle.config_changes.specs.declared.control.Target.{Target}
-use Rattle.config_changes.specs.declared.control.ControlFault.{ControlFault}
-use Rattle.config_changes.specs.Control.{Control, bus_created, bus_deleted, rule_put, rule_deleted, state_put, targets_put, targets_removed, policy_put}
-use Rattle.config_changes.specs.Control.{queue_created, queue_deleted}
-use Rattle.rule_table.specs.RuleSet.{Rule, RuleSet, put_target, rules_of, rule_at, has_bus, has_queue, is_queue_used, AreGoodTargets, AreRemovable}
-use Rattle.rule_table.specs.RuleSet.{ForRule, IsAllowed}
-use Rattle.rule_table.specs.Refusal.{HasFaultyTarget, IsTooLong, IsRefused, HasNoRule, no_such_bus, no_such_rule, no_pattern, rule_without_bus, rule_limit}
-use Rattle.rule_table.specs.Refusal.{no_rule_to_put_to, faulty_targets, queue_exists, queue_limit, bus_exists, bus_limit, default_stays, no_bus_to_delete}
-use Rattle.rule_table.specs.Refusal.{bus_in_use, no_rule_to_delete, rule_has_targets, no_rule_to_remove_from, faulty_ids}
-use Rattle.rule_table.specs.Refusal.{no_policy, policy_without_bus, policy_too_long, no_queue_to_delete, queue_in_use}
-use Rattle.config_changes.proofs.MemberLemmas.{by_option}
-use Rattle.rule_table.proofs.RefusalLemmas.{target_decided}
+use Rattle.std.proofs.lemmas.Bool.{false≢true, ltb-true, leb-true, le-leb}
+use Rattle.std.proofs.lemmas.Bool.Decides.{leb_tells}
+use Rattle.json_text.specs.Checks.{unless, first_fault}
+use Rattle.event_shape.specs.Names.{default_bus, queue_in}
+use Rattle.api_replies.specs.declared.member.Member.{Member}
+use Rattle.name_rows.specs.Rows.{replacing}
+use Rattle.name_rows.proofs.RowLemmas.{by_test, All_placed}
+use Rattle.rule_targets.specs.declared.target.AskedTarget.{AskedTarget}
+use Rattle.rule_targets.specs.declared.target.Target.{Target}
+use Rattle.rule_targets.specs.Target.{asked_of, put_as}
+use Rattle.rule_targets.specs.Checks.{member_checks, member_fault}
+use Rattle.rule_targets.specs.WellFormed.{is_target_formed}
+use Rattle.rule_targets.proofs.CheckLemmas.{kept, passed_front, found_front, both_none, two_none, mapped}
+use Rattle.rule_targets.proofs.TargetLemmas.{put_asked}
+use Rattle.rule_table.specs.declared.control.TargetFault.{TargetFault}
+use Rattle.rule_table.specs.declared.control.TargetFault.TheVariants as fault
+use Rattle.rule_table.specs.Control.{bus_created, bus_deleted, rule_put, rule_deleted, targets_put, targets_removed, queue_created, queue_deleted}
+use Rattle.rule_table.specs.RuleSet.{RuleSet, put_target, put_targets, has_bus, has_rule, has_queue, is_queue_used, rules_of, targets_of}
+use Rattle.rule_table.specs.Refusal.{missing_in, own_checks, target_fault, are_put, are_some_put, are_some_removable, rule_checks, IsAllowed}
+use Rattle.rule_table.specs.Sound.{IsSoundTarget}
 
-abbrev IsUnrefused : Control → RuleSet → Type 0
-IsUnrefused control set = (fault : ControlFault) → ¬ IsRefused control set fault
+-- ---- truth values
 
--- ---- what can be decided
+pub not_true : (b : Bool) → not b ≡ true → b ≡ false
+not_true true e = absurd (false≢true e)
+not_true false e = refl
 
-by_empty : {A G : Type 0} (xs : List A) → (xs ≡ [] → G) → (¬ (xs ≡ []) → 1 ≤ length xs → G) → G
-by_empty [] none some = none refl
-by_empty (x ∷ xs) none some = some (λ e. let never : x ∷ xs ≡ [] = e in cc) (omega arith)
+pub not_false : (b : Bool) → not b ≡ false → b ≡ true
+not_false true e = refl
+not_false false e = absurd (false≢true (sym e))
 
--- the rule is there, or it is missing for some reason
-by_rule : {G : Type 0} (bus name : List ℕ) (set : RuleSet) → ((fault : ControlFault) → HasNoRule bus name set fault → G)
-    → ((r : Rule) → rule_at bus name set ≡ Some r → G) → G
-by_rule bus name set none some =
-    by_test (has_bus bus set)
-    (λ there. by_option (rule_at bus name set) (λ no. none _ (no_such_rule there no)) some)
-    (λ absent. none _ (no_such_bus absent))
+pub both_true : (a b : Bool) → (a && b) ≡ true → (a ≡ true) × (b ≡ true)
+both_true true b e = (refl, e)
+both_true false b e = absurd (false≢true e)
 
-for_it : (o : Option Rule) (fact : Rule → Type 0) (r : Rule) → o ≡ Some r → fact r → ForRule o fact
-for_it o fact r is f = subst (λ o. ForRule o fact) (sym is) f
+either_true : (a b : Bool) → (a || b) ≡ true → (a ≡ true) ⊎ (b ≡ true)
+either_true true b e = inl refl
+either_true false b e = inr e
 
-targets_decided : (set : RuleSet) (news targets : List Target) → AreGoodTargets set news targets ⊎ HasFaultyTarget set news targets
-targets_decided set [] targets = inl tt
-targets_decided set (new ∷ news) targets = elim (target_decided set targets new) [
-  | inr faulty ↦ inr (inl faulty)
-  | inl good ↦ elim (targets_decided set news (put_target new targets)) [
-    | inl rest ↦ inl (good, rest)
-    | inr faulty ↦ inr (inr faulty)
-  ]
+pub either_false : (b : Bool) → (b && false) ≡ false
+either_false true = refl
+either_false false = refl
+
+pub some_items : {A : Type 0} (xs : List A) → false ≡ (length xs == 0) → nat_le 1 (length xs) ≡ true
+some_items [] e = absurd (false≢true e)
+some_items (x ∷ xs) e = le-leb 1 (length (x ∷ xs)) (omega arith)
+
+pub no_items : {A : Type 0} (xs : List A) → nat_le (length xs) 0 ≡ true → xs ≡ []
+no_items [] e = refl
+no_items (x ∷ xs) e = absurd (omega (arith, leb-true (length (x ∷ xs)) 0 e))
+
+pub none_of : {A : Type 0} (o : Option A) → is_some o ≡ false → o ≡ None
+none_of None e = refl
+none_of (Some a) e = absurd (false≢true (sym e))
+
+pub by_option : {A G : Type 0} (o : Option A) → (o ≡ None → G) → ((a : A) → o ≡ Some a → G) → G
+by_option None none some = none refl
+by_option (Some a) none some = some a refl
+
+none_found : {A : Type 0} (o : Option A) → not (is_some o) ≡ true → o ≡ None
+none_found None e = refl
+none_found (Some a) e = absurd (false≢true e)
+
+-- below a limit that is not reached
+pub room_below : (count most : ℕ) → (most ≤ count → IsTrue false) → nat_lt count most ≡ true
+room_below count most never = elim (leb_tells most count) [
+  | inl (_, reached) ↦ absurd (false≢true (never reached))
+  | inr (_, below) ↦ le-leb (suc count) most (omega (arith, below))
 ]
 
-ids_decided : (ids : List (List ℕ)) (targets : List Target) → AreRemovable ids targets ⊎ (¬ AreRemovable ids targets)
-ids_decided [] targets = inl tt
-ids_decided (id ∷ ids) targets =
-    by_test (is_some (named (λ (target : Target). target.id) id targets))
-    (λ there. elim (ids_decided ids (without (λ target. target.id) id targets)) [
-      | inl rest ↦ inl (there, rest)
-      | inr none ↦ inr (λ all. none all.1)
-    ])
-    (λ absent. inr (λ all. false≢true (sym absent ∙ all.0)))
+-- ---- a change that is allowed
 
-by_length : {G : Type 0} (policy : Option (List ℕ)) → (IsTooLong policy → G) → (¬ IsTooLong policy → G) → G
-by_length None long short = short (λ never. never)
-by_length (Some t) long short = elim (leb_tells (length t) 10240) [ inl (_, few) ↦ short (λ many. omega (arith, few, many)) | inr (_, many) ↦ long many ]
+pub bus_new : (name : List ℕ) (set : RuleSet) → IsAllowed (bus_created name) set → (has_bus name set ≡ false) × (length set.buses < 100)
+bus_new name set a =
+    let first = kept (not (has_bus name set)) _ _ a in
+    let second = kept (nat_lt (length set.buses) 100) _ _ first.1 in
+    (not_true (has_bus name set) first.0, ltb-true (length set.buses) 100 second.0)
 
--- ---- a change
+pub bus_free : (name : List ℕ) (set : RuleSet) → IsAllowed (bus_deleted name) set → (bytes_eq name default_bus ≡ false) × (rules_of name set ≡ [])
+bus_free name set a =
+    let first = kept (not (bytes_eq name default_bus)) _ _ a in
+    let second = kept (has_bus name set) _ _ first.1 in
+    let third = kept (nat_le (length (rules_of name set)) 0) _ _ second.1 in
+    (not_true (bytes_eq name default_bus) first.0, no_items (rules_of name set) third.0)
 
-bus_allowed : (name : List ℕ) (set : RuleSet) → IsUnrefused (bus_created name) set → IsAllowed (bus_created name) set
-bus_allowed name set none =
-    by_test (has_bus name set)
-    (λ there. absurd (none _ (bus_exists there)))
-    (λ absent. elim (leb_tells 100 (length set.buses)) [ inl (_, full) ↦ absurd (none _ (bus_limit absent full)) | inr (_, few) ↦ (absent, few) ])
+pub rule_room : (bus name pattern : List ℕ) (enabled : Bool) (set : RuleSet) → IsAllowed (rule_put bus name pattern enabled) set
+    → (has_rule bus name set ≡ true) ⊎ (length (rules_of bus set) < 300)
+rule_room bus name pattern enabled set a =
+    let first = kept (has_bus bus set) _ _ a in
+    let second = kept (has_rule bus name set || nat_lt (length (rules_of bus set)) 300) _ _ first.1 in
+    elim (either_true (has_rule bus name set) (nat_lt (length (rules_of bus set)) 300) second.0) [
+      | inl there ↦ inl there
+      | inr few ↦ inr (ltb-true (length (rules_of bus set)) 300 few)
+    ]
 
-queue_allowed : (name : List ℕ) (set : RuleSet) → IsUnrefused (queue_created name) set → IsAllowed (queue_created name) set
-queue_allowed name set none =
-    by_test (has_queue name set)
-    (λ there. absurd (none _ (queue_exists there)))
-    (λ absent. elim (leb_tells 1000 (length set.queues)) [ inl (_, full) ↦ absurd (none _ (queue_limit absent full)) | inr (_, few) ↦ (absent, few) ])
+pub rule_free : (bus name : List ℕ) (set : RuleSet) → IsAllowed (rule_deleted bus name) set → targets_of bus name set ≡ []
+rule_free bus name set a =
+    let after = both_none (rule_checks bus name set) _ a in
+    no_items (targets_of bus name set) (kept (nat_le (length (targets_of bus name set)) 0) _ _ after.1).0
 
-queue_deletion_allowed : (name : List ℕ) (set : RuleSet) → IsUnrefused (queue_deleted name) set → IsAllowed (queue_deleted name) set
-queue_deletion_allowed name set none =
-    by_test (has_queue name set)
-    (λ there. by_test (is_queue_used name set)
-    (λ used. absurd (none _ (queue_in_use there used)))
-    (λ free. (there, free)))
-    (λ absent. absurd (none _ (no_queue_to_delete absent)))
+pub targets_fine : (bus rule : List ℕ) (targets : List Target) (set : RuleSet) → IsAllowed (targets_put bus rule targets) set
+    → (nat_le 1 (length targets) ≡ true) × (are_put set targets (targets_of bus rule set) ≡ true)
+targets_fine bus rule targets set a =
+    let after = both_none (rule_checks bus rule set) _ a in
+    both_true (nat_le 1 (length targets)) _ (kept (are_some_put set targets (targets_of bus rule set)) _ _ after.1).0
 
-bus_deletion_allowed : (name : List ℕ) (set : RuleSet) → IsUnrefused (bus_deleted name) set → IsAllowed (bus_deleted name) set
-bus_deletion_allowed name set none =
-    by_test (bytes_eq name default_bus)
-    (λ is. absurd (none _ (default_stays is)))
-    (λ other. by_test (has_bus name set)
-    (λ there. by_empty (rules_of name set)
-    (λ empty. (other, there, empty))
-    (λ some many. absurd (none _ (bus_in_use other there some))))
-    (λ absent. absurd (none _ (no_bus_to_delete other absent))))
+pub removal_fine : (bus rule : List ℕ) (ids : List (List ℕ)) (set : RuleSet) → IsAllowed (targets_removed bus rule ids) set → nat_le 1 (length ids) ≡ true
+removal_fine bus rule ids set a =
+    let after = both_none (rule_checks bus rule set) _ a in
+    (both_true (nat_le 1 (length ids)) _ (kept (are_some_removable ids (targets_of bus rule set)) _ _ after.1).0).0
 
-deletion_allowed : (bus name : List ℕ) (set : RuleSet) → IsUnrefused (rule_deleted bus name) set → IsAllowed (rule_deleted bus name) set
-deletion_allowed bus name set none =
-    by_rule bus name set
-    (λ f no. absurd (none f (no_rule_to_delete f no)))
-    (λ r is. by_empty r.targets
-    (λ empty. for_it (rule_at bus name set) (λ r. r.targets ≡ []) r is empty)
-    (λ some many. absurd (none _ (rule_has_targets r is some))))
+pub queue_new : (name : List ℕ) (set : RuleSet) → IsAllowed (queue_created name) set → length set.queues < 1000
+queue_new name set a =
+    ltb-true (length set.queues) 1000 (kept (nat_lt (length set.queues) 1000) _ _ (kept (not (has_queue name set)) _ _ a).1).0
 
-state_allowed : (bus name : List ℕ) (enabled : Bool) (set : RuleSet) → IsUnrefused (state_put bus name enabled) set
-    → IsAllowed (state_put bus name enabled) set
-state_allowed bus name enabled set none =
-    by_rule bus name set (λ f no. absurd (none f no)) (λ r is. for_it (rule_at bus name set) (λ r. Unit {0}) r is tt)
+pub queue_free : (name : List ℕ) (set : RuleSet) → IsAllowed (queue_deleted name) set → is_queue_used name set ≡ false
+queue_free name set a =
+    not_true (is_queue_used name set) (kept (not (is_queue_used name set)) _ _ (kept (has_queue name set) _ _ a).1).0
 
-targets_allowed : (bus rule : List ℕ) (targets : List Target) (set : RuleSet) → IsUnrefused (targets_put bus rule targets) set
-    → IsAllowed (targets_put bus rule targets) set
-targets_allowed bus rule targets set none =
-    by_rule bus rule set
-    (λ f no. absurd (none f (no_rule_to_put_to f no)))
-    (λ r is. by_empty targets
-    (λ empty. absurd (none _ (faulty_targets r is (inl empty))))
-    (λ some many. elim (targets_decided set targets r.targets) [
-      | inl good ↦ for_it (rule_at bus rule set) (λ r. (1 ≤ length targets) × AreGoodTargets set targets r.targets) r is (many, good)
-      | inr faulty ↦ absurd (none _ (faulty_targets r is (inr faulty)))
-    ]))
+-- ---- targets one by one
 
-removal_allowed : (bus rule : List ℕ) (ids : List (List ℕ)) (set : RuleSet) → IsUnrefused (targets_removed bus rule ids) set
-    → IsAllowed (targets_removed bus rule ids) set
-removal_allowed bus rule ids set none =
-    by_rule bus rule set
-    (λ f no. absurd (none f (no_rule_to_remove_from f no)))
-    (λ r is. by_empty ids
-    (λ empty. absurd (none _ (faulty_ids r is (inl empty))))
-    (λ some many. elim (ids_decided ids r.targets) [
-      | inl good ↦ for_it (rule_at bus rule set) (λ r. (1 ≤ length ids) × AreRemovable ids r.targets) r is (many, good)
-      | inr faulty ↦ absurd (none _ (faulty_ids r is (inr faulty)))
-    ]))
+-- a target without a fault may be stored, and there is room for it
+accepted : (set : RuleSet) (targets : List Target) (new : Target) → not (is_some (target_fault set targets (asked_of new))) ≡ true
+    → IsSoundTarget set new × (length (put_target new targets) ≤ 5)
+accepted set targets new e =
+    let checked = both_none (own_checks set (asked_of new)) _ (none_found (target_fault set targets (asked_of new)) e) in
+    let few = leb-true (length (put_target (put_as (asked_of new)) targets)) 5
+    (kept (nat_le (length (put_target (put_as (asked_of new)) targets)) 5) _ _ checked.1).0 in
+    (checked.0, subst (λ t. length (put_target t targets) ≤ 5) (put_asked new) few)
 
-policy_allowed : (bus : List ℕ) (policy : Option (List ℕ)) (set : RuleSet) → IsUnrefused (policy_put bus policy) set
-    → ¬ ¬ IsAllowed (policy_put bus policy) set
-policy_allowed bus policy set none never =
-    by_length policy
-    (λ long. by_test (has_bus bus set)
-    (λ there. none _ (policy_too_long long there))
-    (λ absent. none _ (policy_without_bus (inr long) absent)))
-    (λ short. none _ (no_policy short (λ stored. by_test (has_bus bus set)
-    (λ there. never (stored, there))
-    (λ absent. none _ (policy_without_bus (inl stored) absent)))))
+map_none : {A B : Type 0} (g : A → B) (o : Option A) → option_map g o ≡ None → o ≡ None
+map_none g None e = refl
+map_none g (Some a) e = let never : Some (g a) ≡ None = e in absurd cc
 
-rule_allowed : (bus name pattern : List ℕ) (enabled : Bool) (set : RuleSet) → IsUnrefused (rule_put bus name pattern enabled) set
-    → ¬ ¬ IsAllowed (rule_put bus name pattern enabled) set
-rule_allowed bus name pattern enabled set none never =
-    none _ (no_pattern (λ p is. by_test (has_bus bus set)
-    (λ there. by_option (rule_at bus name set)
-    (λ new. elim (leb_tells 300 (length (rules_of bus set))) [
-      | inl (_, full) ↦ none _ (rule_limit p is there new full)
-      | inr (_, few) ↦ never ((p, is), there, inr few)
-    ])
-    (λ old so. never ((p, is), there, inl (ap is_some so))))
-    (λ absent. none _ (rule_without_bus p is absent))))
+-- a target without a fault has none of its own members
+pub no_member_fault : (set : RuleSet) (targets : List Target) (target : AskedTarget) → target_fault set targets target ≡ None → member_fault target ≡ None
+no_member_fault set targets target none =
+    let members : List (Option TargetFault) = map (option_map fault.Member) (member_checks target) in
+    let own = (both_none members _ (both_none (own_checks set target) _ none).0).0 in
+    map_none fault.Member (member_fault target) (sym (mapped fault.Member (member_checks target)) ∙ own)
 
-pub unrefused_allowed : (control : Control) (set : RuleSet) → ((fault : ControlFault) → ¬ IsRefused control set fault) → ¬ ¬ IsAllowed control set
-unrefused_allowed (bus_created name) set none never = never (bus_allowed name set none)
-unrefused_allowed (bus_deleted name) set none never = never (bus_deletion_allowed name set none)
-unrefused_allowed (rule_put bus name pattern enabled) set none never = rule_allowed bus name pattern enabled set none never
-unrefused_allowed (rule_deleted bus name) set none never = never (deletion_allowed bus name set none)
-unrefused_allowed (state_put bus name enabled) set none never = never (state_allowed bus name enabled set none)
-unrefused_allowed (targets_put bus rule targets) set none never = never (targets_allowed bus rule targets set none)
-unrefused_allowed (targets_removed bus rule ids) set none never = never (removal_allowed bus rule ids set none)
-unrefused_allowed (policy_put bus policy) set none never = policy_allowed bus policy set none never
-unrefused_allowed (queue_created name) set none never = never (queue_allowed name set none)
-unrefused_allowed (queue_deleted name) set none never = never (queue_deletion_allowed name set none)
+-- ---- the own fault of a target
+
+pub own_member : (set : RuleSet) (target : AskedTarget) (m : Member) → member_fault target ≡ Some m
+    → first_fault (own_checks set target) ≡ Some (fault.Member m)
+own_member set target m is =
+    found_front (map (option_map fault.Member) (member_checks target)) _ (fault.Member m)
+    (mapped fault.Member (member_checks target) ∙ ap (option_map fault.Member) is)
+
+-- without a faulty member the queues decide
+abbrev pub queue_faults : Option (List ℕ) → Option (List ℕ) → List (Option TargetFault)
+queue_faults own dead = option_map fault.NoQueue own ∷ option_map fault.NoDeadLetterQueue dead ∷ []
+
+pub own_queues : (set : RuleSet) (target : AskedTarget) (own dead : Option (List ℕ)) → member_fault target ≡ None
+    → missing_in set (queue_in target.arn) ≡ own → missing_in set (option_and_then queue_in target.dead_letter) ≡ dead
+    → first_fault (own_checks set target) ≡ first_fault (queue_faults own dead)
+own_queues set target own dead none own_is dead_is =
+    passed_front (map (option_map fault.Member) (member_checks target)) _ (mapped fault.Member (member_checks target) ∙ ap (option_map fault.Member) none)
+    ∙ ap (λ o. first_fault (queue_faults o (missing_in set (option_and_then queue_in target.dead_letter)))) own_is
+    ∙ ap (λ o. first_fault (queue_faults own o)) dead_is
+
+-- the fault of a target at a rule with these targets
+pub fault_found : (set : RuleSet) (targets : List Target) (target : AskedTarget) (f : TargetFault) → first_fault (own_checks set target) ≡ Some f
+    → target_fault set targets target ≡ Some f
+fault_found set targets target f is = found_front (own_checks set target) _ f is
+
+room : (b : Bool) → (if not b then Some fault.Sixth else None) ≡ first_fault (unless b fault.Sixth ∷ [])
+room true = refl
+room false = refl
+
+pub room_decides : (set : RuleSet) (targets : List Target) (target : AskedTarget) (count : ℕ) → first_fault (own_checks set target) ≡ None
+    → count ≡ length (put_target (put_as target) targets) → (if not (nat_le count 5) then Some fault.Sixth else None) ≡ target_fault set targets target
+room_decides set targets target count none is =
+    room (nat_le count 5) ∙ ap (λ n. first_fault (unless (nat_le n 5) fault.Sixth ∷ [])) is ∙ sym (passed_front (own_checks set target) _ none)
+
+-- targets that are accepted one by one have no fault by themselves
+pub put_formed : (set : RuleSet) (news targets : List Target) → are_put set news targets ≡ true → list_all is_target_formed news ≡ true
+put_formed set [] targets good = refl
+put_formed set (new ∷ news) targets good =
+    let both = both_true (not (is_some (target_fault set targets (asked_of new)))) _ good in
+    let none = no_member_fault set targets (asked_of new) (none_found (target_fault set targets (asked_of new)) both.0) in
+    ap (λ o. not (is_some o) && list_all is_target_formed news) none ∙ put_formed set news (put_target new targets) both.1
+
+pub good_few : (set : RuleSet) (news targets : List Target) → are_put set news targets ≡ true → length targets ≤ 5 → length (put_targets news targets) ≤ 5
+good_few set [] targets good few = few
+good_few set (new ∷ news) targets good few =
+    let both = both_true (not (is_some (target_fault set targets (asked_of new)))) _ good in
+    good_few set news (put_target new targets) both.1 (accepted set targets new both.0).1
+
+pub good_there : (set : RuleSet) (news targets : List Target) → are_put set news targets ≡ true → All (IsSoundTarget set) targets
+    → All (IsSoundTarget set) (put_targets news targets)
+good_there set [] targets good all = all
+good_there set (new ∷ news) targets good all =
+    let both = both_true (not (is_some (target_fault set targets (asked_of new)))) _ good in
+    let fits = (accepted set targets new both.0).0 in
+    good_there set news (put_target new targets) both.1
+    (All_placed (IsSoundTarget set) (λ target. target.id) replacing new targets fits (λ old p. fits) all)
+
+-- ---- the queues of a target
+
+-- the queue that is named, if any, stays
+abbrev pub Stays : RuleSet → RuleSet → Option (List ℕ) → Type 0
+Stays set next named = (queue : List ℕ) → named ≡ Some queue → has_queue queue set ≡ true → has_queue queue next ≡ true
+
+there_still : (set next : RuleSet) (named : Option (List ℕ)) (make : List ℕ → TargetFault) → Stays set next named
+    → option_map make (missing_in set named) ≡ None → option_map make (missing_in next named) ≡ None
+there_still set next None make stays none = refl
+there_still set next (Some queue) make stays none = by_test (has_queue queue set)
+    (λ there. rw (stays queue refl there) refl)
+    (λ absent. let never : Some (make queue) ≡ None = rw absent at none in absurd cc)
+
+pub target_still : (set next : RuleSet) (target : Target) → Stays set next (queue_in target.arn) → Stays set next (option_and_then queue_in target.dead_letter)
+    → IsSoundTarget set target → IsSoundTarget next target
+target_still set next target own dead sound =
+    let members : List (Option TargetFault) = map (option_map fault.Member) (member_checks (asked_of target)) in
+    let checked = both_none members _ sound in
+    let queues = two_none (option_map fault.NoQueue (missing_in set (queue_in target.arn))) _ checked.1 in
+    passed_front members _ checked.0
+    ∙ rw (
+      there_still set next (queue_in target.arn) fault.NoQueue own queues.0,
+      there_still set next (option_and_then queue_in target.dead_letter) fault.NoDeadLetterQueue dead queues.1,
+    ) refl

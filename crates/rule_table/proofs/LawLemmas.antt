@@ -3,11 +3,11 @@ use Rattle.std.proofs.Common.{◌≡◌, ◌+◌, ℕ, List, [], ◌∷◌, map,
 use Rattle.std.specs.Str.{bytes_eq}
 use Rattle.name_rows.specs.Rows.{named, replacing}
 use Rattle.name_rows.proofs.RowLemmas.{by_test}
-use Rattle.config_changes.specs.Control.{Control, bus_created, bus_deleted, rule_put, rule_deleted, state_put, targets_put, targets_removed, policy_put}
-use Rattle.config_changes.specs.Control.{queue_created, queue_deleted}
+use Rattle.rule_table.specs.Control.{Control, bus_created, bus_deleted, rule_put, rule_deleted, state_put, targets_put, targets_removed, policy_put}
+use Rattle.rule_table.specs.Control.{queue_created, queue_deleted}
 use Rattle.rule_table.specs.Altered.{changed_bus, matching_of, matching_of_rule}
 use Rattle.rule_table.specs.RuleSet.{Rule, Bus, RuleSet, changed, with_rule_changed, applied, new_rule, put_rule, without_rule, put_targets, without_targets}
-use Rattle.config_changes.specs.declared.control.Target.{Target}
+use Rattle.rule_targets.specs.declared.target.Target.{Target}
 use Rattle.rule_table.proofs.RowLemmas.{named_changed, named_put, named_without}
 
 map_changed : {A C : Type 0} (h : A → C) (f : A → List ℕ) (name : List ℕ) (change : A → A) (rows : List A) → ((row : A) → h (change row) ≡ h row)

@@ -6,16 +6,17 @@ use Rattle.std.proofs.lemmas.Bool.{false≢true}
 use Rattle.std.proofs.lemmas.List.Elements.{Contains-append_right}
 use Rattle.name_rows.specs.Rows.{AreSorted, named, replacing, without}
 use Rattle.name_rows.proofs.RowLemmas.{by_test}
-use Rattle.config_changes.specs.declared.control.Target.{Target}
-use Rattle.config_changes.specs.Control.{Control, bus_created, bus_deleted, rule_put, rule_deleted, state_put, targets_put, targets_removed, policy_put}
-use Rattle.config_changes.specs.Control.{queue_created, queue_deleted}
+use Rattle.rule_targets.specs.declared.target.Target.{Target}
+use Rattle.rule_table.specs.Control.{Control, bus_created, bus_deleted, rule_put, rule_deleted, state_put, targets_put, targets_removed, policy_put}
+use Rattle.rule_table.specs.Control.{queue_created, queue_deleted}
 use Rattle.rule_table.specs.RuleSet.{Rule, Bus, RuleSet, changed, with_rule_changed, applied, new_rule, keeping_targets, put_bus, without_bus, put_rule, without_rule}
-use Rattle.rule_table.specs.RuleSet.{put_target, put_targets, without_targets, rules_in, rules_of, rule_at, targets_in}
-use Rattle.rule_table.specs.RuleSet.{has_bus, has_queue, is_queue_used, ForRule, IsAllowed, IsSound}
-use Rattle.rule_table.specs.Altered.{has_rule, has_target_of_rule}
+use Rattle.rule_table.specs.RuleSet.{put_target, put_targets, without_targets, rules_in, rules_of, targets_in}
+use Rattle.rule_table.specs.RuleSet.{has_bus, has_rule, has_queue, is_queue_used, targets_of}
+use Rattle.rule_table.specs.Refusal.{IsAllowed}
+use Rattle.rule_table.specs.Sound.{IsSound}
+use Rattle.rule_table.specs.Altered.{has_target_of_rule}
 use Rattle.rule_table.proofs.RowLemmas.{All_named, bytes_same, bytes_differ, named_without, named_put, named_put_same, after_changed, joined_placed}
-use Rattle.rule_table.proofs.RefusalLemmas.{none_of}
-use Rattle.config_changes.proofs.MemberLemmas.{by_option}
+use Rattle.rule_table.proofs.AllowedLemmas.{bus_new, bus_free, rule_free, queue_free, by_option, none_of}
 use Rattle.rule_table.proofs.SortedLemmas.{named_placed}
 
 -- by whether two names are the same
@@ -51,7 +52,7 @@ bus_kept (bus_created name) set bus a there =
     inl (named_placed bus_name replacing (record { name = name; policy = None; rules = [] }) bus set.buses (λ old. refl) there)
 bus_kept (bus_deleted name) set bus a there =
     by_names name bus
-    (λ same. inr (ap bus_deleted same, subst (λ n. rules_of n set ≡ []) same a.2))
+    (λ same. inr (ap bus_deleted same, subst (λ n. rules_of n set ≡ []) same (bus_free name set a).1))
     (λ apart. inl (ap is_some (named_without bus_name name bus set.buses apart) ∙ there))
 bus_kept (rule_put name rule pattern enabled) set bus a there =
     let new : Rule = new_rule name rule pattern enabled in
@@ -109,8 +110,8 @@ rule_stays bus name rule on change set c there =
 pub rule_kept : (control : Control) (set : RuleSet) (bus name : List ℕ) → IsAllowed control set → has_rule bus name set ≡ true
     → (has_rule bus name (applied control set) ≡ true) ⊎ (control ≡ rule_deleted bus name)
 rule_kept (bus_created new) set bus name a there =
-    inl (created_elsewhere new bus set (λ o. IsIn rule_name name (rules_in o)) (never_named name) a.0 there)
-rule_kept (bus_deleted old) set bus name a there = inl (deleted_elsewhere old bus set (IsIn rule_name name) (never_named name) a.2 there)
+    inl (created_elsewhere new bus set (λ o. IsIn rule_name name (rules_in o)) (never_named name) (bus_new new set a).0 there)
+rule_kept (bus_deleted old) set bus name a there = inl (deleted_elsewhere old bus set (IsIn rule_name name) (never_named name) (bus_free old set a).1 there)
 rule_kept (rule_put on rule pattern enabled) set bus name a there =
     let new : Rule = new_rule on rule pattern enabled in
     inl (in_rules on bus (put_rule new) set (IsIn rule_name name) there
@@ -183,20 +184,15 @@ put_has_it new other id rules o p =
     (λ apart. subst Has (sym (named_put rule_name keeping_targets new other rules (λ old. refl) apart)) p)
 
 -- a rule that is deleted has no target
-deleted_has_none : (bus rule id : List ℕ) (set : RuleSet) → ForRule (rule_at bus rule set) (λ r. r.targets ≡ []) → ¬ (has_target_of_rule bus rule id set ≡ true)
-deleted_has_none bus rule id set a there =
-    by_option (rule_at bus rule set)
-    (λ none. subst (λ o. ForRule o (λ r. r.targets ≡ [])) none a)
-    (λ r is. let empty : r.targets ≡ [] = subst (λ o. ForRule o (λ r. r.targets ≡ [])) is a in
-    let has : IsIn id_of id r.targets = subst (λ o. IsIn id_of id (targets_in o)) is there in
-    false≢true (subst (IsIn id_of id) empty has))
+deleted_has_none : (bus rule id : List ℕ) (set : RuleSet) → targets_of bus rule set ≡ [] → ¬ (has_target_of_rule bus rule id set ≡ true)
+deleted_has_none bus rule id set empty there = false≢true (subst (IsIn id_of id) empty there)
 
 pub target_kept : (control : Control) (set : RuleSet) (bus rule id : List ℕ) → IsAllowed control set → IsSound set → has_target_of_rule bus rule id set ≡ true
     → (has_target_of_rule bus rule id (applied control set) ≡ true)
     ⊎ ((ids : List (List ℕ)) × (control ≡ targets_removed bus rule ids) × Contains ids id)
 target_kept (bus_created new) set bus rule id a k there =
-    inl (created_elsewhere new bus set (λ o. HasIt rule id (rules_in o)) (never_has_it rule id) a.0 there)
-target_kept (bus_deleted old) set bus rule id a k there = inl (deleted_elsewhere old bus set (HasIt rule id) (never_has_it rule id) a.2 there)
+    inl (created_elsewhere new bus set (λ o. HasIt rule id (rules_in o)) (never_has_it rule id) (bus_new new set a).0 there)
+target_kept (bus_deleted old) set bus rule id a k there = inl (deleted_elsewhere old bus set (HasIt rule id) (never_has_it rule id) (bus_free old set a).1 there)
 target_kept (rule_put on name pattern enabled) set bus rule id a k there =
     let new : Rule = new_rule on name pattern enabled in
     let IsInOrder : Bus → Type 0 = λ b. AreSorted rule_name b.rules in
@@ -207,7 +203,7 @@ target_kept (rule_deleted on name) set bus rule id a k there =
     by_names name rule
     (λ same. by_names on bus
     (λ here. absurd (deleted_has_none bus rule id set
-    (subst (λ b. ForRule (rule_at b rule set) (λ r. r.targets ≡ [])) here (subst (λ n. ForRule (rule_at on n set) (λ r. r.targets ≡ [])) same a)) there))
+    (subst (λ b. targets_of b rule set ≡ []) here (subst (λ n. targets_of on n set ≡ []) same (rule_free on name set a))) there))
     (λ apart. inl (in_rules on bus (without_rule name) set (HasIt rule id) there (λ b here is p. absurd (apart here)))))
     (λ apart. inl (in_rules on bus (without_rule name) set (HasIt rule id) there
     (λ b here is p. subst Has (sym (named_without rule_name name rule b.rules apart)) p)))
@@ -250,5 +246,5 @@ queue_kept (policy_put bus policy) set queue a there = inl there
 queue_kept (queue_created name) set queue a there = inl (named_placed itself replacing name queue set.queues (λ old. refl) there)
 queue_kept (queue_deleted name) set queue a there =
     by_names name queue
-    (λ same. inr (ap queue_deleted same, subst (λ n. is_queue_used n set ≡ false) same a.1))
+    (λ same. inr (ap queue_deleted same, subst (λ n. is_queue_used n set ≡ false) same (queue_free name set a)))
     (λ apart. inl (ap is_some (named_without itself name queue set.queues apart) ∙ there))

@@ -1,7 +1,8 @@
--- An allowed change leads from a sound rule set to a sound one: `sound_applied`.
+-- An allowed change, whose policy is as it is stored, leads from a sound rule set to a sound one: `sound_applied`.
 use Rattle.std.proofs.Common.{◌≡◌, ℕ, ◌+◌, ◌<◌, ◌≤◌, ◌⊎◌, true, false, Bool, List, [], ◌∷◌, length, Option, Some, None, refl, sym, ap, ◌∙◌}
 use Rattle.std.proofs.Common.{subst, arith, inl, inr, is_some, suc}
 use Rattle.std.specs.Prelude.{All, ◌||◌}
+use Rattle.std.specs.Option.{option_and_then}
 use Rattle.std.specs.List.{list_any}
 use Rattle.std.specs.Cmp.Lexicographic.{slice_cmp}
 use Rattle.std.specs.Ordering.{nat_cmp}
@@ -10,19 +11,22 @@ use Rattle.std.specs.declared.cmp.Ordering.TheVariants.{Less}
 use Rattle.std.proofs.lemmas.Bool.{false≢true}
 use Rattle.std.proofs.lemmas.List.{length-map}
 use Rattle.std.proofs.lemmas.List.Elements.{All-head, All-tail, All-cons, All-nil, All-weaker}
-use Rattle.event_shape.specs.Names.{default_bus, rule_arn, queue_arn, IsQueueArn}
+use Rattle.event_shape.specs.Names.{default_bus, rule_arn, queue_arn, queue_in}
+use Rattle.event_shape.proofs.NameLemmas.{queue_named}
 use Rattle.name_rows.specs.Rows.{named, placed, replacing, without, AreSorted}
 use Rattle.name_rows.proofs.NameOrder.{Less_from_Greater, same_name, bytes_eq_Less}
 use Rattle.name_rows.proofs.RowLemmas.{by_cmp, by_test, named_none, none_greater, others_after, All_placed, sorted_placed, sorted_without}
 use Rattle.rule_table.specs.RuleSet.{Rule, Bus, RuleSet, changed, new_rule, keeping_targets, put_bus, without_bus, put_rule, without_rule, put_target}
 use Rattle.rule_table.specs.RuleSet.{put_targets, without_targets, with_rule_changed, rules_in, rules_of, rule_at, applied}
-use Rattle.rule_table.specs.RuleSet.{is_dead_letter_of, is_used_by_target, is_used_by_rule, is_used_by_bus, has_queue, IsQueueThere, IsArnThere, IsDeadLetterThere, IsSoundTarget}
-use Rattle.rule_table.specs.RuleSet.{AreGoodTargets, IsNoneOrStored, ForRule, IsAllowed, HasSoundTargets, HasItsArn, IsSound}
-use Rattle.config_changes.specs.Control.{Control, bus_created, bus_deleted, rule_put, rule_deleted, state_put, targets_put, targets_removed, policy_put}
-use Rattle.config_changes.specs.Control.{queue_created, queue_deleted}
-use Rattle.config_changes.specs.declared.control.Target.{Target}
+use Rattle.rule_table.specs.RuleSet.{is_dead_letter_of, is_used_by_target, is_used_by_rule, is_used_by_bus, targets_in}
+use Rattle.rule_table.specs.Refusal.{are_put, IsAllowed}
+use Rattle.rule_table.specs.WellFormed.{IsNoneOrStored}
+use Rattle.rule_table.specs.Sound.{IsSoundTarget, HasSoundTargets, HasItsArn, IsSound}
+use Rattle.rule_table.specs.Control.{Control, bus_created, bus_deleted, rule_put, rule_deleted, state_put, targets_put, targets_removed, policy_put}
+use Rattle.rule_table.specs.Control.{queue_created, queue_deleted}
+use Rattle.rule_targets.specs.declared.target.Target.{Target}
 use Rattle.rule_table.proofs.RowLemmas.{changed_none, named_same, named_other, named_name, All_named, bytes_same, bytes_differ, named_without, after_changed, All_without, length_without}
-use Rattle.rule_table.proofs.RefusalLemmas.{good_few, good_there}
+use Rattle.rule_table.proofs.AllowedLemmas.{bus_new, bus_free, rule_room, targets_fine, queue_new, queue_free, good_few, good_there, Stays, target_still}
 
 changed_same : {A : Type 0} (f : A → List ℕ) (name : List ℕ) (change : A → A) (row : A) (rows : List A) → bytes_eq (f row) name ≡ true
     → changed f name change (row ∷ rows) ≡ change row ∷ changed f name change rows
@@ -149,38 +153,14 @@ short_put new rules o small (inr room) = let e = length_placed (λ rule. rule.na
 
 -- ---- targets stay sound if their queues stay
 
-abbrev Stays : RuleSet → RuleSet → List ℕ → Type 0
-Stays set next arn = (queue : List ℕ) → IsQueueArn arn queue → has_queue queue set ≡ true → has_queue queue next ≡ true
-
-queue_still : (set next : RuleSet) (arn : List ℕ) → Stays set next arn → IsQueueThere set arn → IsQueueThere next arn
-queue_still set next arn stays (queue, is, there) = (queue, is, stays queue is there)
-
-arn_still : (set next : RuleSet) (arn : List ℕ) → Stays set next arn → IsArnThere set arn → IsArnThere next arn
-arn_still set next arn stays (inl there) = inl (queue_still set next arn stays there)
-arn_still set next arn stays (inr other) = inr other
-
-dead_letter_still : (set next : RuleSet) (dead : Option (List ℕ)) → ((arn : List ℕ) → dead ≡ Some arn → Stays set next arn)
-    → IsDeadLetterThere set dead → IsDeadLetterThere next dead
-dead_letter_still set next None stays there = tt
-dead_letter_still set next (Some arn) stays there = queue_still set next arn (stays arn refl) there
-
-target_still : (set next : RuleSet) (target : Target) → Stays set next target.arn → ((arn : List ℕ) → target.dead_letter ≡ Some arn → Stays set next arn)
-    → IsSoundTarget set target → IsSoundTarget next target
-target_still set next target own dead sound = record {
-  arn = arn_still set next target.arn own sound.arn;
-  supported = sound.supported;
-  retry = sound.retry;
-  dead_letter = dead_letter_still set next target.dead_letter dead sound.dead_letter;
-}
-
 -- the targets of all rules are still sound if the queues are the same
 targets_still : (set next : RuleSet) (buses : List Bus) → next.queues ≡ set.queues → All (λ b. All (HasSoundTargets set) b.rules) buses
     → All (λ b. All (HasSoundTargets next) b.rules) buses
 targets_still set next buses same all =
-    let stays : (arn : List ℕ) → Stays set next arn =
-    λ arn queue is there. subst (λ queues. is_some (named (λ (q : List ℕ). q) queue queues) ≡ true) (sym same) there in
+    let stays : (o : Option (List ℕ)) → Stays set next o =
+    λ o queue is there. subst (λ queues. is_some (named (λ (q : List ℕ). q) queue queues) ≡ true) (sym same) there in
     let fits : (target : Target) → IsSoundTarget set target → IsSoundTarget next target =
-    λ target sound. target_still set next target (stays target.arn) (λ arn is. stays arn) sound in
+    λ target sound. target_still set next target (stays (queue_in target.arn)) (stays (option_and_then queue_in target.dead_letter)) sound in
     let have : (rule : Rule) → HasSoundTargets set rule → HasSoundTargets next rule =
     λ rule h. (h.0, All-weaker (IsSoundTarget set) (IsSoundTarget next) fits rule.targets h.1) in
     All-weaker (λ b. All (HasSoundTargets set) b.rules) (λ b. All (HasSoundTargets next) b.rules)
@@ -203,7 +183,7 @@ sound_rule bus name pattern enabled set a k =
     λ b is small.
     let there : rules_of bus set ≡ b.rules = ap rules_in is in
     let sorted = All_named IsInOrder bus_name bus set.buses b is k.rule_order in
-    short_put new b.rules sorted small (subst (λ rs. (is_some (named rule_name name rs) ≡ true) ⊎ (length rs < 300)) there a.2) in
+    short_put new b.rules sorted small (subst (λ rs. (is_some (named rule_name name rs) ≡ true) ⊎ (length rs < 300)) there (rule_room bus name pattern enabled set a)) in
     record {
       buses = rw length-map k.buses;
       rules = All_changed_named IsShort bus_name bus change set.buses k.bus_order short k.rules;
@@ -264,10 +244,9 @@ sound_rule_changed bus rule change set named_so arn_so good ordered k =
 sound_targets : (bus rule : List ℕ) (targets : List Target) (set : RuleSet) → IsAllowed (targets_put bus rule targets) set → IsSound set
     → IsSound (applied (targets_put bus rule targets) set)
 sound_targets bus rule targets set a k =
-    let Fact : Rule → Type 0 = λ r. (1 ≤ length targets) × AreGoodTargets set targets r.targets in
     sound_rule_changed bus rule (λ r. record r { targets = put_targets targets r.targets }) set (λ r. refl) (λ b r p. p)
-    (λ r there p. let fact = subst (λ o. ForRule o Fact) there a in
-    (good_few set targets r.targets fact.1 p.0, good_there set targets r.targets fact.1 p.1))
+    (λ r there p. let fine = subst (λ o. are_put set targets (targets_in o) ≡ true) there (targets_fine bus rule targets set a).1 in
+    (good_few set targets r.targets fine p.0, good_there set targets r.targets fine p.1))
     (λ r o. sorted_put_targets targets r.targets o) k
 
 sound_removal : (bus rule : List ℕ) (ids : List (List ℕ)) (set : RuleSet) → IsSound set → IsSound (applied (targets_removed bus rule ids) set)
@@ -310,9 +289,9 @@ sound_deletion bus name set k =
       queue_order = k.queue_order;
     }
 
-sound_policy : (bus : List ℕ) (policy : Option (List ℕ)) (set : RuleSet) → IsAllowed (policy_put bus policy) set → IsSound set
+sound_policy : (bus : List ℕ) (policy : Option (List ℕ)) (set : RuleSet) → IsNoneOrStored policy → IsSound set
     → IsSound (applied (policy_put bus policy) set)
-sound_policy bus policy set a k =
+sound_policy bus policy set spelled k =
     let bus_name : Bus → List ℕ = λ b. b.name in
     let change : Bus → Bus = λ b. record b { policy = policy } in
     let IsInOrder : Bus → Type 0 = λ b. AreSorted (λ rule. rule.name) b.rules in
@@ -327,7 +306,7 @@ sound_policy bus policy set a k =
           (All_changed HaveTargets HaveTargets bus_name bus change set.buses (λ b h. h) (λ b h. h) k.targets);
       queues = k.queues;
       default = default_stays bus change set (λ b. refl) k;
-      policies = All_changed HasPolicy HasPolicy bus_name bus change set.buses (λ b h. h) (λ b h. a.0) k.policies;
+      policies = All_changed HasPolicy HasPolicy bus_name bus change set.buses (λ b h. h) (λ b h. spelled) k.policies;
       bus_order = sorted_changed bus_name bus change set.buses (λ b. refl) k.bus_order;
       rule_order = All_changed IsInOrder IsInOrder bus_name bus change set.buses (λ b h. h) (λ b h. h) k.rule_order;
       target_order = All_changed InOrder InOrder bus_name bus change set.buses (λ b h. h) (λ b h. h) k.target_order;
@@ -341,7 +320,7 @@ sound_creation name set a k =
     let put : (P : Bus → Type 0) → P new → All P set.buses → All P (put_bus name set.buses) =
     λ P p all. All_placed P bus_name replacing new set.buses p (λ old q. p) all in
     record {
-      buses = omega (arith, length_placed bus_name replacing new set.buses, a.1);
+      buses = omega (arith, length_placed bus_name replacing new set.buses, (bus_new name set a).1);
       rules = put (λ b. length b.rules ≤ 300) (omega arith) k.rules;
       arns = put HaveArns (All-nil (HasItsArn name)) k.arns;
       targets = targets_still set (applied (bus_created name) set) _ refl
@@ -365,7 +344,7 @@ sound_bus_deletion name set a k =
       arns = rest HaveArns k.arns;
       targets = targets_still set (applied (bus_deleted name) set) _ refl (rest (λ b. All (HasSoundTargets set) b.rules) k.targets);
       queues = k.queues;
-      default = ap is_some (named_without bus_name name default_bus set.buses (bytes_differ name default_bus a.0)) ∙ k.default;
+      default = ap is_some (named_without bus_name name default_bus set.buses (bytes_differ name default_bus (bus_free name set a).0)) ∙ k.default;
       policies = rest (λ b. IsNoneOrStored b.policy) k.policies;
       bus_order = sorted_without bus_name name set.buses k.bus_order;
       rule_order = rest (λ b. AreSorted (λ rule. rule.name) b.rules) k.rule_order;
@@ -377,9 +356,9 @@ sound_queue : (name : List ℕ) (set : RuleSet) → IsAllowed (queue_created nam
 sound_queue name set a k =
     let next = applied (queue_created name) set in
     let itself : List ℕ → List ℕ = λ queue. queue in
-    let stays : (arn : List ℕ) → Stays set next arn = λ arn queue is there. named_placed itself replacing name queue set.queues (λ old. refl) there in
+    let stays : (o : Option (List ℕ)) → Stays set next o = λ o queue is there. named_placed itself replacing name queue set.queues (λ old. refl) there in
     let fits : (target : Target) → IsSoundTarget set target → IsSoundTarget next target =
-    λ target sound. target_still set next target (stays target.arn) (λ arn is. stays arn) sound in
+    λ target sound. target_still set next target (stays (queue_in target.arn)) (stays (option_and_then queue_in target.dead_letter)) sound in
     let targets : (rule : Rule) → HasSoundTargets set rule → HasSoundTargets next rule =
     λ rule h. (h.0, All-weaker (IsSoundTarget set) (IsSoundTarget next) fits rule.targets h.1) in
     record {
@@ -388,7 +367,7 @@ sound_queue name set a k =
       arns = k.arns;
       targets = All-weaker (λ b. All (HasSoundTargets set) b.rules) (λ b. All (HasSoundTargets next) b.rules)
           (λ b h. All-weaker (HasSoundTargets set) (HasSoundTargets next) targets b.rules h) set.buses k.targets;
-      queues = omega (arith, length_placed itself replacing name set.queues, a.1);
+      queues = omega (arith, length_placed itself replacing name set.queues, queue_new name set a);
       default = k.default;
       policies = k.policies;
       bus_order = k.bus_order;
@@ -410,14 +389,15 @@ All_unless P Q test (row ∷ rows) step none all =
     All-cons Q row rows (step row both.0 (All-head P row rows all)) (All_unless P Q test rows step both.1 (All-tail P row rows all))
 
 -- a queue of another ARN stays
-spared : (name arn : List ℕ) (set : RuleSet) → bytes_eq arn (queue_arn name) ≡ false → Stays set (applied (queue_deleted name) set) arn
+spared : (name arn : List ℕ) (set : RuleSet) → bytes_eq arn (queue_arn name) ≡ false → Stays set (applied (queue_deleted name) set) (queue_in arn)
 spared name arn set other queue is there =
-    let apart : ¬ (name ≡ queue) = λ same. bytes_differ arn (queue_arn name) other (is.1 ∙ ap queue_arn (sym same)) in
+    let apart : ¬ (name ≡ queue) = λ same. bytes_differ arn (queue_arn name) other (((queue_named arn queue).0 is).1 ∙ ap queue_arn (sym same)) in
     ap is_some (named_without (λ (q : List ℕ). q) name queue set.queues apart) ∙ there
 
 dead_letter_spared : (name : List ℕ) (dead : Option (List ℕ)) (set : RuleSet) → is_dead_letter_of name dead ≡ false
-    → (arn : List ℕ) → dead ≡ Some arn → Stays set (applied (queue_deleted name) set) arn
-dead_letter_spared name dead set other arn is = spared name arn set (subst (λ d. is_dead_letter_of name d ≡ false) is other)
+    → Stays set (applied (queue_deleted name) set) (option_and_then queue_in dead)
+dead_letter_spared name None set other queue is there = absurd cc
+dead_letter_spared name (Some arn) set other queue is there = spared name arn set other queue is there
 
 target_spared : (name : List ℕ) (set : RuleSet) (target : Target) → is_used_by_target name target ≡ false → IsSoundTarget set target
     → IsSoundTarget (applied (queue_deleted name) set) target
@@ -438,7 +418,7 @@ sound_queue_deletion name set a k =
       rules = k.rules;
       arns = k.arns;
       targets = All_unless (λ b. All (HasSoundTargets set) b.rules) (λ b. All (HasSoundTargets next) b.rules) (is_used_by_bus name) set.buses
-          (λ b free h. All_unless (HasSoundTargets set) (HasSoundTargets next) (is_used_by_rule name) b.rules rule_spared free h) a.1 k.targets;
+          (λ b free h. All_unless (HasSoundTargets set) (HasSoundTargets next) (is_used_by_rule name) b.rules rule_spared free h) (queue_free name set a) k.targets;
       queues = omega (arith, length_without itself name set.queues, k.queues);
       default = k.default;
       policies = k.policies;
@@ -448,14 +428,19 @@ sound_queue_deletion name set a k =
       queue_order = sorted_without itself name set.queues k.queue_order;
     }
 
-pub sound_applied : (control : Control) (set : RuleSet) → IsAllowed control set → IsSound set → IsSound (applied control set)
-sound_applied (bus_created name) set a k = sound_creation name set a k
-sound_applied (bus_deleted name) set a k = sound_bus_deletion name set a k
-sound_applied (rule_put bus name pattern enabled) set a k = sound_rule bus name pattern enabled set a k
-sound_applied (rule_deleted bus name) set a k = sound_deletion bus name set k
-sound_applied (state_put bus name enabled) set a k = sound_state bus name enabled set k
-sound_applied (targets_put bus rule targets) set a k = sound_targets bus rule targets set a k
-sound_applied (targets_removed bus rule ids) set a k = sound_removal bus rule ids set k
-sound_applied (policy_put bus policy) set a k = sound_policy bus policy set a k
-sound_applied (queue_created name) set a k = sound_queue name set a k
-sound_applied (queue_deleted name) set a k = sound_queue_deletion name set a k
+-- a policy that is put is one as it is stored
+abbrev pub HasStored : Control → Type 0
+HasStored (policy_put bus policy) = IsNoneOrStored policy
+HasStored _ = Unit {0}
+
+pub sound_applied : (control : Control) (set : RuleSet) → IsAllowed control set → HasStored control → IsSound set → IsSound (applied control set)
+sound_applied (bus_created name) set a spelled k = sound_creation name set a k
+sound_applied (bus_deleted name) set a spelled k = sound_bus_deletion name set a k
+sound_applied (rule_put bus name pattern enabled) set a spelled k = sound_rule bus name pattern enabled set a k
+sound_applied (rule_deleted bus name) set a spelled k = sound_deletion bus name set k
+sound_applied (state_put bus name enabled) set a spelled k = sound_state bus name enabled set k
+sound_applied (targets_put bus rule targets) set a spelled k = sound_targets bus rule targets set a k
+sound_applied (targets_removed bus rule ids) set a spelled k = sound_removal bus rule ids set k
+sound_applied (policy_put bus policy) set a spelled k = sound_policy bus policy set spelled k
+sound_applied (queue_created name) set a spelled k = sound_queue name set a k
+sound_applied (queue_deleted name) set a spelled k = sound_queue_deletion name set a k

@@ -1,19 +1,17 @@
 -- Targets as a rule stores them: those of a rule (`rows_made`, `rows_again`, `is_stored`), one that is put or removed (`target_put`,
--- `target_removed`), and the number of targets (`length_stored`, `at_most`); whether one of them names a queue (`any_stored`).
-use Rattle.std.proofs.Common.{◌≡◌, ◌<◌, ◌≤◌, ◌||◌, ◌&&◌, if◌then◌else◌, inl, inr, ℕ, Bool, true, false, List, [], ◌∷◌, length, map, Option, Some, None}
-use Rattle.std.proofs.Common.{is_some, refl, sym, ap, ◌∙◌, subst}
-use Rattle.std.specs.Prelude.{◌↔◌, All, IsTrue, unwrap_or}
-use Rattle.std.specs.List.{list_any}
-use Rattle.std.proofs.lemmas.Bool.{false≢true}
+-- `target_removed`), and the number of targets (`length_stored`, `above`, `from_full`); whether one of them names a queue (`any_stored`).
+use Rattle.std.proofs.Common.{◌≡◌, ◌≤◌, ◌+◌, ◌||◌, if◌then◌else◌, ℕ, false, not, inl, inr, List, [], ◌∷◌, length, map, Option, Some, None, is_some, refl, sym, ap, ◌∙◌, subst, arith}
+use Rattle.std.specs.Prelude.{All, nat_le, nat_lt}
+use Rattle.std.proofs.lemmas.Bool.{false_from_ne_true, le-leb, leb-true}
 use Rattle.std.proofs.lemmas.Bool.Decides.{leb_tells}
+use Rattle.std.specs.List.{list_any}
 use Rattle.std.proofs.lemmas.List.Elements.{All-head, All-tail, All-cons, All-nil}
 use Rattle.name_rows.specs.Rows.{placed, replacing, without}
-use Rattle.config_changes.specs.declared.control.Target.{Target}
-use Rattle.config_changes.specs.declared.control.RetryPolicy.{RetryPolicy}
-use Rattle.config_changes.specs.Retry.{are_attempts_valid, is_age_valid, is_retry_valid}
+use Rattle.rule_targets.specs.declared.target.Target.{Target}
+use Rattle.rule_targets.specs.declared.target.RetryPolicy.{RetryPolicy}
 use Rattle.rule_table.specs.RuleSet.{Rule, put_target, is_used_by_target}
 use Rattle.rule_table.specs.Target.{StoredTarget, stored_of, target_of, IsStoredOf}
-use Rattle.config_changes.specs.Retry.{attempts_of, age_of}
+use Rattle.rule_targets.specs.Retry.{attempts_of, age_of}
 use Rattle.rule_table.proofs.RowLemmas.{map_placed, map_without, length_names}
 
 abbrev pub row_id : StoredTarget → List ℕ
@@ -48,48 +46,23 @@ rows_again rule (row ∷ rows) all =
 pub is_stored : (rule : Rule) (target : Target) (stored : StoredTarget) → stored ≡ stored_of rule target → IsStoredOf rule stored
 is_stored rule target stored is = subst (IsStoredOf rule) (sym is) (stored_again rule target)
 
--- ---- a target that may be stored is shown as it was put
-
-given_back : (n : Option ℕ) (default : ℕ) → is_some n ≡ true → Some (unwrap_or n default) ≡ n
-given_back None default never = absurd (false≢true never)
-given_back (Some n) default there = refl
-
-attempts_given : (n : Option ℕ) → are_attempts_valid n ≡ true → is_some n ≡ true
-attempts_given None never = never
-attempts_given (Some n) valid = refl
-
-age_given : (n : Option ℕ) → is_age_valid n ≡ true → is_some n ≡ true
-age_given None never = never
-age_given (Some n) valid = refl
-
-both_true : (a b : Bool) → (a && b) ≡ true → (a ≡ true) × (b ≡ true)
-both_true true b e = (refl, e)
-both_true false b e = absurd (false≢true e)
+-- ---- a target is shown as it was put
 
 -- the retry policy that a target has once it is stored
 abbrev kept_of : Option RetryPolicy → Option RetryPolicy
-kept_of retry = if is_some retry then Some (record { attempts = Some (attempts_of retry); age = Some (age_of retry) }) else None
+kept_of retry = if is_some retry then Some (record { attempts = attempts_of retry; age = age_of retry }) else None
 
-retry_back : (retry : Option RetryPolicy) → is_retry_valid retry ≡ true → kept_of retry ≡ retry
-retry_back None valid = refl
-retry_back (Some policy) valid =
-    let both = both_true (are_attempts_valid policy.attempts) (is_age_valid policy.age) valid in
-    let attempts : Some (unwrap_or policy.attempts 185) ≡ policy.attempts = given_back policy.attempts 185 (attempts_given policy.attempts both.0) in
-    let age : Some (unwrap_or policy.age 86400) ≡ policy.age = given_back policy.age 86400 (age_given policy.age both.1) in
-    let made : Option ℕ → Option ℕ → Option RetryPolicy = λ n m. Some (record { attempts = n; age = m }) in
-    ap (λ n. made n (Some (unwrap_or policy.age 86400))) attempts ∙ ap (made policy.attempts) age
+retry_back : (retry : Option RetryPolicy) → kept_of retry ≡ retry
+retry_back None = refl
+retry_back (Some policy) = refl
 
-pub target_back : (rule : Rule) (target : Target) → target.unbuilt ≡ None → is_retry_valid target.retry ≡ true
-    → target_of (stored_of rule target) ≡ target
-target_back rule target none valid =
-    ap (λ member. record target { unbuilt = member; retry = kept_of target.retry }) (sym none)
-    ∙ ap (λ retry. record target { retry = retry }) (retry_back target.retry valid)
+pub target_back : (rule : Rule) (target : Target) → target_of (stored_of rule target) ≡ target
+target_back rule target = ap (λ retry. record target { retry = retry }) (retry_back target.retry)
 
-pub target_put : (rule : Rule) (new : Target) (row : StoredTarget) (rows : List StoredTarget) → row ≡ stored_of rule new → new.unbuilt ≡ None
-    → is_retry_valid new.retry ≡ true → map target_of (placed row_id replacing row rows) ≡ put_target new (map target_of rows)
-target_put rule new row rows is none valid =
-    map_placed target_of id_of row rows
-    ∙ ap (λ t. put_target t (map target_of rows)) (ap target_of is ∙ target_back rule new none valid)
+pub target_put : (rule : Rule) (new : Target) (row : StoredTarget) (rows : List StoredTarget) → row ≡ stored_of rule new
+    → map target_of (placed row_id replacing row rows) ≡ put_target new (map target_of rows)
+target_put rule new row rows is =
+    map_placed target_of id_of row rows ∙ ap (λ t. put_target t (map target_of rows)) (ap target_of is ∙ target_back rule new)
 
 pub target_removed : (id : List ℕ) (rows : List StoredTarget) → map target_of (without row_id id rows) ≡ without id_of id (map target_of rows)
 target_removed id rows = map_without target_of id_of id rows
@@ -105,8 +78,21 @@ pub length_stored : (new : Target) (rows : List StoredTarget)
     → length (placed (λ n. n) replacing new.id (map row_id rows)) ≡ length (put_target new (map target_of rows))
 length_stored new rows = ap (λ ids. length (placed (λ n. n) replacing new.id ids)) (names_stored rows) ∙ length_names id_of new (map target_of rows)
 
-pub at_most : (most n : ℕ) → (IsTrue false ↔ (most < n)) → n ≤ most
-at_most most n is = elim (leb_tells n most) [ inl (_, few) ↦ few | inr (_, many) ↦ absurd (false≢true (is.1 many)) ]
+-- more than five targets, and five with one more
+pub above : (n : ℕ) → nat_lt 5 n ≡ not (nat_le n 5)
+above n = elim (leb_tells n 5) [
+  | inl (few, low) ↦ ltb_low n low ∙ ap not (sym few)
+  | inr (many, high) ↦ le-leb 6 n (omega (arith, high)) ∙ ap not (sym many)
+]
+  where
+    ltb_low : (n : ℕ) → n ≤ 5 → nat_lt 5 n ≡ false
+    ltb_low n low = false_from_ne_true _ (λ e. omega (arith, low, leb-true 6 n e))
+
+pub from_full : (n : ℕ) → nat_le 5 n ≡ not (nat_le (n + 1) 5)
+from_full n = elim (leb_tells (n + 1) 5) [
+  | inl (few, low) ↦ false_from_ne_true _ (λ e. omega (arith, low, leb-true 5 n e)) ∙ ap not (sym few)
+  | inr (many, high) ↦ le-leb 5 n (omega (arith, high)) ∙ ap not (sym many)
+]
 
 -- ---- a queue
 

@@ -1,9 +1,9 @@
 -- What a change may alter: the bus that it names, what matching reads of a rule set, and the rules and targets that are there.
 use Rattle.std.specs.Prelude.{ℕ, Bool, List, Option, Some, None, map, is_some}
 use Rattle.name_rows.specs.Rows.{named}
-use Rattle.config_changes.specs.Control.{Control, bus_created, bus_deleted, rule_put, rule_deleted, state_put, targets_put, targets_removed, policy_put}
-use Rattle.config_changes.specs.Control.{queue_created, queue_deleted}
-use Rattle.rule_table.specs.RuleSet.{Rule, RuleSet, rule_at, targets_in}
+use Rattle.rule_table.specs.Control.{Control, bus_created, bus_deleted, rule_put, rule_deleted, state_put, targets_put, targets_removed, policy_put}
+use Rattle.rule_table.specs.Control.{queue_created, queue_deleted}
+use Rattle.rule_table.specs.RuleSet.{Rule, RuleSet, targets_of}
 
 -- The bus that a change names; none for the creation or the deletion of a queue.
 -- Shown by: law other_buses_stay.
@@ -28,12 +28,7 @@ matching_of_rule rule = (rule.name, rule.pattern, rule.enabled)
 abbrev pub matching_of : RuleSet → List (List ℕ × List (List ℕ × List ℕ × Bool))
 matching_of set = map (λ bus. (bus.name, map matching_of_rule bus.rules)) set.buses
 
--- The bus has a rule of this name.
--- Shown by: law only_its_call_removes.
-abbrev pub has_rule : List ℕ → List ℕ → RuleSet → Bool
-has_rule bus name set = is_some (rule_at bus name set)
-
 -- The rule has a target of this id.
 -- Shown by: law only_its_call_removes.
 abbrev pub has_target_of_rule : List ℕ → List ℕ → List ℕ → RuleSet → Bool
-has_target_of_rule bus rule id set = is_some (named (λ target. target.id) id (targets_in (rule_at bus rule set)))
+has_target_of_rule bus rule id set = is_some (named (λ target. target.id) id (targets_of bus rule set))

@@ -1,6 +1,8 @@
+pub mod Control
+pub mod View
 pub mod RuleSet
 pub mod Target
 pub mod Refusal
-pub mod Altered
-pub mod Room
 pub mod WellFormed
+pub mod Sound
+pub mod Altered

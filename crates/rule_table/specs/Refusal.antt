@@ -1,134 +1,129 @@
--- Why a target or a change is refused: its first fault, in the order in which the call reports them.
-use Rattle.std.specs.Prelude.{◌≡◌, ◌<◌, ◌≤◌, ◌⊎◌, ℕ, true, false, List, [], ◌∷◌, length, Option, Some, None}
+-- Why a target or a change is refused: the conditions on it, in the order in which their faults are reported. The limits on buses, rules,
+-- targets and policies are EventBridge quotas; the limit on queues is this project's own.
+use Rattle.std.specs.Prelude.{◌≡◌, ◌⊎◌, ℕ, Bool, true, ◌&&◌, ◌||◌, not, nat_le, nat_lt, is_some, List, [], ◌∷◌, ◌++◌, length, map, Option, Some, None, Result, MatchResult}
+use Rattle.std.specs.Option.{option_map, option_and_then}
 use Rattle.std.specs.Str.{bytes_eq}
-use Rattle.event_shape.specs.Names.{default_bus, IsQueueArn}
-use Rattle.pattern_meaning.specs.Pattern.{Pattern}
-use Rattle.pattern_read.specs.Text.{IsPatternText}
+use Rattle.json_text.specs.Checks.{unless, first_fault}
+use Rattle.event_shape.specs.Names.{default_bus, queue_in}
 use Rattle.api_replies.specs.declared.kind.Kind.TheVariants as kind
-use Rattle.api_replies.specs.declared.member.Member.{Member}
 use Rattle.api_replies.specs.declared.member.Member.TheVariants as member
-use Rattle.config_changes.specs.declared.control.Target.{Target}
-use Rattle.config_changes.specs.declared.control.TargetFault.{TargetFault}
-use Rattle.config_changes.specs.declared.control.TargetFault.TheVariants as target_fault
-use Rattle.config_changes.specs.declared.control.ControlFault.{ControlFault}
-use Rattle.config_changes.specs.declared.control.ControlFault.TheVariants.{ResourceNotFound, AlreadyExists, LimitExceeded, Validation, InUse, HasTargets, DefaultBus, PolicyTooLong}
-use Rattle.config_changes.specs.Control.{Control, bus_created, bus_deleted, rule_put, rule_deleted, state_put, targets_put, targets_removed, policy_put}
-use Rattle.config_changes.specs.Control.{queue_created, queue_deleted}
-use Rattle.config_changes.specs.TargetForm.{IsWellFormedTarget, HasMemberFault}
-use Rattle.rule_table.specs.RuleSet.{Rule, RuleSet, put_target, has_bus, has_queue, is_queue_used, rule_at, rules_of, IsArnThere, IsDeadLetterThere}
-use Rattle.rule_table.specs.RuleSet.{AreRemovable, IsNoneOrStored}
+use Rattle.name_rows.specs.Rows.{named, without}
+use Rattle.rule_targets.specs.declared.target.AskedTarget.{AskedTarget}
+use Rattle.rule_targets.specs.declared.target.Target.{Target}
+use Rattle.rule_targets.specs.Target.{asked_of, put_as}
+use Rattle.rule_targets.specs.Checks.{member_checks}
+use Rattle.rule_table.specs.declared.control.TargetFault.{TargetFault}
+use Rattle.rule_table.specs.declared.control.TargetFault.TheVariants as fault
+use Rattle.rule_table.specs.declared.control.ControlFault.{ControlFault}
+use Rattle.rule_table.specs.declared.control.ControlFault.TheVariants.{ResourceNotFound, AlreadyExists, LimitExceeded, Validation, InUse, HasTargets, DefaultBus}
+use Rattle.rule_table.specs.declared.control.ControlFault.TheVariants.{PolicyTooLong, NoMemory}
+use Rattle.rule_table.specs.Control.{Control, bus_created, bus_deleted, rule_put, rule_deleted, state_put, targets_put, targets_removed, policy_put}
+use Rattle.rule_table.specs.Control.{queue_created, queue_deleted}
+use Rattle.rule_table.specs.RuleSet.{RuleSet, put_target, has_bus, has_rule, has_queue, is_queue_used, rules_of, targets_of, applied}
 
--- the text is the ARN of a queue that does not exist
-abbrev pub IsQueueMissing : RuleSet → List ℕ → Type 0
-IsQueueMissing set arn = (queue : List ℕ) × IsQueueArn arn queue × (has_queue queue set ≡ false)
+-- The name of the queue, if one is named that does not exist.
+-- Shown by: a_target_of_a_missing_queue_is_put.edit.
+abbrev pub missing_in : RuleSet → Option (List ℕ) → Option (List ℕ)
+missing_in set None = None
+missing_in set (Some queue) = unless (has_queue queue set) queue
 
--- the same of the ARN of a dead-letter queue, if one is given
-abbrev pub IsDeadLetterMissing : RuleSet → Option (List ℕ) → Type 0
-IsDeadLetterMissing set None = ⊥
-IsDeadLetterMissing set (Some arn) = IsQueueMissing set arn
-
--- The first fault of a target at a rule with these targets: a member (`HasMemberFault`), a queue that does not exist, a dead-letter queue
--- that does not exist, a sixth target.
+-- The conditions on a target, whatever targets its rule has: those on its members, then its queue and its dead-letter queue exist.
 -- Shown by: table_tests test_rule_table.rt: a_target_has_its_first_fault.
-pub data HasTargetFault (set : RuleSet) (targets : List Target) (target : Target) : TargetFault → Type 0 where
-  -- a member is outside its syntax or its limits, or not supported yet
-  bad_member : (first : Member) → HasMemberFault target first → HasTargetFault set targets target (target_fault.Member first)
-  -- its queue does not exist
-  no_queue : IsWellFormedTarget target → IsQueueMissing set target.arn → HasTargetFault set targets target target_fault.NoQueue
-  -- its dead-letter queue does not exist
-  no_dead_letter_queue : IsWellFormedTarget target → IsArnThere set target.arn → IsDeadLetterMissing set target.dead_letter
-      → HasTargetFault set targets target target_fault.NoDeadLetterQueue
-  -- with it the rule would have more than five
-  sixth : IsWellFormedTarget target → IsArnThere set target.arn → IsDeadLetterThere set target.dead_letter → 5 < length (put_target target targets)
-      → HasTargetFault set targets target target_fault.Sixth
+abbrev pub own_checks : RuleSet → AskedTarget → List (Option TargetFault)
+own_checks set target =
+    map (option_map fault.Member) (member_checks target)
+    ++ option_map fault.NoQueue (missing_in set (queue_in target.arn))
+    ∷ option_map fault.NoDeadLetterQueue (missing_in set (option_and_then queue_in target.dead_letter))
+    ∷ []
 
--- A target of a list has a fault once those before it are put.
+-- The conditions on a target that is put to a rule with these targets: its own, then the rule has at most five targets with it.
+-- Shown by: a_replaced_target_is_a_sixth.edit; table_tests test_rule_table.rt: a_target_has_its_first_fault.
+abbrev pub target_checks : RuleSet → List Target → AskedTarget → List (Option TargetFault)
+target_checks set targets target = own_checks set target ++ unless (nat_le (length (put_target (put_as target) targets)) 5) fault.Sixth ∷ []
+
+-- The first fault of a target that is put to a rule with these targets.
+-- Shown by: table_tests test_rule_table.rt: a_target_has_its_first_fault.
+abbrev pub target_fault : RuleSet → List Target → AskedTarget → Option TargetFault
+target_fault set targets target = first_fault (target_checks set targets target)
+
+-- Each target of a list has no fault once those before it are put.
 -- Shown by: table_tests test_rule_table.rt: each_change_is_made_or_refused.
-abbrev pub HasFaultyTarget : RuleSet → List Target → List Target → Type 0
-HasFaultyTarget set [] targets = ⊥
-HasFaultyTarget set (new ∷ news) targets =
-    ((fault : TargetFault) × HasTargetFault set targets new fault) ⊎ HasFaultyTarget set news (put_target new targets)
+abbrev pub are_put : RuleSet → List Target → List Target → Bool
+are_put set [] targets = true
+are_put set (new ∷ news) targets = not (is_some (target_fault set targets (asked_of new))) && are_put set news (put_target new targets)
 
--- the first refusal of the change that puts a rule
-pub data IsRuleRefused (bus name pattern : List ℕ) (set : RuleSet) : ControlFault → Type 0 where
-  no_pattern : ((p : Pattern) → ¬ IsPatternText pattern p) → IsRuleRefused bus name pattern set (Validation member.EventPattern)
-  rule_without_bus : (p : Pattern) → IsPatternText pattern p → has_bus bus set ≡ false → IsRuleRefused bus name pattern set (ResourceNotFound kind.EventBus)
-  -- a new rule, and the bus has 300
-  rule_limit : (p : Pattern) → IsPatternText pattern p → has_bus bus set ≡ true → rule_at bus name set ≡ None → 300 ≤ length (rules_of bus set)
-      → IsRuleRefused bus name pattern set (LimitExceeded kind.Rule)
+-- There is at least one target, and each has no fault once those before it are put.
+-- Shown by: table_tests test_rule_table.rt: each_change_is_made_or_refused.
+abbrev pub are_some_put : RuleSet → List Target → List Target → Bool
+are_some_put set news targets = nat_le 1 (length news) && are_put set news targets
 
--- no rule: its bus does not exist, or has no rule of this name
-pub data HasNoRule (bus name : List ℕ) (set : RuleSet) : ControlFault → Type 0 where
-  no_such_bus : has_bus bus set ≡ false → HasNoRule bus name set (ResourceNotFound kind.EventBus)
-  no_such_rule : has_bus bus set ≡ true → rule_at bus name set ≡ None → HasNoRule bus name set (ResourceNotFound kind.Rule)
+-- Each of the ids is that of a target, and none comes twice.
+-- Shown by: table_tests test_rule_table.rt: each_removal_is_made_or_refused.
+abbrev pub are_removable : List (List ℕ) → List Target → Bool
+are_removable [] targets = true
+are_removable (id ∷ ids) targets =
+    is_some (named (λ target. target.id) id targets) && are_removable ids (without (λ target. target.id) id targets)
 
--- the first refusal of the change that puts targets; a PutTargets decides target by target before it makes the change
-pub data AreTargetsRefused (bus rule : List ℕ) (targets : List Target) (set : RuleSet) : ControlFault → Type 0 where
-  no_rule_to_put_to : (fault : ControlFault) → HasNoRule bus rule set fault → AreTargetsRefused bus rule targets set fault
-  faulty_targets : (r : Rule) → rule_at bus rule set ≡ Some r → (targets ≡ []) ⊎ HasFaultyTarget set targets r.targets
-      → AreTargetsRefused bus rule targets set (Validation member.Targets)
+-- There is at least one id, and each is that of a target, once.
+-- Shown by: table_tests test_rule_table.rt: each_removal_is_made_or_refused.
+abbrev pub are_some_removable : List (List ℕ) → List Target → Bool
+are_some_removable ids targets = nat_le 1 (length ids) && are_removable ids targets
 
--- the first refusal of the change that creates a queue
-pub data IsQueueRefused (name : List ℕ) (set : RuleSet) : ControlFault → Type 0 where
-  queue_exists : has_queue name set ≡ true → IsQueueRefused name set (AlreadyExists kind.Queue)
-  queue_limit : has_queue name set ≡ false → 1000 ≤ length set.queues → IsQueueRefused name set (LimitExceeded kind.Queue)
+-- The policy, if there is one, has at most 10,240 bytes as it is stored.
+-- Shown by: table_tests test_rule_table.rt: a_policy_has_at_most_10240_bytes.
+abbrev pub is_short : Option (List ℕ) → Bool
+is_short None = true
+is_short (Some policy) = nat_le (length policy) 10240
 
--- the first refusal of the change that deletes a queue
-pub data IsQueueDeletionRefused (name : List ℕ) (set : RuleSet) : ControlFault → Type 0 where
-  no_queue_to_delete : has_queue name set ≡ false → IsQueueDeletionRefused name set (ResourceNotFound kind.Queue)
-  queue_in_use : has_queue name set ≡ true → is_queue_used name set ≡ true → IsQueueDeletionRefused name set (InUse kind.Queue)
+-- the bus exists
+abbrev pub bus_check : List ℕ → RuleSet → Option ControlFault
+bus_check bus set = unless (has_bus bus set) (ResourceNotFound kind.EventBus)
 
--- the first refusal of the change that creates a bus
-pub data IsBusRefused (name : List ℕ) (set : RuleSet) : ControlFault → Type 0 where
-  bus_exists : has_bus name set ≡ true → IsBusRefused name set (AlreadyExists kind.EventBus)
-  bus_limit : has_bus name set ≡ false → 100 ≤ length set.buses → IsBusRefused name set (LimitExceeded kind.EventBus)
+-- the bus exists, and has the rule
+abbrev pub rule_checks : List ℕ → List ℕ → RuleSet → List (Option ControlFault)
+rule_checks bus name set = bus_check bus set ∷ unless (has_rule bus name set) (ResourceNotFound kind.Rule) ∷ []
 
--- the first refusal of the change that deletes a bus
-pub data IsBusDeletionRefused (name : List ℕ) (set : RuleSet) : ControlFault → Type 0 where
-  default_stays : bytes_eq name default_bus ≡ true → IsBusDeletionRefused name set DefaultBus
-  no_bus_to_delete : bytes_eq name default_bus ≡ false → has_bus name set ≡ false → IsBusDeletionRefused name set (ResourceNotFound kind.EventBus)
-  bus_in_use : bytes_eq name default_bus ≡ false → has_bus name set ≡ true → ¬ (rules_of name set ≡ []) → IsBusDeletionRefused name set (InUse kind.EventBus)
-
--- the first refusal of the change that deletes a rule; a DeleteRule of a rule that is not there makes no change
-pub data IsRuleDeletionRefused (bus name : List ℕ) (set : RuleSet) : ControlFault → Type 0 where
-  no_rule_to_delete : (fault : ControlFault) → HasNoRule bus name set fault → IsRuleDeletionRefused bus name set fault
-  rule_has_targets : (r : Rule) → rule_at bus name set ≡ Some r → ¬ (r.targets ≡ []) → IsRuleDeletionRefused bus name set HasTargets
-
--- the first refusal of the change that removes targets; a RemoveTargets decides id by id before it makes the change
-pub data AreRemovalsRefused (bus rule : List ℕ) (ids : List (List ℕ)) (set : RuleSet) : ControlFault → Type 0 where
-  no_rule_to_remove_from : (fault : ControlFault) → HasNoRule bus rule set fault → AreRemovalsRefused bus rule ids set fault
-  faulty_ids : (r : Rule) → rule_at bus rule set ≡ Some r → (ids ≡ []) ⊎ (¬ AreRemovable ids r.targets)
-      → AreRemovalsRefused bus rule ids set (Validation member.Ids)
-
--- the policy's text has more than 10,240 bytes; such a text is not read
-abbrev pub IsTooLong : Option (List ℕ) → Type 0
-IsTooLong None = ⊥
-IsTooLong (Some t) = 10240 < length t
-
--- the first refusal of the change that puts a policy or takes it away; a PutPermission looks for the bus before it refuses a policy that is
--- too long
-pub data IsPolicyRefused (bus : List ℕ) (policy : Option (List ℕ)) (set : RuleSet) : ControlFault → Type 0 where
-  no_policy : ¬ IsTooLong policy → ¬ IsNoneOrStored policy → IsPolicyRefused bus policy set (Validation member.Policy)
-  policy_without_bus : IsNoneOrStored policy ⊎ IsTooLong policy → has_bus bus set ≡ false
-      → IsPolicyRefused bus policy set (ResourceNotFound kind.EventBus)
-  policy_too_long : IsTooLong policy → has_bus bus set ≡ true → IsPolicyRefused bus policy set PolicyTooLong
-
--- The first refusal of a change. A bus that is created: it exists, there are 100. A bus that is deleted: it is `default`, no such bus, it
--- has a rule. A rule: its text is no pattern, no such bus, a new rule and the bus has 300. A rule that is deleted: no such bus, no such
--- rule, it has targets. A state: no such bus, no such rule. Targets: no such bus, no such rule, no target or a faulty one. Targets that are
--- removed: no such bus, no such rule, no id, or one that is no target's or comes twice. A policy: a text of at most 10,240 bytes that is
--- not as it is stored, no such bus, a longer text. A queue that is created: it exists, there are 1,000. A queue that is deleted: no such
--- queue, a target names it.
+-- The conditions on a change, in the order in which their faults are reported. A bus that is created: it does not exist, and there are
+-- fewer than 100. A bus that is deleted: it is not `default`, exists, and has no rule. A rule: its bus exists, and it exists or the bus has
+-- fewer than 300. A rule that is deleted: it exists, and has no target. A state: the rule exists. Targets: the rule exists, there is at
+-- least one target, and each has no fault after those before it. Targets that are removed: the rule exists, there is at least one id, and
+-- each is that of a target, once. A policy: its bus exists, and it has at most 10,240 bytes. A queue that is created: it does not exist,
+-- and there are fewer than 1,000. A queue that is deleted: it exists, and no target names it.
 -- Shown by: table_tests test_rule_table.rt: each_removal_is_made_or_refused, each_bus_is_made_or_refused, each_policy_is_put_or_refused,
 -- a_queue_in_use_stays.
-abbrev pub IsRefused : Control → RuleSet → ControlFault → Type 0
-IsRefused (bus_created name) set fault = IsBusRefused name set fault
-IsRefused (bus_deleted name) set fault = IsBusDeletionRefused name set fault
-IsRefused (rule_deleted bus name) set fault = IsRuleDeletionRefused bus name set fault
-IsRefused (state_put bus name enabled) set fault = HasNoRule bus name set fault
-IsRefused (targets_removed bus rule ids) set fault = AreRemovalsRefused bus rule ids set fault
-IsRefused (policy_put bus policy) set fault = IsPolicyRefused bus policy set fault
-IsRefused (rule_put bus name pattern enabled) set fault = IsRuleRefused bus name pattern set fault
-IsRefused (targets_put bus rule targets) set fault = AreTargetsRefused bus rule targets set fault
-IsRefused (queue_created name) set fault = IsQueueRefused name set fault
-IsRefused (queue_deleted name) set fault = IsQueueDeletionRefused name set fault
+abbrev pub checks : Control → RuleSet → List (Option ControlFault)
+checks (bus_created name) set =
+    unless (not (has_bus name set)) (AlreadyExists kind.EventBus) ∷ unless (nat_lt (length set.buses) 100) (LimitExceeded kind.EventBus) ∷ []
+checks (bus_deleted name) set =
+    unless (not (bytes_eq name default_bus)) DefaultBus ∷ bus_check name set ∷ unless (nat_le (length (rules_of name set)) 0) (InUse kind.EventBus) ∷ []
+checks (rule_put bus name pattern enabled) set =
+    bus_check bus set ∷ unless (has_rule bus name set || nat_lt (length (rules_of bus set)) 300) (LimitExceeded kind.Rule) ∷ []
+checks (rule_deleted bus name) set = rule_checks bus name set ++ unless (nat_le (length (targets_of bus name set)) 0) HasTargets ∷ []
+checks (state_put bus name enabled) set = rule_checks bus name set
+checks (targets_put bus rule targets) set =
+    rule_checks bus rule set ++ unless (are_some_put set targets (targets_of bus rule set)) (Validation member.Targets) ∷ []
+checks (targets_removed bus rule ids) set =
+    rule_checks bus rule set ++ unless (are_some_removable ids (targets_of bus rule set)) (Validation member.Ids) ∷ []
+checks (policy_put bus policy) set = bus_check bus set ∷ unless (is_short policy) PolicyTooLong ∷ []
+checks (queue_created name) set =
+    unless (not (has_queue name set)) (AlreadyExists kind.Queue) ∷ unless (nat_lt (length set.queues) 1000) (LimitExceeded kind.Queue) ∷ []
+checks (queue_deleted name) set =
+    unless (has_queue name set) (ResourceNotFound kind.Queue) ∷ unless (not (is_queue_used name set)) (InUse kind.Queue) ∷ []
+
+-- The first refusal of a change.
+-- Shown by: table_tests test_rule_table.rt: each_removal_is_made_or_refused, each_bus_is_made_or_refused, each_policy_is_put_or_refused,
+-- a_queue_in_use_stays.
+abbrev pub refusal : Control → RuleSet → Option ControlFault
+refusal control set = first_fault (checks control set)
+
+-- The change has no refusal.
+-- Shown by: a_bus_with_rules_is_deleted.edit; default_bus_is_deleted.edit; a_queue_in_use_is_deleted.edit.
+abbrev pub IsAllowed : Control → RuleSet → Type 0
+IsAllowed control set = refusal control set ≡ None
+
+-- The answer to a change of a rule set: the rule set after the change, which is allowed, or its first refusal, unless memory is short.
+-- Shown by: table_tests test_rule_table.rt: each_change_is_made_or_refused.
+abbrev pub IsChanged : Control → RuleSet → Result RuleSet ControlFault → Type 0
+IsChanged control old result = MatchResult result
+    (λ set. IsAllowed control old × (set ≡ applied control old))
+    (λ found. (found ≡ NoMemory) ⊎ (refusal control old ≡ Some found))

@@ -1,22 +1,13 @@
--- The rule set: buses with their rules, queues, and the number of changes that made it; what a change does, and which changes are allowed.
--- The data model is that of the Amazon EventBridge API Reference. The limits on buses, rules and targets are EventBridge quotas; the limit
--- on queues is this project's own.
-use Rattle.std.specs.Prelude.{◌≡◌, ℕ, ◌+◌, ◌<◌, ◌≤◌, ◌⊎◌, Bool, true, false, ◌||◌, if◌then◌else◌, List, [], ◌∷◌, length, map, take}
-use Rattle.std.specs.Prelude.{Option, Some, None, All, is_some}
+-- The rule set: buses with their rules, queues, and the number of changes that made it; and what a change does. The data model is that of
+-- the Amazon EventBridge API Reference.
+use Rattle.std.specs.Prelude.{ℕ, ◌+◌, Bool, false, ◌||◌, if◌then◌else◌, List, [], ◌∷◌, map, take, Option, Some, None, is_some}
 use Rattle.std.specs.List.{list_any}
 use Rattle.std.specs.Str.{bytes_eq}
-use Rattle.event_shape.specs.Names.{default_bus, IsShortName, IsQueueArn, rule_arn, queue_arn}
-use Rattle.http_target.specs.Endpoint.{is_endpoint}
-use Rattle.name_rows.specs.Rows.{AreSorted, named, placed, replacing, without}
-use Rattle.pattern_meaning.specs.Pattern.{Pattern}
-use Rattle.pattern_read.specs.Text.{IsPatternText}
-use Rattle.json_text.specs.Tree.{Tree}
-use Rattle.json_text.specs.Compact.{compact_text}
-use Rattle.bus_policy.specs.Text.{IsPolicyText}
-use Rattle.config_changes.specs.declared.control.Target.{Target}
-use Rattle.config_changes.specs.Retry.{is_retry_valid}
-use Rattle.config_changes.specs.Control.{Control, bus_created, bus_deleted, rule_put, rule_deleted, state_put, targets_put, targets_removed, policy_put}
-use Rattle.config_changes.specs.Control.{queue_created, queue_deleted}
+use Rattle.event_shape.specs.Names.{default_bus, rule_arn, queue_arn}
+use Rattle.name_rows.specs.Rows.{named, placed, replacing, without}
+use Rattle.rule_targets.specs.declared.target.Target.{Target}
+use Rattle.rule_table.specs.Control.{Control, bus_created, bus_deleted, rule_put, rule_deleted, state_put, targets_put, targets_removed, policy_put}
+use Rattle.rule_table.specs.Control.{queue_created, queue_deleted}
 
 -- A rule: its ARN, its name, its pattern's text, whether it is enabled, and its targets in the byte order of their ids.
 -- Shown by: table_tests test_rule_table.rt: each_change_is_made_or_refused.
@@ -122,6 +113,16 @@ abbrev pub targets_in : Option Rule → List Target
 targets_in None = []
 targets_in (Some rule) = rule.targets
 
+-- The bus has a rule of this name.
+-- Shown by: law only_its_call_removes.
+abbrev pub has_rule : List ℕ → List ℕ → RuleSet → Bool
+has_rule bus name set = is_some (rule_at bus name set)
+
+-- The targets of the rule of this name on the bus, none if there is no such rule.
+-- Shown by: table_tests test_rule_table.rt: a_set_shows_its_queues, a_bus_shows_its_rule.
+abbrev pub targets_of : List ℕ → List ℕ → RuleSet → List Target
+targets_of bus name set = targets_in (rule_at bus name set)
+
 -- The bus exists.
 -- Shown by: table_tests test_rule_table.rt: a_set_shows_its_queues, a_bus_shows_its_rule.
 abbrev pub has_bus : List ℕ → RuleSet → Bool
@@ -200,114 +201,3 @@ applied_all (control ∷ controls) set = applied_all controls (applied control s
 -- Shown by: table_tests test_rule_table.rt: each_change_is_made_or_refused.
 abbrev pub rule_set_at : ℕ → List Control → RuleSet
 rule_set_at k controls = applied_all (take k controls) first_set
-
--- The text is the ARN of a queue that exists.
--- Shown by: a_target_of_a_missing_queue_is_put.edit.
-abbrev pub IsQueueThere : RuleSet → List ℕ → Type 0
-IsQueueThere set arn = (queue : List ℕ) × IsQueueArn arn queue × (has_queue queue set ≡ true)
-
--- The text is the ARN of a queue that exists, or an endpoint that is no queue's ARN.
--- Shown by: a_target_of_a_missing_queue_is_put.edit.
-abbrev pub IsArnThere : RuleSet → List ℕ → Type 0
-IsArnThere set arn = IsQueueThere set arn ⊎ (((queue : List ℕ) → ¬ IsQueueArn arn queue) × (is_endpoint arn ≡ true))
-
--- A target has no dead-letter queue, or that queue exists.
--- Shown by: target-members.
-abbrev pub IsDeadLetterThere : RuleSet → Option (List ℕ) → Type 0
-IsDeadLetterThere set None = Unit {0}
-IsDeadLetterThere set (Some arn) = IsQueueThere set arn
-
--- The target may be stored: its queue exists or it has an endpoint, it has no member that is not supported yet, its retry policy is valid,
--- and its dead-letter queue exists.
--- Shown by: target-members.
-pub record IsSoundTarget (set : RuleSet) (target : Target) : Type 0 where
-  pub arn : IsArnThere set target.arn
-  pub supported : target.unbuilt ≡ None
-  pub retry : is_retry_valid target.retry ≡ true
-  pub dead_letter : IsDeadLetterThere set target.dead_letter
-
--- A target is accepted at a rule with these targets: its id has the syntax `IsShortName`, it may be stored (`IsSoundTarget`), and the rule
--- has at most five targets with it.
--- Shown by: a_replaced_target_is_a_sixth.edit.
-pub record IsGoodTarget (set : RuleSet) (targets : List Target) (target : Target) : Type 0 where
-  pub id : IsShortName target.id
-  pub sound : IsSoundTarget set target
-  pub few : length (put_target target targets) ≤ 5
-
--- Each target of a list is accepted once those before it are put.
--- Shown by: table_tests test_rule_table.rt: each_change_is_made_or_refused.
-abbrev pub AreGoodTargets : RuleSet → List Target → List Target → Type 0
-AreGoodTargets set [] targets = Unit {0}
-AreGoodTargets set (new ∷ news) targets = IsGoodTarget set targets new × AreGoodTargets set news (put_target new targets)
-
--- The text is that of a policy as it is stored: a policy that is read from it has this text. A text without `Version`, or with white space
--- between its parts, is not.
--- Shown by: table_tests test_rule_table.rt: each_policy_is_put_or_refused.
-abbrev pub IsStoredPolicy : List ℕ → Type 0
-IsStoredPolicy t = (policy : Tree) × IsPolicyText t policy × (t ≡ compact_text policy)
-
--- there is no policy, or its text is that of a policy as it is stored
-abbrev pub IsNoneOrStored : Option (List ℕ) → Type 0
-IsNoneOrStored None = Unit {0}
-IsNoneOrStored (Some t) = IsStoredPolicy t
-
--- there is a rule, and the fact holds of it
-abbrev pub ForRule : Option Rule → (Rule → Type 0) → Type 0
-ForRule None fact = ⊥
-ForRule (Some rule) fact = fact rule
-
--- each of the ids is that of a target, and none comes twice
-abbrev pub AreRemovable : List (List ℕ) → List Target → Type 0
-AreRemovable [] targets = Unit {0}
-AreRemovable (id ∷ ids) targets =
-    (is_some (named (λ target. target.id) id targets) ≡ true) × AreRemovable ids (without (λ target. target.id) id targets)
-
--- A change is allowed. A bus that is created: it does not exist, and there are fewer than 100. A bus that is deleted: it exists, is not
--- `default`, and has no rule. A rule: its text is a pattern, its bus exists, and it exists or the bus has fewer than 300. A rule that is
--- deleted: it exists and has no target. A state: the rule exists. Targets: the rule exists, there is at least one target, and each is
--- accepted after those before it (`IsGoodTarget`). Targets that are removed: the rule exists, there is at least one id, and each is that of
--- a target, once. A policy: its bus exists, and its text is as it is stored, or the policy is taken away. A queue that is created: it does
--- not exist, and there are fewer than 1,000. A queue that is deleted: it exists, and no target names it (`is_queue_used`). 100 buses, 300
--- rules and five targets are EventBridge quotas; 1,000 queues are this project's own limit.
--- Shown by: a_bus_with_rules_is_deleted.edit; default_bus_is_deleted.edit; a_queue_in_use_is_deleted.edit.
-abbrev pub IsAllowed : Control → RuleSet → Type 0
-IsAllowed (bus_created name) set = (has_bus name set ≡ false) × (length set.buses < 100)
-IsAllowed (bus_deleted name) set = (bytes_eq name default_bus ≡ false) × (has_bus name set ≡ true) × (rules_of name set ≡ [])
-IsAllowed (rule_deleted bus name) set = ForRule (rule_at bus name set) (λ r. r.targets ≡ [])
-IsAllowed (state_put bus name enabled) set = ForRule (rule_at bus name set) (λ r. Unit {0})
-IsAllowed (targets_removed bus rule ids) set = ForRule (rule_at bus rule set) (λ r. (1 ≤ length ids) × AreRemovable ids r.targets)
-IsAllowed (policy_put bus policy) set = IsNoneOrStored policy × (has_bus bus set ≡ true)
-IsAllowed (rule_put bus name pattern enabled) set =
-    ((p : Pattern) × IsPatternText pattern p) × (has_bus bus set ≡ true)
-    × ((is_some (rule_at bus name set) ≡ true) ⊎ (length (rules_of bus set) < 300))
-IsAllowed (targets_put bus rule targets) set =
-    ForRule (rule_at bus rule set) (λ r. (1 ≤ length targets) × AreGoodTargets set targets r.targets)
-IsAllowed (queue_created name) set = (has_queue name set ≡ false) × (length set.queues < 1000)
-IsAllowed (queue_deleted name) set = (has_queue name set ≡ true) × (is_queue_used name set ≡ false)
-
--- the rule has at most five targets, each of which may be stored
-abbrev pub HasSoundTargets : RuleSet → Rule → Type 0
-HasSoundTargets set rule = (length rule.targets ≤ 5) × All (IsSoundTarget set) rule.targets
-
--- The rule's ARN names the rule and this bus.
--- Shown by: table_tests test_rule_table.rt: a_rule_shows_its_target.
-abbrev pub HasItsArn : List ℕ → Rule → Type 0
-HasItsArn bus rule = rule.arn ≡ rule_arn bus rule.name
-
--- What holds of every rule set that allowed changes made from the first one. There are at most 100 buses, one of which is `default`; each
--- bus has at most 300 rules, each rule at most five targets, each of which is sound (`IsSoundTarget`); and there are at most 1,000 queues.
--- Each rule has the ARN that names it and its bus. Each policy is as it is stored. Buses, rules, targets and queues are in the byte order
--- of their names, which are distinct.
--- Shown by: targets.
-pub record IsSound (set : RuleSet) : Type 0 where
-  pub buses : length set.buses ≤ 100
-  pub rules : All (λ bus. length bus.rules ≤ 300) set.buses
-  pub arns : All (λ bus. All (HasItsArn bus.name) bus.rules) set.buses
-  pub targets : All (λ bus. All (HasSoundTargets set) bus.rules) set.buses
-  pub queues : length set.queues ≤ 1000
-  pub default : has_bus default_bus set ≡ true
-  pub policies : All (λ bus. IsNoneOrStored bus.policy) set.buses
-  pub bus_order : AreSorted (λ bus. bus.name) set.buses
-  pub rule_order : All (λ bus. AreSorted (λ rule. rule.name) bus.rules) set.buses
-  pub target_order : All (λ bus. All (λ rule. AreSorted (λ target. target.id) rule.targets) bus.rules) set.buses
-  pub queue_order : AreSorted (λ queue. queue) set.queues

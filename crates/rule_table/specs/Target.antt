@@ -1,9 +1,9 @@
 -- What a rule stores of its targets, and what matching and delivery need of them: a row for each target.
 use Rattle.std.specs.Prelude.{◌≡◌, Bool, if◌then◌else◌, List, [], map, Option, Some, None, is_some}
 use Rattle.shared_text.specs.declared.row.TargetRow.{TargetRow}
-use Rattle.config_changes.specs.declared.control.Target.{Target}
-use Rattle.config_changes.specs.declared.control.RetryPolicy.{RetryPolicy}
-use Rattle.config_changes.specs.Retry.{attempts_of, age_of}
+use Rattle.rule_targets.specs.declared.target.Target.{Target}
+use Rattle.rule_targets.specs.declared.target.RetryPolicy.{RetryPolicy}
+use Rattle.rule_targets.specs.Retry.{attempts_of, age_of}
 use Rattle.rule_table.specs.RuleSet.{Rule}
 
 -- A target as a rule stores it: its row, and whether it was put with a retry policy.
@@ -31,19 +31,18 @@ row_of rule target = record {
 abbrev pub stored_of : Rule → Target → StoredTarget
 stored_of rule target = record { row = row_of rule target; has_retry_policy = is_some target.retry }
 
--- The retry policy that a stored target was put with, with both numbers; none if it was put without one.
+-- The retry policy that a stored target was put with; none if it was put without one.
 -- Shown by: table_tests test_rule_table.rt: a_target_shows_its_retries.
 abbrev pub retry_of : StoredTarget → Option RetryPolicy
 retry_of stored =
-    if stored.has_retry_policy then Some (record { attempts = Some stored.row.attempts; age = Some stored.row.age }) else None
+    if stored.has_retry_policy then Some (record { attempts = stored.row.attempts; age = stored.row.age }) else None
 
--- The target that is stored so, as a request puts it: with a retry policy, of both numbers, only if it was put with one.
+-- The target that is stored so: with a retry policy only if it was put with one.
 -- Shown by: table_tests test_rule_table.rt: a_target_shows_its_retries.
 abbrev pub target_of : StoredTarget → Target
 target_of stored = record {
   id = stored.row.target_id;
   arn = stored.row.endpoint;
-  unbuilt = None;
   retry = retry_of stored;
   dead_letter = stored.row.dead_letter;
 }

@@ -1,30 +1,54 @@
--- What a change has to be whatever the rule set is: the syntax of its names, its pattern, its policy and its targets. The syntax and the
--- numbers are those of the Amazon EventBridge API Reference.
-use Rattle.std.specs.Prelude.{ℕ, List}
-use Rattle.event_shape.specs.Names.{IsBusName, IsQueueName}
+-- What a change has to be whatever the rule set is: the syntax of its names and its ids, its targets, and what its texts spell. The syntax
+-- and the numbers are those of the Amazon EventBridge API Reference.
+use Rattle.std.specs.Prelude.{◌≡◌, ℕ, Bool, ◌&&◌, IsTrue, List, Option, Some, None}
+use Rattle.json_text.specs.Tree.{Tree}
+use Rattle.json_text.specs.Compact.{compact_text}
+use Rattle.event_shape.specs.Names.{is_bus_name, is_queue_name}
+use Rattle.bus_policy.specs.Text.{IsPolicyText}
 use Rattle.pattern_meaning.specs.Pattern.{Pattern}
 use Rattle.pattern_read.specs.Text.{IsPatternText}
-use Rattle.config_changes.specs.WellFormed.{NamesRule, AreWellFormedTargets, AreWellFormedIds}
-use Rattle.config_changes.specs.Control.{Control, bus_created, bus_deleted, rule_put, rule_deleted, state_put, targets_put, targets_removed, policy_put}
-use Rattle.config_changes.specs.Control.{queue_created, queue_deleted}
-use Rattle.rule_table.specs.RuleSet.{IsNoneOrStored}
+use Rattle.rule_targets.specs.WellFormed.{names_rule, are_targets_formed, are_ids_formed}
+use Rattle.rule_table.specs.Control.{Control, bus_created, bus_deleted, rule_put, rule_deleted, state_put, targets_put, targets_removed, policy_put}
+use Rattle.rule_table.specs.Control.{queue_created, queue_deleted}
+
+-- The names of the change have their syntax, and targets that are put, and ids of targets that are removed, are from 1 to 100 and have no
+-- fault by themselves.
+-- Shown by: table_tests test_rule_table.rt: changes_are_well_formed.
+abbrev pub is_well_formed : Control → Bool
+is_well_formed (bus_created name) = is_bus_name name
+is_well_formed (bus_deleted name) = is_bus_name name
+is_well_formed (rule_put bus name pattern enabled) = names_rule bus name
+is_well_formed (rule_deleted bus name) = names_rule bus name
+is_well_formed (state_put bus name enabled) = names_rule bus name
+is_well_formed (targets_put bus rule targets) = names_rule bus rule && are_targets_formed targets
+is_well_formed (targets_removed bus rule ids) = names_rule bus rule && are_ids_formed ids
+is_well_formed (policy_put bus policy) = is_bus_name bus
+is_well_formed (queue_created name) = is_queue_name name
+is_well_formed (queue_deleted name) = is_queue_name name
 
 -- a pattern's text
 abbrev pub IsSomePattern : List ℕ → Type 0
 IsSomePattern text = (p : Pattern) × IsPatternText text p
 
--- What a change has to be whatever the rule set is: its names have their syntax, its pattern's text is a pattern, and its policy is as it
--- is stored or none. Targets that are put, and ids of targets that are removed, are those of config_changes (`AreWellFormedTargets`,
--- `AreWellFormedIds`).
+-- The text is that of a policy as it is stored: a policy that is read from it has this text. A text without `Version`, or with white space
+-- between its parts, is not.
+-- Shown by: table_tests test_rule_table.rt: each_policy_is_put_or_refused.
+abbrev pub IsStoredPolicy : List ℕ → Type 0
+IsStoredPolicy t = (policy : Tree) × IsPolicyText t policy × (t ≡ compact_text policy)
+
+-- there is no policy, or its text is that of a policy as it is stored
+abbrev pub IsNoneOrStored : Option (List ℕ) → Type 0
+IsNoneOrStored None = Unit {0}
+IsNoneOrStored (Some t) = IsStoredPolicy t
+
+-- The text of a rule's pattern is a pattern, and that of a policy one as it is stored.
+-- Shown by: proofs alone.
+abbrev pub IsSpelled : Control → Type 0
+IsSpelled (rule_put bus name pattern enabled) = IsSomePattern pattern
+IsSpelled (policy_put bus policy) = IsNoneOrStored policy
+IsSpelled _ = Unit {0}
+
+-- What a change has to be whatever the rule set is: it passes `is_well_formed`, and its texts spell what they should (`IsSpelled`).
 -- Shown by: table_tests test_rule_table.rt: changes_are_well_formed.
 abbrev pub IsWellFormed : Control → Type 0
-IsWellFormed (bus_created name) = IsBusName name
-IsWellFormed (bus_deleted name) = IsBusName name
-IsWellFormed (rule_put bus name pattern enabled) = NamesRule bus name × IsSomePattern pattern
-IsWellFormed (rule_deleted bus name) = NamesRule bus name
-IsWellFormed (state_put bus name enabled) = NamesRule bus name
-IsWellFormed (targets_put bus rule targets) = NamesRule bus rule × AreWellFormedTargets targets
-IsWellFormed (targets_removed bus rule ids) = NamesRule bus rule × AreWellFormedIds ids
-IsWellFormed (policy_put bus policy) = IsBusName bus × IsNoneOrStored policy
-IsWellFormed (queue_created name) = IsQueueName name
-IsWellFormed (queue_deleted name) = IsQueueName name
+IsWellFormed control = IsTrue (is_well_formed control) × IsSpelled control

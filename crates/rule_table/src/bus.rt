@@ -1,15 +1,15 @@
 //! Buses, with their rules.
-ghost use Rattle.std.specs.Prelude.{◌≡◌, ◌↔◌, [], None, Some, All, IfOk, IfSome, MatchOption, IsFalse};
+ghost use Rattle.std.specs.Prelude.{◌≡◌, ◌||◌, true, false, None, Some, All, not, nat_le, nat_lt, is_some, length, IfOk, MatchOption};
 ghost use Rattle.std.specs.Option.{option_copied};
 ghost use Rattle.name_rows.specs.Rows.{named, placed, replacing};
 ghost use Rattle.rule_table.specs.RuleSet as spec;
-ghost use Rattle.rule_table.specs.Room.{HasRoom};
+ghost use Rattle.rule_table.specs.Sound.{HasItsArn};
 
 use crate::policy::{SharedPolicy, share_policy};
 use crate::rule::Rule;
 use json_text::{NoMemory, Text};
 use name_rows::{Row, Rows, RowsFrom};
-use pattern_read::PatternText;
+use pattern_read::SharedPattern;
 use std::alloc::Global;
 use std::marker::Model;
 
@@ -75,25 +75,25 @@ impl Bus {
         &self,
         alloc: Global,
         name: &Text,
-        pattern: PatternText,
+        pattern: &SharedPattern,
         enabled: bool,
     ) -> Result<Option<Bus>, NoMemory>
-        requires arns { All (spec.HasItsArn self.now.name) self.now.rules }
-        ensures put { IfOk result (λ found. IfSome found (λ bus. bus ≡ record self.now {
-          rules = spec.put_rule (spec.new_rule self.now.name name.now pattern enabled) self.now.rules;
-        })) }
-        ensures room { IfOk result (λ found. MatchOption found (¬ HasRoom name.now self.now.rules) (λ _. HasRoom name.now self.now.rules)) }
+        requires arns { All (HasItsArn self.now.name) self.now.rules }
+        ensures { IfOk result (λ found. MatchOption found
+            ((is_some (named (λ r. r.name) name.now self.now.rules) || nat_lt (length self.now.rules) 300) ≡ false)
+            (λ bus. ((is_some (named (λ r. r.name) name.now self.now.rules) || nat_lt (length self.now.rules) 300) ≡ true)
+            × (bus ≡ record self.now { rules = spec.put_rule (spec.new_rule self.now.name name.now pattern.now enabled) self.now.rules }))) }
     {
         match self.rules.find(name.as_str()) {
             Some(old) => {
-                let rule = old.with_pattern(alloc, pattern, enabled)?;
+                let rule = old.with_pattern(alloc, pattern.share()?, enabled)?;
                 Ok(Some(self.with(alloc, rule)?))
             }
             None => {
                 if self.rules.reach(MOST_RULES) {
                     return Ok(None);
                 }
-                let rule = Rule::new(alloc, self.name(), name, pattern, enabled)?;
+                let rule = Rule::new(alloc, self.name(), name, pattern.share()?, enabled)?;
                 Ok(Some(self.with(alloc, rule)?))
             }
         }
@@ -101,7 +101,7 @@ impl Bus {
 
     /// Whether the bus has a rule.
     pub(crate) fn has_rules(&self) -> bool
-        ensures { IsFalse result ↔ (self.now.rules ≡ []) }
+        ensures { result ≡ not (nat_le (length self.now.rules) 0) }
     {
         self.rules.reach(1)
     }

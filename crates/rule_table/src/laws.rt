@@ -1,35 +1,12 @@
-//! Laws of targets and changes: there is one reason to refuse, or none; and what a change leaves as it was.
+//! Laws of changes: what a change leaves as it was.
 ghost use Rattle.std.specs.Prelude.{◌≡◌, ◌⊎◌, ℕ, true, false, List, [], Option, Some, Contains};
 ghost use Rattle.name_rows.specs.Rows.{named};
-ghost use Rattle.config_changes.specs.Control.{Control, bus_deleted, rule_deleted, targets_put, targets_removed, policy_put, queue_created, queue_deleted};
-ghost use Rattle.rule_table.specs.RuleSet.{RuleSet, rules_of, has_bus, has_queue, is_queue_used, applied, IsGoodTarget, IsAllowed, IsSound};
-ghost use Rattle.rule_table.specs.Refusal.{HasTargetFault, IsRefused};
-ghost use Rattle.rule_table.specs.Altered.{changed_bus, matching_of, has_rule, has_target_of_rule};
-ghost use Rattle.config_changes.specs.declared.control.Target.{Target};
-ghost use Rattle.config_changes.specs.declared.control.TargetFault.{TargetFault};
-ghost use Rattle.config_changes.specs.declared.control.ControlFault.{ControlFault};
-
-/// A target that is put to a rule is accepted or has exactly one fault.
-pub fn one_target_fault()
-    ensures some { (set : RuleSet) (targets : List Target) (target : Target)
-        → IsGoodTarget set targets target ⊎ ((fault : TargetFault) × HasTargetFault set targets target fault) }
-    ensures one { (set : RuleSet) (targets : List Target) (target : Target) (a b : TargetFault)
-        → HasTargetFault set targets target a → HasTargetFault set targets target b → a ≡ b }
-    ensures none { (set : RuleSet) (targets : List Target) (target : Target) (fault : TargetFault)
-        → HasTargetFault set targets target fault → ¬ IsGoodTarget set targets target }
-{}
-
-/// A change has at most one refusal, and an allowed change has none.
-pub fn one_refusal_of_a_change()
-    ensures one { (control : Control) (set : RuleSet) (a b : ControlFault) → IsRefused control set a → IsRefused control set b → a ≡ b }
-    ensures none { (control : Control) (set : RuleSet) (fault : ControlFault) → IsRefused control set fault → ¬ IsAllowed control set }
-{}
-
-/// A change that has no refusal is allowed. Whether a text is a pattern or a policy is not decided by the definitions, so it is shown that
-/// the change cannot but be allowed.
-pub fn a_change_without_a_refusal_is_allowed()
-    ensures { (control : Control) (set : RuleSet) → ((fault : ControlFault) → ¬ IsRefused control set fault) → ¬ ¬ IsAllowed control set }
-{}
+ghost use Rattle.rule_targets.specs.declared.target.Target.{Target};
+ghost use Rattle.rule_table.specs.Control.{Control, bus_deleted, rule_deleted, targets_put, targets_removed, policy_put, queue_created, queue_deleted};
+ghost use Rattle.rule_table.specs.RuleSet.{RuleSet, rules_of, has_bus, has_rule, has_queue, is_queue_used, applied};
+ghost use Rattle.rule_table.specs.Refusal.{IsAllowed};
+ghost use Rattle.rule_table.specs.Sound.{IsSound};
+ghost use Rattle.rule_table.specs.Altered.{changed_bus, matching_of, has_target_of_rule};
 
 /// A change leaves every bus that it does not name as it was.
 pub fn other_buses_stay()

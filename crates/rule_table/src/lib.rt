@@ -1,7 +1,8 @@
-//! The rule set after a configuration change.
+//! Changes of the configuration, and the rule set after one.
 #![tactic(auto)]
 
 mod bus;
+mod control;
 mod laws;
 mod policy;
 mod rule;
@@ -11,11 +12,9 @@ mod targets;
 mod well_formed;
 
 pub use bus::Bus;
-pub use laws::{
-    a_change_without_a_refusal_is_allowed, matching_stays, one_refusal_of_a_change,
-    one_target_fault, only_its_call_removes, other_buses_stay,
-};
-pub use policy::SharedPolicy;
+pub use control::{Control, ControlFault, TargetFault};
+pub use laws::{matching_stays, only_its_call_removes, other_buses_stay};
+pub use policy::{SharedPolicy, StoredPolicy};
 pub use rule::Rule;
 pub use rule_set::RuleSet;
 pub use rule_target::RuleTarget;

@@ -1,14 +1,12 @@
-//! Policies that rule sets share.
-ghost use Rattle.std.specs.Prelude.{◌≡◌, ◌↔◌, ◌⊎◌, IfOk, IfErr, IsTrue, MatchOption};
+//! Policies that rule sets and changes share.
+ghost use Rattle.std.specs.Prelude.{◌≡◌, true, false, Some, IfOk, MatchOption};
 ghost use Rattle.json_text.specs.Compact.{compact_text};
 ghost use Rattle.bus_policy.specs.Text.{IsPolicyText};
-ghost use Rattle.rule_table.specs.RuleSet.{IsStoredPolicy, IsNoneOrStored};
-ghost use Rattle.rule_table.specs.Refusal.{IsTooLong};
+ghost use Rattle.rule_table.specs.Refusal.{is_short};
+ghost use Rattle.rule_table.specs.WellFormed.{IsNoneOrStored, IsStoredPolicy};
 
-use api_replies::Member;
-use bus_policy::{Policy, PolicyFault};
-use config_changes::ControlFault;
-use json_text::{NoMemory, Text};
+use bus_policy::Policy;
+use json_text::NoMemory;
 use std::alloc::Global;
 use std::marker::Model;
 use std::sync::Arc;
@@ -36,24 +34,6 @@ impl Model for SharedPolicy {
 }
 
 impl SharedPolicy {
-    /// The policy of the text. `None` if the text is not that of a policy as it is stored.
-    pub(crate) fn read(alloc: Global, text: &Text) -> Result<Option<SharedPolicy>, NoMemory>
-        ensures { IfOk result (λ found. MatchOption found (¬ IsStoredPolicy text.now) (λ p. (p ≡ text.now) × IsStoredPolicy text.now)) }
-    {
-        match Policy::read(alloc, text.as_str().as_bytes()) {
-            Ok(policy) => {
-                if policy.text() != text.as_str() {
-                    return Ok(None);
-                }
-                Ok(Some(SharedPolicy {
-                    policy: Arc::new(alloc, policy)?,
-                }))
-            }
-            Err(PolicyFault::Bad { cause: _, place: _ }) => Ok(None),
-            Err(PolicyFault::NoMemory) => Err(NoMemory),
-        }
-    }
-
     /// Another pointer to the same policy. Allocates nothing.
     pub(crate) fn share(&self) -> Result<SharedPolicy, NoMemory>
         ensures { IfOk result (λ p. p ≡ self.now) }
@@ -80,31 +60,73 @@ impl SharedPolicy {
     }
 }
 
-/// Whether the policy's text has more than 10,240 bytes.
-pub(crate) fn is_too_long(policy: &Option<Text>) -> bool
-    ensures { IsTrue result ↔ IsTooLong policy.now }
-{
-    match policy {
-        Some(text) => text.as_str().len() > MOST_BYTES,
-        None => false,
+/// A policy as it is stored, of any length, which several values share. Contracts see its text.
+#[derive(Debug, Drop)]
+pub struct StoredPolicy {
+    policy: Arc<Policy>,
+}
+
+impl Model for StoredPolicy {
+    ghost use Rattle.std.specs.Prelude.{ℕ, List};
+    ghost use Rattle.std.specs.Arc.{arc_value};
+    ghost use Rattle.json_text.specs.Compact.{compact_text};
+
+    ghost Value = { List ℕ };
+
+    ghost view = { λ p. compact_text (arc_value p.policy) };
+}
+
+impl StoredPolicy {
+    pub fn new(alloc: Global, policy: Policy) -> Result<StoredPolicy, NoMemory>
+        ensures { IfOk result (λ p. p ≡ compact_text policy) }
+    {
+        Ok(StoredPolicy {
+            policy: Arc::new(alloc, policy)?,
+        })
+    }
+
+    /// Another pointer to the same policy. Allocates nothing.
+    pub fn share(&self) -> Result<StoredPolicy, NoMemory>
+        ensures { IfOk result (λ p. p ≡ self.now) }
+    {
+        Ok(StoredPolicy {
+            policy: Arc::try_clone(&self.policy)?,
+        })
+    }
+
+    /// Its text. If it is not too long, it is that of a policy as it is stored.
+    pub fn as_str(&self) -> &str
+        ensures text { result.now ≡ self.now }
+        ensures stored { is_short (Some self.now) ≡ true → IsStoredPolicy self.now }
+    {
+        self.policy.text()
+    }
+
+    /// The policy as a bus may have it. `None` if it has more than 10,240 bytes.
+    fn short(&self) -> Result<Option<SharedPolicy>, NoMemory>
+        ensures { IfOk result (λ found. MatchOption found (is_short (Some self.now) ≡ false) (λ p. (p ≡ self.now) × (is_short (Some self.now) ≡ true) × IsNoneOrStored (Some self.now))) }
+    {
+        if self.policy.text().len() > MOST_BYTES {
+            return Ok(None);
+        }
+        Ok(Some(SharedPolicy {
+            policy: Arc::try_clone(&self.policy)?,
+        }))
     }
 }
 
-/// The policy of the text, if there is a text. A text that is not that of a policy as it is stored is refused.
-pub(crate) fn read_policy(
-    alloc: Global,
-    policy: &Option<Text>,
-) -> Result<Option<SharedPolicy>, ControlFault>
-    ensures read { IfOk result (λ p. (p ≡ policy.now) × IsNoneOrStored policy.now) }
-    ensures refused { IfErr result (λ fault. (fault ≡ ControlFault.NoMemory)
-        ⊎ ((fault ≡ ControlFault.Validation Member.Policy) × (¬ IsNoneOrStored policy.now))) }
+/// The policy as a bus may have it, if there is one. `None` if it has more than 10,240 bytes.
+pub(crate) fn short_policy(
+    policy: &Option<StoredPolicy>,
+) -> Result<Option<Option<SharedPolicy>>, NoMemory>
+    ensures { IfOk result (λ found. MatchOption found (is_short policy.now ≡ false) (λ p. (p ≡ policy.now) × (is_short policy.now ≡ true) × IsNoneOrStored policy.now)) }
 {
     match policy {
-        Some(text) => match SharedPolicy::read(alloc, text)? {
-            Some(policy) => Ok(Some(policy)),
-            None => Err(ControlFault::Validation(Member::Policy)),
+        Some(policy) => match policy.short()? {
+            Some(policy) => Ok(Some(Some(policy))),
+            None => Ok(None),
         },
-        None => Ok(None),
+        None => Ok(Some(None)),
     }
 }
 

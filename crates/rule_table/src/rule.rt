@@ -1,47 +1,30 @@
 //! Rules.
-ghost use Rattle.std.specs.Prelude.{◌≡◌, map, All, IfOk, MatchOption};
-ghost use Rattle.pattern_meaning.specs.Pattern.{Pattern as Meaning};
-ghost use Rattle.pattern_read.specs.Text.{IsPatternText};
+ghost use Rattle.std.specs.Prelude.{◌≡◌, map, All, IfOk};
 ghost use Rattle.rule_table.specs.RuleSet.{new_rule, is_used_by_rule};
 ghost use Rattle.rule_table.specs.Target.{stored_of, target_of, IsStoredOf};
 
 use crate::rule_target::RuleTarget;
 use crate::targets::{any_uses, pointers};
-use config_changes::Target;
 use event_shape::rule_arn;
 use json_text::{NoMemory, Text};
 use name_rows::Row;
-use pattern_read::{PatternFault, PatternText};
+use pattern_read::{PatternText, SharedPattern};
+use rule_targets::Target;
 use std::alloc::Global;
 use std::marker::Model;
-use std::sync::Arc;
-
-/// The pattern of the text. `None` if the text is not a pattern.
-pub(crate) fn read_rule_pattern(alloc: Global, text: &Text) -> Result<Option<PatternText>, NoMemory>
-    ensures { IfOk result (λ found. MatchOption found
-        ((meaning : Meaning) → ¬ IsPatternText text.now meaning)
-        (λ p. (p ≡ text.now) × (meaning : Meaning) × IsPatternText text.now meaning)) }
-{
-    match PatternText::read(alloc, text.copy(alloc)?) {
-        Ok(pattern) => Ok(Some(pattern)),
-        Err(PatternFault::Refused { why: _, path: _ }) => Ok(None),
-        Err(PatternFault::NoMemory) => Err(NoMemory),
-    }
-}
 
 /// A rule of a bus.
 #[derive(Debug, Drop)]
 pub struct Rule {
     pub(crate) arn: Text,
     pub(crate) name: Text,
-    pub(crate) pattern: Arc<PatternText>,
+    pub(crate) pattern: SharedPattern,
     pub(crate) enabled: bool,
     pub(crate) targets: Vec<RuleTarget>,
 }
 
 impl Model for Rule {
     ghost use Rattle.std.specs.Prelude.{map, All};
-    ghost use Rattle.std.specs.Arc.{arc_value};
     ghost use Rattle.rule_table.specs.RuleSet.{Rule as View};
     ghost use Rattle.rule_table.specs.Target.{target_of, IsStoredOf};
 
@@ -50,7 +33,7 @@ impl Model for Rule {
     ghost view = { λ r. record {
       arn = r.arn;
       name = r.name;
-      pattern = arc_value r.pattern;
+      pattern = r.pattern;
       enabled = r.enabled;
       targets = map target_of r.targets.items;
     } };
@@ -58,7 +41,7 @@ impl Model for Rule {
     ghost invariant = { λ r. All (IsStoredOf (record {
       arn = r.arn;
       name = r.name;
-      pattern = arc_value r.pattern;
+      pattern = r.pattern;
       enabled = r.enabled;
       targets = map target_of r.targets.items;
     })) r.targets.items };
@@ -78,7 +61,7 @@ impl Rule {
         alloc: Global,
         bus: &str,
         name: &Text,
-        pattern: PatternText,
+        pattern: SharedPattern,
         enabled: bool,
     ) -> Result<Rule, NoMemory>
         ensures { IfOk result (λ rule. rule ≡ new_rule bus.now name.now pattern enabled) }
@@ -86,7 +69,7 @@ impl Rule {
         Ok(Rule {
             arn: rule_arn(alloc, bus, name.as_str())?,
             name: name.copy(alloc)?,
-            pattern: Arc::new(alloc, pattern)?,
+            pattern,
             enabled,
             targets: Vec::new(alloc),
         })
@@ -128,7 +111,7 @@ impl Rule {
     pub fn pattern(&self) -> &PatternText
         ensures { result.now ≡ self.now.pattern }
     {
-        &self.pattern
+        self.pattern.pattern()
     }
 
     /// The target, as this rule stores it.
@@ -142,7 +125,7 @@ impl Rule {
     pub(crate) fn with_pattern(
         &self,
         alloc: Global,
-        pattern: PatternText,
+        pattern: SharedPattern,
         enabled: bool,
     ) -> Result<Rule, NoMemory>
         ensures { IfOk result (λ rule. rule ≡ record self.now { pattern = pattern; enabled = enabled }) }
@@ -150,7 +133,7 @@ impl Rule {
         Ok(Rule {
             arn: self.arn.copy(alloc)?,
             name: self.name.copy(alloc)?,
-            pattern: Arc::new(alloc, pattern)?,
+            pattern,
             enabled,
             targets: pointers(alloc, self.targets.as_slice())?,
         })
@@ -168,7 +151,7 @@ impl Rule {
         Ok(Rule {
             arn: self.arn.copy(alloc)?,
             name: self.name.copy(alloc)?,
-            pattern: Arc::try_clone(&self.pattern)?,
+            pattern: self.pattern.share()?,
             enabled: self.enabled,
             targets,
         })
@@ -181,7 +164,7 @@ impl Rule {
         Ok(Rule {
             arn: self.arn.copy(alloc)?,
             name: self.name.copy(alloc)?,
-            pattern: Arc::try_clone(&self.pattern)?,
+            pattern: self.pattern.share()?,
             enabled,
             targets: pointers(alloc, self.targets.as_slice())?,
         })

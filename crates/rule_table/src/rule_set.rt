@@ -1,29 +1,31 @@
 //! Rule sets, and the rule set after a change.
-ghost use Rattle.std.specs.Prelude.{◌≡◌, ◌↔◌, ◌⊎◌, ◌+◌, ◌^◌, ◌<◌, ◌≤◌, ℕ, List, Option, [], None, false, Some, All, map, IfOk, IfErr, IsTrue, MatchOption, length};
+ghost use Rattle.std.specs.Prelude.{◌≡◌, ◌+◌, ◌^◌, ◌<◌, ◌≤◌, ℕ, List, Option, None, false, true, Some, All, map, nat_le, if◌then◌else◌, IfOk, MatchOption, MatchResult, length};
+ghost use Rattle.std.specs.Option.{option_map, option_and_then};
 ghost use Rattle.std.specs.Str.{bytes_eq};
-ghost use Rattle.event_shape.specs.Names.{default_bus};
+ghost use Rattle.json_text.specs.Checks.{first_fault};
+ghost use Rattle.event_shape.specs.Names.{default_bus, queue_in};
 ghost use Rattle.name_rows.specs.Rows.{named, placed, replacing};
-ghost use Rattle.config_changes.specs.Control.{bus_created, bus_deleted, rule_put, rule_deleted, state_put, targets_put, targets_removed, policy_put};
-ghost use Rattle.config_changes.specs.Control.{queue_created, queue_deleted};
-ghost use Rattle.config_changes.specs.TargetForm.{IsWellFormedTarget};
+ghost use Rattle.rule_table.specs.Control.{bus_created, bus_deleted, rule_put, rule_deleted, state_put, targets_put, targets_removed, policy_put};
+ghost use Rattle.rule_table.specs.Control.{queue_created, queue_deleted};
 ghost use Rattle.rule_table.specs.RuleSet as spec;
-ghost use Rattle.rule_table.specs.Refusal.{IsQueueMissing, IsDeadLetterMissing, HasTargetFault, HasFaultyTarget, IsBusRefused, IsBusDeletionRefused, IsRuleRefused, HasNoRule};
-ghost use Rattle.rule_table.specs.Refusal.{IsRuleDeletionRefused, AreTargetsRefused, AreRemovalsRefused, IsTooLong, IsPolicyRefused, IsQueueRefused};
-ghost use Rattle.rule_table.specs.Refusal.{IsQueueDeletionRefused, IsRefused};
+ghost use Rattle.rule_table.specs.Refusal as refusal;
+ghost use Rattle.rule_table.specs.Refusal.{IsChanged};
+ghost use Rattle.rule_table.specs.Sound.{IsSound};
 ghost use Rattle.rule_table.specs.Target.{target_of, stored_in, IsStoredOf};
-ghost use Rattle.config_changes.specs.View.{control_of};
-ghost use Rattle.config_changes.specs.declared.control.Target.{Target as RequestTarget};
+ghost use Rattle.rule_table.specs.View.{control_of};
 
 use crate::bus::Bus;
-use crate::policy::{is_too_long, read_policy};
-use crate::rule::{Rule, read_rule_pattern};
+use crate::control::{Control, ControlFault, TargetFault};
+use crate::policy::{StoredPolicy, short_policy};
+use crate::rule::Rule;
 use crate::rule_target::RuleTarget;
 use crate::targets::{after_removal, is_sixth, pointers, put_in_order};
 use api_replies::{Kind, Member};
-use config_changes::{Control, ControlFault, Target, TargetFault, member_fault};
 use event_shape::{DEFAULT_BUS, queue_of};
 use json_text::{NoMemory, Text};
 use name_rows::{Rows, RowsFrom};
+use pattern_read::SharedPattern;
+use rule_targets::{AskedTarget, Target, member_fault};
 use std::alloc::Global;
 use std::marker::Model;
 
@@ -42,7 +44,8 @@ pub struct RuleSet {
 }
 
 impl Model for RuleSet {
-    ghost use Rattle.rule_table.specs.RuleSet.{RuleSet as View, IsSound};
+    ghost use Rattle.rule_table.specs.RuleSet.{RuleSet as View};
+    ghost use Rattle.rule_table.specs.Sound.{IsSound};
 
     ghost Value = { View };
 
@@ -79,12 +82,11 @@ impl RuleSet {
         })
     }
 
-    /// The rule set after the change, or the change's first refusal (`IsRefused`). Shares the parts that do not change with the
-    /// old set, which stays as it was.
+    /// The rule set after the change, or the change's first refusal. Shares the parts that do not change with the old set, which stays as
+    /// it was.
     pub fn apply(&self, alloc: Global, control: &Control) -> Result<RuleSet, ControlFault>
         requires { self.now.count < 2 ^ 63 }
-        ensures applied { IfOk result (λ set. spec.IsAllowed (control_of control.now) self.now × (set ≡ spec.applied (control_of control.now) self.now)) }
-        ensures refused { IfErr result (λ fault. (fault ≡ ControlFault.NoMemory) ⊎ IsRefused (control_of control.now) self.now fault) }
+        ensures { IsChanged (control_of control.now) self.now result }
     {
         match control {
             Control::RulePut {
@@ -153,19 +155,14 @@ impl RuleSet {
         &self,
         alloc: Global,
         targets: &[Target],
-        target: &Target,
+        target: &AskedTarget,
     ) -> Result<Option<TargetFault>, NoMemory>
-        ensures { IfOk result (λ found. MatchOption found
-            (spec.IsGoodTarget self.now targets.now target.now)
-            (λ fault. HasTargetFault self.now targets.now target.now fault)) }
+        ensures { IfOk result (λ found. found ≡ refusal.target_fault self.now targets.now target.now) }
     {
-        if let Some(fault) = self.own_fault(alloc, target)? {
-            return Ok(Some(fault));
+        match self.own_fault(alloc, target)? {
+            Some(fault) => Ok(Some(fault)),
+            None => Ok(room_fault(is_sixth(targets, target.id.as_str()))),
         }
-        if is_sixth(targets, target.id.as_str()) {
-            return Ok(Some(TargetFault::Sixth));
-        }
-        Ok(None)
     }
 
     /// The same, of the targets that a rule stores.
@@ -173,56 +170,53 @@ impl RuleSet {
         &self,
         alloc: Global,
         targets: &[RuleTarget],
-        target: &Target,
+        target: &AskedTarget,
     ) -> Result<Option<TargetFault>, NoMemory>
-        ensures { IfOk result (λ found. MatchOption found
-            (spec.IsGoodTarget self.now (map target_of targets.now) target.now)
-            (λ fault. HasTargetFault self.now (map target_of targets.now) target.now fault)) }
+        ensures { IfOk result (λ found. found ≡ refusal.target_fault self.now (map target_of targets.now) target.now) }
     {
-        if let Some(fault) = self.own_fault(alloc, target)? {
-            return Ok(Some(fault));
+        match self.own_fault(alloc, target)? {
+            Some(fault) => Ok(Some(fault)),
+            None => Ok(room_fault(is_sixth(targets, target.id.as_str()))),
         }
-        if is_sixth(targets, target.id.as_str()) {
-            return Ok(Some(TargetFault::Sixth));
-        }
-        Ok(None)
     }
 
     /// The first fault of the target, whatever targets the rule has.
-    fn own_fault(&self, alloc: Global, target: &Target) -> Result<Option<TargetFault>, NoMemory>
-        ensures { IfOk result (λ found. MatchOption found
-            (IsWellFormedTarget target.now × spec.IsSoundTarget self.now target.now)
-            (λ fault. (targets : List RequestTarget) → HasTargetFault self.now targets target.now fault)) }
+    fn own_fault(
+        &self,
+        alloc: Global,
+        target: &AskedTarget,
+    ) -> Result<Option<TargetFault>, NoMemory>
+        ensures { IfOk result (λ found. found ≡ first_fault (refusal.own_checks self.now target.now)) }
     {
         if let Some(member) = member_fault(alloc, target)? {
             return Ok(Some(TargetFault::Member(member)));
         }
-        if self.is_queue_missing(target.arn.as_str()) {
-            return Ok(Some(TargetFault::NoQueue));
+        if let Some(queue) = self.missing(target.arn.as_str()) {
+            return Ok(Some(TargetFault::NoQueue(Text::from_str(alloc, queue)?)));
         }
-        if self.is_dead_letter_missing(&target.dead_letter) {
-            return Ok(Some(TargetFault::NoDeadLetterQueue));
+        if let Some(queue) = self.missing_dead_letter(&target.dead_letter) {
+            return Ok(Some(TargetFault::NoDeadLetterQueue(Text::from_str(alloc, queue)?)));
         }
         Ok(None)
     }
 
-    /// Whether the text is the ARN of a queue that does not exist.
-    fn is_queue_missing(&self, arn: &str) -> bool
-        ensures { IsTrue result ↔ IsQueueMissing self.now arn.now }
+    /// The name of the queue, if the text is the ARN of a queue that does not exist.
+    fn missing<'a>(&self, arn: &'a str) -> Option<&'a str>
+        ensures { option_map (λ queue. queue.now) result ≡ refusal.missing_in self.now (queue_in arn.now) }
     {
         match queue_of(arn) {
-            Some(queue) => !self.queue(queue),
-            None => false,
+            Some(queue) => if self.queue(queue) { None } else { Some(queue) },
+            None => None,
         }
     }
 
-    /// Whether the ARN of a dead-letter queue is given, and is that of a queue that does not exist.
-    fn is_dead_letter_missing(&self, arn: &Option<Text>) -> bool
-        ensures { IsTrue result ↔ IsDeadLetterMissing self.now arn.now }
+    /// The name of the dead-letter queue, if its ARN is given and it does not exist.
+    fn missing_dead_letter<'a>(&self, arn: &'a Option<Text>) -> Option<&'a str>
+        ensures { option_map (λ queue. queue.now) result ≡ refusal.missing_in self.now (option_and_then queue_in arn.now) }
     {
         match arn {
-            Some(arn) => self.is_queue_missing(arn.as_str()),
-            None => false,
+            Some(arn) => self.missing(arn.as_str()),
+            None => None,
         }
     }
 
@@ -236,7 +230,7 @@ impl RuleSet {
     /// The number of changes that made this rule set.
     pub fn control_count(&self) -> u64
         ensures count { result ≡ self.now.count }
-        ensures sound { spec.IsSound self.now }
+        ensures sound { IsSound self.now }
     {
         self.count
     }
@@ -246,20 +240,13 @@ impl RuleSet {
         alloc: Global,
         bus: &Text,
         name: &Text,
-        pattern: &Text,
+        pattern: &SharedPattern,
         enabled: bool,
     ) -> Result<RuleSet, ControlFault>
         requires { self.now.count < 2 ^ 63 }
-        ensures applied { IfOk result (λ set. spec.IsAllowed (rule_put bus.now name.now pattern.now enabled) self.now
-            × (set ≡ spec.applied (rule_put bus.now name.now pattern.now enabled) self.now)) }
-        ensures refused { IfErr result (λ fault. (fault ≡ ControlFault.NoMemory) ⊎ IsRuleRefused bus.now name.now pattern.now self.now fault) }
+        ensures { IsChanged (rule_put bus.now name.now pattern.now enabled) self.now result }
     {
-        let Some(pattern) = read_rule_pattern(alloc, pattern)? else {
-            return Err(ControlFault::Validation(Member::EventPattern));
-        };
-        let Some(old) = self.found(bus.as_str()) else {
-            return Err(ControlFault::ResourceNotFound(Kind::EventBus));
-        };
+        let old = self.bus_in(bus)?;
         let Some(new) = old.with_rule(alloc, name, pattern, enabled)? else {
             return Err(ControlFault::LimitExceeded(Kind::Rule));
         };
@@ -274,16 +261,9 @@ impl RuleSet {
         targets: &[Target],
     ) -> Result<RuleSet, ControlFault>
         requires { self.now.count < 2 ^ 63 }
-        ensures applied { IfOk result (λ set. spec.IsAllowed (targets_put bus.now rule.now targets.now) self.now
-            × (set ≡ spec.applied (targets_put bus.now rule.now targets.now) self.now)) }
-        ensures refused { IfErr result (λ fault. (fault ≡ ControlFault.NoMemory) ⊎ AreTargetsRefused bus.now rule.now targets.now self.now fault) }
+        ensures { IsChanged (targets_put bus.now rule.now targets.now) self.now result }
     {
-        let Some(old) = self.found(bus.as_str()) else {
-            return Err(ControlFault::ResourceNotFound(Kind::EventBus));
-        };
-        let Some(rule) = old.rule(rule.as_str()) else {
-            return Err(ControlFault::ResourceNotFound(Kind::Rule));
-        };
+        let (old, rule) = self.rule_in(bus, rule)?;
         let Some(targets) = self.after_put(alloc, rule, targets)? else {
             return Err(ControlFault::Validation(Member::Targets));
         };
@@ -299,8 +279,8 @@ impl RuleSet {
         news: &[Target],
     ) -> Result<Option<Vec<RuleTarget>>, NoMemory>
         ensures { IfOk result (λ found. MatchOption found
-            ((news.now ≡ []) ⊎ HasFaultyTarget self.now news.now rule.now.targets)
-            (λ others. (1 ≤ length news.now) × spec.AreGoodTargets self.now news.now rule.now.targets
+            (refusal.are_some_put self.now news.now rule.now.targets ≡ false)
+            (λ others. (refusal.are_some_put self.now news.now rule.now.targets ≡ true)
             × (map target_of others.items ≡ spec.put_targets news.now rule.now.targets) × All (IsStoredOf rule.now) others.items)) }
     {
         if news.is_empty() {
@@ -308,7 +288,8 @@ impl RuleSet {
         }
         let mut others = pointers(alloc, rule.targets())?;
         for new in news {
-            if self.stored_fault(alloc, &others, new)?.is_some() {
+            let asked = new.asked(alloc)?;
+            if self.stored_fault(alloc, &others, &asked)?.is_some() {
                 return Ok(None);
             }
             put_in_order(&mut others, rule.stored(alloc, new)?)?;
@@ -318,8 +299,7 @@ impl RuleSet {
 
     fn create_bus(&self, alloc: Global, name: &Text) -> Result<RuleSet, ControlFault>
         requires { self.now.count < 2 ^ 63 }
-        ensures applied { IfOk result (λ set. spec.IsAllowed (bus_created name.now) self.now × (set ≡ spec.applied (bus_created name.now) self.now)) }
-        ensures refused { IfErr result (λ fault. (fault ≡ ControlFault.NoMemory) ⊎ IsBusRefused name.now self.now fault) }
+        ensures { IsChanged (bus_created name.now) self.now result }
     {
         if self.has_bus(name.as_str()) {
             return Err(ControlFault::AlreadyExists(Kind::EventBus));
@@ -337,16 +317,12 @@ impl RuleSet {
 
     fn delete_bus(&self, alloc: Global, name: &Text) -> Result<RuleSet, ControlFault>
         requires { self.now.count < 2 ^ 63 }
-        ensures applied { IfOk result (λ set. spec.IsAllowed (bus_deleted name.now) self.now × (set ≡ spec.applied (bus_deleted name.now) self.now)) }
-        ensures refused { IfErr result (λ fault. (fault ≡ ControlFault.NoMemory) ⊎ IsBusDeletionRefused name.now self.now fault) }
+        ensures { IsChanged (bus_deleted name.now) self.now result }
     {
         if is_default(name.as_str()) {
             return Err(ControlFault::DefaultBus);
         }
-        let Some(bus) = self.found(name.as_str()) else {
-            return Err(ControlFault::ResourceNotFound(Kind::EventBus));
-        };
-        if bus.has_rules() {
+        if self.bus_in(name)?.has_rules() {
             return Err(ControlFault::InUse(Kind::EventBus));
         }
         Ok(self.without_bus(alloc, name)?)
@@ -354,16 +330,9 @@ impl RuleSet {
 
     fn delete_rule(&self, alloc: Global, bus: &Text, name: &Text) -> Result<RuleSet, ControlFault>
         requires { self.now.count < 2 ^ 63 }
-        ensures applied { IfOk result (λ set. spec.IsAllowed (rule_deleted bus.now name.now) self.now
-            × (set ≡ spec.applied (rule_deleted bus.now name.now) self.now)) }
-        ensures refused { IfErr result (λ fault. (fault ≡ ControlFault.NoMemory) ⊎ IsRuleDeletionRefused bus.now name.now self.now fault) }
+        ensures { IsChanged (rule_deleted bus.now name.now) self.now result }
     {
-        let Some(old) = self.found(bus.as_str()) else {
-            return Err(ControlFault::ResourceNotFound(Kind::EventBus));
-        };
-        let Some(rule) = old.rule(name.as_str()) else {
-            return Err(ControlFault::ResourceNotFound(Kind::Rule));
-        };
+        let (old, rule) = self.rule_in(bus, name)?;
         if !rule.targets().is_empty() {
             return Err(ControlFault::HasTargets);
         }
@@ -379,16 +348,9 @@ impl RuleSet {
         enabled: bool,
     ) -> Result<RuleSet, ControlFault>
         requires { self.now.count < 2 ^ 63 }
-        ensures applied { IfOk result (λ set. spec.IsAllowed (state_put bus.now name.now enabled) self.now
-            × (set ≡ spec.applied (state_put bus.now name.now enabled) self.now)) }
-        ensures refused { IfErr result (λ fault. (fault ≡ ControlFault.NoMemory) ⊎ HasNoRule bus.now name.now self.now fault) }
+        ensures { IsChanged (state_put bus.now name.now enabled) self.now result }
     {
-        let Some(old) = self.found(bus.as_str()) else {
-            return Err(ControlFault::ResourceNotFound(Kind::EventBus));
-        };
-        let Some(rule) = old.rule(name.as_str()) else {
-            return Err(ControlFault::ResourceNotFound(Kind::Rule));
-        };
+        let (old, rule) = self.rule_in(bus, name)?;
         let new = old.with(alloc, rule.with_state(alloc, enabled)?)?;
         Ok(self.with_bus(alloc, new)?)
     }
@@ -401,16 +363,9 @@ impl RuleSet {
         ids: &[Text],
     ) -> Result<RuleSet, ControlFault>
         requires { self.now.count < 2 ^ 63 }
-        ensures applied { IfOk result (λ set. spec.IsAllowed (targets_removed bus.now rule.now ids.now) self.now
-            × (set ≡ spec.applied (targets_removed bus.now rule.now ids.now) self.now)) }
-        ensures refused { IfErr result (λ fault. (fault ≡ ControlFault.NoMemory) ⊎ AreRemovalsRefused bus.now rule.now ids.now self.now fault) }
+        ensures { IsChanged (targets_removed bus.now rule.now ids.now) self.now result }
     {
-        let Some(old) = self.found(bus.as_str()) else {
-            return Err(ControlFault::ResourceNotFound(Kind::EventBus));
-        };
-        let Some(rule) = old.rule(rule.as_str()) else {
-            return Err(ControlFault::ResourceNotFound(Kind::Rule));
-        };
+        let (old, rule) = self.rule_in(bus, rule)?;
         let Some(targets) = after_removal(alloc, rule, ids)? else {
             return Err(ControlFault::Validation(Member::Ids));
         };
@@ -422,39 +377,22 @@ impl RuleSet {
         &self,
         alloc: Global,
         bus: &Text,
-        policy: &Option<Text>,
+        policy: &Option<StoredPolicy>,
     ) -> Result<RuleSet, ControlFault>
         requires { self.now.count < 2 ^ 63 }
-        ensures applied { IfOk result (λ set. spec.IsAllowed (policy_put bus.now policy.now) self.now
-            × (set ≡ spec.applied (policy_put bus.now policy.now) self.now)) }
-        ensures refused { IfErr result (λ fault. (fault ≡ ControlFault.NoMemory) ⊎ IsPolicyRefused bus.now policy.now self.now fault) }
+        ensures { IsChanged (policy_put bus.now policy.now) self.now result }
     {
-        if is_too_long(policy) {
-            return Err(self.too_long(bus));
-        }
-        let policy = read_policy(alloc, policy)?;
-        let Some(old) = self.found(bus.as_str()) else {
-            return Err(ControlFault::ResourceNotFound(Kind::EventBus));
+        let old = self.bus_in(bus)?;
+        let Some(policy) = short_policy(policy)? else {
+            return Err(ControlFault::PolicyTooLong);
         };
         let new = old.with_policy(alloc, policy)?;
         Ok(self.with_bus(alloc, new)?)
     }
 
-    /// The refusal of a policy that is too long.
-    fn too_long(&self, bus: &Text) -> ControlFault
-        ensures { (policy : Option (List ℕ)) → IsTooLong policy → IsPolicyRefused bus.now policy self.now result }
-    {
-        if self.has_bus(bus.as_str()) {
-            ControlFault::PolicyTooLong
-        } else {
-            ControlFault::ResourceNotFound(Kind::EventBus)
-        }
-    }
-
     fn create_queue(&self, alloc: Global, name: &Text) -> Result<RuleSet, ControlFault>
         requires { self.now.count < 2 ^ 63 }
-        ensures applied { IfOk result (λ set. spec.IsAllowed (queue_created name.now) self.now × (set ≡ spec.applied (queue_created name.now) self.now)) }
-        ensures refused { IfErr result (λ fault. (fault ≡ ControlFault.NoMemory) ⊎ IsQueueRefused name.now self.now fault) }
+        ensures { IsChanged (queue_created name.now) self.now result }
     {
         if self.queue(name.as_str()) {
             return Err(ControlFault::AlreadyExists(Kind::Queue));
@@ -467,8 +405,7 @@ impl RuleSet {
 
     fn delete_queue(&self, alloc: Global, name: &Text) -> Result<RuleSet, ControlFault>
         requires { self.now.count < 2 ^ 63 }
-        ensures applied { IfOk result (λ set. spec.IsAllowed (queue_deleted name.now) self.now × (set ≡ spec.applied (queue_deleted name.now) self.now)) }
-        ensures refused { IfErr result (λ fault. (fault ≡ ControlFault.NoMemory) ⊎ IsQueueDeletionRefused name.now self.now fault) }
+        ensures { IsChanged (queue_deleted name.now) self.now result }
     {
         if !self.queue(name.as_str()) {
             return Err(ControlFault::ResourceNotFound(Kind::Queue));
@@ -482,7 +419,7 @@ impl RuleSet {
     /// Whether a target of some rule names the queue, as its own or as its dead-letter queue, in a rule set that is sound.
     fn uses_queue(&self, queue: &str) -> bool
         ensures used { result ≡ spec.is_queue_used queue.now self.now }
-        ensures sound { spec.IsSound self.now }
+        ensures sound { IsSound self.now }
     {
         let mut buses = self.buses.iter();
         while let Some(bus) = buses.next() {
@@ -498,9 +435,36 @@ impl RuleSet {
         ensures found { MatchOption result
             (spec.has_bus name.now self.now ≡ false)
             (λ bus. named (λ b. b.name) name.now self.now.buses ≡ Some bus.now) }
-        ensures sound { spec.IsSound self.now }
+        ensures sound { IsSound self.now }
     {
         self.buses.find(name)
+    }
+
+    /// The bus with this name, or its fault.
+    fn bus_in(&self, name: &Text) -> Result<&Bus, ControlFault>
+        ensures found { MatchResult result
+            (λ bus. named (λ b. b.name) name.now self.now.buses ≡ Some bus.now)
+            (λ fault. refusal.bus_check name.now self.now ≡ Some fault) }
+        ensures sound { IsSound self.now }
+    {
+        match self.found(name.as_str()) {
+            Some(bus) => Ok(bus),
+            None => Err(ControlFault::ResourceNotFound(Kind::EventBus)),
+        }
+    }
+
+    /// The bus and its rule with these names, or the fault of the first that is missing.
+    fn rule_in(&self, bus: &Text, name: &Text) -> Result<(&Bus, &Rule), ControlFault>
+        ensures found { MatchResult result
+            (λ p. (named (λ b. b.name) bus.now self.now.buses ≡ Some p.0.now) × (named (λ r. r.name) name.now p.0.now.rules ≡ Some p.1.now))
+            (λ fault. first_fault (refusal.rule_checks bus.now name.now self.now) ≡ Some fault) }
+        ensures sound { IsSound self.now }
+    {
+        let bus = self.bus_in(bus)?;
+        match bus.rule(name.as_str()) {
+            Some(rule) => Ok((bus, rule)),
+            None => Err(ControlFault::ResourceNotFound(Kind::Rule)),
+        }
     }
 
     fn has_bus(&self, name: &str) -> bool
@@ -512,7 +476,7 @@ impl RuleSet {
     /// The set with this bus in place of the one of its name.
     fn with_bus(&self, alloc: Global, bus: Bus) -> Result<RuleSet, NoMemory>
         requires count { self.now.count < 2 ^ 63 }
-        requires sound { spec.IsSound (record self.now { buses = placed (λ b. b.name) replacing bus self.now.buses; count = self.now.count + 1 }) }
+        requires sound { IsSound (record self.now { buses = placed (λ b. b.name) replacing bus self.now.buses; count = self.now.count + 1 }) }
         ensures { IfOk result (λ set. set ≡ record self.now {
           buses = placed (λ b. b.name) replacing bus self.now.buses;
           count = self.now.count + 1;
@@ -528,7 +492,7 @@ impl RuleSet {
     /// The set without the bus of this name.
     fn without_bus(&self, alloc: Global, name: &Text) -> Result<RuleSet, NoMemory>
         requires count { self.now.count < 2 ^ 63 }
-        requires sound { spec.IsSound (record self.now { buses = spec.without_bus name.now self.now.buses; count = self.now.count + 1 }) }
+        requires sound { IsSound (record self.now { buses = spec.without_bus name.now self.now.buses; count = self.now.count + 1 }) }
         ensures { IfOk result (λ set. set ≡ record self.now { buses = spec.without_bus name.now self.now.buses; count = self.now.count + 1 }) }
     {
         Ok(RuleSet {
@@ -541,7 +505,7 @@ impl RuleSet {
     /// The set with this queue.
     fn with_queue(&self, alloc: Global, queue: Text) -> Result<RuleSet, NoMemory>
         requires count { self.now.count < 2 ^ 63 }
-        requires sound { spec.IsSound (record self.now { queues = spec.put_queue queue self.now.queues; count = self.now.count + 1 }) }
+        requires sound { IsSound (record self.now { queues = spec.put_queue queue self.now.queues; count = self.now.count + 1 }) }
         ensures { IfOk result (λ set. set ≡ record self.now { queues = spec.put_queue queue self.now.queues; count = self.now.count + 1 }) }
     {
         Ok(RuleSet {
@@ -554,7 +518,7 @@ impl RuleSet {
     /// The set without the queue of this name.
     fn without_queue(&self, alloc: Global, name: &Text) -> Result<RuleSet, NoMemory>
         requires count { self.now.count < 2 ^ 63 }
-        requires sound { spec.IsSound (record self.now { queues = spec.without_queue name.now self.now.queues; count = self.now.count + 1 }) }
+        requires sound { IsSound (record self.now { queues = spec.without_queue name.now self.now.queues; count = self.now.count + 1 }) }
         ensures { IfOk result (λ set. set ≡ record self.now { queues = spec.without_queue name.now self.now.queues; count = self.now.count + 1 }) }
     {
         Ok(RuleSet {
@@ -577,4 +541,15 @@ fn is_default(name: &str) -> bool
     ensures { result ≡ bytes_eq name.now default_bus }
 {
     name == DEFAULT_BUS
+}
+
+/// The fault of a target that is one too many.
+fn room_fault(is_sixth: bool) -> Option<TargetFault>
+    ensures { result ≡ (if is_sixth then Some TargetFault.Sixth else None) }
+{
+    if is_sixth {
+        Some(TargetFault::Sixth)
+    } else {
+        None
+    }
 }

@@ -4,10 +4,10 @@ ghost use Rattle.std.specs.Option.{option_map};
 ghost use Rattle.rule_table.specs.RuleSet.{Rule, is_used_by_target};
 ghost use Rattle.rule_table.specs.Target.{stored_of, retry_of, target_of};
 
-use config_changes::{RetryPolicy, Target, age_of, attempts_of, copy_optional};
 use event_shape::is_queue_arn;
 use json_text::{NoMemory, Text};
 use name_rows::Row;
+use rule_targets::{RetryPolicy, Target, age_of, attempts_of, copy_optional};
 use shared_text::{SharedRow, TargetRow};
 use std::alloc::Global;
 use std::marker::Model;
@@ -73,7 +73,7 @@ impl RuleTarget {
         self.row.endpoint()
     }
 
-    /// The retry policy that the target was put with, if any. Both its numbers are given.
+    /// The retry policy that the target was put with, if any.
     pub fn retry(&self) -> Option<RetryPolicy>
         ensures { result ≡ retry_of self.now }
     {
@@ -81,8 +81,8 @@ impl RuleTarget {
             return None;
         }
         Some(RetryPolicy {
-            attempts: Some(self.row.attempts()),
-            age: Some(self.row.age()),
+            attempts: self.row.attempts(),
+            age: self.row.age(),
         })
     }
 
@@ -110,14 +110,13 @@ impl RuleTarget {
         })
     }
 
-    /// The target as a request puts it, in memory of its own.
+    /// The target, in memory of its own.
     pub fn copy(&self, alloc: Global) -> Result<Target, NoMemory>
         ensures { IfOk result (λ target. target ≡ target_of self.now) }
     {
         Ok(Target {
             id: Text::from_str(alloc, self.id())?,
             arn: Text::from_str(alloc, self.arn())?,
-            unbuilt: None,
             retry: self.retry(),
             dead_letter: self.copy_dead_letter(alloc)?,
         })

@@ -1,16 +1,17 @@
 //! Targets of one rule, in the byte order of their ids.
-ghost use Rattle.std.specs.Prelude.{◌≡◌, ◌↔◌, ◌<◌, ◌≤◌, ◌⊎◌, [], map, All, IfOk, OnOk, OnErr, MatchOption, IsTrue, length};
+ghost use Rattle.std.specs.Prelude.{◌≡◌, true, false, not, nat_le, map, All, IfOk, OnOk, OnErr, MatchOption, length};
 ghost use Rattle.std.specs.List.{list_any};
 ghost use Rattle.name_rows.specs.Place.{IsPlace};
 ghost use Rattle.name_rows.specs.Rows.{AreSorted, placed, replacing};
 ghost use Rattle.rule_table.specs.RuleSet as spec;
+ghost use Rattle.rule_table.specs.Refusal.{are_some_removable};
 ghost use Rattle.rule_table.specs.Target.{target_of, IsStoredOf};
 
 use crate::rule::Rule;
 use crate::rule_target::RuleTarget;
-use config_changes::Target;
 use json_text::{NoMemory, Text};
 use name_rows::{Place, Row};
+use rule_targets::Target;
 use std::alloc::Global;
 use std::cmp::Ordering;
 
@@ -51,7 +52,7 @@ fn place_of<R: Row>(targets: &[R], id: &str) -> Place
 
 /// Whether the rule would have more than five targets with one of this id.
 pub(crate) fn is_sixth<R: Row>(targets: &[R], id: &str) -> bool
-    ensures { IsTrue result ↔ (5 < length (placed (λ n. n) replacing id.now (map R.name_of targets.now))) }
+    ensures { result ≡ not (nat_le (length (placed (λ n. n) replacing id.now (map R.name_of targets.now))) 5) }
 {
     match place_of(targets, id) {
         Place::Here(_) => targets.len() > MOST_TARGETS,
@@ -88,8 +89,8 @@ pub(crate) fn after_removal(
 ) -> Result<Option<Vec<RuleTarget>>, NoMemory>
     requires { AreSorted (λ target. target.id) rule.now.targets }
     ensures { IfOk result (λ found. MatchOption found
-        ((ids.now ≡ []) ⊎ (¬ spec.AreRemovable ids.now rule.now.targets))
-        (λ others. (1 ≤ length ids.now) × spec.AreRemovable ids.now rule.now.targets
+        (are_some_removable ids.now rule.now.targets ≡ false)
+        (λ others. (are_some_removable ids.now rule.now.targets ≡ true)
         × (map target_of others.items ≡ spec.without_targets ids.now rule.now.targets) × All (IsStoredOf rule.now) others.items)) }
 {
     if ids.is_empty() {

@@ -5,10 +5,12 @@
 //! `remove,BUS,RULE,IDS`. A policy: `policy,BUS,TEXT`, `no policy,BUS`.
 use crate::faults::optional_member;
 use crate::rows::{four, three, two};
-use config_changes::{Control, ControlFault, RetryPolicy, Target};
+use bus_policy::Policy;
 use event_shape::queue_arn;
 use json_text::Text;
-use rule_table::RuleSet;
+use pattern_read::SharedPattern;
+use rule_table::{Control, ControlFault, RuleSet, StoredPolicy};
+use rule_targets::{AskedRetry, AskedTarget, Target};
 use std::alloc::Global;
 use std::test::Fail;
 
@@ -18,7 +20,7 @@ pub(crate) fn text(alloc: Global, text: &str) -> Result<Text, Fail> {
 
 /// The target that the text describes: `ID,QUEUE`, or `ID,ARN,UNBUILT,ATTEMPTS,AGE,DEAD`. UNBUILT is an unsupported member, ATTEMPTS
 /// and AGE are the numbers of the retry policy, and DEAD is the ARN of the dead-letter queue; each may be empty.
-pub(crate) fn target(alloc: Global, parts: &str) -> Result<Target, Fail> {
+pub(crate) fn target(alloc: Global, parts: &str) -> Result<AskedTarget, Fail> {
     let (id, more) = two(parts, ',')?;
     match more.split_once(',') {
         Some((arn, more)) => full_target(alloc, id, arn, more),
@@ -26,8 +28,8 @@ pub(crate) fn target(alloc: Global, parts: &str) -> Result<Target, Fail> {
     }
 }
 
-fn queue_target(alloc: Global, id: &str, queue: &str) -> Result<Target, Fail> {
-    Ok(Target {
+fn queue_target(alloc: Global, id: &str, queue: &str) -> Result<AskedTarget, Fail> {
+    Ok(AskedTarget {
         id: text(alloc, id)?,
         arn: queue_arn(alloc, queue)?,
         unbuilt: None,
@@ -36,10 +38,10 @@ fn queue_target(alloc: Global, id: &str, queue: &str) -> Result<Target, Fail> {
     })
 }
 
-fn full_target(alloc: Global, id: &str, arn: &str, more: &str) -> Result<Target, Fail> {
+fn full_target(alloc: Global, id: &str, arn: &str, more: &str) -> Result<AskedTarget, Fail> {
     let (unbuilt, attempts, age, dead) = four(more, ',')?;
     let unbuilt = optional_member(unbuilt)?;
-    Ok(Target {
+    Ok(AskedTarget {
         id: text(alloc, id)?,
         arn: text(alloc, arn)?,
         unbuilt,
@@ -56,11 +58,11 @@ fn optional_text(alloc: Global, given: &str) -> Result<Option<Text>, Fail> {
 }
 
 /// The retry policy of these numbers. There is none if both are empty; a number that is empty alone is one that does not fit.
-fn retry(attempts: &str, age: &str) -> Option<RetryPolicy> {
+fn retry(attempts: &str, age: &str) -> Option<AskedRetry> {
     if attempts.is_empty() && age.is_empty() {
         return None;
     }
-    Some(RetryPolicy {
+    Some(AskedRetry {
         attempts: attempts.parse::<u16>().ok(),
         age: age.parse::<u32>().ok(),
     })
@@ -103,9 +105,16 @@ fn rule_put(alloc: Global, parts: &str, enabled: bool) -> Result<Control, Fail> 
     Ok(Control::RulePut {
         bus: text(alloc, bus)?,
         name: text(alloc, name)?,
-        pattern: text(alloc, pattern)?,
+        pattern: shared_pattern(alloc, pattern)?,
         enabled,
     })
+}
+
+fn shared_pattern(alloc: Global, pattern: &str) -> Result<SharedPattern, Fail> {
+    match SharedPattern::read(alloc, text(alloc, pattern)?) {
+        Ok(pattern) => Ok(pattern),
+        Err(_fault) => Err(Fail::from("a row has no pattern")),
+    }
 }
 
 fn rule_deleted(alloc: Global, parts: &str) -> Result<Control, Fail> {
@@ -136,7 +145,7 @@ fn targets_put(alloc: Global, parts: &str) -> Result<Control, Fail> {
 
 fn one_target(alloc: Global, parts: &str) -> Result<Vec<Target>, Fail> {
     let mut targets = Vec::new(alloc);
-    targets.push(target(alloc, parts)?)?;
+    targets.push(target(alloc, parts)?.put_as(alloc)?)?;
     Ok(targets)
 }
 
@@ -163,9 +172,21 @@ fn texts(alloc: Global, parts: &str) -> Result<Vec<Text>, Fail> {
 
 fn policy_put(alloc: Global, parts: &str) -> Result<Control, Fail> {
     let (bus, policy) = two(parts, ',')?;
+    policy_change(alloc, bus, policy_of(alloc, policy)?)
+}
+
+fn policy_of(alloc: Global, policy: &str) -> Result<Policy, Fail> {
+    match Policy::read(alloc, policy.as_bytes()) {
+        Ok(policy) => Ok(policy),
+        Err(_fault) => Err(Fail::from("a row has no policy")),
+    }
+}
+
+/// The change that gives the bus this policy.
+pub(crate) fn policy_change(alloc: Global, bus: &str, policy: Policy) -> Result<Control, Fail> {
     Ok(Control::PolicyPut {
         bus: text(alloc, bus)?,
-        policy: Some(text(alloc, policy)?),
+        policy: Some(StoredPolicy::new(alloc, policy)?),
     })
 }
 
@@ -175,10 +196,19 @@ pub(crate) fn made(
     set: &RuleSet,
     change: &str,
 ) -> Result<Result<RuleSet, ControlFault>, Fail> {
+    made_by(alloc, set, &control(alloc, change)?)
+}
+
+/// The set after this change, or the change's refusal.
+pub(crate) fn made_by(
+    alloc: Global,
+    set: &RuleSet,
+    change: &Control,
+) -> Result<Result<RuleSet, ControlFault>, Fail> {
     if set.control_count() >= 1000 {
         return Err(Fail::from("too many changes"));
     }
-    Ok(set.apply(alloc, &control(alloc, change)?))
+    Ok(set.apply(alloc, change))
 }
 
 /// The set after the change.

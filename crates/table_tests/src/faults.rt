@@ -1,7 +1,9 @@
 //! Faults as the rows of tables name them.
 use crate::rows::two;
 use api_replies::{Kind, Member};
-use config_changes::{ControlFault, TargetFault};
+use json_text::Text;
+use rule_table::{ControlFault, TargetFault};
+use std::alloc::Global;
 use std::test::Fail;
 
 /// The kind of this word.
@@ -42,14 +44,35 @@ pub(crate) fn optional_member(name: &str) -> Result<Option<Member>, Fail> {
     Ok(Some(member(name)?))
 }
 
-/// The fault of a target; none if the text is empty.
-pub(crate) fn target_fault(text: &str) -> Result<Option<TargetFault>, Fail> {
-    match text {
-        "" => Ok(None),
-        "no queue" => Ok(Some(TargetFault::NoQueue)),
-        "no dead-letter queue" => Ok(Some(TargetFault::NoDeadLetterQueue)),
-        "sixth" => Ok(Some(TargetFault::Sixth)),
-        name => Ok(Some(TargetFault::Member(member(name)?))),
+/// The fault of a target: its word, and its object after a colon.
+pub(crate) fn target_fault(alloc: Global, text: &str) -> Result<TargetFault, Fail> {
+    let (word, object) = two(text, ':')?;
+    match word {
+        "not valid" => Ok(TargetFault::Member(member(object)?)),
+        "no queue" => Ok(TargetFault::NoQueue(Text::from_str(alloc, object)?)),
+        "no dead-letter queue" => Ok(TargetFault::NoDeadLetterQueue(Text::from_str(
+            alloc, object,
+        )?)),
+        "sixth" => Ok(TargetFault::Sixth),
+        _ => Err(Fail::from("a row has no such fault")),
+    }
+}
+
+/// Whether the fault of a target is the one of the text; there is none if the text is empty.
+pub(crate) fn is_target_fault(fault: &Option<TargetFault>, text: &str) -> bool {
+    match fault {
+        Some(fault) => text.split_once(':') == Some(target_words(fault)),
+        None => text.is_empty(),
+    }
+}
+
+/// The word and the object of a target's fault.
+fn target_words(fault: &TargetFault) -> (&str, &str) {
+    match fault {
+        TargetFault::Member(member) => ("not valid", member.name()),
+        TargetFault::NoQueue(name) => ("no queue", name.as_str()),
+        TargetFault::NoDeadLetterQueue(name) => ("no dead-letter queue", name.as_str()),
+        TargetFault::Sixth => ("sixth", "target"),
     }
 }
 

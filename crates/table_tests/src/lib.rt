@@ -16,10 +16,10 @@ mod test_api_replies;
 #[cfg(test)]
 mod test_call_replies;
 #[cfg(test)]
-mod test_config_changes;
-#[cfg(test)]
 mod test_config_views;
 #[cfg(test)]
 mod test_delivery_duties;
 #[cfg(test)]
 mod test_rule_table;
+#[cfg(test)]
+mod test_rule_targets;

@@ -1,7 +1,4 @@
 //! Tests of the crate `call_replies`: the replies to calls that change and show, and the cause of each fault.
-ghost use Rattle.std.specs.Prelude.{◌≡◌, Some, IfOk};
-ghost use Rattle.event_shape.specs.Names.{queue_arn};
-
 use crate::changes::{configured, control};
 use crate::duties::{DEAD, ENDPOINT, QUEUE, add, target, two_queues};
 use crate::faults::{change_fault, target_fault};
@@ -12,9 +9,8 @@ use call_replies::{
     change_cause, duty_counts, empty_reply, entry_cause, items_reply, number_reply, peek_messages,
     target_cause, target_json, tested_reply, text_reply,
 };
-use config_changes::{Target, TargetFault};
 use delivery_duties::{Duties, Outcome};
-use event_shape::{EntryFault, queue_arn};
+use event_shape::EntryFault;
 use json_text::{Items, Text};
 use rule_table::RuleSet;
 use std::alloc::Global;
@@ -35,25 +31,25 @@ n|10|400 {"__type":"ResourceNotFoundException","message":"Queue n does not exist
 "#;
 
 /// Changes with a fault, and the message of the cause. Worked out by hand.
-const CHANGES: &str = r#"rule,b,r,{}|absent:Event bus|Event bus b does not exist.
-rule,b,r,{}|absent:Rule|Rule r does not exist.
+const CHANGES: &str = r#"rule,b,r,{"a":[1]}|absent:Event bus|Event bus b does not exist.
+rule,b,r,{"a":[1]}|absent:Rule|Rule r does not exist.
 remove,b,r,|absent:Event bus|Event bus b does not exist.
 remove,b,r,|absent:Rule|Rule r does not exist.
 no policy,b|absent:Event bus|Event bus b does not exist.
 queue,q|exists:Queue|Queue q already exists.
 queue,q|in use:Queue|Queue q is in use.
-rule,b,r,{}|limit:Target|Target limit 5 reached.
-rule,b,r,{}|has:Targets|Rule r has targets.
-rule,b,r,{}|stays:default|The default bus stays.
-rule,b,r,{}|not valid:Name|Member Name is not valid.
+rule,b,r,{"a":[1]}|limit:Target|Target limit 5 reached.
+rule,b,r,{"a":[1]}|has:Targets|Rule r has targets.
+rule,b,r,{"a":[1]}|stays:default|The default bus stays.
+rule,b,r,{"a":[1]}|not valid:Name|Member Name is not valid.
 no policy,b|too long:Policy|Policy is not valid. Reason: TooLong at 0
 "#;
 
-/// Faults of the target of the queue `p` with the dead-letter queue `d`, and the message of the cause. Worked out by hand.
-const TARGETS: &str = r#"RetryPolicy|Member RetryPolicy is not valid.
-no queue|Queue p does not exist.
-no dead-letter queue|Queue d does not exist.
-sixth|Target limit 5 reached.
+/// Faults of a target, and the message of the cause. Worked out by hand.
+const TARGETS: &str = r#"not valid:RetryPolicy|Member RetryPolicy is not valid.
+no queue:p|Queue p does not exist.
+no dead-letter queue:d|Queue d does not exist.
+sixth:target|Target limit 5 reached.
 "#;
 
 /// Faults of an entry, and the message of the cause. Worked out by hand.
@@ -183,33 +179,10 @@ fn each_fault_of_a_change_has_its_cause(rt: HostRuntime) -> Result<(), Fail> {
     Ok(())
 }
 
-/// A target of this queue, with this dead-letter queue.
-fn refused_target(alloc: Global, queue: &str, dead: &str) -> Result<Target, Fail>
-    ensures queue { IfOk result (λ t. t.arn ≡ queue_arn queue.now) }
-    ensures dead_letter_queue { IfOk result (λ t. t.dead_letter ≡ Some (queue_arn dead.now)) }
-{
-    Ok(Target {
-        id: Text::from_str(alloc, "t")?,
-        arn: queue_arn(alloc, queue)?,
-        unbuilt: None,
-        retry: None,
-        dead_letter: Some(queue_arn(alloc, dead)?),
-    })
-}
-
-/// Whether the fault of the target of `p` and `d` has this message.
-fn is_target_refused(alloc: Global, fault: TargetFault, message: &str) -> Result<bool, Fail> {
-    let target = refused_target(alloc, "p", "d")?;
-    let cause = target_cause(alloc, &target, fault)?;
-    has_message(alloc, &cause, message)
-}
-
 fn is_target_met(alloc: Global, row: &str) -> Result<bool, Fail> {
     let (fault, message) = two(row, '|')?;
-    match target_fault(fault)? {
-        Some(fault) => is_target_refused(alloc, fault, message),
-        None => Ok(false),
-    }
+    let fault = target_fault(alloc, fault)?;
+    has_message(alloc, &target_cause(fault), message)
 }
 
 fn entry_fault(name: &str) -> Result<EntryFault, Fail> {

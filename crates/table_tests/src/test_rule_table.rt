@@ -1,11 +1,12 @@
 //! Tests of the crate `rule_table`: changes in turn, what they leave, and the faults of targets.
-use crate::changes::{after, configured, control, made, target};
-use crate::faults::{is_fault, target_fault};
+use crate::changes::{after, configured, control, made, made_by, policy_change, target};
+use crate::faults::{is_fault, is_target_fault};
 use crate::rows::{count, three, two};
-use config_changes::{RetryPolicy, Target};
+use bus_policy::{Grantee, Policy};
 use event_shape::queue_of;
 use pattern_meaning::Pattern;
 use rule_table::{Rule, RuleSet, RuleTarget, is_well_formed, put_target};
+use rule_targets::{RetryPolicy, Target};
 use shared_text::SharedRow;
 use std::alloc::Global;
 use std::test::Fail;
@@ -15,7 +16,6 @@ const STEPS: &str = r#"queue,q||
 queue,q|exists:Queue|
 put,default,r,b,q|absent:Rule|
 rule,nope,r,{"source":["x"]}|absent:Event bus|
-rule,nope,r,["x"]|not valid:EventPattern|
 rule,default,r,{"source":["x"]}||r+;
 put,default,r,b,q||r+ b=q;
 put,default,r,a,q||r+ a=q b=q;
@@ -77,16 +77,13 @@ no bus,b||default;e;
 no rule,b,r|absent:Event bus|default;e;
 "#;
 
-/// Changes in turn, the refusal of each as in `STEPS`, and the policy of the bus `default` afterwards; nothing if it has none. The
-/// third policy has no version, which a stored policy has. Worked by hand.
+/// Changes in turn, the refusal of each as in `STEPS`, and the policy of the bus `default` afterwards; nothing if it has none. Worked by
+/// hand.
 const POLICIES: &str =
-    r#"policy,nope,{"Statement":[{"Effect":"Allow","Principal":"*","Action":"*","Resource":"*"}]}|not valid:Policy|
-policy,nope,{"Version":"2012-10-17","Statement":[{"Effect":"Allow","Principal":"*","Action":"*","Resource":"*"}]}|absent:Event bus|
+    r#"policy,nope,{"Version":"2012-10-17","Statement":[{"Effect":"Allow","Principal":"*","Action":"*","Resource":"*"}]}|absent:Event bus|
 no policy,nope|absent:Event bus|
-policy,default,{}|not valid:Policy|
 no policy,default||
 policy,default,{"Version":"2012-10-17","Statement":[{"Effect":"Allow","Principal":"*","Action":"*","Resource":"*"}]}||{"Version":"2012-10-17","Statement":[{"Effect":"Allow","Principal":"*","Action":"*","Resource":"*"}]}
-policy,default,{"Statement":[{"Effect":"Allow","Principal":"*","Action":"*","Resource":"*"}]}|not valid:Policy|{"Version":"2012-10-17","Statement":[{"Effect":"Allow","Principal":"*","Action":"*","Resource":"*"}]}
 rule,default,r,{"source":["x"]}||{"Version":"2012-10-17","Statement":[{"Effect":"Allow","Principal":"*","Action":"*","Resource":"*"}]}
 no rule,default,r||{"Version":"2012-10-17","Statement":[{"Effect":"Allow","Principal":"*","Action":"*","Resource":"*"}]}
 no policy,default||
@@ -99,7 +96,6 @@ bus,|false
 no bus,default|true
 no bus,a b|false
 rule,b,r,{"source":["x"]}|true
-rule,b,r,["x"]|false
 rule,b,a b,{"source":["x"]}|false
 rule,,r,{"source":["x"]}|false
 no rule,b,r|true
@@ -120,7 +116,6 @@ queue,q.1|false
 no queue,q-1_A|true
 no queue,q.1|false
 policy,b,{"Version":"2012-10-17","Statement":[{"Effect":"Allow","Principal":"*","Action":"*","Resource":"*"}]}|true
-policy,b,{"Statement":[{"Effect":"Allow","Principal":"*","Action":"*","Resource":"*"}]}|false
 no policy,b|true
 no policy,a b|false
 "#;
@@ -128,21 +123,21 @@ no policy,a b|false
 /// A target, the number of the targets that the rule has, and the fault of the target; the queue `q` exists. Worked by hand.
 const TARGETS: &str = r#"t,arn:aws:sqs:us-east-1:111122223333:q,,,,|4|
 t,http://localhost:8080/,,,,|4|
-t,arn:aws:sqs:us-east-1:111122223333:q,,,,|5|sixth
-t,http://localhost:8080/,,,,|5|sixth
+t,arn:aws:sqs:us-east-1:111122223333:q,,,,|5|sixth:target
+t,http://localhost:8080/,,,,|5|sixth:target
 5,arn:aws:sqs:us-east-1:111122223333:q,,,,|5|
-t,arn:aws:sqs:us-east-1:111122223333:none,,,,|5|no queue
-t,arn:aws:sqs:us-east-1:111122223333:none,Input,,,|5|Input
-a b,http://example.com/,,,,|5|Id
+t,arn:aws:sqs:us-east-1:111122223333:none,,,,|5|no queue:none
+t,arn:aws:sqs:us-east-1:111122223333:none,Input,,,|5|not valid:Input
+a b,http://example.com/,,,,|5|not valid:Id
 "#;
 
 /// The same of targets with a retry policy and a dead-letter queue.
 const DEAD_LETTERS: &str =
     r#"t,arn:aws:sqs:us-east-1:111122223333:q,,3,60,arn:aws:sqs:us-east-1:111122223333:q|4|
-t,arn:aws:sqs:us-east-1:111122223333:q,,3,60,arn:aws:sqs:us-east-1:111122223333:q|5|sixth
-t,arn:aws:sqs:us-east-1:111122223333:q,,3,60,arn:aws:sqs:us-east-1:111122223333:none|5|no dead-letter queue
-t,arn:aws:sqs:us-east-1:111122223333:q,,3,60,http://localhost:8080/|5|DeadLetterConfig
-t,arn:aws:sqs:us-east-1:111122223333:q,,3,59,http://localhost:8080/|5|RetryPolicy
+t,arn:aws:sqs:us-east-1:111122223333:q,,3,60,arn:aws:sqs:us-east-1:111122223333:q|5|sixth:target
+t,arn:aws:sqs:us-east-1:111122223333:q,,3,60,arn:aws:sqs:us-east-1:111122223333:none|5|no dead-letter queue:none
+t,arn:aws:sqs:us-east-1:111122223333:q,,3,60,http://localhost:8080/|5|not valid:DeadLetterConfig
+t,arn:aws:sqs:us-east-1:111122223333:q,,3,59,http://localhost:8080/|5|not valid:RetryPolicy
 "#;
 
 /// The rule `r` with the targets `a` and `b`.
@@ -209,7 +204,7 @@ fn is_rule_row_met(alloc: Global, set: &mut RuleSet, row: &str) -> Result<bool, 
 
 #[test]
 fn each_change_is_made_or_refused(rt: HostRuntime) -> Result<(), Fail> {
-    assert_eq!(rt; count(STEPS), 11);
+    assert_eq!(rt; count(STEPS), 10);
     let mut set = RuleSet::first(rt.alloc())?;
     for row in STEPS.lines() {
         assert!(rt; is_rule_row_met(rt.alloc(), &mut set, row)?, "{row}");
@@ -321,7 +316,7 @@ fn is_policy_row_met(alloc: Global, set: &mut RuleSet, row: &str) -> Result<bool
 
 #[test]
 fn each_policy_is_put_or_refused(rt: HostRuntime) -> Result<(), Fail> {
-    assert_eq!(rt; count(POLICIES), 10);
+    assert_eq!(rt; count(POLICIES), 7);
     let mut set = RuleSet::first(rt.alloc())?;
     for row in POLICIES.lines() {
         assert!(rt; is_policy_row_met(rt.alloc(), &mut set, row)?, "{row}");
@@ -329,21 +324,34 @@ fn each_policy_is_put_or_refused(rt: HostRuntime) -> Result<(), Fail> {
     Ok(())
 }
 
-/// Whether a policy of this many spaces has this refusal.
-fn are_spaces_refused(alloc: Global, bus: &str, count: u16, refusal: &str) -> Result<bool, Fail> {
-    let mut change = format!(in alloc; "policy,{bus},")?;
-    for _ in 0..count {
-        change.push_str(" ")?;
+/// A policy whose text has this many bytes: 179, and those of its Sid.
+fn policy_of(alloc: Global, bytes: u16) -> Result<Policy, Fail> {
+    let mut sid = String::new(alloc);
+    for _ in 179..bytes {
+        sid.push_str("s")?;
     }
+    Ok(Policy::new(alloc, sid.as_str(), Grantee::Everyone, "default")?)
+}
+
+/// Whether a policy of this many bytes is put on the bus if there is no refusal, and else has this refusal.
+fn is_policy_put(alloc: Global, bus: &str, bytes: u16, refusal: &str) -> Result<bool, Fail> {
+    let policy = policy_of(alloc, bytes)?;
+    if policy.text().len() != usize::from(bytes) {
+        return Ok(false);
+    }
+    let change = policy_change(alloc, bus, policy)?;
     let first = RuleSet::first(alloc)?;
-    is_refused(alloc, &first, change.as_str(), refusal)
+    match made_by(alloc, &first, &change)? {
+        Ok(_) => Ok(refusal.is_empty()),
+        Err(fault) => Ok(is_fault(&fault, refusal)),
+    }
 }
 
 #[test]
 fn a_policy_has_at_most_10240_bytes(rt: HostRuntime) -> Result<(), Fail> {
-    assert!(rt; are_spaces_refused(rt.alloc(), "default", 10_240, "not valid:Policy")?);
-    assert!(rt; are_spaces_refused(rt.alloc(), "default", 10_241, "too long:Policy")?);
-    assert!(rt; are_spaces_refused(rt.alloc(), "nope", 10_241, "absent:Event bus")?);
+    assert!(rt; is_policy_put(rt.alloc(), "default", 10_240, "")?);
+    assert!(rt; is_policy_put(rt.alloc(), "default", 10_241, "too long:Policy")?);
+    assert!(rt; is_policy_put(rt.alloc(), "nope", 10_241, "absent:Event bus")?);
     Ok(())
 }
 
@@ -357,7 +365,7 @@ fn is_form_met(alloc: Global, row: &str) -> Result<bool, Fail> {
 
 #[test]
 fn changes_are_well_formed(rt: HostRuntime) -> Result<(), Fail> {
-    assert_eq!(rt; count(FORMS), 30);
+    assert_eq!(rt; count(FORMS), 28);
     for row in FORMS.lines() {
         assert!(rt; is_form_met(rt.alloc(), row)?, "{row}");
     }
@@ -466,17 +474,17 @@ fn targets_there(alloc: Global, count: usize) -> Result<Vec<Target>, Fail> {
 /// A target of the queue `q`.
 fn queue_target(alloc: Global, id: &str) -> Result<Target, Fail> {
     let parts = format!(in alloc; "{id},q")?;
-    target(alloc, parts.as_str())
+    Ok(target(alloc, parts.as_str())?.put_as(alloc)?)
 }
 
 /// Whether the row's target has the fault of the row.
 fn is_target_row_met(alloc: Global, set: &RuleSet, row: &str) -> Result<bool, Fail> {
     let (parts, count, fault) = three(row, '|')?;
-    let fault = target_fault(fault)?;
     let count = count.parse::<usize>()?;
     let target = target(alloc, parts)?;
     let targets = targets_there(alloc, count)?;
-    Ok(set.target_fault(alloc, &targets, &target)? == fault)
+    let found = set.target_fault(alloc, &targets, &target)?;
+    Ok(is_target_fault(&found, fault))
 }
 
 #[test]
@@ -554,8 +562,8 @@ fn is_retried_row(row: &SharedRow) -> bool {
 /// Whether the target shows what it was put with.
 fn is_retried(alloc: Global, target: &RuleTarget) -> Result<bool, Fail> {
     let retry = Some(RetryPolicy {
-        attempts: Some(3),
-        age: Some(60),
+        attempts: 3,
+        age: 60,
     });
     let copy = target.copy(alloc)?;
     Ok(

@@ -1,7 +1,7 @@
 //! The hall, which keeps the value, and its passes.
 ghost use Rattle.std.specs.Prelude.{◌≡◌, ℕ, ◌+◌, ◌<◌, [], ◌∷◌, length, All, IfOk, IfErr, IfSome, IfNone, None};
 ghost use mathlib.Core.List.{IsPrefix};
-ghost use Rattle.turn_book.specs.Rule.{turns_by, opener, newcomer, making, waiting, holding, giving, looking, Learns, IsUnmade};
+ghost use Rattle.turn_book.specs.Rule.{turns_by, opener, newcomer, waiting, holding, Learns, IsUnmade};
 ghost use Rattle.turn_book.specs.Passes.{view, IsFree, HasTurn, IsSamePass, HasSameTurn, Extends};
 
 use crate::fault::NoMemory;

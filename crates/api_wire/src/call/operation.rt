@@ -1,11 +1,9 @@
 //! The operations.
 ghost use Rattle.std.specs.Prelude.{◌≡◌, ◌↔◌, IsTrue, MatchResult};
-ghost use Rattle.std.specs.Option.{option_map, option_copied};
 ghost use Rattle.json_text.specs.Tree.{members_of};
-ghost use Rattle.json_text.specs.View.{tree_of, pairs_of};
-ghost use Rattle.event_shape.specs.Names.{owner};
+ghost use Rattle.json_text.specs.View.{pairs_of};
 ghost use Rattle.api_members.specs.Refusal.{AreSound, FirstFault};
-ghost use Rattle.api_wire.specs.Call.{asked, permission_asked, local_operation, named_operation, operation_of, MayCall};
+ghost use Rattle.api_wire.specs.Call.{asked, local_operation, named_operation, operation_of, MayCall};
 
 use api_members::{Asked, CallFault, Syntax, check_members, given};
 use api_replies::Member;

@@ -13,6 +13,7 @@ use api_replies::Member;
 use bus_policy::{Policy, PolicyFault};
 use json_text::{Json, NoMemory, Text};
 use router_core::Action;
+use rule_table::StoredPolicy;
 use std::alloc::Global;
 
 pub(super) fn put_permission(alloc: Global, members: &[(Text, Json)]) -> Result<Action, NoMemory>
@@ -33,13 +34,13 @@ pub(super) fn put_permission(alloc: Global, members: &[(Text, Json)]) -> Result<
     }
 }
 
-/// The text as which the policy of this text is stored.
-fn stored(alloc: Global, text: &str) -> Result<Text, NoMemory>
+/// The policy of this text, as it is stored.
+fn stored(alloc: Global, text: &str) -> Result<StoredPolicy, NoMemory>
     requires { GivesPolicy text.now }
     ensures { IfOk result (λ policy. IsStoredAs text.now policy) }
 {
     match Policy::read(alloc, text.as_bytes()) {
-        Ok(policy) => Text::from_str(alloc, policy.text()),
+        Ok(policy) => StoredPolicy::new(alloc, policy),
         Err(PolicyFault::Bad { .. }) => unreachable!(),
         Err(PolicyFault::NoMemory) => Err(NoMemory),
     }

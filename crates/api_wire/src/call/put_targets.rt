@@ -11,9 +11,9 @@ use api_members::{
     age_given, attempts_given, bus_given, given, members_in, read_dead_letter, text_of, values_in,
 };
 use api_replies::Member;
-use config_changes::{RetryPolicy, Target};
 use json_text::{Json, NoMemory, Text};
 use router_core::Action;
+use rule_targets::{AskedRetry, AskedTarget};
 use std::alloc::Global;
 
 pub(super) fn put_targets(alloc: Global, members: &[(Text, Json)]) -> Result<Action, NoMemory>
@@ -25,7 +25,7 @@ pub(super) fn put_targets(alloc: Global, members: &[(Text, Json)]) -> Result<Act
     Ok(Action::PutTargets { bus, rule, targets })
 }
 
-fn read_targets(alloc: Global, values: &[Json]) -> Result<Vec<Target>, NoMemory>
+fn read_targets(alloc: Global, values: &[Json]) -> Result<Vec<AskedTarget>, NoMemory>
     ensures { IfOk result (λ targets. targets.items ≡ targets_of (trees_of values.now)) }
 {
     let mut targets = Vec::with_capacity(alloc, values.len())?;
@@ -36,13 +36,13 @@ fn read_targets(alloc: Global, values: &[Json]) -> Result<Vec<Target>, NoMemory>
     Ok(targets)
 }
 
-fn read_target(alloc: Global, members: &[(Text, Json)]) -> Result<Target, NoMemory>
+fn read_target(alloc: Global, members: &[(Text, Json)]) -> Result<AskedTarget, NoMemory>
     ensures { IfOk result (λ target. target ≡ target_with (members_of (pairs_of members.now))) }
 {
     let id = Text::from_str(alloc, text_of(members, Member::Id))?;
     let arn = Text::from_str(alloc, text_of(members, Member::Arn))?;
     let dead_letter = read_dead_letter(alloc, members)?;
-    Ok(Target {
+    Ok(AskedTarget {
         id,
         arn,
         unbuilt: first_unsupported(members),
@@ -52,11 +52,11 @@ fn read_target(alloc: Global, members: &[(Text, Json)]) -> Result<Target, NoMemo
 }
 
 /// The retry policy that is given, with its default for each number that is absent.
-fn read_retry(policy: Option<&Json>) -> Option<RetryPolicy>
+fn read_retry(policy: Option<&Json>) -> Option<AskedRetry>
     ensures { result ≡ retry_given (option_map tree_of (option_copied policy.entry)) }
 {
     match policy {
-        Some(policy) => Some(RetryPolicy {
+        Some(policy) => Some(AskedRetry {
             attempts: attempts_given(members_in(policy)),
             age: age_given(members_in(policy)),
         }),

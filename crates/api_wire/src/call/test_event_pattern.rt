@@ -7,10 +7,10 @@ ghost use Rattle.api_members.specs.Refusal.{AreSound};
 ghost use Rattle.api_wire.specs.Call.{asked, IsAction};
 ghost use Rattle.api_wire.specs.declared.call.operation.Operation.TheVariants.{TestEventPattern};
 
+use crate::call::pattern::read_pattern;
 use api_members::{read_event, text_of};
 use api_replies::Member;
 use json_text::{Json, NoMemory, Text};
-use pattern_read::{PatternFault, PatternText};
 use router_core::Action;
 use std::alloc::Global;
 
@@ -21,12 +21,7 @@ pub(super) fn test_event_pattern(
     requires sound { AreSound (asked TestEventPattern (members_of (pairs_of members.now))) (members_of (pairs_of members.now)) }
     ensures { (caller : List ℕ) (reading : ℕ) → IfOk result (λ a. IsAction TestEventPattern caller (members_of (pairs_of members.now)) reading (action_of a)) }
 {
-    let text = Text::from_str(alloc, text_of(members, Member::EventPattern))?;
-    let pattern = match PatternText::read(alloc, text) {
-        Ok(pattern) => pattern,
-        Err(PatternFault::Refused { .. }) => unreachable!(),
-        Err(PatternFault::NoMemory) => return Err(NoMemory),
-    };
+    let pattern = read_pattern(alloc, members)?;
     match read_event(alloc, text_of(members, Member::Event))? {
         Some(event) => Ok(Action::TestEventPattern { pattern, event }),
         None => unreachable!(),

@@ -1,6 +1,5 @@
 // A link in memory.
 ghost use Rattle.std.specs.Prelude.{◌≡◌, ◌++◌, ◌≤◌, ℕ, suc, [], ◌∷◌, map, Err, OnOk, OnErr};
-ghost use Rattle.router_disk.specs.Faults.{Rose};
 ghost use Rattle.router_disk.specs.Link.{plan_of, exchange_of, exchanges_in};
 
 use crate::fault::fail;

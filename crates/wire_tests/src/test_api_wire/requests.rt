@@ -4,10 +4,10 @@ use crate::wire_rows::three;
 use api_members::CheckedEntry;
 use api_replies::Member;
 use api_wire::{Message, read_call};
-use config_changes::Target;
 use event_shape::{OWNER, Unnumbered};
 use json_text::Text;
 use router_core::Action;
+use rule_targets::AskedTarget;
 use std::alloc::{AllocError, Global};
 use std::process::Abort;
 use std::test::Fail;
@@ -26,7 +26,7 @@ fn member_shown(member: Option<Member>) -> &'static str {
     }
 }
 
-fn add_target(text: &mut String, target: &Target) -> Result<(), AllocError> {
+fn add_target(text: &mut String, target: &AskedTarget) -> Result<(), AllocError> {
     let id = target.id.as_str();
     let arn = target.arn.as_str();
     let dead_letter = text_shown(&target.dead_letter);
@@ -48,7 +48,7 @@ fn put_targets_shown(
     alloc: Global,
     bus: &str,
     rule: &str,
-    targets: &[Target],
+    targets: &[AskedTarget],
 ) -> Result<String, AllocError> {
     let mut text = format!(in alloc; "PutTargets {bus} {rule}")?;
     for target in targets {

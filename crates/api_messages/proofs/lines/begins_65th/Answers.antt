@@ -1,6 +1,6 @@
 use Rattle.std.proofs.Common.{◌≡◌, ℕ, ◌-◌, List, length, take, Some, None, sym, ap, ◌∙◌, arith, length-append}
 use Rattle.std.proofs.lemmas.Bool.{false≢true}
-use Rattle.api_messages.specs.Lines.{Begins65th, skip_newlines, after_lines}
+use Rattle.api_messages.specs.Lines.{skip_newlines, after_lines}
 use Rattle.api_messages.proofs.LineLemmas.{front_cut, begins_here, begins_back, begins_found}
 use Rattle.api_messages.proofs.lines.begins_65th.Goals as goal
 

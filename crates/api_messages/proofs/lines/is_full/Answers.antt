@@ -1,6 +1,5 @@
 use Rattle.std.proofs.Common.{◌≡◌, ℕ, ◌+◌, List, [], ◌∷◌, ◌++◌, length, take, ap, ◌∙◌, arith, length-append, rules}
 use Rattle.std.proofs.lemmas.Bool.Decides.{nat_tests}
-use Rattle.httparse.specs.Spans.{IsRequestOf, IsRequestWithin, FindsRequest}
 use Rattle.api_messages.proofs.LineLemmas.{full_by, full_back}
 use Rattle.api_messages.proofs.lines.is_full.Goals as goal
 

@@ -1,5 +1,5 @@
 use Rattle.std.proofs.Common.{◌∙◌}
-use Rattle.event_shape.proofs.NameLemmas.{queue_none, queue_some}
+use Rattle.event_shape.proofs.NameLemmas.{queue_none}
 use Rattle.event_shape.proofs.names.queue_of.Goals as goal
 
 pub returns-in-None : goal.returns-in-None

@@ -1,7 +1,7 @@
 use Rattle.std.proofs.Common.{◌≡◌, List, ℕ, [], ◌∷◌, codes, ap, ◌∙◌}
 use Rattle.json_text.specs.Tree.{text}
 use Rattle.event_shape.specs.Names.{queue_arn}
-use Rattle.config_changes.specs.Control.{queue_created}
+use Rattle.rule_table.specs.Control.{queue_created}
 use Rattle.api_replies.specs.Reply.{served}
 use Rattle.api_replies.specs.View.{reply_of}
 use Rattle.router_calls.proofs.CallLemmas.{controlled_so}

@@ -11,5 +11,5 @@ returns-clause-answer c =
     let same = c.as_str.ensures ∙ sym c.as_str-2.ensures in
     let new = subst (λ s. some_has_sid s (statements_of old) ≡ false) same (sym c.if-has_sid.ensures) in
     more_granted c.change_policy.result c.args.tables.now c.args.moment c.args.bus.now c.args.sid.now c.as_str-3.result.now c.as_str-2.result.now
-    c.text.result.now c.in_ok-text.text (account_given c.args.to) old c.in_ok-policy.policy c.as_str-3.ensures c.as_str-2.ensures new
-    c.in_ok-policy.ensures c.text.ensures.text c.in_ok-text.ensures c.change_policy.ensures.answer
+    c.in_ok-policy-2.policy (account_given c.args.to) old c.in_ok-policy.policy c.as_str-3.ensures c.as_str-2.ensures new
+    c.in_ok-policy.ensures c.in_ok-policy-2.ensures c.change_policy.ensures.answer

@@ -1,6 +1,6 @@
 use Rattle.std.proofs.Common.{rules, ◌≡◌, ◌∙◌, true, false, List, [], ◌∷◌, ◌++◌, sym, ap}
 use Rattle.std.specs.Str.{bytes_eq}
-use Rattle.config_changes.specs.declared.control.Target.{Target}
+use Rattle.rule_targets.specs.declared.target.Target.{Target}
 use Rattle.router_calls.proofs.RemovalLemmas.{without_keep, without_drop}
 use Rattle.router_calls.proofs.remove_targets.without_target.Goals as goal
 

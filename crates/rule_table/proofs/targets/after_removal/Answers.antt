@@ -1,11 +1,13 @@
-use Rattle.std.proofs.Common.{◌≡◌, ◌+◌, ◌∷◌, ℕ, List, true, drop, drop-cons, add-one, map, suc, inr, is_some, ap, sym, ◌∙◌, subst, arith}
-use Rattle.std.specs.Prelude.{All}
-use Rattle.std.proofs.lemmas.Bool.{false≢true}
+use Rattle.std.proofs.Common.{◌≡◌, ◌&&◌, ◌+◌, ◌≤◌, [], ◌∷◌, ℕ, List, true, false, length, drop, drop-cons, add-one, map, suc, is_some, ap, sym, ◌∙◌, subst, arith}
+use Rattle.std.specs.Prelude.{All, nat_le}
+use Rattle.std.proofs.lemmas.List.{drop_all}
 use Rattle.name_rows.specs.Place.{IsHere, IsBefore}
 use Rattle.name_rows.specs.Rows.{AreSorted, named, without}
 use Rattle.name_rows.proofs.RowLemmas.{named_here, named_before, sorted_without, sorted_unmap, here_map, before_map}
-use Rattle.rule_table.specs.RuleSet.{without_targets, AreRemovable}
+use Rattle.rule_table.specs.RuleSet.{without_targets}
+use Rattle.rule_table.specs.Refusal.{are_removable}
 use Rattle.rule_table.specs.Target.{target_of, IsStoredOf}
+use Rattle.rule_table.proofs.AllowedLemmas.{some_items, either_false}
 use Rattle.rule_table.proofs.RowLemmas.{here_within, removed_here, All_without}
 use Rattle.rule_table.proofs.TargetLemmas.{row_id, id_of, rows_made, target_removed}
 use Rattle.rule_table.proofs.targets.after_removal.Goals as goal
@@ -27,8 +29,10 @@ returns-in-Before c =
     let before = before_map target_of id_of id others c.in-Before.field-0
     (subst (λ rows. IsBefore row_id id rows c.in-Before.field-0) c.as_slice.ensures.value named_so) in
     let none = named_before id_of id (map target_of others) c.in-Before.field-0 c.loop-id.invariant.sorted before in
-    inr (λ good. let left = subst (λ is. AreRemovable is (map target_of others)) cons (c.loop-id.invariant.needed good) in
-    false≢true (sym (ap is_some none) ∙ left.0))
+    let wrong : are_removable ids c.args.rule.now.targets ≡ false =
+    c.loop-id.invariant.removable ∙ ap (λ is. are_removable is (map target_of others)) cons
+    ∙ ap (λ o. is_some o && are_removable (drop (suc at) ids) (without id_of id (map target_of others))) none in
+    ap (λ b. nat_le 1 (length ids) && b) wrong ∙ either_false (nat_le 1 (length ids))
 
 pub loop-id-preserved : goal.loop-id-preserved
 loop-id-preserved c =
@@ -52,10 +56,8 @@ loop-id-preserved c =
     record {
       sorted = subst (AreSorted id_of) (sym made) (sorted_without id_of id targets sorted);
       removed = c.loop-id.invariant.removed ∙ ap (λ is. without_targets is targets) cons ∙ ap (without_targets rest) (sym made);
-      removable = λ good. c.loop-id.invariant.removable
-          (subst (λ is. AreRemovable is targets) (sym cons) (found, subst (AreRemovable rest) made good));
-      needed = λ good. let both = subst (λ is. AreRemovable is targets) cons (c.loop-id.invariant.needed good) in
-          subst (AreRemovable rest) (sym made) both.1;
+      removable = c.loop-id.invariant.removable ∙ ap (λ is. are_removable is targets) cons
+          ∙ ap (λ b. b && are_removable rest (without id_of id targets)) found ∙ ap (are_removable rest) (sym made);
       rows = subst (All (IsStoredOf rule)) (sym left) (All_without (IsStoredOf rule) row_id id others c.loop-id.invariant.rows);
     }
 
@@ -68,7 +70,18 @@ loop-id-init c =
     record {
       sorted = subst (AreSorted id_of) same c.requires;
       removed = ap (without_targets ids) same;
-      removable = subst (AreRemovable ids) (sym same);
-      needed = subst (AreRemovable ids) same;
+      removable = ap (are_removable ids) same;
       rows = subst (All (IsStoredOf rule)) (sym rows) (rows_made rule rule.targets);
     }
+
+pub returns : goal.returns
+returns c =
+    let ids = c.args.ids.now in
+    let at = c.loop-id.id-index in
+    let targets = map target_of c.loop-id.others.items in
+    let done : drop at ids ≡ [] = drop_all at ids (omega arith) in
+    let good : are_removable ids c.args.rule.now.targets ≡ true = c.loop-id.invariant.removable ∙ ap (λ is. are_removable is targets) done in (
+      ap (λ b. b && are_removable ids c.args.rule.now.targets) (some_items ids c.if-is_empty.ensures) ∙ good,
+      sym (c.loop-id.invariant.removed ∙ ap (λ is. without_targets is targets) done),
+      c.loop-id.invariant.rows,
+    )

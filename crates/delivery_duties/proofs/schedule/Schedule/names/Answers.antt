@@ -4,7 +4,7 @@ use Rattle.key_tree.specs.Entries.{AreSorted}
 use Rattle.delivery_duties.specs.Duties.{is_for_queue}
 use Rattle.delivery_duties.proofs.OrderLemmas.{either_for, in_line_for, in_out_for, line_in_reach, out_in_reach}
 use Rattle.delivery_duties.proofs.RowsLemmas.{rows_sorted}
-use Rattle.delivery_duties.proofs.RowLemmas.{passes_any, any_passes, same_truth}
+use Rattle.delivery_duties.proofs.PassLemmas.{passes_any, any_passes, same_truth}
 use Rattle.delivery_duties.proofs.schedule.Schedule.names.Goals as goal
 
 pub is_any_for_queue-requires : goal.is_any_for_queue-requires

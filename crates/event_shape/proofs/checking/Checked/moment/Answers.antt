@@ -1,5 +1,4 @@
 use Rattle.std.proofs.Common.{sym, ap, ◌∙◌, subst, unwrap_or}
-use Rattle.json_text.specs.Moment.{IsMoment}
 use Rattle.json_text.specs.View.{tree_of}
 use Rattle.event_shape.specs.Event.{Checked}
 use Rattle.event_shape.proofs.MakeLemmas.{moment_fits}

@@ -1,10 +1,10 @@
 use Rattle.std.proofs.Common.{◌≡◌, ◌∙◌, None, ap, sym, subst}
 use Rattle.json_text.specs.Tree.{object, members_of}
-use Rattle.json_text.specs.View.{pairs_of, tree_of}
+use Rattle.json_text.specs.View.{tree_of}
 use Rattle.json_text.specs.Compact.{IsValue}
 use Rattle.json_text.specs.declared.value.Json.TheVariants.{Obj}
 use Rattle.json_text.proofs.ViewLemmas.{tree_of_object}
-use Rattle.event_shape.specs.Event.{IsEvent, event_members, event_tree}
+use Rattle.event_shape.specs.Event.{IsEvent, event_tree}
 use Rattle.event_shape.proofs.ValidLemmas.{event_value}
 use Rattle.event_shape.proofs.event.Event.into_tree.Goals as goal
 

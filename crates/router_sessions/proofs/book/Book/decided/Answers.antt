@@ -1,5 +1,6 @@
 use Rattle.std.proofs.Common.{subst}
-use Rattle.rule_table.specs.RuleSet.{RuleSet, IsSound}
+use Rattle.rule_table.specs.RuleSet.{RuleSet}
+use Rattle.rule_table.specs.Sound.{IsSound}
 use Rattle.router_core.specs.Matching.{IsSeen}
 use Rattle.router_core.specs.Request.{Request}
 use Rattle.router_core.specs.Tables.{Tables}

@@ -1,5 +1,4 @@
 use Rattle.std.proofs.Common.{◌≡◌, map, ◌∙◌, subst}
-use Rattle.std.specs.Arc.{arc_value}
 use Rattle.rule_table.specs.RuleSet.{Rule}
 use Rattle.rule_table.specs.Target.{stored_of, target_of}
 use Rattle.rule_table.proofs.TargetLemmas.{rows_again}
@@ -11,7 +10,7 @@ returns-clause-rows c =
     let view : Rule = record {
       arn = c.self.inside.arn;
       name = c.self.inside.name;
-      pattern = arc_value c.self.inside.pattern;
+      pattern = c.self.inside.pattern;
       enabled = c.self.inside.enabled;
       targets = map target_of rows;
     } in

@@ -1,36 +1,39 @@
-use Rattle.std.proofs.Common.{refl, sym, subst}
-use Rattle.std.proofs.lemmas.Bool.{false≢true}
-use Rattle.config_changes.specs.TargetForm.{IsWellFormedTarget}
-use Rattle.rule_table.specs.RuleSet.{IsArnThere, IsDeadLetterThere, IsSoundTarget}
-use Rattle.rule_table.specs.Refusal.{IsQueueMissing, bad_member, no_queue, no_dead_letter_queue}
-use Rattle.rule_table.proofs.RefusalLemmas.{queue_found, dead_letter_found}
+use Rattle.std.proofs.Common.{◌≡◌, Some, None, refl, sym, ap, ◌∙◌}
+use Rattle.std.specs.Option.{option_and_then}
+use Rattle.event_shape.specs.Names.{queue_in}
+use Rattle.rule_targets.specs.Checks.{member_fault}
+use Rattle.rule_table.specs.declared.control.TargetFault.TheVariants as fault
+use Rattle.rule_table.specs.Refusal.{missing_in}
+use Rattle.rule_table.proofs.AllowedLemmas.{own_member, own_queues}
 use Rattle.rule_table.proofs.rule_set.RuleSet.own_fault.Goals as goal
 
 pub returns-in-Some : goal.returns-in-Some
-returns-in-Some c = λ targets. bad_member c.in-Some.member (rw c.in-Some.is at c.in_ok-member.ensures)
+returns-in-Some c = sym (own_member c.args.self.now c.args.target.now c.in-Some.member (sym c.in_ok-member.ensures ∙ c.in-Some.is))
 
-pub returns-then-is_queue_missing : goal.returns-then-is_queue_missing
-returns-then-is_queue_missing c = λ targets.
-    let form : IsWellFormedTarget c.args.target.now = rw c.in_default.is at c.in_ok-member.ensures in
-    no_queue form (subst (IsQueueMissing c.args.self.now) c.as_str.ensures (c.if-is_queue_missing.ensures.0 refl))
-
-pub returns-then-is_dead_letter_missing : goal.returns-then-is_dead_letter_missing
-returns-then-is_dead_letter_missing c = λ targets.
+pub returns-in-Some-missing : goal.returns-in-Some-missing
+returns-in-Some-missing c =
     let set = c.args.self.now in
     let target = c.args.target.now in
-    let form : IsWellFormedTarget target = rw c.in_default.is at c.in_ok-member.ensures in
-    let arn : IsArnThere set target.arn = queue_found set target.arn form.arn
-    (λ missing. false≢true (c.if-is_queue_missing.ensures.1 (subst (IsQueueMissing set) (sym c.as_str.ensures) missing))) in
-    no_dead_letter_queue form arn (c.if-is_dead_letter_missing.ensures.0 refl)
+    let none : member_fault target ≡ None = sym c.in_ok-member.ensures ∙ c.in_default.is in
+    let own : missing_in set (queue_in target.arn) ≡ Some c.in-Some-missing.queue.now =
+    ap (λ t. missing_in set (queue_in t)) (sym c.as_str.ensures) ∙ sym c.in-Some-missing.ensures in
+    ap (λ q. Some (fault.NoQueue q)) c.in_ok-from_str.ensures ∙ sym (own_queues set target _ _ none own refl)
+
+pub returns-in-Some-missing_dead_letter : goal.returns-in-Some-missing_dead_letter
+returns-in-Some-missing_dead_letter c =
+    let set = c.args.self.now in
+    let target = c.args.target.now in
+    let none : member_fault target ≡ None = sym c.in_ok-member.ensures ∙ c.in_default.is in
+    let own : missing_in set (queue_in target.arn) ≡ None = ap (λ t. missing_in set (queue_in t)) (sym c.as_str.ensures) ∙ sym c.in_default-missing.ensures in
+    let dead : missing_in set (option_and_then queue_in target.dead_letter) ≡ Some c.in-Some-missing_dead_letter.queue.now =
+    sym c.in-Some-missing_dead_letter.ensures in
+    ap (λ q. Some (fault.NoDeadLetterQueue q)) c.in_ok-from_str-2.ensures ∙ sym (own_queues set target _ _ none own dead)
 
 pub returns : goal.returns
 returns c =
     let set = c.args.self.now in
     let target = c.args.target.now in
-    let form : IsWellFormedTarget target = rw c.in_default.is at c.in_ok-member.ensures in
-    let arn : IsArnThere set target.arn = queue_found set target.arn form.arn
-    (λ missing. false≢true (c.if-is_queue_missing.ensures.1 (subst (IsQueueMissing set) (sym c.as_str.ensures) missing))) in
-    let dead : IsDeadLetterThere set target.dead_letter = dead_letter_found set target.dead_letter form.dead_letter
-    (λ missing. false≢true (c.if-is_dead_letter_missing.ensures.1 missing)) in
-    let sound : IsSoundTarget set target = record { arn = arn; supported = form.supported; retry = form.retry; dead_letter = dead } in
-    (form, sound)
+    let none : member_fault target ≡ None = sym c.in_ok-member.ensures ∙ c.in_default.is in
+    let own : missing_in set (queue_in target.arn) ≡ None = ap (λ t. missing_in set (queue_in t)) (sym c.as_str.ensures) ∙ sym c.in_default-missing.ensures in
+    let dead : missing_in set (option_and_then queue_in target.dead_letter) ≡ None = sym c.in_default-missing_dead_letter.ensures in
+    sym (own_queues set target None None none own dead)

@@ -1,67 +1,52 @@
-use Rattle.std.proofs.Common.{◌≡◌, ◌+◌, ℕ, List, false, inr, refl, ap, sym, ◌∙◌, subst}
-use Rattle.config_changes.specs.Control.{rule_put}
-use Rattle.rule_table.specs.RuleSet.{Rule, Bus, has_bus, new_rule, put_rule, IsSound}
-use Rattle.rule_table.specs.Refusal.{no_pattern, rule_without_bus}
-use Rattle.rule_table.proofs.SortedLemmas.{sound_applied}
-use Rattle.rule_table.proofs.ChangeLemmas.{IsFound, found_changed, rule_allowed, rule_full, arns_of}
+use Rattle.std.proofs.Common.{◌≡◌, ◌||◌, ℕ, List, Bool, true, is_some, length, refl, ap, ◌∙◌}
+use Rattle.std.specs.Prelude.{nat_lt}
+use Rattle.name_rows.specs.Rows.{named}
+use Rattle.rule_table.specs.Control.{rule_put}
+use Rattle.rule_table.specs.RuleSet.{Rule, Bus, has_bus, has_rule, new_rule, put_rule, rules_in, rules_of}
+use Rattle.rule_table.specs.Refusal.{IsAllowed}
+use Rattle.rule_table.proofs.ChangeLemmas.{bus_made, arns_of}
 use Rattle.rule_table.proofs.RowLemmas.{named_name}
 use Rattle.rule_table.proofs.rule_set.RuleSet.put_rule.Goals as goal
 
-pub returns-in_default-clause-refused : goal.returns-in_default-clause-refused
-returns-in_default-clause-refused c = inr (no_pattern (rw c.in_default.is at c.in_ok-pattern.ensures))
-
-pub returns-in_default-found-clause-refused : goal.returns-in_default-found-clause-refused
-returns-in_default-found-clause-refused c =
-    let read = rw c.in-Some.is at c.in_ok-pattern.ensures in
-    inr (rule_without_bus read.1 read.2 (subst (λ name. has_bus name c.args.self.now ≡ false) c.as_str.ensures c.in_default-found.ensures.found))
-
-pub returns-in_default-2-clause-refused : goal.returns-in_default-2-clause-refused
-returns-in_default-2-clause-refused c =
-    let read = rw c.in-Some.is at c.in_ok-pattern.ensures in
-    let found = subst (λ name. IsFound c.args.self.now name c.in-Some-found.old.now) c.as_str.ensures c.in-Some-found.ensures.found in
-    inr (rule_full c.args.bus.now c.args.name.now c.args.pattern.now c.args.self.now c.in-Some-found.old.now found read.1 read.2
-    (rw c.in_default-2.is at c.in_ok-new.ensures.room))
+pub with_rule-requires : goal.with_rule-requires
+with_rule-requires c =
+    record { arns = arns_of c.args.bus.now c.args.self.now c.in_ok-old.old.now c.in_ok-old.ensures.found c.in_ok-old.ensures.sound }
 
 pub with_bus-requires-clause-sound : goal.with_bus-requires-clause-sound
 with_bus-requires-clause-sound c =
     let bus = c.args.bus.now in
+    let name = c.args.name.now in
     let set = c.args.self.now in
-    let old = c.in-Some-found.old.now in
-    let sorted = c.in-Some-found.ensures.sound in
-    let found = subst (λ name. IsFound set name old) c.as_str.ensures c.in-Some-found.ensures.found in
-    let read = rw c.in-Some.is at c.in_ok-pattern.ensures in
-    let rule : List ℕ → List ℕ → Rule = λ b pattern. new_rule b c.args.name.now pattern c.args.enabled in
-    let same : old.name ≡ bus = named_name (λ (b : Bus). b.name) bus set.buses old found in
-    let change : Bus → Bus = λ b. record b { rules = put_rule (rule bus c.args.pattern.now) b.rules } in
-    let put = rw c.in-Some-2.is at c.in_ok-new.ensures.put in
-    let new : c.in-Some-2.new ≡ change old = put ∙ ap (λ b. record old { rules = put_rule (rule b c.in-Some.pattern) old.rules }) same
-    ∙ ap (λ pattern. record old { rules = put_rule (rule bus pattern) old.rules }) read.0 in
-    let room = rw c.in-Some-2.is at c.in_ok-new.ensures.room in
-    let allowed = rule_allowed bus c.args.name.now c.args.pattern.now c.args.enabled set old found (read.1, read.2) room in
-    subst (λ buses. IsSound (record set { buses = buses; count = set.count + 1 }))
-    (sym (found_changed set bus old change c.in-Some-2.new found sorted (λ b. refl) new))
-    (sound_applied (rule_put bus c.args.name.now c.args.pattern.now c.args.enabled) set allowed sorted)
+    let old = c.in_ok-old.old.now in
+    let found = c.in_ok-old.ensures.found in
+    let rule : List ℕ → Rule = λ b. new_rule b name c.args.pattern.now c.args.enabled in
+    let change : Bus → Bus = λ b. record b { rules = put_rule (rule bus) b.rules } in
+    let put = rw c.in-Some.is at c.in_ok-new.ensures in
+    let there : has_bus bus set ≡ true = ap is_some found in
+    let room : (has_rule bus name set || nat_lt (length (rules_of bus set)) 300) ≡ true =
+    ap (λ o. is_some (named (λ (r : Rule). r.name) name (rules_in o)) || nat_lt (length (rules_in o)) 300) found ∙ put.0 in
+    let allowed : IsAllowed (rule_put bus name c.args.pattern.now c.args.enabled) set = rw (there, room) refl in
+    let made : c.in-Some.new ≡ change old =
+    put.1 ∙ ap (λ b. record old { rules = put_rule (rule b) old.rules }) (named_name (λ (b : Bus). b.name) bus set.buses old found) in
+    (bus_made (rule_put bus name c.args.pattern.now c.args.enabled) set bus change old c.in-Some.new (λ b. refl) found c.in_ok-old.ensures.sound made allowed
+    tt refl).0
 
-pub returns-clause-applied : goal.returns-clause-applied
-returns-clause-applied c =
+pub returns : goal.returns
+returns c =
     let bus = c.args.bus.now in
+    let name = c.args.name.now in
     let set = c.args.self.now in
-    let old = c.in-Some-found.old.now in
-    let found = subst (λ name. IsFound set name old) c.as_str.ensures c.in-Some-found.ensures.found in
-    let read = rw c.in-Some.is at c.in_ok-pattern.ensures in
-    let rule : List ℕ → List ℕ → Rule = λ b pattern. new_rule b c.args.name.now pattern c.args.enabled in
-    let same : old.name ≡ bus = named_name (λ (b : Bus). b.name) bus set.buses old found in
-    let change : Bus → Bus = λ b. record b { rules = put_rule (rule bus c.args.pattern.now) b.rules } in
-    let put = rw c.in-Some-2.is at c.in_ok-new.ensures.put in
-    let new : c.in-Some-2.new ≡ change old = put ∙ ap (λ b. record old { rules = put_rule (rule b c.in-Some.pattern) old.rules }) same
-    ∙ ap (λ pattern. record old { rules = put_rule (rule bus pattern) old.rules }) read.0 in
-    let room = rw c.in-Some-2.is at c.in_ok-new.ensures.room in (
-      rule_allowed bus c.args.name.now c.args.pattern.now c.args.enabled set old found (read.1, read.2) room,
-      c.in_ok-with_bus.ensures ∙ ap (λ buses. record set { buses = buses; count = set.count + 1 })
-          (found_changed set bus old change c.in-Some-2.new found c.in-Some-found.ensures.sound (λ b. refl) new),
-    )
-
-pub with_rule-requires : goal.with_rule-requires
-with_rule-requires c =
-    let found = subst (λ name. IsFound c.args.self.now name c.in-Some-found.old.now) c.as_str.ensures c.in-Some-found.ensures.found in
-    record { arns = arns_of c.args.bus.now c.args.self.now c.in-Some-found.old.now found c.in-Some-found.ensures.sound }
+    let old = c.in_ok-old.old.now in
+    let found = c.in_ok-old.ensures.found in
+    let rule : List ℕ → Rule = λ b. new_rule b name c.args.pattern.now c.args.enabled in
+    let change : Bus → Bus = λ b. record b { rules = put_rule (rule bus) b.rules } in
+    let put = rw c.in-Some.is at c.in_ok-new.ensures in
+    let there : has_bus bus set ≡ true = ap is_some found in
+    let room : (has_rule bus name set || nat_lt (length (rules_of bus set)) 300) ≡ true =
+    ap (λ o. is_some (named (λ (r : Rule). r.name) name (rules_in o)) || nat_lt (length (rules_in o)) 300) found ∙ put.0 in
+    let allowed : IsAllowed (rule_put bus name c.args.pattern.now c.args.enabled) set = rw (there, room) refl in
+    let made : c.in-Some.new ≡ change old =
+    put.1 ∙ ap (λ b. record old { rules = put_rule (rule b) old.rules }) (named_name (λ (b : Bus). b.name) bus set.buses old found) in
+    let after = bus_made (rule_put bus name c.args.pattern.now c.args.enabled) set bus change old c.in-Some.new (λ b. refl) found c.in_ok-old.ensures.sound made
+    allowed tt refl in
+    (allowed, c.in_ok-with_bus.ensures ∙ after.1)

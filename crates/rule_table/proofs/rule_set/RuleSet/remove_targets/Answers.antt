@@ -1,83 +1,49 @@
-use Rattle.std.proofs.Common.{◌≡◌, ◌+◌, ◌≤◌, length, false, None, inr, refl, ap, sym, ◌∙◌, subst}
-use Rattle.name_rows.specs.Rows.{named}
-use Rattle.config_changes.specs.Control.{targets_removed}
-use Rattle.rule_table.specs.RuleSet.{Rule, has_bus, without_targets, AreRemovable, IsSound}
-use Rattle.rule_table.specs.Refusal.{no_such_bus, no_rule_to_remove_from, faulty_ids}
-use Rattle.rule_table.proofs.SortedLemmas.{sound_applied}
-use Rattle.rule_table.proofs.ChangeLemmas.{IsFound, IsFoundIn, no_rule, rule_found, for_rule, rule_changed, targets_sorted}
+use Rattle.std.proofs.Common.{◌≡◌, true, refl, ap, ◌∙◌}
+use Rattle.api_replies.specs.declared.member.Member.TheVariants as member
+use Rattle.rule_table.specs.declared.control.ControlFault.TheVariants.{Validation}
+use Rattle.rule_table.specs.Control.{targets_removed}
+use Rattle.rule_table.specs.RuleSet.{Rule, without_targets}
+use Rattle.rule_table.specs.Refusal.{are_some_removable}
+use Rattle.rule_table.proofs.ChangeLemmas.{rule_found, after_rule, rule_made, targets_sorted}
 use Rattle.rule_table.proofs.rule_set.RuleSet.remove_targets.Goals as goal
-
-pub returns-in_default-clause-refused : goal.returns-in_default-clause-refused
-returns-in_default-clause-refused c =
-    inr (no_rule_to_remove_from _ (no_such_bus (subst (λ name. has_bus name c.args.self.now ≡ false) c.as_str.ensures c.in_default.ensures.found)))
-
-pub returns-in_default-rule-clause-refused : goal.returns-in_default-rule-clause-refused
-returns-in_default-rule-clause-refused c =
-    let set = c.args.self.now in
-    let old = c.in-Some.old.now in
-    let found = subst (λ name. IsFound set name old) c.as_str.ensures c.in-Some.ensures.found in
-    let none = subst (λ name. named (λ (r : Rule). r.name) name old.rules ≡ None) c.as_str-2.ensures c.in_default-rule.ensures.found in
-    inr (no_rule_to_remove_from _ (no_rule c.args.bus.now c.args.rule.now set old found none))
 
 pub after_removal-requires : goal.after_removal-requires
 after_removal-requires c =
-    let set = c.args.self.now in
-    let old = c.in-Some.old.now in
-    let r = c.in-Some-rule.rule.now in
-    let found = subst (λ name. IsFound set name old) c.as_str.ensures c.in-Some.ensures.found in
-    let there = subst (λ name. IsFoundIn old name r) c.as_str-2.ensures c.in-Some-rule.ensures.found in
-    targets_sorted c.args.bus.now c.args.rule.now set old r found there c.in-Some.ensures.sound
-
-pub returns-in_default-2-clause-refused : goal.returns-in_default-2-clause-refused
-returns-in_default-2-clause-refused c =
-    let set = c.args.self.now in
-    let old = c.in-Some.old.now in
-    let r = c.in-Some-rule.rule.now in
-    let found = subst (λ name. IsFound set name old) c.as_str.ensures c.in-Some.ensures.found in
-    let there = subst (λ name. IsFoundIn old name r) c.as_str-2.ensures c.in-Some-rule.ensures.found in
-    inr (faulty_ids r (rule_found c.args.bus.now c.args.rule.now set old r found there) (rw c.in_default-2.is at c.in_ok-targets.ensures))
+    let found = c.in_ok-old.ensures.found in
+    targets_sorted c.args.bus.now c.args.rule.now c.args.self.now c.in_ok-old.old.now c.in_ok-old.rule.now found.0 found.1 c.in_ok-old.ensures.sound
 
 pub with_targets-requires : goal.with_targets-requires
-with_targets-requires c = let left = rw c.in-Some-2.is at c.in_ok-targets.ensures in left.3
+with_targets-requires c = let put = rw c.in-Some.is at c.in_ok-targets.ensures in put.2
 
 pub with_bus-requires-clause-sound : goal.with_bus-requires-clause-sound
 with_bus-requires-clause-sound c =
     let bus = c.args.bus.now in
     let rule = c.args.rule.now in
-    let ids = c.args.ids.now in
+    let news = c.args.ids.now in
     let set = c.args.self.now in
-    let old = c.in-Some.old.now in
-    let r = c.in-Some-rule.rule.now in
-    let change : Rule → Rule = λ r. record r { targets = without_targets ids r.targets } in
-    let Fact : Rule → Type 0 = λ r. (1 ≤ length ids) × AreRemovable ids r.targets in
-    let sound = c.in-Some.ensures.sound in
-    let found = subst (λ name. IsFound set name old) c.as_str.ensures c.in-Some.ensures.found in
-    let there = subst (λ name. IsFoundIn old name r) c.as_str-2.ensures c.in-Some-rule.ensures.found in
-    let left = rw c.in-Some-2.is at c.in_ok-targets.ensures in
-    let made : c.in_ok-with_targets.field-0 ≡ change r =
-    c.in_ok-with_targets.ensures ∙ ap (λ ts. record r { targets = ts }) left.2 in
-    let allowed = for_rule bus rule set r Fact (rule_found bus rule set old r found there) (left.0, left.1) in
-    subst (λ buses. IsSound (record set { buses = buses; count = set.count + 1 }))
-    (sym (rule_changed bus rule change set old r c.in_ok-with_targets.field-0 c.in_ok-new.new (λ r. refl) found there sound made c.in_ok-new.ensures))
-    (sound_applied (targets_removed bus rule ids) set allowed sound)
+    let old = c.in_ok-old.old.now in
+    let r = c.in_ok-old.rule.now in
+    let found = c.in_ok-old.ensures.found in
+    let change : Rule → Rule = λ r. record r { targets = without_targets news r.targets } in
+    let put = rw c.in-Some.is at c.in_ok-targets.ensures in
+    let made : c.in_ok-with_targets.field-0 ≡ change r = c.in_ok-with_targets.ensures ∙ ap (λ ts. record r { targets = ts }) put.1 in
+    let allowed = after_rule bus rule set r (are_some_removable news) (Validation member.Ids) true (rule_found bus rule set old r found.0 found.1) put.0 in
+    (rule_made (targets_removed bus rule news) set bus rule change old r c.in_ok-with_targets.field-0 c.in_ok-new.new (λ r. refl) found.0 found.1
+    c.in_ok-old.ensures.sound made c.in_ok-new.ensures allowed tt refl).0
 
-pub returns-clause-applied : goal.returns-clause-applied
-returns-clause-applied c =
+pub returns : goal.returns
+returns c =
     let bus = c.args.bus.now in
     let rule = c.args.rule.now in
-    let ids = c.args.ids.now in
+    let news = c.args.ids.now in
     let set = c.args.self.now in
-    let old = c.in-Some.old.now in
-    let r = c.in-Some-rule.rule.now in
-    let change : Rule → Rule = λ r. record r { targets = without_targets ids r.targets } in
-    let Fact : Rule → Type 0 = λ r. (1 ≤ length ids) × AreRemovable ids r.targets in
-    let found = subst (λ name. IsFound set name old) c.as_str.ensures c.in-Some.ensures.found in
-    let there = subst (λ name. IsFoundIn old name r) c.as_str-2.ensures c.in-Some-rule.ensures.found in
-    let left = rw c.in-Some-2.is at c.in_ok-targets.ensures in
-    let made : c.in_ok-with_targets.field-0 ≡ change r =
-    c.in_ok-with_targets.ensures ∙ ap (λ ts. record r { targets = ts }) left.2 in
-    let same = rule_changed bus rule change set old r c.in_ok-with_targets.field-0 c.in_ok-new.new (λ r. refl) found there c.in-Some.ensures.sound made
-    c.in_ok-new.ensures in (
-      for_rule bus rule set r Fact (rule_found bus rule set old r found there) (left.0, left.1),
-      c.in_ok-with_bus.ensures ∙ ap (λ buses. record set { buses = buses; count = set.count + 1 }) same,
-    )
+    let old = c.in_ok-old.old.now in
+    let r = c.in_ok-old.rule.now in
+    let found = c.in_ok-old.ensures.found in
+    let change : Rule → Rule = λ r. record r { targets = without_targets news r.targets } in
+    let put = rw c.in-Some.is at c.in_ok-targets.ensures in
+    let made : c.in_ok-with_targets.field-0 ≡ change r = c.in_ok-with_targets.ensures ∙ ap (λ ts. record r { targets = ts }) put.1 in
+    let allowed = after_rule bus rule set r (are_some_removable news) (Validation member.Ids) true (rule_found bus rule set old r found.0 found.1) put.0 in
+    let after = rule_made (targets_removed bus rule news) set bus rule change old r c.in_ok-with_targets.field-0 c.in_ok-new.new (λ r. refl) found.0 found.1
+    c.in_ok-old.ensures.sound made c.in_ok-new.ensures allowed tt refl in
+    (allowed, c.in_ok-with_bus.ensures ∙ after.1)

@@ -1,33 +1,24 @@
-use Rattle.std.proofs.Common.{◌<◌, ◌≤◌, length, map, refl, subst, ◌∙◌, ap}
+use Rattle.std.proofs.Common.{◌≡◌, if◌then◌else◌, not, length, map, Some, None, sym, ap, ◌∙◌}
+use Rattle.std.specs.Prelude.{nat_le}
+use Rattle.json_text.specs.Checks.{first_fault}
 use Rattle.name_rows.specs.Rows.{placed, replacing}
-use Rattle.config_changes.specs.TargetForm.{IsWellFormedTarget}
-use Rattle.rule_table.specs.RuleSet.{put_target, IsSoundTarget}
-use Rattle.rule_table.specs.Refusal.{sixth}
+use Rattle.rule_targets.specs.Target.{put_as}
+use Rattle.rule_table.specs.declared.control.TargetFault.TheVariants as fault
+use Rattle.rule_table.specs.Refusal.{own_checks}
 use Rattle.rule_table.specs.Target.{target_of}
-use Rattle.rule_table.proofs.TargetLemmas.{row_id, length_stored, at_most}
+use Rattle.rule_table.proofs.TargetLemmas.{row_id, length_stored}
+use Rattle.rule_table.proofs.AllowedLemmas.{fault_found, room_decides}
 use Rattle.rule_table.proofs.rule_set.RuleSet.stored_fault.Goals as goal
 
 pub returns-in-Some : goal.returns-in-Some
-returns-in-Some c =
-    let targets = c.args.targets.now in
-    let own = rw c.in-Some.is at c.in_ok-fault.ensures in
-    own (map target_of targets)
+returns-in-Some c = sym (fault_found c.args.self.now _ c.args.target.now c.in-Some.fault (sym c.in_ok-fault.ensures ∙ c.in-Some.is))
 
-pub returns-then-is_sixth : goal.returns-then-is_sixth
-returns-then-is_sixth c =
-    let new = c.args.target.now in
-    let targets = c.args.targets.now in
-    let own : IsWellFormedTarget new × IsSoundTarget c.args.self.now new = rw c.in_default.is at c.in_ok-fault.ensures in
-    let same = ap (λ id. length (placed (λ n. n) replacing id (map row_id targets))) c.as_str.ensures ∙ length_stored new targets in
-    let many : 5 < length (put_target new (map target_of targets)) = subst (λ n. 5 < n) same (c.if-is_sixth.ensures.0 refl) in
-    sixth own.0 own.1.arn own.1.dead_letter many
-
-pub returns : goal.returns
-returns c =
-    let new = c.args.target.now in
-    let targets = c.args.targets.now in
-    let own : IsWellFormedTarget new × IsSoundTarget c.args.self.now new = rw c.in_default.is at c.in_ok-fault.ensures in
-    let same = ap (λ id. length (placed (λ n. n) replacing id (map row_id targets))) c.as_str.ensures ∙ length_stored new targets in
-    let few : length (put_target new (map target_of targets)) ≤ 5 =
-    subst (λ n. n ≤ 5) same (at_most 5 (length (placed (λ n. n) replacing c.as_str.result.now (map row_id targets))) c.if-is_sixth.ensures) in
-    record { id = own.0.id; sound = own.1; few = few }
+pub returns-in-None : goal.returns-in-None
+returns-in-None c =
+    let set = c.args.self.now in
+    let target = c.args.target.now in
+    let rows = c.args.targets.now in
+    let targets = map target_of rows in
+    let none : first_fault (own_checks set target) ≡ None = sym c.in_ok-fault.ensures ∙ c.in-None.is in
+    let count = ap (λ id. length (placed (λ n. n) replacing id (map row_id rows))) c.as_str.ensures ∙ length_stored (put_as target) rows in
+    c.room_fault.ensures ∙ ap (λ b. if b then Some fault.Sixth else None) c.is_sixth.ensures ∙ room_decides set targets target _ none count

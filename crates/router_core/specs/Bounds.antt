@@ -1,0 +1,64 @@
+-- The bounds of a request: outside them it has no answer. What a change of the configuration has to be by itself is `IsWellFormed`.
+use Rattle.std.specs.Prelude.{◌≡◌, ◌≤◌, ◌<◌, ◌^◌, ℕ, List, length, Option, Some, None, Result, Ok, Err, All}
+use Rattle.json_text.specs.Tree.{Tree}
+use Rattle.json_text.specs.Compact.{IsValue, compact_text}
+use Rattle.event_shape.specs.Names.{IsBusName, IsQueueName}
+use Rattle.event_shape.specs.Unnumbered.{Unnumbered}
+use Rattle.event_shape.specs.declared.entry.EntryFault.{EntryFault}
+use Rattle.bus_policy.specs.Stored.{IsStored}
+use Rattle.bus_policy.specs.Change.{IsAccountGiven}
+use Rattle.bus_policy.specs.StatementId.{IsStatementId}
+use Rattle.rule_table.specs.Control.{bus_created, bus_deleted, rule_put, rule_deleted, state_put, targets_removed, policy_put, queue_created}
+use Rattle.rule_table.specs.Control.{queue_deleted}
+use Rattle.rule_targets.specs.Checks.{IsTargetArn}
+use Rattle.rule_table.specs.WellFormed.{IsWellFormed, IsSomePattern}
+use Rattle.rule_targets.specs.WellFormed.{NamesRule}
+use Rattle.router_core.specs.Request.{Action, create_event_bus, delete_event_bus, describe_event_bus, list_event_buses, put_rule, delete_rule}
+use Rattle.router_core.specs.Request.{put_rule_state, describe_rule, list_rules, put_targets, remove_targets, list_targets_by_rule}
+use Rattle.router_core.specs.Request.{list_rule_names_by_target, put_policy, put_statement, remove_policy, remove_statement, put_events}
+use Rattle.router_core.specs.Request.{test_event_pattern, create_queue, delete_queue, peek_messages, delete_messages, duty_counts, deliver_due}
+
+-- An entry without a fault is for a bus name.
+-- Shown by: router_tests test_router_calls.rt: each_request_is_answered.
+abbrev pub IsForBus : Result Unnumbered EntryFault → Type 0
+IsForBus (Ok event) = IsBusName event.bus
+IsForBus (Err fault) = Unit {0}
+
+-- A StatementId, if one is given.
+-- Shown by: router_tests test_router_calls.rt: each_change_is_answered.
+abbrev pub IsStatementIdIfGiven : Option (List ℕ) → Type 0
+IsStatementIdIfGiven None = Unit {0}
+IsStatementIdIfGiven (Some sid) = IsStatementId sid
+
+-- The names, ARNs and ids of a request have their syntax. As in the Amazon EventBridge API Reference, a PutTargets has 1 to 100 targets, a
+-- RemoveTargets 1 to 100 ids, a PutEvents 1 to 10 entries, each for a bus name or faulty. By this project's own rule, a PeekMessages shows
+-- 1 to 1,000 messages, a DeleteMessages deletes those up to a number below 2 ^ 48, a DeliverDue makes 1 to 1,000 steps. A PutRule has a
+-- pattern, a TestEventPattern a pattern and a JSON value. A policy that is put is one as it is stored, of any length; a statement that is
+-- put is for an account or for everyone.
+-- Shown by: wire_tests test_api_wire.rt: a_message_has_its_first_refusal.
+abbrev pub IsBounded : Action → Type 0
+IsBounded (create_event_bus name) = IsWellFormed (bus_created name)
+IsBounded (delete_event_bus name) = IsWellFormed (bus_deleted name)
+IsBounded (describe_event_bus name) = IsBusName name
+IsBounded (list_event_buses prefix) = Unit {0}
+IsBounded (put_rule bus name pattern enabled) = IsWellFormed (rule_put bus name pattern enabled)
+IsBounded (delete_rule bus name) = IsWellFormed (rule_deleted bus name)
+IsBounded (put_rule_state bus name enabled) = IsWellFormed (state_put bus name enabled)
+IsBounded (describe_rule bus name) = NamesRule bus name
+IsBounded (list_rules bus prefix) = IsBusName bus
+IsBounded (put_targets bus rule targets) = NamesRule bus rule × (1 ≤ length targets) × (length targets ≤ 100)
+IsBounded (remove_targets bus rule ids) = IsWellFormed (targets_removed bus rule ids)
+IsBounded (list_targets_by_rule bus rule) = NamesRule bus rule
+IsBounded (list_rule_names_by_target arn bus) = IsBusName bus × IsTargetArn arn
+IsBounded (put_policy bus policy) = IsBusName bus × ((value : Tree) × IsStored value × (policy ≡ compact_text value))
+IsBounded (put_statement bus sid account) = IsBusName bus × IsStatementId sid × IsAccountGiven account
+IsBounded (remove_policy bus) = IsWellFormed (policy_put bus None)
+IsBounded (remove_statement bus sid) = IsBusName bus × IsStatementIdIfGiven sid
+IsBounded (put_events entries size) = (1 ≤ length entries) × (length entries ≤ 10) × All IsForBus entries
+IsBounded (test_event_pattern pattern event) = IsSomePattern pattern × IsValue event
+IsBounded (create_queue name) = IsWellFormed (queue_created name)
+IsBounded (delete_queue name) = IsWellFormed (queue_deleted name)
+IsBounded (peek_messages queue limit) = IsQueueName queue × (1 ≤ limit) × (limit ≤ 1000)
+IsBounded (delete_messages queue through) = IsQueueName queue × (through < 2 ^ 48)
+IsBounded duty_counts = Unit {0}
+IsBounded (deliver_due budget) = (1 ≤ budget) × (budget ≤ 1000)

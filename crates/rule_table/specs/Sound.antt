@@ -1,0 +1,42 @@
+-- What holds of every rule set that allowed changes made from the first one.
+use Rattle.std.specs.Prelude.{◌≡◌, ◌≤◌, ℕ, true, List, length, None, All}
+use Rattle.json_text.specs.Checks.{first_fault}
+use Rattle.event_shape.specs.Names.{default_bus, rule_arn}
+use Rattle.name_rows.specs.Rows.{AreSorted}
+use Rattle.rule_targets.specs.declared.target.Target.{Target}
+use Rattle.rule_targets.specs.Target.{asked_of}
+use Rattle.rule_table.specs.RuleSet.{Rule, RuleSet, has_bus}
+use Rattle.rule_table.specs.Refusal.{own_checks}
+use Rattle.rule_table.specs.WellFormed.{IsNoneOrStored}
+
+-- The target may be stored: it has none of the faults of a target by itself (`own_checks`).
+-- Shown by: target-members.
+abbrev pub IsSoundTarget : RuleSet → Target → Type 0
+IsSoundTarget set target = first_fault (own_checks set (asked_of target)) ≡ None
+
+-- the rule has at most five targets, each of which may be stored
+abbrev pub HasSoundTargets : RuleSet → Rule → Type 0
+HasSoundTargets set rule = (length rule.targets ≤ 5) × All (IsSoundTarget set) rule.targets
+
+-- The rule's ARN names the rule and this bus.
+-- Shown by: table_tests test_rule_table.rt: a_rule_shows_its_target.
+abbrev pub HasItsArn : List ℕ → Rule → Type 0
+HasItsArn bus rule = rule.arn ≡ rule_arn bus rule.name
+
+-- What holds of every rule set that allowed changes made from the first one. There are at most 100 buses, one of which is `default`; each
+-- bus has at most 300 rules, each rule at most five targets, each of which is sound (`IsSoundTarget`); and there are at most 1,000 queues.
+-- Each rule has the ARN that names it and its bus. Each policy is as it is stored. Buses, rules, targets and queues are in the byte order
+-- of their names, which are distinct.
+-- Shown by: targets.
+pub record IsSound (set : RuleSet) : Type 0 where
+  pub buses : length set.buses ≤ 100
+  pub rules : All (λ bus. length bus.rules ≤ 300) set.buses
+  pub arns : All (λ bus. All (HasItsArn bus.name) bus.rules) set.buses
+  pub targets : All (λ bus. All (HasSoundTargets set) bus.rules) set.buses
+  pub queues : length set.queues ≤ 1000
+  pub default : has_bus default_bus set ≡ true
+  pub policies : All (λ bus. IsNoneOrStored bus.policy) set.buses
+  pub bus_order : AreSorted (λ bus. bus.name) set.buses
+  pub rule_order : All (λ bus. AreSorted (λ rule. rule.name) bus.rules) set.buses
+  pub target_order : All (λ bus. All (λ rule. AreSorted (λ target. target.id) rule.targets) bus.rules) set.buses
+  pub queue_order : AreSorted (λ queue. queue) set.queues

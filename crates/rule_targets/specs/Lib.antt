@@ -1,0 +1,4 @@
+pub mod Retry
+pub mod Target
+pub mod Checks
+pub mod WellFormed
