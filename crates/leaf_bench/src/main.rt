@@ -41,54 +41,97 @@ fn measure(
     size: u32,
     number: u32,
 ) -> Result<()> {
-    if word == "json" {
-        let mut text = Vec::new(rt.alloc());
-        rt.reader().read_to_end(&mut text)?;
-        let figures = texts::measure(rt, rt.alloc(), &text, size)?;
-        println!(rt; "{}", figures.bytes)?;
-        eprintln!(rt;
-            "{} {}",
-            figures.read.as_micros(),
-            figures.written.as_micros()
-        )?;
-    } else if word == "events" {
-        let detail = io::read_to_string(rt.alloc(), rt.reader())?;
-        let figures = events::measure(rt, rt.alloc(), detail.as_str(), size)?;
-        println!(rt; "{}", figures.bytes)?;
-        eprintln!(rt; "{}", figures.took.as_micros())?;
-    } else if word.starts_with("holds") {
-        let figures = patterns::measure(rt, rt.alloc(), word, size, number)?;
-        println!(rt; "{}", figures.held)?;
-        eprintln!(rt; "{}", figures.took.as_micros())?;
-    } else if word == "pattern" {
-        let mut text = Vec::new(rt.alloc());
-        rt.reader().read_to_end(&mut text)?;
-        let figures = reading::measure(rt, rt.alloc(), &text, size)?;
-        println!(rt; "{}", figures.is_pattern)?;
-        eprintln!(rt;
-            "{} {}",
-            figures.pattern.as_micros(),
-            figures.json.as_micros()
-        )?;
-    } else if word == "share" {
-        let figures = sharing::measure(rt, rt.alloc(), size, number)?;
-        println!(rt; "{}", figures.changes)?;
-        eprintln!(rt; "{}", figures.took.as_micros())?;
-    } else if word.starts_with("ranges") {
-        let figures = ranges::measure(rt, rt.alloc(), word, size, number)?;
-        println!(rt; "{}", figures.hit)?;
-        eprintln!(rt;
-            "{} {}",
-            figures.made.as_micros(),
-            figures.found.as_micros()
-        )?;
-    } else {
-        let case = wildcards::Case::make(rt.alloc(), word, size, number)?;
-        let start = Instant::now(rt)?;
-        let answer = case.answer();
-        let micros = start.elapsed(rt)?.as_micros();
-        println!(rt; "{answer}")?;
-        eprintln!(rt; "{micros}")?;
+    match word {
+        "json" => json(rt, size),
+        "events" => event(rt, size),
+        "pattern" => pattern(rt, size),
+        "share" => share(rt, size, number),
+        _ if word.starts_with("holds") => holds(rt, word, size, number),
+        _ if word.starts_with("ranges") => range(rt, word, size, number),
+        _ => wildcard(rt, word, size, number),
     }
+}
+
+fn json(rt: &(impl Print + Eprint + Input + Clock + AllocGlobal), size: u32) -> Result<()> {
+    let mut text = Vec::new(rt.alloc());
+    rt.reader().read_to_end(&mut text)?;
+    let figures = texts::measure(rt, rt.alloc(), &text, size)?;
+    println!(rt; "{}", figures.bytes)?;
+    eprintln!(rt;
+        "{} {}",
+        figures.read.as_micros(),
+        figures.written.as_micros()
+    )?;
+    Ok(())
+}
+
+fn event(rt: &(impl Print + Eprint + Input + Clock + AllocGlobal), size: u32) -> Result<()> {
+    let detail = io::read_to_string(rt.alloc(), rt.reader())?;
+    let figures = events::measure(rt, rt.alloc(), detail.as_str(), size)?;
+    println!(rt; "{}", figures.bytes)?;
+    eprintln!(rt; "{}", figures.took.as_micros())?;
+    Ok(())
+}
+
+fn holds(
+    rt: &(impl Print + Eprint + Clock + AllocGlobal),
+    word: &str,
+    size: u32,
+    number: u32,
+) -> Result<()> {
+    let figures = patterns::measure(rt, rt.alloc(), word, size, number)?;
+    println!(rt; "{}", figures.held)?;
+    eprintln!(rt; "{}", figures.took.as_micros())?;
+    Ok(())
+}
+
+fn pattern(rt: &(impl Print + Eprint + Input + Clock + AllocGlobal), size: u32) -> Result<()> {
+    let mut text = Vec::new(rt.alloc());
+    rt.reader().read_to_end(&mut text)?;
+    let figures = reading::measure(rt, rt.alloc(), &text, size)?;
+    println!(rt; "{}", figures.is_pattern)?;
+    eprintln!(rt;
+        "{} {}",
+        figures.pattern.as_micros(),
+        figures.json.as_micros()
+    )?;
+    Ok(())
+}
+
+fn share(rt: &(impl Print + Eprint + Clock + AllocGlobal), size: u32, number: u32) -> Result<()> {
+    let figures = sharing::measure(rt, rt.alloc(), size, number)?;
+    println!(rt; "{}", figures.changes)?;
+    eprintln!(rt; "{}", figures.took.as_micros())?;
+    Ok(())
+}
+
+fn range(
+    rt: &(impl Print + Eprint + Clock + AllocGlobal),
+    word: &str,
+    size: u32,
+    number: u32,
+) -> Result<()> {
+    let figures = ranges::measure(rt, rt.alloc(), word, size, number)?;
+    println!(rt; "{}", figures.hit)?;
+    eprintln!(rt;
+        "{} {}",
+        figures.made.as_micros(),
+        figures.found.as_micros()
+    )?;
+    Ok(())
+}
+
+fn wildcard(
+    rt: &(impl Print + Eprint + Clock + AllocGlobal),
+    word: &str,
+    size: u32,
+    number: u32,
+) -> Result<()> {
+    let case = wildcards::Case::make(rt.alloc(), word, size, number)?;
+    let start = Instant::now(rt)?;
+    let answer = case.answer();
+    let micros = start.elapsed(rt)?.as_micros();
+    println!(rt; "{answer}")?;
+    eprintln!(rt; "{micros}")?;
     Ok(())
 }
