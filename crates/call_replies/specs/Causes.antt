@@ -33,7 +33,7 @@ name_in (policy_put bus policy) _ = bus
 name_in (queue_created name) _ = name
 name_in (queue_deleted name) _ = name
 
--- The refusal of a change that has this fault; none if memory is short.
+-- The refusal of a change that has this fault; none if it is out of memory.
 -- Shown by: table_tests test_call_replies.rt: each_fault_of_a_change_has_its_cause.
 abbrev pub change_cause : Control → ControlFault → Option Cause
 change_cause control (fault.ResourceNotFound kind) = Some (cause.NotFound kind (name_in control kind))

@@ -118,28 +118,5 @@ matched_now t request set seen same sound is =
 
 -- the tested event of a bounded request is a JSON value
 pub bounded_value : (action : Action) → IsBounded action → HasValue action
-bounded_value (create_event_bus name) h = tt
-bounded_value (delete_event_bus name) h = tt
-bounded_value (describe_event_bus name) h = tt
-bounded_value (list_event_buses prefix) h = tt
-bounded_value (put_rule bus name pattern enabled) h = tt
-bounded_value (delete_rule bus name) h = tt
-bounded_value (put_rule_state bus name enabled) h = tt
-bounded_value (describe_rule bus name) h = tt
-bounded_value (list_rules bus prefix) h = tt
-bounded_value (put_targets bus rule targets) h = tt
-bounded_value (remove_targets bus rule ids) h = tt
-bounded_value (list_targets_by_rule bus rule) h = tt
-bounded_value (list_rule_names_by_target arn bus) h = tt
-bounded_value (put_policy bus policy) h = tt
-bounded_value (put_statement bus sid account) h = tt
-bounded_value (remove_policy bus) h = tt
-bounded_value (remove_statement bus sid) h = tt
-bounded_value (put_events entries size) h = tt
-bounded_value (create_queue name) h = tt
-bounded_value (delete_queue name) h = tt
-bounded_value (peek_messages queue limit) h = tt
-bounded_value (delete_messages queue through) h = tt
-bounded_value duty_counts h = tt
-bounded_value (deliver_due budget) h = tt
 bounded_value (test_event_pattern pattern event) h = h.1
+bounded_value _ h = tt

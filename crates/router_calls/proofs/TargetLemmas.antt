@@ -1,6 +1,6 @@
--- A call on a rule: `on_rule_found`, `on_rule_no_bus`, `on_rule_no_rule`. The targets of a PutTargets: `adds_none`, `adds_target` (one target and those after it) and `all_split`; `targets_answered` (the accepted
--- ones are an allowed change), `put_answered` (of a result) and `targets_unwritten` (there is none); `accepted_within` (the accepted ones are
--- of those of the request) and `put_form` (their change is well formed).
+-- A call on a rule: `on_rule_found`. The targets of a PutTargets: `adds_none`, `adds_target` (one target and those after it) and
+-- `all_split`; `put_answered` (the accepted ones are an allowed change) and `targets_unwritten` (there is none); `accepted_within` (the
+-- accepted ones are of those of the request) and `put_form` (their change is well formed).
 use Rattle.std.proofs.Common.{◌≡◌, ℕ, suc, ◌≤◌, ◌<◌, ◌&&◌, inl, inr, Bool, true, false, not, is_some, List, [], ◌∷◌, ◌++◌, length, map, Some, sym, refl, ap, ◌∙◌, subst, arith}
 use Rattle.std.proofs.Common.{append_assoc, append-nil}
 use Rattle.std.specs.Prelude.{codes, nat_le, Option, None, Result, Ok, Err, IfOk, All}
@@ -43,14 +43,6 @@ use Rattle.router_calls.specs.declared.put_targets.SplitTargets.{SplitTargets}
 
 pub on_rule_found : (t : Tables) (bus rule : List ℕ) (r : Rule) (answer : Rule → Answer) → rule_at bus rule t.set ≡ Some r → on_rule t bus rule answer ≡ answer r
 on_rule_found t bus rule r answer is = rw (bus_of_rule (named (λ b. b.name) bus t.set.buses) rule r is, is) refl
-
-pub on_rule_no_bus : (t : Tables) (bus rule : List ℕ) (answer : Rule → Answer) → has_bus bus t.set ≡ false
-    → on_rule t bus rule answer ≡ reply_alone (refused (cause.NotFound kind.EventBus bus))
-on_rule_no_bus t bus rule answer e = rw e refl
-
-pub on_rule_no_rule : (t : Tables) (bus rule : List ℕ) (answer : Rule → Answer) → has_bus bus t.set ≡ true → rule_at bus rule t.set ≡ None
-    → on_rule t bus rule answer ≡ reply_alone (refused (cause.NotFound kind.Rule rule))
-on_rule_no_rule t bus rule answer there none = rw (there, none) refl
 
 pub adds_none : (set : RuleSet) (old : SplitTargets) → AddsTargets set [] old old
 adds_none set old = record { put = sym (append-nil old.accepted.items); reports = sym (append-nil (trees_of old.reports.items)) }

@@ -29,7 +29,7 @@ pub(crate) fn delete_queue(
     ensures answer { IfOk result (λ p. IsQueueDeleted tables.now moment name.now (answer_of p)) }
     ensures ready { IfOk result (λ p. IfSome p.0 (λ r. IsReadyFor tables.now r)) }
 {
-    if is_queue_in_use(tables, name.as_str()) {
+    if is_queue_named(tables, name.as_str()) {
         let name = name.copy(alloc)?;
         let kind = Kind::Queue;
         return refused(alloc, &Cause::InUse { kind, name });
@@ -41,7 +41,7 @@ pub(crate) fn delete_queue(
 }
 
 /// Whether the queue exists, and a pending delivery or a message names it.
-fn is_queue_in_use(tables: &Tables, queue: &str) -> bool
+fn is_queue_named(tables: &Tables, queue: &str) -> bool
     ensures { result ≡ (has_queue queue.now tables.now.set && names_queue queue.now tables.now.duties) }
 {
     tables.set().queue(queue) && tables.duties().names(queue)

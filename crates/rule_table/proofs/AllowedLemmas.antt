@@ -1,7 +1,7 @@
 -- What it says that a change is allowed: `bus_new`, `bus_free`, `rule_room`, `rule_free`, `targets_fine`, `removal_fine`, `queue_new`,
--- `queue_free`. Of targets that are put one by one: `no_member_fault`, `own_member`, `own_queues`, `fault_found`, `room_decides`, `put_formed`, `good_few`, `good_there`. Of the
--- queues of a target after a change: `target_still`. Of truth
--- values and optional values: `not_true`, `not_false`, `both_true`, `either_false`, `some_items`, `no_items`, `none_of`, `by_option`.
+-- `queue_free`. Of targets that are put one by one: `no_member_fault`, `own_member`, `own_queues`, `fault_found`, `room_decides`,
+-- `put_formed`, `good_few`, `good_there`. Of the queues of a target after a change: `target_still`. Of truth values and optional values:
+-- `not_true`, `not_false`, `both_true`, `either_false`, `some_items`, `no_items`, `none_of`, `by_option`.
 use Rattle.std.proofs.Common.{◌≡◌, ◌<◌, ◌≤◌, ◌⊎◌, ◌&&◌, ◌||◌, ◌++◌, if◌then◌else◌, ℕ, Bool, true, false, not, List, [], ◌∷◌, length, map, Option, Some, None}
 use Rattle.std.proofs.Common.{is_some, suc, inl, inr, refl, sym, ap, ◌∙◌, subst, arith}
 use Rattle.std.specs.Prelude.{All, IsTrue, ◌==◌, nat_le, nat_lt}

@@ -56,7 +56,7 @@ retry_back : (retry : Option RetryPolicy) → kept_of retry ≡ retry
 retry_back None = refl
 retry_back (Some policy) = refl
 
-pub target_back : (rule : Rule) (target : Target) → target_of (stored_of rule target) ≡ target
+target_back : (rule : Rule) (target : Target) → target_of (stored_of rule target) ≡ target
 target_back rule target = ap (λ retry. record target { retry = retry }) (retry_back target.retry)
 
 pub target_put : (rule : Rule) (new : Target) (row : StoredTarget) (rows : List StoredTarget) → row ≡ stored_of rule new

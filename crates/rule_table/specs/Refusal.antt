@@ -85,9 +85,9 @@ rule_checks bus name set = bus_check bus set ∷ unless (has_rule bus name set) 
 
 -- The conditions on a change, in the order in which their faults are reported. A bus that is created: it does not exist, and there are
 -- fewer than 100. A bus that is deleted: it is not `default`, exists, and has no rule. A rule: its bus exists, and it exists or the bus has
--- fewer than 300. A rule that is deleted: it exists, and has no target. A state: the rule exists. Targets: the rule exists, there is at
--- least one target, and each has no fault after those before it. Targets that are removed: the rule exists, there is at least one id, and
--- each is that of a target, once. A policy: its bus exists, and it has at most 10,240 bytes. A queue that is created: it does not exist,
+-- fewer than 300. A rule that is deleted: its bus exists, it exists, and has no target. A state: the bus and the rule exist. Targets: the bus
+-- and the rule exist, there is at least one target, and each has no fault after those before it. Targets that are removed: the bus and the
+-- rule exist, there is at least one id, and each is that of a target, once. A policy: its bus exists, and it has at most 10,240 bytes. A queue that is created: it does not exist,
 -- and there are fewer than 1,000. A queue that is deleted: it exists, and no target names it.
 -- Shown by: table_tests test_rule_table.rt: each_removal_is_made_or_refused, each_bus_is_made_or_refused, each_policy_is_put_or_refused,
 -- a_queue_in_use_stays.
@@ -121,7 +121,7 @@ refusal control set = first_fault (checks control set)
 abbrev pub IsAllowed : Control → RuleSet → Type 0
 IsAllowed control set = refusal control set ≡ None
 
--- The answer to a change of a rule set: the rule set after the change, which is allowed, or its first refusal, unless memory is short.
+-- The answer to a change of a rule set: the rule set after the change, which is allowed, or its first refusal, or out of memory.
 -- Shown by: table_tests test_rule_table.rt: each_change_is_made_or_refused.
 abbrev pub IsChanged : Control → RuleSet → Result RuleSet ControlFault → Type 0
 IsChanged control old result = MatchResult result

@@ -1,4 +1,4 @@
--- What holds of every rule set that allowed changes made from the first one.
+-- What holds of every rule set that allowed changes, whose texts are spelled right (`IsSpelled`), made from the first one.
 use Rattle.std.specs.Prelude.{◌≡◌, ◌≤◌, ℕ, true, List, length, None, All}
 use Rattle.json_text.specs.Checks.{first_fault}
 use Rattle.event_shape.specs.Names.{default_bus, rule_arn}
@@ -9,7 +9,7 @@ use Rattle.rule_table.specs.RuleSet.{Rule, RuleSet, has_bus}
 use Rattle.rule_table.specs.Refusal.{own_checks}
 use Rattle.rule_table.specs.WellFormed.{IsNoneOrStored}
 
--- The target may be stored: it has none of the faults of a target by itself (`own_checks`).
+-- The target may be stored: it has none of the faults that it can have whatever other targets its rule has (`own_checks`).
 -- Shown by: target-members.
 abbrev pub IsSoundTarget : RuleSet → Target → Type 0
 IsSoundTarget set target = first_fault (own_checks set (asked_of target)) ≡ None
@@ -23,7 +23,7 @@ HasSoundTargets set rule = (length rule.targets ≤ 5) × All (IsSoundTarget set
 abbrev pub HasItsArn : List ℕ → Rule → Type 0
 HasItsArn bus rule = rule.arn ≡ rule_arn bus rule.name
 
--- What holds of every rule set that allowed changes made from the first one. There are at most 100 buses, one of which is `default`; each
+-- What holds of every rule set that allowed changes, whose texts are spelled right (`IsSpelled`), made from the first one. There are at most 100 buses, one of which is `default`; each
 -- bus has at most 300 rules, each rule at most five targets, each of which is sound (`IsSoundTarget`); and there are at most 1,000 queues.
 -- Each rule has the ARN that names it and its bus. Each policy is as it is stored. Buses, rules, targets and queues are in the byte order
 -- of their names, which are distinct.

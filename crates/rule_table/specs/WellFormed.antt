@@ -33,13 +33,13 @@ IsSomePattern text = (p : Pattern) × IsPatternText text p
 -- The text is that of a policy as it is stored: a policy that is read from it has this text. A text without `Version`, or with white space
 -- between its parts, is not.
 -- Shown by: table_tests test_rule_table.rt: each_policy_is_put_or_refused.
-abbrev pub IsStoredPolicy : List ℕ → Type 0
-IsStoredPolicy t = (policy : Tree) × IsPolicyText t policy × (t ≡ compact_text policy)
+abbrev pub IsBusPolicy : List ℕ → Type 0
+IsBusPolicy t = (policy : Tree) × IsPolicyText t policy × (t ≡ compact_text policy)
 
 -- there is no policy, or its text is that of a policy as it is stored
 abbrev pub IsNoneOrStored : Option (List ℕ) → Type 0
 IsNoneOrStored None = Unit {0}
-IsNoneOrStored (Some t) = IsStoredPolicy t
+IsNoneOrStored (Some t) = IsBusPolicy t
 
 -- The text of a rule's pattern is a pattern, and that of a policy one as it is stored.
 -- Shown by: proofs alone.

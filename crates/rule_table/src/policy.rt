@@ -3,7 +3,7 @@ ghost use Rattle.std.specs.Prelude.{◌≡◌, true, false, Some, IfOk, MatchOpt
 ghost use Rattle.json_text.specs.Compact.{compact_text};
 ghost use Rattle.bus_policy.specs.Text.{IsPolicyText};
 ghost use Rattle.rule_table.specs.Refusal.{is_short};
-ghost use Rattle.rule_table.specs.WellFormed.{IsNoneOrStored, IsStoredPolicy};
+ghost use Rattle.rule_table.specs.WellFormed.{IsNoneOrStored, IsBusPolicy};
 
 use bus_policy::Policy;
 use json_text::NoMemory;
@@ -54,7 +54,7 @@ impl SharedPolicy {
     /// Its text, as it is stored.
     pub fn as_str(&self) -> &str
         ensures text { result.now ≡ self.now }
-        ensures stored { IsStoredPolicy self.now }
+        ensures stored { IsBusPolicy self.now }
     {
         self.policy.text()
     }
@@ -97,7 +97,7 @@ impl StoredPolicy {
     /// Its text. If it is not too long, it is that of a policy as it is stored.
     pub fn as_str(&self) -> &str
         ensures text { result.now ≡ self.now }
-        ensures stored { is_short (Some self.now) ≡ true → IsStoredPolicy self.now }
+        ensures stored { is_short (Some self.now) ≡ true → IsBusPolicy self.now }
     {
         self.policy.text()
     }

@@ -227,6 +227,13 @@ impl RuleSet {
         self.queues.find(name).is_some()
     }
 
+    /// The names of the queues, in their byte order.
+    pub fn queues(&self) -> RowsFrom<'_, Text>
+        ensures { result ≡ self.now.queues }
+    {
+        self.queues.iter()
+    }
+
     /// The number of changes that made this rule set.
     pub fn control_count(&self) -> u64
         ensures count { result ≡ self.now.count }

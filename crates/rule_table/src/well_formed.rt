@@ -29,9 +29,7 @@ pub fn is_well_formed(alloc: Global, control: &Control) -> Result<bool, NoMemory
             name,
             enabled: _,
         } => Ok(names_rule(bus, name)),
-        Control::TargetsPut { bus, rule, targets } => {
-            are_targets_formed(alloc, bus, rule, targets)
-        }
+        Control::TargetsPut { bus, rule, targets } => { is_put_formed(alloc, bus, rule, targets) }
         Control::TargetsRemoved { bus, rule, ids } => Ok(names_rule(bus, rule) && are_ids(ids)),
         Control::PolicyPut { bus, policy: _ } => Ok(is_bus_name(bus.as_str())),
         Control::QueueCreated { name } => Ok(is_queue_name(name.as_str())),
@@ -39,7 +37,7 @@ pub fn is_well_formed(alloc: Global, control: &Control) -> Result<bool, NoMemory
     }
 }
 
-fn are_targets_formed(
+fn is_put_formed(
     alloc: Global,
     bus: &Text,
     rule: &Text,

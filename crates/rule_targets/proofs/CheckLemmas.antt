@@ -1,5 +1,5 @@
 -- Conditions in an order: what it says of each that no fault is there (`kept`, `none_first`, `both_none`, `two_none`); a first fault that is
--- there (`found_first`); two lists, one behind the other (`passed_front`, `found_front`); and faults that are renamed (`mapped`).
+-- there (`found_first`); two lists, one after the other (`passed_front`, `found_front`); and faults that are renamed (`mapped`).
 use Rattle.std.proofs.Common.{◌≡◌, Bool, true, false, List, [], ◌∷◌, ◌++◌, map, Option, Some, None, refl, sym, ap, ◌∙◌}
 use Rattle.std.specs.Option.{option_map}
 use Rattle.json_text.specs.Checks.{unless, first_fault}

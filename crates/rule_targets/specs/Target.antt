@@ -6,12 +6,12 @@ use Rattle.rule_targets.specs.declared.target.AskedTarget.{AskedTarget}
 use Rattle.rule_targets.specs.declared.target.RetryPolicy.{RetryPolicy}
 use Rattle.rule_targets.specs.declared.target.Target.{Target}
 
--- a request that asks for this retry policy
+-- this retry policy, as a request would ask for it
 abbrev pub asked_retry : RetryPolicy → AskedRetry
 asked_retry policy = record { attempts = Some policy.attempts; age = Some policy.age }
 
--- A request that asks for this target.
--- Shown by: table_tests test_rule_targets.rt: a_target_has_its_first_fault.
+-- This target, as a request would ask for it.
+-- Shown by: table_tests test_rule_targets.rt: a_target_that_is_put_has_its_limits.
 abbrev pub asked_of : Target → AskedTarget
 asked_of target = record {
   id = target.id;

@@ -233,6 +233,23 @@ fn a_queue_in_use_stays(rt: HostRuntime) -> Result<(), Fail> {
     Ok(())
 }
 
+/// Whether the names of the queues are as in the text.
+fn are_queues(alloc: Global, set: &RuleSet, names: &str) -> Result<bool, Fail> {
+    let mut out = String::new(alloc);
+    for queue in set.queues() {
+        out.push_str(queue.as_str())?;
+        out.push_str(";")?;
+    }
+    Ok(out.as_str() == names)
+}
+
+#[test]
+fn queues_are_listed_in_their_order(rt: HostRuntime) -> Result<(), Fail> {
+    let set = configured(rt.alloc(), "queue,b\nqueue,c\nqueue,a")?;
+    assert!(rt; are_queues(rt.alloc(), &set, "a;b;c;")?);
+    Ok(())
+}
+
 /// Whether the names of the buses are as in the text.
 fn are_buses(alloc: Global, set: &RuleSet, names: &str) -> Result<bool, Fail> {
     let mut out = String::new(alloc);

@@ -80,3 +80,27 @@ fn a_change_puts_1_to_100_targets(rt: HostRuntime) -> Result<(), Fail> {
     assert!(rt; !may_put(rt.alloc(), 101)?);
     Ok(())
 }
+
+/// A target as it is put, and whether a change may put it.
+const PUT: &str =
+    r#"t,arn:aws:sqs:us-east-1:111122223333:q,,0,60,arn:aws:sqs:us-east-1:111122223333:q|yes
+t,arn:aws:sqs:us-east-1:111122223333:q,,0,59,arn:aws:sqs:us-east-1:111122223333:q|no
+t,arn:aws:sqs:us-east-1:111122223333:q,,186,60,arn:aws:sqs:us-east-1:111122223333:q|no
+t,arn:aws:sqs:us-east-1:111122223333:q,,0,60,http://localhost:8080/|no
+"#;
+
+fn may_be_put(alloc: Global, row: &str) -> Result<bool, Fail> {
+    let (parts, wanted) = two(row, '|')?;
+    let mut targets = Vec::new(alloc);
+    targets.push(target(alloc, parts)?.put_as(alloc)?)?;
+    Ok(are_targets(alloc, &targets)? == (wanted == "yes"))
+}
+
+#[test]
+fn a_target_that_is_put_has_its_limits(rt: HostRuntime) -> Result<(), Fail> {
+    assert_eq!(rt; count(PUT), 4);
+    for row in PUT.lines() {
+        assert!(rt; may_be_put(rt.alloc(), row)?, "{row}");
+    }
+    Ok(())
+}
