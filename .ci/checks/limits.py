@@ -2,7 +2,7 @@
 """Runs bin/ebusd at its limits, with inputs too large to be stored, and compares each reply with what is written here.
 
 A text that is one byte too long for its target is dropped, or becomes an empty dead letter, and one at the limit is delivered
-whole; entries of 262,144 bytes together are accepted, and a body of 1,048,576 bytes is read, and no longer ones; a session serves
+whole; entries of 262,144 bytes together are accepted, a body of 1,048,576 bytes is read, and larger ones are refused; a session serves
 1,048,576 requests and no more; if the system gives no memory the status is 7. A run that fails has a line. The last
 line is `N passed, M failed`.
 """
@@ -130,7 +130,7 @@ def a_text_past_the_limit_is_an_empty_dead_letter():
 
 
 def entries_have_their_limit_together():
-    """The size of an entry is that of its source, detail type and detail: here one byte, one byte, and the rest."""
+    """The size of an entry without time and resources is that of its source, detail type and detail: here one byte, one byte, and the rest."""
     asked = []
     for size in (ENTRIES_LIMIT, ENTRIES_LIMIT + 1):
         detail = json.dumps('{"a":"%s"}' % ("x" * (size - 10)))

@@ -1,6 +1,6 @@
 -- Whole numbers. A spelling that is not parsed is too large: `too_large`. api_wire cites `within_limits`, `count_there`.
-use Rattle.std.proofs.Common.{◌≡◌, ℕ, ◌<◌, ◌≤◌, ◌^◌, Bool, true, false, ◌&&◌, ◌||◌, ◌==◌, not, List, [], ◌∷◌, length}
-use Rattle.std.proofs.Common.{Option, Some, None, Result, Ok, Err, sym, refl, ap, ◌∙◌, arith}
+use Rattle.std.proofs.Common.{◌≡◌, ℕ, ◌<◌, ◌≤◌, ◌^◌, Bool, true, false, ◌&&◌, ◌||◌, ◌==◌, List, [], ◌∷◌, length}
+use Rattle.std.proofs.Common.{Option, Some, None, Result, Err, sym, refl, ap, ◌∙◌, arith}
 use Rattle.std.specs.Prelude.{nat_le, option_and_then, is_some, if◌then◌else◌}
 use Rattle.std.specs.List.{list_all}
 use Rattle.std.specs.Char.{is_ascii_digit}
@@ -10,12 +10,14 @@ use Rattle.std.proofs.lemmas.Bool.Decides.{nat_tests}
 use Rattle.std.proofs.lemmas.Str.Parse.{IsDigitsTest, IsNumeralModel, numerals_by_value, parse_digits}
 use Rattle.json_text.specs.Number.{is_digit_above_zero}
 use Rattle.json_text.specs.Tree.{Tree, number, Members}
+use Rattle.json_text.specs.Checks.{else_fault}
+use Rattle.api_replies.specs.declared.cause.Cause.TheVariants as cause
 use Rattle.api_replies.specs.declared.member.Member.{Member}
 use Rattle.api_members.specs.declared.asked.Syntax.TheVariants as syntax
 use Rattle.api_members.specs.declared.asked.Asked.TheVariants.{Required}
 use Rattle.api_members.specs.Given.{given}
 use Rattle.api_members.specs.Count.{is_int, whole_number, if_within, count_of, count_given}
-use Rattle.api_members.specs.Refusal.{ValidOr, IsSoundMember}
+use Rattle.api_members.specs.Refusal.{value_check, IsSoundMember}
 
 abbrev AreTested : List ℕ → Type 0
 AreTested ds = list_all is_ascii_digit ds ≡ true
@@ -80,13 +82,14 @@ pub within_limits : (least most : ℕ) (v : Option Tree) (m : ℕ) → count_giv
 within_limits least most None m e = absurd (cc e)
 within_limits least most (Some tree) m e = limits_in least most tree m e
 
-there : (least most : ℕ) (v : Option Tree) → ValidOr ⊥ (syntax.Count least most) v → count_given least most v ≡ None → ⊥
-there least most None sound none = absurd sound
-there least most (Some tree) sound none =
+there : (least most : ℕ) (m : Member) (v : Option Tree) → (value_check (else_fault ⊥ (cause.Required m)) (syntax.Count least most) m v).holds
+    → count_given least most v ≡ None → ⊥
+there least most m None sound none = absurd sound
+there least most m (Some tree) sound none =
     let is_none : is_some (count_of least most tree) ≡ false = ap is_some none in
     false≢true (sym is_none ∙ sound)
 
 -- a required number is given
 pub count_there : (m : Member) (ms : Members) (least most : ℕ) → IsSoundMember (Required m (syntax.Count least most)) ms
     → count_given least most (given m ms) ≡ None → ⊥
-count_there m ms least most sound = there least most (given m ms) sound
+count_there m ms least most sound = there least most m (given m ms) sound

@@ -2,7 +2,6 @@
 -- "first
 -- refusal". After the check values are total functions of the members (`text_of`, `values_in`), without `requires`: most calls need no
 -- answer.
--- `Gives x ⊎ (x ≡ default × nothing is given)` makes a reader with a default total.
 -- A helper that returns `Option<&[(Text, Json)]>`, with a clause by `option_map` and `option_copied`, closes what `members.as_slice()`
 -- leaves open.
 -- `list_all test (trees_of items)` with `list_in` needs one lemma (`values_back`). std's `All` does not compute to a tuple at a literal
@@ -14,7 +13,6 @@
 pub mod RefusalLemmas
 pub mod ValueLemmas
 pub mod CountLemmas
-pub mod IdLemmas
 pub mod OneLemmas
 pub mod PatternLemmas
 pub mod PolicyLemmas

@@ -1,5 +1,6 @@
--- Sound members have no refusal, and members have at most one first refusal. Other files cite `sound_no_first` and `one_first`.
-use Rattle.std.proofs.Common.{◌≡◌, ℕ, inl, inr, ◌⊎◌, List, [], ◌∷◌, ◌++◌, Some, None, sym, ◌∙◌}
+-- A list of checks whose every check is decided has at most one first fault, and none if all hold: `one_first`, `none_first`. Those of
+-- members are decided: `members_decided`; so is a condition with one fault: `else_decided`.
+use Rattle.std.proofs.Common.{◌≡◌, inl, inr, List, [], ◌∷◌, Some, None, sym, ◌∙◌}
 use Rattle.std.specs.Prelude.{Option}
 use Rattle.json_text.specs.Tree.{Tree, text, Members}
 use Rattle.api_replies.specs.declared.member.Member.{Member}
@@ -16,109 +17,62 @@ use Rattle.api_members.proofs.PolicyLemmas.{never_faulty, one_fault}
 use Rattle.api_members.specs.Why.{why_name}
 use Rattle.api_members.specs.Given.{given}
 use Rattle.api_members.specs.Value.{IsValid}
-use Rattle.api_members.specs.Refusal.{policy_cause, IsValueRefused, ValidOr, RefusedOr, IsSoundMember, IsMemberRefused, AreSound, IsFirstRefusal}
+use Rattle.api_members.specs.Refusal.{policy_cause, IsValueRefused, value_check, asked_check, asked_checks, AreSound, IsFirstRefusal}
+use Rattle.json_text.specs.Checks.{Check, else_fault, AllHold, IsFirst}
+
+-- a check that holds refuses for nothing, and one that refuses does so for one fault
+abbrev pub HasOneFault : {F : Type 0} → Check F → Type 0
+HasOneFault {F} check = ((fault : F) → check.holds → check.refuses fault → ⊥) × ((f g : F) → check.refuses f → check.refuses g → f ≡ g)
+
+abbrev pub HaveOneFault : {F : Type 0} → List (Check F) → Type 0
+HaveOneFault [] = Unit {0}
+HaveOneFault (check ∷ checks) = HasOneFault check × HaveOneFault checks
+
+pub none_first : {F : Type 0} (checks : List (Check F)) (fault : F) → HaveOneFault checks → AllHold checks → IsFirst checks fault → ⊥
+none_first [] fault decided all first = first
+none_first (check ∷ checks) fault decided all (inl here) = decided.0.0 fault all.0 here
+none_first (check ∷ checks) fault decided all (inr later) = none_first checks fault decided.1 all.1 later.1
+
+pub one_first : {F : Type 0} (checks : List (Check F)) (f g : F) → HaveOneFault checks → IsFirst checks f → IsFirst checks g → f ≡ g
+one_first [] f g decided p q = absurd p
+one_first (check ∷ checks) f g decided (inl p) (inl q) = decided.0.1 f g p q
+one_first (check ∷ checks) f g decided (inl p) (inr q) = absurd (decided.0.0 f q.0 p)
+one_first (check ∷ checks) f g decided (inr p) (inl q) = absurd (decided.0.0 g p.0 q)
+one_first (check ∷ checks) f g decided (inr p) (inr q) = one_first checks f g decided.1 p.1 q.1
+
+pub else_decided : {F : Type 0} (condition : Type 0) (fault : F) → HasOneFault (else_fault condition fault)
+else_decided condition fault = (λ f holds refused. refused.1 holds, λ f g p q. p.0 ∙ sym q.0)
 
 valid_not_refused : (s : Syntax) (m : Member) (t : Tree) (c : Cause) → IsValid s t → IsValueRefused s m t c → ⊥
-valid_not_refused syntax.QueueName m t c v r = r.0 v
-valid_not_refused syntax.RuleName m t c v r = r.0 v
-valid_not_refused syntax.BusName m t c v r = r.0 v
-valid_not_refused syntax.Bus m t c v r = r.0 v
-valid_not_refused syntax.AnyText m t c v r = r.0 v
-valid_not_refused syntax.TargetArn m t c v r = r.0 v
 valid_not_refused syntax.Pattern m (text b) c v r = never_refused b v.0 r.0 r.1 v.1 r.2
-valid_not_refused syntax.Pattern m _ c v r = absurd v
-valid_not_refused syntax.Event m t c v r = r.0 v
-valid_not_refused syntax.State m t c v r = r.0 v
-valid_not_refused (syntax.Count least most) m t c v r = r.0 v
-valid_not_refused syntax.Entries m t c v r = r.0 v
-valid_not_refused syntax.Targets m t c v r = r.0 v
-valid_not_refused syntax.Ids m t c v r = r.0 v
 valid_not_refused syntax.Policy m (text b) c v r = never_faulty b v.0 r.0 r.1 v.1 r.2
-valid_not_refused syntax.Policy m _ c v r = absurd v
-valid_not_refused syntax.StatementId m t c v r = r.0 v
-valid_not_refused syntax.PutEventsAction m t c v r = r.0 v
-valid_not_refused syntax.Principal m t c v r = r.0 v
-valid_not_refused syntax.Truth m t c v r = r.0 v
-valid_not_refused syntax.Unserved m t c v r = r.0 v
+valid_not_refused _ m t c v r = r.1 v
 
-given_not_refused : (fine missing : Type 0) (s : Syntax) (m : Member) (v : Option Tree) (c : Cause) → (fine → missing → ⊥)
-    → ValidOr fine s v → RefusedOr missing s m v c → ⊥
-given_not_refused fine missing s m None c never v r = never v r
-given_not_refused fine missing s m (Some t) c never v r = valid_not_refused s m t c v r
-
-sound_not_refused : (a : Asked) (ms : Members) (c : Cause) → IsSoundMember a ms → IsMemberRefused a ms c → ⊥
-sound_not_refused (Required m s) ms c = given_not_refused ⊥ (c ≡ cause.Required m) s m (given m ms) c (λ v r. v)
-sound_not_refused (Optional m s) ms c = given_not_refused (Unit {0}) ⊥ s m (given m ms) c (λ v r. r)
-
-one_value_refusal : (s : Syntax) (m : Member) (t : Tree) (c d : Cause) → IsValueRefused s m t c → IsValueRefused s m t d → c ≡ d
-one_value_refusal syntax.QueueName m t c d p q = p.1 ∙ sym q.1
-one_value_refusal syntax.RuleName m t c d p q = p.1 ∙ sym q.1
-one_value_refusal syntax.BusName m t c d p q = p.1 ∙ sym q.1
-one_value_refusal syntax.Bus m t c d p q = p.1 ∙ sym q.1
-one_value_refusal syntax.AnyText m t c d p q = p.1 ∙ sym q.1
-one_value_refusal syntax.TargetArn m t c d p q = p.1 ∙ sym q.1
-one_value_refusal syntax.Pattern m (text b) c d p q =
+one_refused : (s : Syntax) (m : Member) (t : Tree) (c d : Cause) → IsValueRefused s m t c → IsValueRefused s m t d → c ≡ d
+one_refused syntax.Pattern m (text b) c d p q =
     let same = one_pattern_refusal b p.0 q.0 p.1 q.1 p.2 q.2 in
     p.3 ∙ (λ i. cause.NotAPattern (why_name (same.0 i)) (path_text (same.1 i))) ∙ sym q.3
-one_value_refusal syntax.Pattern m _ c d p q = p.1 ∙ sym q.1
-one_value_refusal syntax.Event m t c d p q = p.1 ∙ sym q.1
-one_value_refusal syntax.State m t c d p q = p.1 ∙ sym q.1
-one_value_refusal (syntax.Count least most) m t c d p q = p.1 ∙ sym q.1
-one_value_refusal syntax.Entries m t c d p q = p.1 ∙ sym q.1
-one_value_refusal syntax.Targets m t c d p q = p.1 ∙ sym q.1
-one_value_refusal syntax.Ids m t c d p q = p.1 ∙ sym q.1
-one_value_refusal syntax.Policy m (text b) c d p q =
+one_refused syntax.Policy m (text b) c d p q =
     let same = one_fault b p.0 q.0 p.1 q.1 p.2 q.2 in
     p.3 ∙ (λ i. policy_cause (same.0 i) (same.1 i)) ∙ sym q.3
-one_value_refusal syntax.Policy m _ c d p q = p.1 ∙ sym q.1
-one_value_refusal syntax.StatementId m t c d p q = p.1 ∙ sym q.1
-one_value_refusal syntax.PutEventsAction m t c d p q = p.1 ∙ sym q.1
-one_value_refusal syntax.Principal m t c d p q = p.1 ∙ sym q.1
-one_value_refusal syntax.Truth m t c d p q = p.1 ∙ sym q.1
-one_value_refusal syntax.Unserved m t c d p q = p.1 ∙ sym q.1
+one_refused _ m t c d p q = p.0 ∙ sym q.0
 
-one_given : (missing : Cause → Type 0) → ((c d : Cause) → missing c → missing d → c ≡ d) → (s : Syntax) (m : Member) (v : Option Tree) (c d : Cause)
-    → RefusedOr (missing c) s m v c → RefusedOr (missing d) s m v d → c ≡ d
-one_given missing one s m None c d p q = one c d p q
-one_given missing one s m (Some t) c d p q = one_value_refusal s m t c d p q
+value_decided : (absent : Check Cause) → HasOneFault absent → (s : Syntax) (m : Member) (v : Option Tree) → HasOneFault (value_check absent s m v)
+value_decided absent decided s m None = decided
+value_decided absent decided s m (Some t) = (valid_not_refused s m t, one_refused s m t)
 
-one_refused : (a : Asked) (ms : Members) (c d : Cause) → IsMemberRefused a ms c → IsMemberRefused a ms d → c ≡ d
-one_refused (Required m s) ms c d = one_given (λ x. x ≡ cause.Required m) (λ x y p q. p ∙ sym q) s m (given m ms) c d
-one_refused (Optional m s) ms c d = one_given (λ x. ⊥) (λ x y p q. absurd p) s m (given m ms) c d
+member_decided : (ms : Members) (a : Asked) → HasOneFault (asked_check ms a)
+member_decided ms (Required m s) =
+    value_decided (else_fault ⊥ (cause.Required m)) (else_decided ⊥ (cause.Required m)) s m (given m ms)
+member_decided ms (Optional m s) =
+    value_decided (else_fault (Unit {0}) (cause.Required m)) (else_decided (Unit {0}) (cause.Required m)) s m (given m ms)
 
--- the first refusal is of the first member, or that is sound and it is the first of the others
-split : (a : Asked) (rest before : List Asked) (here : Asked) (after : List Asked) (ms : Members) (c : Cause)
-    → a ∷ rest ≡ before ++ here ∷ after → AreSound before ms → IsMemberRefused here ms c
-    → IsMemberRefused a ms c ⊎ (IsSoundMember a ms × IsFirstRefusal rest ms c)
-split a rest [] here after ms c order sound is =
-    let same : a ≡ here = cc in
-    inl (rw same is)
-split a rest (b ∷ before) here after ms c order sound is =
-    let same : a ≡ b = cc in
-    let others : rest ≡ before ++ here ∷ after = cc in
-    inr (rw same sound.0, record { before = before; here = here; after = after; order = others; sound = sound.1; refused = is })
+pub members_decided : (asked : List Asked) (ms : Members) → HaveOneFault (asked_checks asked ms)
+members_decided [] ms = tt
+members_decided (a ∷ asked) ms = (member_decided ms a, members_decided asked ms)
 
-none_first : (before : List Asked) (here : Asked) (after : List Asked) → [] ≡ before ++ here ∷ after → ⊥
-none_first [] here after e = cc
-none_first (b ∷ before) here after e = cc
+pub one_first_refusal : (asked : List Asked) (ms : Members) (c d : Cause) → IsFirstRefusal asked ms c → IsFirstRefusal asked ms d → c ≡ d
+one_first_refusal asked ms c d p q = one_first (asked_checks asked ms) c d (members_decided asked ms) p q
 
 pub sound_no_first : (asked : List Asked) (ms : Members) (c : Cause) → AreSound asked ms → IsFirstRefusal asked ms c → ⊥
-sound_no_first [] ms c s f = none_first f.before f.here f.after f.order
-sound_no_first (a ∷ asked) ms c s f = elim (split a asked f.before f.here f.after ms c f.order f.sound f.refused) [
-  | inl p ↦ sound_not_refused a ms c s.0 p
-  | inr p ↦ sound_no_first asked ms c s.1 p.1
-]
-
-pub one_first : (asked : List Asked) (ms : Members) (c d : Cause) → IsFirstRefusal asked ms c → IsFirstRefusal asked ms d → c ≡ d
-one_first [] ms c d f g = absurd (none_first f.before f.here f.after f.order)
-one_first (a ∷ asked) ms c d f g =
-    elim (split a asked f.before f.here f.after ms c f.order f.sound f.refused) [
-      | inl p ↦ elim (split a asked g.before g.here g.after ms d g.order g.sound g.refused) [
-        | inl q ↦ one_refused a ms c d p q
-        | inr q ↦ absurd (sound_not_refused a ms c q.0 p)
-      ]
-      | inr p ↦ elim (split a asked g.before g.here g.after ms d g.order g.sound g.refused) [
-        | inl q ↦ absurd (sound_not_refused a ms d p.0 q)
-        | inr q ↦ one_first asked ms c d p.1 q.1
-      ]
-    ]
+sound_no_first asked ms c all first = none_first (asked_checks asked ms) c (members_decided asked ms) all first

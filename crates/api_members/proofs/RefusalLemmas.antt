@@ -1,5 +1,5 @@
 -- The first refusal of a list of members. Other files cite `IsSoFar`, `sound_so_far`, `refused_so_far`; `text_refused`, `policy_refused`.
-use Rattle.std.proofs.Common.{ℕ, List, [], ◌∷◌, refl, ap, ◌∙◌}
+use Rattle.std.proofs.Common.{ℕ, List, ◌∷◌, inl, inr, ap, ◌∙◌}
 use Rattle.json_text.specs.Tree.{Members}
 use Rattle.pattern_read.specs.Refusal.{IsFault}
 use Rattle.pattern_read.specs.declared.fault.PatternFault.{PatternFault}
@@ -12,24 +12,9 @@ use Rattle.api_replies.specs.declared.cause.Cause.TheVariants as cause
 use Rattle.api_members.specs.declared.asked.Asked.{Asked}
 use Rattle.api_members.specs.declared.fault.CallFault.{CallFault}
 use Rattle.api_members.specs.declared.fault.CallFault.TheVariants.{Refused, NoMemory}
-use Rattle.api_members.specs.Refusal.{IsSoundMember, IsMemberRefused, AreSound, IsFirstRefusal, FirstFault}
-use Rattle.api_members.specs.Refusal.{MemberFault, IsTextRefused, IsPolicyRefused, IsPolicyFault}
+use Rattle.api_members.specs.Refusal.{IsPatternRefusal, IsPolicyRefusal, IsSoundMember, asked_check, AreSound, IsFirstRefusal, RefusedFor, IsPolicyFault}
 use Rattle.api_members.specs.Why.{why_name}
 use Rattle.api_members.specs.Fault.{IsCallFault}
-
-pub first_here : (a : Asked) (rest : List Asked) (ms : Members) (c : Cause) → IsMemberRefused a ms c → IsFirstRefusal (a ∷ rest) ms c
-first_here a rest ms c is = record { before = []; here = a; after = rest; order = refl; sound = tt; refused = is }
-
-pub first_later : (a : Asked) (rest : List Asked) (ms : Members) (c : Cause) → IsSoundMember a ms → IsFirstRefusal rest ms c
-    → IsFirstRefusal (a ∷ rest) ms c
-first_later a rest ms c sound later = record {
-  before = a ∷ later.before;
-  here = later.here;
-  after = later.after;
-  order = ap (λ l. a ∷ l) later.order;
-  sound = (sound, later.sound);
-  refused = later.refused;
-}
 
 -- what is found of the members that are left is true of all
 pub record IsSoFar (all left : List Asked) (ms : Members) : Type 0 where
@@ -39,20 +24,20 @@ pub record IsSoFar (all left : List Asked) (ms : Members) : Type 0 where
 pub sound_so_far : (all left : List Asked) (a : Asked) (ms : Members) → IsSoFar all (a ∷ left) ms → IsSoundMember a ms → IsSoFar all left ms
 sound_so_far all left a ms old is = record {
   sound = λ rest. old.sound (is, rest);
-  first = λ c later. old.first c (first_later a left ms c is later);
+  first = λ c later. old.first c (inr (is, later));
 }
 
-pub refused_so_far : (all left : List Asked) (a : Asked) (ms : Members) (e : CallFault) → IsSoFar all (a ∷ left) ms → MemberFault a ms e
-    → FirstFault all ms e
-refused_so_far all left a ms (Refused c) old is = old.first c (first_here a left ms c is)
+pub refused_so_far : (all left : List Asked) (a : Asked) (ms : Members) (e : CallFault) → IsSoFar all (a ∷ left) ms
+    → RefusedFor (asked_check ms a).refuses e → RefusedFor (IsFirstRefusal all ms) e
+refused_so_far all left a ms (Refused c) old is = old.first c (inl is)
 refused_so_far all left a ms NoMemory old is = tt
 
-pub text_refused : (t : List ℕ) (f : PatternFault) (e : CallFault) → IsFault t f → IsCallFault f e → IsTextRefused t e
+pub text_refused : (t : List ℕ) (f : PatternFault) (e : CallFault) → IsFault t f → IsCallFault f e → RefusedFor (IsPatternRefusal t) e
 text_refused t (pattern.Refused why path) (Refused c) is so = (why, is.0, is.1, so ∙ ap (cause.NotAPattern (why_name why)) is.2)
 text_refused t pattern.NoMemory (Refused c) is so = absurd so
 text_refused t f NoMemory is so = tt
 
-pub policy_refused : (t : List ℕ) (f : PolicyFault) (e : CallFault) → IsFirstFaultOrMemory t f → IsPolicyFault f e → IsPolicyRefused t e
+pub policy_refused : (t : List ℕ) (f : PolicyFault) (e : CallFault) → IsFirstFaultOrMemory t f → IsPolicyFault f e → RefusedFor (IsPolicyRefusal t) e
 policy_refused t (policy.Bad why place) (Refused c) is so = (why, place, is, so)
 policy_refused t policy.NoMemory (Refused c) is so = absurd so
 policy_refused t f NoMemory is so = tt

@@ -9,7 +9,7 @@ use Rattle.api_members.specs.declared.asked.Syntax.TheVariants as syntax
 use Rattle.api_members.specs.declared.fault.CallFault.{CallFault}
 use Rattle.api_members.specs.declared.fault.CallFault.TheVariants.{Refused}
 use Rattle.api_members.specs.Value.{IsValid}
-use Rattle.api_members.specs.Refusal.{ValueFault}
+use Rattle.api_members.specs.Refusal.{RefusedFor, IsValueRefused}
 
 pub values_back : (ts : List Tree) → trees_in (items_of ts) ≡ ts
 values_back [] = refl
@@ -20,8 +20,8 @@ same_truth (Ok found) b same = subst (λ x. IsTrue x ↔ IsTrue b) (sym same) (�
 same_truth (Err e) b same = tt
 
 pub arn_checked : {A : Type 0} (r : Result A CallFault) (member : Member) (tree : Tree) (valid : Bool) → IsTrue valid ↔ IsValid syntax.TargetArn tree
-    → MatchResult r (λ _. IsTrue valid) (λ f. (¬ IsTrue valid) × (f ≡ Refused (cause.NotValid member)))
-    → MatchResult r (λ _. IsValid syntax.TargetArn tree) (ValueFault syntax.TargetArn member tree)
+    → MatchResult r (λ _. IsTrue valid) (λ f. (f ≡ Refused (cause.NotValid member)) × (¬ IsTrue valid))
+    → MatchResult r (λ _. IsValid syntax.TargetArn tree) (RefusedFor (IsValueRefused syntax.TargetArn member tree))
 arn_checked (Ok x) member tree valid same h = same.0 h
-arn_checked (Err f) member tree valid same (wrong, is) =
-    subst (ValueFault syntax.TargetArn member tree) (sym is) ((λ v. wrong (same.1 v)), refl)
+arn_checked (Err f) member tree valid same (is, wrong) =
+    subst (RefusedFor (IsValueRefused syntax.TargetArn member tree)) (sym is) (refl, λ v. wrong (same.1 v))

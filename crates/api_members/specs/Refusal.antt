@@ -1,6 +1,7 @@
 -- The first refusal of a request's members.
-use Rattle.std.specs.Prelude.{◌≡◌, ℕ, List, [], ◌∷◌, ◌++◌, Option, Some, None}
+use Rattle.std.specs.Prelude.{◌≡◌, ℕ, List, [], ◌∷◌, Option, Some, None}
 use Rattle.json_text.specs.Tree.{Tree, text, Members}
+use Rattle.json_text.specs.Checks.{Check, else_fault, AllHold, IsFirst}
 use Rattle.pattern_read.specs.Refusal.{IsRefused, path_text}
 use Rattle.pattern_read.specs.declared.fault.Why.{Why}
 use Rattle.bus_policy.specs.Text.{IsTextFault}
@@ -19,7 +20,6 @@ use Rattle.api_members.specs.declared.fault.CallFault.{CallFault}
 use Rattle.api_members.specs.declared.fault.CallFault.TheVariants.{Refused, NoMemory}
 use Rattle.api_members.specs.Given.{given}
 use Rattle.api_members.specs.Why.{why_name, policy_why_name}
-use Rattle.api_members.specs.Event.{GivesEvent}
 use Rattle.api_members.specs.Value.{IsValid}
 
 -- The text is no pattern for this reason, at this path.
@@ -42,76 +42,45 @@ IsPolicyRefusal t c = (why : PolicyCause) × (place : ℕ) × IsTextFault t why 
 abbrev pub IsValueRefused : Syntax → Member → Tree → Cause → Type 0
 IsValueRefused syntax.Pattern m (text t) c = IsPatternRefusal t c
 IsValueRefused syntax.Policy m (text t) c = IsPolicyRefusal t c
-IsValueRefused s m tree c = (¬ IsValid s tree) × (c ≡ cause.NotValid m)
+IsValueRefused s m tree c = (c ≡ cause.NotValid m) × (¬ IsValid s tree)
 
--- the value is valid; an absent one as `absent` says
-abbrev pub ValidOr : Type 0 → Syntax → Option Tree → Type 0
-ValidOr absent s None = absent
-ValidOr absent s (Some tree) = IsValid s tree
+-- the check of a value, and what it is if no value is given
+abbrev pub value_check : Check Cause → Syntax → Member → Option Tree → Check Cause
+value_check absent s m None = absent
+value_check absent s m (Some tree) = record { holds = IsValid s tree; refuses = IsValueRefused s m tree }
 
--- the value is refused; an absent one as `absent` says
-abbrev pub RefusedOr : Type 0 → Syntax → Member → Option Tree → Cause → Type 0
-RefusedOr absent s m None c = absent
-RefusedOr absent s m (Some tree) c = IsValueRefused s m tree c
+-- The check of a member that is asked: it is given and valid, or optional and absent.
+-- Shown by: wire_tests test_api_wire.rt: a_message_has_its_first_refusal.
+abbrev pub asked_check : Members → Asked → Check Cause
+asked_check ms (Required m s) = value_check (else_fault ⊥ (cause.Required m)) s m (given m ms)
+asked_check ms (Optional m s) = value_check (else_fault (Unit {0}) (cause.Required m)) s m (given m ms)
 
 -- The member is given and valid, or optional and absent.
 -- Shown by: wire_tests test_api_wire.rt: a_message_has_its_first_refusal.
 abbrev pub IsSoundMember : Asked → Members → Type 0
-IsSoundMember (Required m s) ms = ValidOr ⊥ s (given m ms)
-IsSoundMember (Optional m s) ms = ValidOr (Unit {0}) s (given m ms)
+IsSoundMember a ms = (asked_check ms a).holds
 
--- The member is absent though required, or its value is refused.
+-- The checks of the members that are asked, in their order.
 -- Shown by: wire_tests test_api_wire.rt: a_message_has_its_first_refusal.
-abbrev pub IsMemberRefused : Asked → Members → Cause → Type 0
-IsMemberRefused (Required m s) ms c = RefusedOr (c ≡ cause.Required m) s m (given m ms) c
-IsMemberRefused (Optional m s) ms c = RefusedOr ⊥ s m (given m ms) c
+abbrev pub asked_checks : List Asked → Members → List (Check Cause)
+asked_checks [] ms = []
+asked_checks (a ∷ asked) ms = asked_check ms a ∷ asked_checks asked ms
 
--- Each member of a list is sound.
+-- The members have what is asked.
 -- Shown by: wire_tests test_api_wire.rt: a_message_has_its_first_refusal.
 abbrev pub AreSound : List Asked → Members → Type 0
-AreSound [] ms = Unit {0}
-AreSound (a ∷ asked) ms = IsSoundMember a ms × AreSound asked ms
+AreSound asked ms = AllHold (asked_checks asked ms)
 
--- One member of the list is refused for this cause, and those before it are sound.
+-- The first refusal of the members that are asked.
 -- Shown by: wire_tests test_api_wire.rt: a_message_has_its_first_refusal.
-pub record IsFirstRefusal (asked : List Asked) (ms : Members) (c : Cause) : Type 0 where
-  pub before : List Asked
-  pub here : Asked
-  pub after : List Asked
-  pub order : asked ≡ before ++ here ∷ after
-  pub sound : AreSound before ms
-  pub refused : IsMemberRefused here ms c
+abbrev pub IsFirstRefusal : List Asked → Members → Cause → Type 0
+IsFirstRefusal asked ms = IsFirst (asked_checks asked ms)
 
--- The fault is the first refusal, or out of memory.
+-- The fault is a refusal for such a cause, or out of memory.
 -- Shown by: wire_tests test_api_wire.rt: a_message_has_its_first_refusal.
-abbrev pub FirstFault : List Asked → Members → CallFault → Type 0
-FirstFault asked ms (Refused c) = IsFirstRefusal asked ms c
-FirstFault asked ms NoMemory = Unit {0}
-
--- the same of one member (no public clause names this and the next two)
-abbrev pub MemberFault : Asked → Members → CallFault → Type 0
-MemberFault a ms (Refused c) = IsMemberRefused a ms c
-MemberFault a ms NoMemory = Unit {0}
-
--- the same of one value
-abbrev pub ValueFault : Syntax → Member → Tree → CallFault → Type 0
-ValueFault s m tree (Refused c) = IsValueRefused s m tree c
-ValueFault s m tree NoMemory = Unit {0}
-
--- the fault of a text that is no pattern
-abbrev pub IsTextRefused : List ℕ → CallFault → Type 0
-IsTextRefused t (Refused c) = IsPatternRefusal t c
-IsTextRefused t NoMemory = Unit {0}
-
--- the fault of a text that is no event
-abbrev pub IsEventRefused : Member → List ℕ → CallFault → Type 0
-IsEventRefused m t (Refused c) = (¬ GivesEvent t) × (c ≡ cause.NotValid m)
-IsEventRefused m t NoMemory = Unit {0}
-
--- the fault of a text that is no policy
-abbrev pub IsPolicyRefused : List ℕ → CallFault → Type 0
-IsPolicyRefused t (Refused c) = IsPolicyRefusal t c
-IsPolicyRefused t NoMemory = Unit {0}
+abbrev pub RefusedFor : (Cause → Type 0) → CallFault → Type 0
+RefusedFor causes (Refused c) = causes c
+RefusedFor causes NoMemory = Unit {0}
 
 -- the fault of a request whose policy has this fault
 abbrev pub IsPolicyFault : PolicyFault → CallFault → Type 0

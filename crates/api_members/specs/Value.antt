@@ -1,8 +1,8 @@
 -- Which values are valid for a member.
-use Rattle.std.specs.Prelude.{◌≡◌, ℕ, ◌≤◌, nat_le, ◌⊎◌, Bool, true, false, ◌&&◌, List, length, Option, Some, None, is_some, option_and_then, unwrap_or, codes, IsSome, IsTrue, All}
+use Rattle.std.specs.Prelude.{◌≡◌, ℕ, nat_le, ◌⊎◌, Bool, true, false, ◌&&◌, List, length, Option, is_some, option_and_then, unwrap_or, codes, IsSome, IsTrue}
 use Rattle.std.specs.List.{list_all}
 use Rattle.json_text.specs.Tree.{Tree, truth}
-use Rattle.event_shape.specs.Names.{IsQueueName, IsShortName, IsBusName, bus_in, default_bus, is_account}
+use Rattle.event_shape.specs.Names.{IsQueueName, IsShortName, IsBusName, is_short_name, bus_in, default_bus, is_account}
 use Rattle.bus_policy.specs.Text.{IsPolicyText}
 use Rattle.bus_policy.specs.StatementId.{IsStatementId}
 use Rattle.pattern_meaning.specs.Pattern.{Pattern}
@@ -12,7 +12,7 @@ use Rattle.api_members.specs.declared.asked.Syntax.{Syntax}
 use Rattle.api_members.specs.declared.asked.Syntax.TheVariants as syntax
 use Rattle.api_members.specs.Given.{list_in}
 use Rattle.api_members.specs.JsonType.{must_pass}
-use Rattle.json_text.specs.Access.{is_text, IsTextThat}
+use Rattle.json_text.specs.Access.{is_text, IsTextThat, text_in}
 use Rattle.api_members.specs.Count.{count_of}
 use Rattle.api_members.specs.Entry.{is_entry}
 use Rattle.api_members.specs.Target.{is_target}
@@ -38,9 +38,9 @@ GivesPolicy t = (policy : Tree) × IsPolicyText t policy
 abbrev pub IsGrantee : List ℕ → Type 0
 IsGrantee t = (t ≡ codes "*") ⊎ IsTrue (is_account t)
 
--- a list of 1 to 100 texts, each with the syntax of a target's id
-abbrev pub AreIds : Tree → Type 0
-AreIds tree = (values : List Tree) × (list_in tree ≡ Some values) × (1 ≤ length values) × (length values ≤ 100) × All (IsTextThat IsShortName) values
+-- a text with the syntax of a target's id
+abbrev pub is_id : Tree → Bool
+is_id tree = must_pass is_short_name (text_in tree)
 
 -- `true` or `false`
 abbrev pub is_truth : Tree → Bool
@@ -78,7 +78,7 @@ IsValid syntax.State tree = IsTextThat IsState tree
 IsValid (syntax.Count least most) tree = IsSome (count_of least most tree)
 IsValid syntax.Entries tree = IsTrue (is_list_of is_entry 10 tree)
 IsValid syntax.Targets tree = IsTrue (is_list_of is_target 100 tree)
-IsValid syntax.Ids tree = AreIds tree
+IsValid syntax.Ids tree = IsTrue (is_list_of is_id 100 tree)
 IsValid syntax.Policy tree = IsTextThat GivesPolicy tree
 IsValid syntax.StatementId tree = IsTextThat IsStatementId tree
 IsValid syntax.PutEventsAction tree = IsTextThat (λ t. t ≡ codes "events:PutEvents") tree

@@ -4,7 +4,8 @@ ghost use Rattle.json_text.specs.Tree.{members_of};
 ghost use Rattle.json_text.specs.View.{tree_of, pairs_of};
 ghost use Rattle.api_members.specs.Fault.{IsCallFault};
 ghost use Rattle.api_members.specs.Value.{IsValid, IsPattern, GivesPolicy};
-ghost use Rattle.api_members.specs.Refusal.{IsSoundMember, AreSound, FirstFault, MemberFault, ValueFault, IsTextRefused, IsEventRefused, IsPolicyRefused, IsPolicyFault};
+ghost use Rattle.json_text.specs.Checks.{else_fault};
+ghost use Rattle.api_members.specs.Refusal.{IsPatternRefusal, IsPolicyRefusal, IsValueRefused, IsSoundMember, asked_check, AreSound, IsFirstRefusal, RefusedFor, IsPolicyFault};
 ghost use Rattle.api_members.specs.Event.{GivesEvent};
 
 use crate::asked::{Asked, Syntax};
@@ -33,7 +34,7 @@ pub fn check_members(
 ) -> Result<(), CallFault>
     ensures { MatchResult result
         (λ _. AreSound asked.now (members_of (pairs_of members.now)))
-        (FirstFault asked.now (members_of (pairs_of members.now))) }
+        (RefusedFor (IsFirstRefusal asked.now (members_of (pairs_of members.now)))) }
 {
     for one in asked {
         check_member(alloc, *one, members)?;
@@ -44,7 +45,7 @@ pub fn check_members(
 fn check_member(alloc: Global, asked: Asked, members: &[(Text, Json)]) -> Result<(), CallFault>
     ensures { MatchResult result
         (λ _. IsSoundMember asked (members_of (pairs_of members.now)))
-        (MemberFault asked (members_of (pairs_of members.now))) }
+        (RefusedFor (asked_check (members_of (pairs_of members.now)) asked).refuses) }
 {
     match asked {
         Asked::Required(member, syntax) => match given(members, member) {
@@ -61,7 +62,7 @@ fn check_member(alloc: Global, asked: Asked, members: &[(Text, Json)]) -> Result
 fn check_value(alloc: Global, member: Member, syntax: Syntax, value: &Json) -> Result<(), CallFault>
     ensures { MatchResult result
         (λ _. IsValid syntax (tree_of value.now))
-        (ValueFault syntax member (tree_of value.now)) }
+        (RefusedFor (IsValueRefused syntax member (tree_of value.now))) }
 {
     match syntax {
         Syntax::QueueName => valid_if(is_queue(value), member),
@@ -91,7 +92,7 @@ fn check_value(alloc: Global, member: Member, syntax: Syntax, value: &Json) -> R
 fn valid_if(valid: bool, member: Member) -> Result<(), CallFault>
     ensures { MatchResult result
         (λ _. IsTrue valid)
-        (λ fault. (¬ IsTrue valid) × (fault ≡ CallFault.Refused (Cause.NotValid member))) }
+        (λ fault. (fault ≡ CallFault.Refused (Cause.NotValid member)) × (¬ IsTrue valid)) }
 {
     if valid {
         Ok(())
@@ -103,7 +104,7 @@ fn valid_if(valid: bool, member: Member) -> Result<(), CallFault>
 fn check_pattern(alloc: Global, member: Member, value: &Json) -> Result<(), CallFault>
     ensures { MatchResult result
         (λ _. IsValid Syntax.Pattern (tree_of value.now))
-        (ValueFault Syntax.Pattern member (tree_of value.now)) }
+        (RefusedFor (IsValueRefused Syntax.Pattern member (tree_of value.now))) }
 {
     match value {
         Json::Str(text) => check_pattern_text(alloc, text.as_str()),
@@ -113,9 +114,9 @@ fn check_pattern(alloc: Global, member: Member, value: &Json) -> Result<(), Call
     }
 }
 
-/// Checks the pattern. The value that is read is dropped, since a rule holds the text.
+/// Checks the pattern. The value that is read is dropped: it is read again once all members are sound.
 fn check_pattern_text(alloc: Global, text: &str) -> Result<(), CallFault>
-    ensures { MatchResult result (λ _. IsPattern text.now) (IsTextRefused text.now) }
+    ensures { MatchResult result (λ _. IsPattern text.now) (RefusedFor (IsPatternRefusal text.now)) }
 {
     match read_pattern(alloc, text.as_bytes()) {
         Ok(_pattern) => Ok(()),
@@ -126,7 +127,7 @@ fn check_pattern_text(alloc: Global, text: &str) -> Result<(), CallFault>
 fn check_event(alloc: Global, member: Member, value: &Json) -> Result<(), CallFault>
     ensures { MatchResult result
         (λ _. IsValid Syntax.Event (tree_of value.now))
-        (ValueFault Syntax.Event member (tree_of value.now)) }
+        (RefusedFor (IsValueRefused Syntax.Event member (tree_of value.now))) }
 {
     match value {
         Json::Str(text) => check_event_text(alloc, member, text.as_str()),
@@ -138,7 +139,7 @@ fn check_event(alloc: Global, member: Member, value: &Json) -> Result<(), CallFa
 
 /// Checks the event. The value that is read is dropped, as that of a pattern.
 fn check_event_text(alloc: Global, member: Member, text: &str) -> Result<(), CallFault>
-    ensures { MatchResult result (λ _. GivesEvent text.now) (IsEventRefused member text.now) }
+    ensures { MatchResult result (λ _. GivesEvent text.now) (RefusedFor (else_fault (GivesEvent text.now) (Cause.NotValid member)).refuses) }
 {
     match read_event(alloc, text) {
         Ok(Some(_event)) => Ok(()),
@@ -162,7 +163,7 @@ fn pattern_fault(alloc: Global, fault: PatternFault) -> CallFault
 fn check_policy(alloc: Global, member: Member, value: &Json) -> Result<(), CallFault>
     ensures { MatchResult result
         (λ _. IsValid Syntax.Policy (tree_of value.now))
-        (ValueFault Syntax.Policy member (tree_of value.now)) }
+        (RefusedFor (IsValueRefused Syntax.Policy member (tree_of value.now))) }
 {
     match value {
         Json::Str(text) => check_policy_text(alloc, text.as_str()),
@@ -174,7 +175,7 @@ fn check_policy(alloc: Global, member: Member, value: &Json) -> Result<(), CallF
 
 /// Checks the policy. The value that is read is dropped, as that of a pattern.
 fn check_policy_text(alloc: Global, text: &str) -> Result<(), CallFault>
-    ensures { MatchResult result (λ _. GivesPolicy text.now) (IsPolicyRefused text.now) }
+    ensures { MatchResult result (λ _. GivesPolicy text.now) (RefusedFor (IsPolicyRefusal text.now)) }
 {
     match Policy::read(alloc, text.as_bytes()) {
         Ok(_policy) => Ok(()),

@@ -1,5 +1,5 @@
 //! Which values are valid for a member.
-ghost use Rattle.std.specs.Prelude.{◌≡◌, ◌↔◌, ◌&&◌, nat_le, All, IsTrue, IfOk, codes, length};
+ghost use Rattle.std.specs.Prelude.{◌≡◌, ◌↔◌, ◌&&◌, nat_le, IsTrue, IfOk, codes, length};
 ghost use Rattle.std.specs.List.{list_all};
 ghost use Rattle.std.specs.Option.{option_copied};
 ghost use Rattle.json_text.specs.Tree.{members_of};
@@ -208,7 +208,7 @@ fn all_targets(values: &[Json]) -> bool
 
 /// Whether the value is a list of 1 to 100 ids of targets.
 pub(crate) fn are_ids(value: &Json) -> bool
-    ensures { IsTrue result ↔ spec.AreIds (tree_of value.now) }
+    ensures { result ≡ spec.is_list_of spec.is_id 100 (tree_of value.now) }
 {
     match list_in(value) {
         Some(values) => is_few(values, 100) && all_ids(values),
@@ -217,7 +217,7 @@ pub(crate) fn are_ids(value: &Json) -> bool
 }
 
 fn all_ids(values: &[Json]) -> bool
-    ensures { IsTrue result ↔ All (IsTextThat IsShortName) (trees_of values.now) }
+    ensures { result ≡ list_all spec.is_id (trees_of values.now) }
 {
     for value in values {
         if !is_id(value) {
@@ -228,7 +228,7 @@ fn all_ids(values: &[Json]) -> bool
 }
 
 fn is_id(value: &Json) -> bool
-    ensures { IsTrue result ↔ IsTextThat IsShortName (tree_of value.now) }
+    ensures { result ≡ spec.is_id (tree_of value.now) }
 {
     match value {
         Json::Str(text) => is_target_id(text.as_str()),

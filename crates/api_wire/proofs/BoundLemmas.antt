@@ -1,15 +1,19 @@
--- The bounds of what sound members ask for: first the syntax of names, then numbers. bus_server cites each public lemma.
-use Rattle.std.proofs.Common.{◌≡◌, ℕ, ◌≤◌, Bool, true, false, inl, inr, List, [], ◌∷◌, length, Option, Some, None, Ok, Err, suc, sym, refl, ap, subst, arith}
-use Rattle.std.specs.Prelude.{if◌then◌else◌, codes, All, unwrap_or, option_and_then, IsTrue, Result}
+-- A request that a message asks for is within its bounds: `asked_bounded`. First the syntax of names, then numbers, then each operation.
+use Rattle.std.proofs.Common.{◌≡◌, ℕ, ◌≤◌, ◌<◌, ◌^◌, Bool, true, false, ◌&&◌, inl, inr, List, [], ◌∷◌, length, Option, Some, None, Ok, Err, suc, sym, refl, ap, ◌∙◌, subst, arith}
+use Rattle.std.specs.Prelude.{if◌then◌else◌, codes, All, unwrap_or, option_and_then, IsTrue, IfSome, Result}
+use Rattle.std.specs.List.{list_all}
+use Rattle.std.specs.Option.{option_map}
 use Rattle.std.specs.Str.{bytes_eq}
+use Rattle.std.proofs.lemmas.Bool.{and_parts}
 use Rattle.std.proofs.lemmas.Bool.Decides.{nat_tests}
 use Rattle.std.proofs.lemmas.List.{length-map}
-use Rattle.std.proofs.lemmas.List.Elements.{All-nil, All-cons, All-head, All-tail}
+use Rattle.std.proofs.lemmas.List.Elements.{All-nil, All-cons}
 use Rattle.json_text.specs.Tree.{Tree, text, Members}
 use Rattle.json_text.specs.Compact.{IsValue, compact_text}
+use Rattle.json_text.specs.Access.{text_in, IsTextThat}
+use Rattle.json_text.specs.Checks.{else_fault}
 use Rattle.json_text.proofs.ValueLemmas.{text_is_value}
-use Rattle.json_text.specs.Access.{text_in}
-use Rattle.event_shape.specs.Names.{IsBusName, IsShortName, IsQueueName, default_bus, bus_in, bus_of_entry, is_account}
+use Rattle.event_shape.specs.Names.{IsBusName, IsShortName, IsQueueName, is_bus_name, is_short_name, default_bus, bus_in, bus_of_entry, is_account}
 use Rattle.event_shape.proofs.NameLemmas.{bus_given}
 use Rattle.event_shape.specs.Entry.{Entry}
 use Rattle.event_shape.specs.Unnumbered.{Unnumbered}
@@ -18,8 +22,14 @@ use Rattle.bus_policy.specs.Change.{IsAccountGiven}
 use Rattle.bus_policy.specs.StatementId.{IsStatementId}
 use Rattle.bus_policy.specs.Stored.{IsStored}
 use Rattle.bus_policy.proofs.ReadLemmas.{read_stored}
+use Rattle.rule_targets.specs.Checks.{IsTargetArn}
+use Rattle.rule_targets.specs.WellFormed.{names_rule, NamesRule, are_few as is_count_few, are_ids_formed}
+use Rattle.router_core.specs.Request.{Action, remove_policy, remove_statement, delete_messages, Request}
+use Rattle.router_core.specs.Bounds.{IsForBus, IsStatementIdIfGiven, IsBounded}
 use Rattle.api_replies.specs.declared.member.Member.{Member}
 use Rattle.api_replies.specs.declared.member.Member.TheVariants as member
+use Rattle.api_replies.specs.declared.cause.Cause.TheVariants as cause
+use Rattle.api_messages.specs.declared.message.Message.{Message}
 use Rattle.api_members.specs.declared.asked.Asked.TheVariants.{Required, Optional}
 use Rattle.api_members.specs.declared.asked.Syntax.{Syntax}
 use Rattle.api_members.specs.declared.asked.Syntax.TheVariants as syntax
@@ -29,14 +39,19 @@ use Rattle.api_members.specs.Entry.{is_entry, texts_of, entry_with, entries_of}
 use Rattle.api_members.specs.CheckedEntry.{IsChecked, AreChecked}
 use Rattle.api_members.specs.Target.{is_target}
 use Rattle.api_members.specs.Count.{count_given}
-use Rattle.rule_targets.specs.Checks.{IsTargetArn}
-use Rattle.api_members.specs.Value.{IsGrantee, are_few, is_list_of, bus_or_default, IsValid}
-use Rattle.json_text.specs.Access.{IsTextThat}
-use Rattle.api_members.specs.Refusal.{ValidOr, IsSoundMember}
+use Rattle.api_members.specs.Value.{IsGrantee, is_id, are_few, is_list_of, bus_or_default, IsValid}
+use Rattle.api_members.specs.Refusal.{value_check, IsSoundMember, AreSound}
 use Rattle.api_members.proofs.CheckedLemmas.{checked_len}
 use Rattle.api_members.proofs.CountLemmas.{within_limits}
-use Rattle.api_members.proofs.TextLemmas.{valid_text}
-use Rattle.api_wire.specs.Call.{NamesBusIn, account_in, IsStoredAs, target_with, targets_of}
+use Rattle.api_members.proofs.TextLemmas.{valid_text, pattern_text, event_is_value}
+use Rattle.api_wire.specs.declared.call.operation.Operation.{Operation}
+use Rattle.api_wire.specs.declared.call.operation.Operation.TheVariants.{CreateEventBus, DeleteEventBus, DescribeEventBus, ListEventBuses}
+use Rattle.api_wire.specs.declared.call.operation.Operation.TheVariants.{PutRule, DeleteRule, EnableRule, DisableRule, DescribeRule, ListRules}
+use Rattle.api_wire.specs.declared.call.operation.Operation.TheVariants.{PutTargets, RemoveTargets, ListTargetsByRule, ListRuleNamesByTarget}
+use Rattle.api_wire.specs.declared.call.operation.Operation.TheVariants.{PutPermission, RemovePermission, PutEvents, TestEventPattern}
+use Rattle.api_wire.specs.declared.call.operation.Operation.TheVariants.{CreateQueue, DeleteQueue, PeekMessages, DeleteMessages, DeliverDue, DutyCounts}
+use Rattle.api_wire.specs.Call.{caller_of, asked, permission_asked, bus_named, event_bus, account_in, IsStoredAs, removes_all, target_with, targets_of, action_in, IsPermission}
+use Rattle.api_wire.specs.Call.{IsAction, IsAsked}
 
 -- `default` is a bus's name
 default_is_name : IsBusName default_bus
@@ -50,149 +65,193 @@ bus_is_name : (v : Option (List ℕ)) → IsBusName (bus_or_default v)
 bus_is_name None = default_is_name
 bus_is_name (Some t) = found_bus t (bus_in t) refl
 
--- a member that gives a bus, or `default`
-pub bus_named : (m : Member) (ms : Members) (bus : List ℕ) → NamesBusIn m ms bus → IsBusName bus
-bus_named m ms bus is = rw is (bus_is_name (text_given m ms))
+named_bus : (m : Member) (ms : Members) → IsBusName (bus_named m ms)
+named_bus m ms = bus_is_name (text_given m ms)
 
--- a required name of a rule, of a bus, or of a queue
-pub short_name : (m : Member) (ms : Members) → IsSoundMember (Required m syntax.RuleName) ms → IsShortName (text_of m ms)
-short_name m ms sound = valid_text IsShortName syntax.RuleName (given m ms) (λ t is. is) sound
+short_name : (m : Member) (ms : Members) → IsSoundMember (Required m syntax.RuleName) ms → IsShortName (text_of m ms)
+short_name m ms sound = valid_text IsShortName syntax.RuleName m (given m ms) (λ t is. is) sound
 
-pub bus_name : (m : Member) (ms : Members) → IsSoundMember (Required m syntax.BusName) ms → IsBusName (text_of m ms)
-bus_name m ms sound = valid_text IsBusName syntax.BusName (given m ms) (λ t is. is) sound
+bus_name : (m : Member) (ms : Members) → IsSoundMember (Required m syntax.BusName) ms → IsBusName (text_of m ms)
+bus_name m ms sound = valid_text IsBusName syntax.BusName m (given m ms) (λ t is. is) sound
 
-pub queue_name : (m : Member) (ms : Members) → IsSoundMember (Required m syntax.QueueName) ms → IsQueueName (text_of m ms)
-queue_name m ms sound = valid_text IsQueueName syntax.QueueName (given m ms) (λ t is. is) sound
+queue_name : (ms : Members) → IsSoundMember (Required member.QueueName syntax.QueueName) ms → IsQueueName (text_of member.QueueName ms)
+queue_name ms sound = valid_text IsQueueName syntax.QueueName member.QueueName (given member.QueueName ms) (λ t is. is) sound
 
--- a required ARN of a target
-pub target_arn : (m : Member) (ms : Members) → IsSoundMember (Required m syntax.TargetArn) ms → IsTargetArn (text_of m ms)
-target_arn m ms sound = valid_text IsTargetArn syntax.TargetArn (given m ms) (λ t is. is) sound
+target_arn : (ms : Members) → IsSoundMember (Required member.TargetArn syntax.TargetArn) ms → IsTargetArn (text_of member.TargetArn ms)
+target_arn ms sound = valid_text IsTargetArn syntax.TargetArn member.TargetArn (given member.TargetArn ms) (λ t is. is) sound
 
--- a required StatementId
-pub statement_id : (m : Member) (ms : Members) → IsSoundMember (Required m syntax.StatementId) ms → IsStatementId (text_of m ms)
-statement_id m ms sound = valid_text IsStatementId syntax.StatementId (given m ms) (λ t is. is) sound
+statement_id : (ms : Members) → IsSoundMember (Required member.StatementId syntax.StatementId) ms → IsStatementId (text_of member.StatementId ms)
+statement_id ms sound = valid_text IsStatementId syntax.StatementId member.StatementId (given member.StatementId ms) (λ t is. is) sound
 
-id_in : (v : Option Tree) (sid : List ℕ) → ValidOr (Unit {0}) syntax.StatementId v → option_and_then text_in v ≡ Some sid → IsStatementId sid
-id_in None sid valid is = absurd (cc is)
-id_in (Some (text t)) sid valid is =
-    let same : t ≡ sid = cc is in
-    subst IsStatementId same valid
-id_in (Some other) sid valid is = absurd valid
+id_if_given : (v : Option Tree) → (value_check (else_fault (Unit {0}) (cause.Required member.StatementId)) syntax.StatementId member.StatementId v).holds
+    → IsStatementIdIfGiven (option_and_then text_in v)
+id_if_given None valid = tt
+id_if_given (Some (text t)) valid = valid
+id_if_given (Some other) valid = absurd valid
 
--- a StatementId that is given
-pub given_statement_id : (m : Member) (ms : Members) (sid : List ℕ) → IsSoundMember (Optional m syntax.StatementId) ms
-    → text_given m ms ≡ Some sid → IsStatementId sid
-given_statement_id m ms sid sound is = id_in (given m ms) sid sound is
+both : (a b : Bool) → a ≡ true → b ≡ true → (a && b) ≡ true
+both a b p q = ap (λ x. x && b) p ∙ q
 
-few : (test : Tree → Bool) (most : ℕ) (values : Option (List Tree)) → IsTrue (must_pass (are_few test most) values)
-    → (1 ≤ length (unwrap_or values [])) × (length (unwrap_or values []) ≤ most)
-few test most None is = absurd (cc is)
-few test most (Some values) is = (grind (arith, nat_tests), grind (arith, nat_tests))
+rule_named : (m : Member) (ms : Members) → IsSoundMember (Required m syntax.RuleName) ms → NamesRule (event_bus ms) (text_of m ms)
+rule_named m ms sound =
+    both (is_bus_name (event_bus ms)) (is_short_name (text_of m ms)) (named_bus member.EventBusName ms) (short_name m ms sound)
 
-few_values : (test : Tree → Bool) (most : ℕ) (tree : Tree) → IsTrue (is_list_of test most tree)
-    → (1 ≤ length (unwrap_or (list_in tree) [])) × (length (unwrap_or (list_in tree) []) ≤ most)
-few_values test most tree is = few test most (list_in tree) is
+-- the values of a list that is given
+abbrev in_list : Option Tree → List Tree
+in_list v = unwrap_or (option_and_then list_in v) []
 
-valid_values : (s : Syntax) (test : Tree → Bool) (most : ℕ) (v : Option Tree) → ((tree : Tree) → IsValid s tree → IsTrue (is_list_of test most tree))
-    → ValidOr ⊥ s v → (1 ≤ length (unwrap_or (option_and_then list_in v) [])) × (length (unwrap_or (option_and_then list_in v) []) ≤ most)
-valid_values s test most None is valid = absurd valid
-valid_values s test most (Some tree) is valid = few_values test most tree (is tree valid)
+few_values : (s : Syntax) (m : Member) (test : Tree → Bool) (most : ℕ) (v : Option Tree) → ((tree : Tree) → IsValid s tree → IsTrue (is_list_of test most tree))
+    → (value_check (else_fault ⊥ (cause.Required m)) s m v).holds → IsTrue (are_few test most (in_list v))
+few_values s m test most None is valid = absurd valid
+few_values s m test most (Some tree) is valid = by_list (list_in tree) (is tree valid)
+  where
+    by_list : (o : Option (List Tree)) → IsTrue (must_pass (are_few test most) o) → IsTrue (are_few test most (unwrap_or o []))
+    by_list None passes = absurd cc
+    by_list (Some values) passes = passes
+
+few : (test : Tree → Bool) (most : ℕ) (values : List Tree) → IsTrue (are_few test most values) → (1 ≤ length values) × (length values ≤ most)
+few test most values is = (grind (arith, nat_tests), grind (arith, nat_tests))
 
 -- 1 to 100 targets
-pub target_bounds : (ms : Members) → IsSoundMember (Required member.Targets syntax.Targets) ms
+target_bounds : (ms : Members) → IsSoundMember (Required member.Targets syntax.Targets) ms
     → (1 ≤ length (targets_of (values_in member.Targets ms))) × (length (targets_of (values_in member.Targets ms)) ≤ 100)
 target_bounds ms sound =
     let values = values_in member.Targets ms in
-    let some = valid_values syntax.Targets is_target 100 (given member.Targets ms) (λ tree is. is) sound in
+    let some = few is_target 100 values (few_values syntax.Targets member.Targets is_target 100 (given member.Targets ms) (λ tree is. is) sound) in
     let same = length-map values (λ tree. target_with (members_in tree)) in
     (omega (arith, some.0, same), omega (arith, some.1, same))
 
--- 1 to 10 entries
-pub entry_bounds : (ms : Members) (reading : ℕ) (caller : List ℕ) (all : List (Result Unnumbered EntryFault))
-    → IsSoundMember (Required member.Entries syntax.Entries) ms
-    → AreChecked reading caller (entries_of (values_in member.Entries ms)) all → (1 ≤ length all) × (length all ≤ 10)
-entry_bounds ms reading caller all sound checked =
-    let values = values_in member.Entries ms in
-    let some = valid_values syntax.Entries is_entry 10 (given member.Entries ms) (λ tree is. is) sound in
-    let same = length-map values (λ tree. entry_with (members_in tree)) in
-    let each = checked_len reading caller (entries_of values) all checked in
-    (omega (arith, some.0, same, each), omega (arith, some.1, same, each))
+ids_formed : (values : List Tree) → list_all is_id values ≡ true
+    → (length (texts_of values) ≡ length values) × (list_all is_short_name (texts_of values) ≡ true)
+ids_formed [] each = (refl, refl)
+ids_formed (text t ∷ values) each =
+    let parts = and_parts (is_short_name t) (list_all is_id values) each in
+    let others = ids_formed values parts.1 in
+    (ap suc others.0, both (is_short_name t) (list_all is_short_name (texts_of values)) parts.0 others.1)
+ids_formed (other ∷ values) each = absurd cc
+
+-- 1 to 100 ids
+id_bounds : (ms : Members) → IsSoundMember (Required member.Ids syntax.Ids) ms → are_ids_formed (texts_of (values_in member.Ids ms)) ≡ true
+id_bounds ms sound =
+    let values = values_in member.Ids ms in
+    let parts = and_parts (is_count_few (length values)) (list_all is_id values)
+    (few_values syntax.Ids member.Ids is_id 100 (given member.Ids ms) (λ tree is. is) sound) in
+    let formed = ids_formed values parts.1 in
+    both (is_count_few (length (texts_of values))) (list_all is_short_name (texts_of values))
+    (subst (λ n. is_count_few n ≡ true) (sym formed.0) parts.0) formed.1
 
 entry_bus : (o : Option (List ℕ)) (bus : List ℕ) → bus_of_entry o ≡ Some bus → IsBusName bus
 entry_bus None bus is = let same : default_bus ≡ bus = cc in subst IsBusName same default_is_name
 entry_bus (Some t) bus is = ((bus_given t bus).0 is).0
 
--- what holds of each event for a bus name, and of each fault, holds of each checked entry
-pub each_checked : (P : Result Unnumbered EntryFault → Type 0) (reading : ℕ) (caller : List ℕ) (entries : List Entry)
-    (all : List (Result Unnumbered EntryFault)) → ((u : Unnumbered) → IsBusName u.bus → P (Ok u)) → ((fault : EntryFault) → P (Err fault))
-    → AreChecked reading caller entries all → All P all
-each_checked P reading caller [] all event fault checked = rw checked (All-nil P)
-each_checked P reading caller (e ∷ entries) all event fault checked =
-    rw checked.2 (All-cons P checked.0 checked.1 (one checked.0 checked.3) (each_checked P reading caller entries checked.1 event fault checked.4))
+each_for_bus : (reading : ℕ) (caller : List ℕ) (entries : List Entry) (all : List (Result Unnumbered EntryFault)) → AreChecked reading caller entries all
+    → All IsForBus all
+each_for_bus reading caller [] all checked = rw checked (All-nil IsForBus)
+each_for_bus reading caller (e ∷ entries) all checked =
+    rw checked.2 (All-cons IsForBus checked.0 checked.1 (one checked.0 checked.3) (each_for_bus reading caller entries checked.1 checked.4))
   where
-    one : (r : Result Unnumbered EntryFault) → IsChecked reading caller e r → P r
-    one (Ok u) is = event u (subst IsBusName (sym is.3) (entry_bus e.bus is.0.bus is.1.bus))
-    one (Err f) is = fault f
+    one : (r : Result Unnumbered EntryFault) → IsChecked reading caller e r → IsForBus r
+    one (Ok u) is = subst IsBusName (sym is.3) (entry_bus e.bus is.0.bus is.1.bus)
+    one (Err f) is = tt
 
-counted : (least most default n : ℕ) (v : Option ℕ) → ((m : ℕ) → v ≡ Some m → (least ≤ m) × (m ≤ most)) → least ≤ default → default ≤ most
-    → n ≡ unwrap_or v default → (least ≤ n) × (n ≤ most)
-counted least most default n None within some fits is = rw is (some, fits)
-counted least most default n (Some m) within some fits is = rw is (within m refl)
+-- 1 to 10 entries, each for a bus
+entry_bounds : (ms : Members) (reading : ℕ) (caller : List ℕ) (all : List (Result Unnumbered EntryFault))
+    → IsSoundMember (Required member.Entries syntax.Entries) ms
+    → AreChecked reading caller (entries_of (values_in member.Entries ms)) all → (1 ≤ length all) × (length all ≤ 10) × All IsForBus all
+entry_bounds ms reading caller all sound checked =
+    let values = values_in member.Entries ms in
+    let some = few is_entry 10 values (few_values syntax.Entries member.Entries is_entry 10 (given member.Entries ms) (λ tree is. is) sound) in
+    let same = length-map values (λ tree. entry_with (members_in tree)) in
+    let each = checked_len reading caller (entries_of values) all checked in
+    (omega (arith, some.0, same, each), omega (arith, some.1, same, each), each_for_bus reading caller (entries_of values) all checked)
 
--- a number that is given is within its limits, and so is one that is not if the default is
-pub count_bounds : (least most default : ℕ) (v : Option Tree) (n : ℕ) → least ≤ default → default ≤ most
-    → n ≡ unwrap_or (count_given least most v) default → (least ≤ n) × (n ≤ most)
-count_bounds least most default v n some fits is =
-    counted least most default n (count_given least most v) (within_limits least most v) some fits is
-
--- each of the values is a text
-texts_len : (values : List Tree) → All (IsTextThat IsShortName) values → length (texts_of values) ≡ length values
-texts_len [] each = refl
-texts_len (text t ∷ values) each = ap suc (texts_len values (All-tail (IsTextThat IsShortName) (text t) values each))
-texts_len (other ∷ values) each = absurd (All-head (IsTextThat IsShortName) other values each)
-
-few_ids : (v : Option Tree) → ValidOr ⊥ syntax.Ids v → (1 ≤ length (texts_of (unwrap_or (option_and_then list_in v) [])))
-    × (length (texts_of (unwrap_or (option_and_then list_in v) [])) ≤ 100)
-few_ids None valid = absurd valid
-few_ids (Some tree) valid =
-    let same = texts_len valid.0 valid.4 in
-    rw valid.1 (omega (arith, valid.2, same), omega (arith, valid.3, same))
-
--- 1 to 100 ids
-pub id_bounds : (ms : Members) → IsSoundMember (Required member.Ids syntax.Ids) ms
-    → (1 ≤ length (texts_of (values_in member.Ids ms))) × (length (texts_of (values_in member.Ids ms)) ≤ 100)
-id_bounds ms sound = few_ids (given member.Ids ms) sound
-
-each_id : (values : List Tree) → All (IsTextThat IsShortName) values → All IsShortName (texts_of values)
-each_id [] each = All-nil IsShortName
-each_id (text t ∷ values) each =
-    let here = All-head (IsTextThat IsShortName) (text t) values each in
-    All-cons IsShortName t (texts_of values) here (each_id values (All-tail (IsTextThat IsShortName) (text t) values each))
-each_id (other ∷ values) each = absurd (All-head (IsTextThat IsShortName) other values each)
-
-named_ids : (v : Option Tree) → ValidOr ⊥ syntax.Ids v → All IsShortName (texts_of (unwrap_or (option_and_then list_in v) []))
-named_ids None valid = absurd valid
-named_ids (Some tree) valid = rw valid.1 (each_id valid.0 valid.4)
-
--- each id has the syntax of one
-pub id_names : (ms : Members) → IsSoundMember (Required member.Ids syntax.Ids) ms → All IsShortName (texts_of (values_in member.Ids ms))
-id_names ms sound = named_ids (given member.Ids ms) sound
+-- a number that is given is within its limits, and so is the default
+count_bounds : (least most default : ℕ) (v : Option Tree) → least ≤ default → default ≤ most
+    → (least ≤ unwrap_or (count_given least most v) default) × (unwrap_or (count_given least most v) default ≤ most)
+count_bounds least most default v some fits = by_count (count_given least most v) (within_limits least most v)
+  where
+    by_count : (o : Option ℕ) → ((m : ℕ) → o ≡ Some m → (least ≤ m) × (m ≤ most)) → (least ≤ unwrap_or o default) × (unwrap_or o default ≤ most)
+    by_count None within = (some, fits)
+    by_count (Some m) within = within m refl
 
 -- what is stored of a policy's text is a policy as it is stored
-pub policy_bounds : (t stored : List ℕ) → IsStoredAs t stored → (value : Tree) × IsStored value × (stored ≡ compact_text value)
+policy_bounds : (t stored : List ℕ) → IsStoredAs t stored → (value : Tree) × IsStored value × (stored ≡ compact_text value)
 policy_bounds t stored p =
     let spelled = p.1.spelled in
     let is_value = subst IsValue spelled.spelled.stands_for (text_is_value 100 t spelled.spelled.node spelled.spelled.spelled) in
     (p.0, read_stored p.1.value p.0 is_value spelled.is_policy p.1.is_stored, p.2)
 
-given_or_everyone : (t : List ℕ) → IsTrue (is_account t) → (all : Bool) → IsAccountGiven (if all then None else Some t)
-given_or_everyone t account true = tt
-given_or_everyone t account false = account
-
+-- a statement is for an account or for everyone
 grantee_in : (t : List ℕ) → IsGrantee t → IsAccountGiven (account_in t)
 grantee_in t (inl all) = rw all tt
-grantee_in t (inr account) = given_or_everyone t account (bytes_eq t (codes "*"))
+grantee_in t (inr account) = given_or_everyone (bytes_eq t (codes "*"))
+  where
+    given_or_everyone : (all : Bool) → IsAccountGiven (if all then None else Some t)
+    given_or_everyone true = tt
+    given_or_everyone false = account
 
--- a statement is for an account or for everyone
-pub grantee_bounds : (ms : Members) → IsSoundMember (Required member.Principal syntax.Principal) ms → IsAccountGiven (account_in (text_of member.Principal ms))
-grantee_bounds ms sound = grantee_in (text_of member.Principal ms) (valid_text IsGrantee syntax.Principal (given member.Principal ms) (λ t is. is) sound)
+grantee : (ms : Members) → IsSoundMember (Required member.Principal syntax.Principal) ms → IsAccountGiven (account_in (text_of member.Principal ms))
+grantee ms sound =
+    grantee_in (text_of member.Principal ms) (valid_text IsGrantee syntax.Principal member.Principal (given member.Principal ms) (λ t is. is) sound)
+
+removal_bounded : (bus : List ℕ) (sid : Option (List ℕ)) (all : Bool) → IsBusName bus → IsStatementIdIfGiven sid
+    → IsBounded (if all then remove_policy bus else remove_statement bus sid)
+removal_bounded bus sid true named id = (named, tt)
+removal_bounded bus sid false named id = (named, id)
+
+deletion_bounded : (queue : List ℕ) (o : Option ℕ) → IsQueueName queue → ((m : ℕ) → o ≡ Some m → (0 ≤ m) × (m ≤ 281474976710655))
+    → IfSome (option_map (delete_messages queue) o) IsBounded
+deletion_bounded queue None named within = tt
+deletion_bounded queue (Some m) named within =
+    let low = (within m refl).1 in
+    (named, omega (arith, low))
+
+-- each operation whose action is a function of its members
+bounded : (operation : Operation) (ms : Members) → AreSound (asked operation ms) ms → IfSome (action_in operation ms) IsBounded
+bounded CreateEventBus ms sound = (bus_name member.Name ms sound.0, tt)
+bounded DeleteEventBus ms sound = (bus_name member.Name ms sound.0, tt)
+bounded DescribeEventBus ms sound = named_bus member.Name ms
+bounded ListEventBuses ms sound = tt
+bounded PutRule ms sound = (rule_named member.Name ms sound.0, pattern_text member.EventPattern ms sound.1.0)
+bounded DeleteRule ms sound = (rule_named member.Name ms sound.0, tt)
+bounded EnableRule ms sound = (rule_named member.Name ms sound.0, tt)
+bounded DisableRule ms sound = (rule_named member.Name ms sound.0, tt)
+bounded DescribeRule ms sound = rule_named member.Name ms sound.0
+bounded ListRules ms sound = named_bus member.EventBusName ms
+bounded PutTargets ms sound =
+    let few_targets = target_bounds ms sound.1.1.0 in
+    (rule_named member.Rule ms sound.0, few_targets.0, few_targets.1)
+bounded RemoveTargets ms sound =
+    (both (names_rule (event_bus ms) (text_of member.Rule ms)) (are_ids_formed (texts_of (values_in member.Ids ms))) (rule_named member.Rule ms sound.0) (id_bounds ms sound.1.1.0), tt)
+bounded ListTargetsByRule ms sound = rule_named member.Rule ms sound.0
+bounded ListRuleNamesByTarget ms sound = (named_bus member.EventBusName ms, target_arn ms sound.0)
+bounded RemovePermission ms sound =
+    removal_bounded (event_bus ms) (text_given member.StatementId ms) (removes_all (given member.RemoveAllPermissions ms))
+    (named_bus member.EventBusName ms) (id_if_given (given member.StatementId ms) sound.1.1.0)
+bounded CreateQueue ms sound = (queue_name ms sound.0, tt)
+bounded DeleteQueue ms sound = (queue_name ms sound.0, tt)
+bounded PeekMessages ms sound =
+    let counted = count_bounds 1 1000 10 (given member.Limit ms) (omega arith) (omega arith) in
+    (queue_name ms sound.0, counted.0, counted.1)
+bounded DeleteMessages ms sound =
+    deletion_bounded (text_of member.QueueName ms) (count_given 0 281474976710655 (given member.Through ms)) (queue_name ms sound.0)
+    (within_limits 0 281474976710655 (given member.Through ms))
+bounded DeliverDue ms sound = count_bounds 1 1000 100 (given member.Budget ms) (omega arith) (omega arith)
+bounded DutyCounts ms sound = tt
+bounded _ ms sound = tt
+
+permission_bounded : (v : Option Tree) (ms : Members) (a : Action) → AreSound (permission_asked v) ms → IsPermission v ms a → IsBounded a
+permission_bounded None ms a sound is = rw is (named_bus member.EventBusName ms, statement_id ms sound.1.0, grantee ms sound.1.1.1.0)
+permission_bounded (Some given) ms a sound is =
+    rw is.2 (named_bus member.EventBusName ms, policy_bounds (text_of member.Policy ms) is.0 is.1)
+
+action_bounded : (operation : Operation) (caller : List ℕ) (ms : Members) (reading : ℕ) (a : Action) → AreSound (asked operation ms) ms
+    → IsAction operation caller ms reading a → IsBounded a
+action_bounded PutPermission caller ms reading a sound is = permission_bounded (given member.Policy ms) ms a sound is
+action_bounded PutEvents caller ms reading a sound is = rw is.2 (entry_bounds ms reading caller is.0 sound.0 is.1)
+action_bounded TestEventPattern caller ms reading a sound is =
+    rw is.2 (pattern_text member.EventPattern ms sound.0, event_is_value (text_of member.Event ms) is.0 is.1)
+action_bounded operation caller ms reading a sound is = subst (λ o. IfSome o IsBounded) is (bounded operation ms sound)
+
+pub asked_bounded : (m : Message) (reading : ℕ) (r : Request) → IsAsked m reading r → IsBounded r.action
+asked_bounded m reading r p = action_bounded p.operation (caller_of m.caller) p.members reading r.action p.sound p.action

@@ -1,6 +1,5 @@
 -- A `match` on a text with all names as literals, and the chain of `bytes_eq` in `named_operation`, prove with no file.
--- At most one request: an abbreviation for the law of one operation (`OneAction`), a lemma for each operation, and a table of them.
--- With a quantifier over what a function does not take (`(caller) (reading) → ..`) each arm of the caller is one answer.
+-- At most one request: what members mean is a function, so only three operations need a lemma.
 pub mod ActionLemmas
 pub mod CallLemmas
 pub mod EntitledLemmas

@@ -1,12 +1,16 @@
 -- Which request a message asks for, and its first refusal.
-use Rattle.std.specs.Prelude.{◌≡◌, ℕ, ◌-◌, ◌^◌, min, Bool, true, false, not, List, [], ◌∷◌, Option, Some, None, IsSome, is_some, if◌then◌else◌}
+use Rattle.std.specs.Prelude.{◌≡◌, ℕ, ◌-◌, ◌^◌, min, Bool, true, false, not, List, [], ◌∷◌, Option, Some, None, Result, is_some, if◌then◌else◌}
 use Rattle.std.specs.Prelude.{codes, map, unwrap_or, IsTrue}
 use Rattle.std.specs.Str.{bytes_eq}
+use Rattle.std.specs.Option.{option_map}
 use Rattle.json_text.specs.Tree.{Tree, truth, object, Members, no_members}
 use Rattle.json_text.specs.Compact.{compact_text}
 use Rattle.json_text.specs.Node.{Node, value_of}
 use Rattle.json_text.specs.Grammar.{IsText}
+use Rattle.json_text.specs.Checks.{Check, else_fault, IsFirst}
 use Rattle.event_shape.specs.Names.{owner, is_account}
+use Rattle.event_shape.specs.Unnumbered.{Unnumbered}
+use Rattle.event_shape.specs.declared.entry.EntryFault.{EntryFault}
 use Rattle.bus_policy.specs.Text.{IsPolicyText}
 use Rattle.rule_targets.specs.declared.target.AskedRetry.{AskedRetry}
 use Rattle.rule_targets.specs.declared.target.AskedTarget.{AskedTarget}
@@ -118,14 +122,14 @@ asked DeliverDue ms = Optional member.Budget (syntax.Count 1 1000) ∷ []
 asked DutyCounts ms = []
 
 -- The bus whose name or ARN this member gives, or else `default`.
--- Shown by: wire_tests test_api_wire.rt: a_call_on_a_bus_has_its_first_refusal.
-abbrev pub NamesBusIn : Member → Members → List ℕ → Type 0
-NamesBusIn m ms bus = bus ≡ bus_or_default (text_given m ms)
+-- Shown by: an_arn_is_taken_for_a_name.edit; rules-and-targets.
+abbrev pub bus_named : Member → Members → List ℕ
+bus_named m ms = bus_or_default (text_given m ms)
 
--- The `NamesBusIn` of the member EventBusName.
+-- The `bus_named` of the member EventBusName.
 -- Shown by: wire_tests test_api_wire/requests.rt: a_request_has_what_the_message_gives.
-abbrev pub NamesBus : Members → List ℕ → Type 0
-NamesBus ms bus = NamesBusIn member.EventBusName ms bus
+abbrev pub event_bus : Members → List ℕ
+event_bus ms = bus_named member.EventBusName ms
 
 -- Whom a Principal names: `*` is everyone, any other text an account.
 -- Shown by: wire_tests test_api_wire/requests.rt: a_permission_has_what_the_message_gives.
@@ -182,48 +186,56 @@ target_with ms = record {
 abbrev pub targets_of : List Tree → List AskedTarget
 targets_of values = map (λ tree. target_with (members_in tree)) values
 
+-- A RemovePermission: the whole policy, or one statement of it.
+-- Shown by: wire_tests test_api_wire/requests.rt: a_removal_has_what_the_message_gives.
+abbrev pub removal_in : Members → Action
+removal_in ms =
+    if removes_all (given member.RemoveAllPermissions ms) then remove_policy (event_bus ms) else remove_statement (event_bus ms) (text_given member.StatementId ms)
+
+-- The action that sound members of an operation make, a line for each operation. PutPermission, PutEvents and TestEventPattern have none
+-- here: theirs depend on what a text spells, on the caller or on the reading (`IsAction`). A DeleteMessages has one if its Through is valid.
+-- Shown by: wire_tests test_api_wire/requests.rt: a_request_has_what_the_message_gives, a_call_on_a_queue_has_what_the_message_gives,
+-- a_call_on_a_rule_has_what_the_message_gives, a_removal_has_what_the_message_gives; the_default_budget_is_the_limit.edit.
+abbrev pub action_in : Operation → Members → Option Action
+action_in CreateEventBus ms = Some (create_event_bus (text_of member.Name ms))
+action_in DeleteEventBus ms = Some (delete_event_bus (text_of member.Name ms))
+action_in DescribeEventBus ms = Some (describe_event_bus (bus_named member.Name ms))
+action_in ListEventBuses ms = Some (list_event_buses (text_given member.NamePrefix ms))
+action_in PutRule ms = Some (put_rule (event_bus ms) (text_of member.Name ms) (text_of member.EventPattern ms) (is_enabled (text_given member.State ms)))
+action_in DeleteRule ms = Some (delete_rule (event_bus ms) (text_of member.Name ms))
+action_in EnableRule ms = Some (put_rule_state (event_bus ms) (text_of member.Name ms) true)
+action_in DisableRule ms = Some (put_rule_state (event_bus ms) (text_of member.Name ms) false)
+action_in DescribeRule ms = Some (describe_rule (event_bus ms) (text_of member.Name ms))
+action_in ListRules ms = Some (list_rules (event_bus ms) (text_given member.NamePrefix ms))
+action_in PutTargets ms = Some (put_targets (event_bus ms) (text_of member.Rule ms) (targets_of (values_in member.Targets ms)))
+action_in RemoveTargets ms = Some (remove_targets (event_bus ms) (text_of member.Rule ms) (texts_of (values_in member.Ids ms)))
+action_in ListTargetsByRule ms = Some (list_targets_by_rule (event_bus ms) (text_of member.Rule ms))
+action_in ListRuleNamesByTarget ms = Some (list_rule_names_by_target (text_of member.TargetArn ms) (event_bus ms))
+action_in RemovePermission ms = Some (removal_in ms)
+action_in CreateQueue ms = Some (create_queue (text_of member.QueueName ms))
+action_in DeleteQueue ms = Some (delete_queue (text_of member.QueueName ms))
+action_in PeekMessages ms = Some (peek_messages (text_of member.QueueName ms) (unwrap_or (count_given 1 1000 (given member.Limit ms)) 10))
+action_in DeleteMessages ms = option_map (delete_messages (text_of member.QueueName ms)) (count_given 0 281474976710655 (given member.Through ms))
+action_in DeliverDue ms = Some (deliver_due (unwrap_or (count_given 1 1000 (given member.Budget ms)) 100))
+action_in DutyCounts ms = Some duty_counts
+action_in _ ms = None
+
+-- A PutPermission: with a Policy, the bus gets it as it is stored; without one, the policy of the bus gets one more statement.
+-- Shown by: wire_tests test_api_wire/requests.rt: a_permission_has_what_the_message_gives.
+abbrev pub IsPermission : Option Tree → Members → Action → Type 0
+IsPermission None ms a = a ≡ put_statement (event_bus ms) (text_of member.StatementId ms) (account_in (text_of member.Principal ms))
+IsPermission (Some _) ms a = (policy : List ℕ) × IsStoredAs (text_of member.Policy ms) policy × (a ≡ put_policy (event_bus ms) policy)
+
 -- The members of an operation make this action of the caller, if they are sound.
 -- Shown by: wire_tests test_api_wire/requests.rt: a_request_has_what_the_message_gives.
 abbrev pub IsAction : Operation → List ℕ → Members → ℕ → Action → Type 0
-IsAction CreateEventBus caller ms reading (create_event_bus name) = name ≡ text_of member.Name ms
-IsAction DeleteEventBus caller ms reading (delete_event_bus name) = name ≡ text_of member.Name ms
-IsAction DescribeEventBus caller ms reading (describe_event_bus name) = NamesBusIn member.Name ms name
-IsAction ListEventBuses caller ms reading (list_event_buses prefix) = prefix ≡ text_given member.NamePrefix ms
-IsAction PutRule caller ms reading (put_rule bus name pattern enabled) = NamesBus ms bus × (name ≡ text_of member.Name ms)
-    × (pattern ≡ text_of member.EventPattern ms) × (enabled ≡ is_enabled (text_given member.State ms))
-IsAction DeleteRule caller ms reading (delete_rule bus name) = NamesBus ms bus × (name ≡ text_of member.Name ms)
-IsAction EnableRule caller ms reading (put_rule_state bus name enabled) = NamesBus ms bus × (name ≡ text_of member.Name ms) × (enabled ≡ true)
-IsAction DisableRule caller ms reading (put_rule_state bus name enabled) = NamesBus ms bus × (name ≡ text_of member.Name ms) × (enabled ≡ false)
-IsAction DescribeRule caller ms reading (describe_rule bus name) = NamesBus ms bus × (name ≡ text_of member.Name ms)
-IsAction ListRules caller ms reading (list_rules bus prefix) = NamesBus ms bus × (prefix ≡ text_given member.NamePrefix ms)
-IsAction PutTargets caller ms reading (put_targets bus rule targets) = NamesBus ms bus × (rule ≡ text_of member.Rule ms)
-    × (targets ≡ targets_of (values_in member.Targets ms))
-IsAction RemoveTargets caller ms reading (remove_targets bus rule ids) = NamesBus ms bus × (rule ≡ text_of member.Rule ms)
-    × (ids ≡ texts_of (values_in member.Ids ms))
-IsAction ListTargetsByRule caller ms reading (list_targets_by_rule bus rule) = NamesBus ms bus × (rule ≡ text_of member.Rule ms)
-IsAction ListRuleNamesByTarget caller ms reading (list_rule_names_by_target arn bus) = (arn ≡ text_of member.TargetArn ms) × NamesBus ms bus
-IsAction PutPermission caller ms reading (put_policy bus policy) =
-    IsSome (given member.Policy ms) × NamesBus ms bus × IsStoredAs (text_of member.Policy ms) policy
-IsAction PutPermission caller ms reading (put_statement bus sid account) = (given member.Policy ms ≡ None) × NamesBus ms bus
-    × (sid ≡ text_of member.StatementId ms) × (account ≡ account_in (text_of member.Principal ms))
-IsAction RemovePermission caller ms reading (remove_policy bus) =
-    (removes_all (given member.RemoveAllPermissions ms) ≡ true) × NamesBus ms bus
-IsAction RemovePermission caller ms reading (remove_statement bus sid) =
-    (removes_all (given member.RemoveAllPermissions ms) ≡ false) × NamesBus ms bus × (sid ≡ text_given member.StatementId ms)
-IsAction PutEvents caller ms reading (put_events entries size) =
-    AreChecked reading caller (entries_of (values_in member.Entries ms)) entries
-    × (size ≡ min (total_size (entries_of (values_in member.Entries ms))) (2 ^ 64 - 1))
-IsAction TestEventPattern caller ms reading (test_event_pattern pattern event) = (pattern ≡ text_of member.EventPattern ms)
-    × IsEventGiven (text_of member.Event ms) event
-IsAction CreateQueue caller ms reading (create_queue name) = name ≡ text_of member.QueueName ms
-IsAction DeleteQueue caller ms reading (delete_queue name) = name ≡ text_of member.QueueName ms
-IsAction PeekMessages caller ms reading (peek_messages queue limit) = (queue ≡ text_of member.QueueName ms)
-    × (limit ≡ unwrap_or (count_given 1 1000 (given member.Limit ms)) 10)
-IsAction DeleteMessages caller ms reading (delete_messages queue through) = (queue ≡ text_of member.QueueName ms)
-    × (count_given 0 281474976710655 (given member.Through ms) ≡ Some through)
-IsAction DeliverDue caller ms reading (deliver_due budget) = budget ≡ unwrap_or (count_given 1 1000 (given member.Budget ms)) 100
-IsAction DutyCounts caller ms reading duty_counts = Unit {0}
-IsAction _ _ _ _ _ = ⊥
+IsAction PutPermission caller ms reading a = IsPermission (given member.Policy ms) ms a
+IsAction PutEvents caller ms reading a = (entries : List (Result Unnumbered EntryFault))
+    × AreChecked reading caller (entries_of (values_in member.Entries ms)) entries
+    × (a ≡ put_events entries (min (total_size (entries_of (values_in member.Entries ms))) (2 ^ 64 - 1)))
+IsAction TestEventPattern caller ms reading a = (event : Tree) × IsEventGiven (text_of member.Event ms) event
+    × (a ≡ test_event_pattern (text_of member.EventPattern ms) event)
+IsAction operation caller ms reading a = action_in operation ms ≡ Some a
 
 -- The body is JSON within 100 levels, and an object with these members. An empty body counts as `{}`.
 -- Shown by: wire_tests test_api_wire.rt: a_message_has_its_first_refusal.
@@ -258,16 +270,30 @@ pub record IsAsked (m : Message) (reading : ℕ) (request : Request) : Type 0 wh
   pub action : IsAction operation (caller_of m.caller) members reading request.action
   pub read_at : request.reading ≡ reading
 
--- The message's first refusal: its operation is unknown; its caller is no account; its body is no object; the caller may not call the
--- operation; or the first refusal of the members that the operation asks for.
+-- the body is an object
+abbrev pub GivesBody : List ℕ → Type 0
+GivesBody bytes = (ms : Members) × IsBody bytes ms
+
+-- the members of the body have what the operation asks
+abbrev pub body_check : Operation → List ℕ → Check Cause
+body_check operation bytes = record {
+  holds = (ms : Members) × IsBody bytes ms × AreSound (asked operation ms) ms;
+  refuses = λ c. (ms : Members) × IsBody bytes ms × IsFirstRefusal (asked operation ms) ms c;
+}
+
+-- The checks of a message that names this operation, in their order: the operation is known; the caller is an account; the body is an
+-- object; the caller may call the operation; the members have what it asks.
 -- Shown by: wire_tests test_api_wire.rt: a_message_has_its_first_refusal, a_caller_is_refused_before_the_members.
-pub data IsCallRefused (m : Message) (c : Cause) : Type 0 where
-  unknown : operation_of m.target ≡ None → c ≡ cause.UnknownOperation → IsCallRefused m c
-  no_account : IsSome (operation_of m.target) → ¬ IsTrue (is_account (caller_of m.caller)) → c ≡ cause.NotValid member.CallerAccount
-      → IsCallRefused m c
-  no_object : IsSome (operation_of m.target) → IsTrue (is_account (caller_of m.caller)) → ((ms : Members) → ¬ IsBody m.body ms)
-      → c ≡ cause.NoObject → IsCallRefused m c
-  not_entitled : (operation : Operation) (ms : Members) → operation_of m.target ≡ Some operation → IsTrue (is_account (caller_of m.caller))
-      → IsBody m.body ms → ¬ MayCall operation (caller_of m.caller) → c ≡ cause.OwnerOnly → IsCallRefused m c
-  members : (operation : Operation) (ms : Members) → operation_of m.target ≡ Some operation → IsTrue (is_account (caller_of m.caller))
-      → IsBody m.body ms → MayCall operation (caller_of m.caller) → IsFirstRefusal (asked operation ms) ms c → IsCallRefused m c
+abbrev pub message_checks : Message → Option Operation → List (Check Cause)
+message_checks m None = else_fault ⊥ cause.UnknownOperation ∷ []
+message_checks m (Some operation) =
+    else_fault (IsTrue (is_account (caller_of m.caller))) (cause.NotValid member.CallerAccount)
+    ∷ else_fault (GivesBody m.body) cause.NoObject
+    ∷ else_fault (MayCall operation (caller_of m.caller)) cause.OwnerOnly
+    ∷ body_check operation m.body
+    ∷ []
+
+-- The message's first refusal.
+-- Shown by: wire_tests test_api_wire.rt: a_message_has_its_first_refusal, a_caller_is_refused_before_the_members.
+abbrev pub IsCallRefused : Message → Cause → Type 0
+IsCallRefused m = IsFirst (message_checks m (operation_of m.target))

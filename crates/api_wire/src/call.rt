@@ -4,70 +4,39 @@ ghost use Rattle.json_text.specs.Moment.{IsMoment};
 ghost use Rattle.json_text.specs.Tree.{members_of};
 ghost use Rattle.json_text.specs.View.{pairs_of};
 ghost use Rattle.router_core.specs.Request.{Request as RequestView, IsEntitled};
+ghost use Rattle.router_core.specs.Bounds.{IsBounded};
 ghost use Rattle.router_core.specs.View.{request_of, action_of};
 ghost use Rattle.api_members.specs.Refusal.{AreSound};
 ghost use Rattle.api_wire.specs.Call.{asked, IsAction, IsAsked, caller_of};
 ghost use Rattle.api_wire.specs.CallAnswers.{IsFault};
 
 mod body;
-mod create_event_bus;
-mod create_queue;
-mod delete_event_bus;
-mod delete_messages;
-mod delete_queue;
-mod delete_rule;
-mod deliver_due;
-mod describe_event_bus;
-mod describe_rule;
-mod duty_counts;
-mod list_event_buses;
-mod list_rule_names_by_target;
-mod list_rules;
-mod list_targets_by_rule;
+mod buses;
+mod events;
 mod operation;
 mod pattern;
-mod peek_messages;
-mod put_events;
-mod put_permission;
-mod put_rule;
-mod put_targets;
-mod remove_permission;
-mod remove_targets;
-mod rule_state;
-mod test_event_pattern;
+mod permissions;
+mod queues;
+mod rules;
+mod targets;
 
 use api_members::CallFault;
 use api_messages::Message;
 use api_replies::{Cause, Member};
 use body::read_body;
-use create_event_bus::create_event_bus;
-use create_queue::create_queue;
-use delete_event_bus::delete_event_bus;
-use delete_messages::delete_messages;
-use delete_queue::delete_queue;
-use delete_rule::delete_rule;
-use deliver_due::deliver_due;
-use describe_event_bus::describe_event_bus;
-use describe_rule::describe_rule;
-use duty_counts::duty_counts;
+use buses::{create_event_bus, delete_event_bus, describe_event_bus, list_event_buses};
 use event_shape::{OWNER, is_account};
+use events::{put_events, test_event_pattern};
 use json_text::{Json, NoMemory, Text};
-use list_event_buses::list_event_buses;
-use list_rule_names_by_target::list_rule_names_by_target;
-use list_rules::list_rules;
-use list_targets_by_rule::list_targets_by_rule;
 use operation::{Operation, check_asked, operation_of};
-use peek_messages::peek_messages;
-use put_events::put_events;
-use put_permission::put_permission;
-use put_rule::put_rule;
-use put_targets::put_targets;
-use remove_permission::remove_permission;
-use remove_targets::remove_targets;
+use permissions::{put_permission, remove_permission};
+use queues::{
+    create_queue, delete_messages, delete_queue, deliver_due, duty_counts, peek_messages,
+};
 use router_core::{Action, Request};
-use rule_state::{disable_rule, enable_rule};
+use rules::{delete_rule, describe_rule, disable_rule, enable_rule, list_rules, put_rule};
 use std::alloc::Global;
-use test_event_pattern::test_event_pattern;
+use targets::{list_rule_names_by_target, list_targets_by_rule, put_targets, remove_targets};
 
 /// The request that the message asks for, or its first refusal. `reading` is the reading of the clock when the message was
 /// whole, as a moment.
@@ -78,6 +47,7 @@ pub fn read_call(alloc: Global, message: &Message, reading: u64) -> Result<Reque
         → MatchResult result (λ p. request_of p ≡ q) (λ e. e ≡ CallFault.NoMemory) }
     ensures refused { IfErr result (IsFault message.now) }
     ensures entitled { IfOk result (λ q. IsEntitled (request_of q)) }
+    ensures bounded { IfOk result (λ q. IsBounded (action_of q.action)) }
 {
     let Some(operation) = operation_of(&message.target) else {
         return Err(CallFault::Refused(Cause::UnknownOperation));

@@ -30,7 +30,8 @@ abbrev pub IsStatementIdIfGiven : Option (List ℕ) → Type 0
 IsStatementIdIfGiven None = Unit {0}
 IsStatementIdIfGiven (Some sid) = IsStatementId sid
 
--- The names, ARNs and ids of a request have their syntax. As in the Amazon EventBridge API Reference, a PutTargets has 1 to 100 targets, a
+-- The names of buses, rules and queues have their syntax, and so have a TargetArn, a StatementId and the ids of a RemoveTargets. The
+-- members of a target are checked later, target by target. As in the Amazon EventBridge API Reference, a PutTargets has 1 to 100 targets, a
 -- RemoveTargets 1 to 100 ids, a PutEvents 1 to 10 entries, each for a bus name or faulty. By this project's own rule, a PeekMessages shows
 -- 1 to 1,000 messages, a DeleteMessages deletes those up to a number below 2 ^ 48, a DeliverDue makes 1 to 1,000 steps. A PutRule has a
 -- pattern, a TestEventPattern a pattern and a JSON value. A policy that is put is one as it is stored, of any length; a statement that is

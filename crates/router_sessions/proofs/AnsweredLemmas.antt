@@ -1,4 +1,4 @@
--- From a decision on the tables to what was decided (`has_value`, `matched_on`, `decided_by`), and from there, with the book after it, to the
+-- From a decision on the tables to what was decided (`matched_on`, `decided_by`), and from there, with the book after it, to the
 -- answered turn (`answered`, `answered_book`).
 use Rattle.std.proofs.Common.{◌≡◌, ℕ, Bool, [], ◌∷◌, ◌++◌, length, refl, sym, ap, ◌∙◌, subst, arith}
 use Rattle.std.specs.Prelude.{Option, None, Some, IsSome, IfSome}
@@ -9,14 +9,10 @@ use Rattle.api_replies.specs.declared.reply.Reply.{Reply as CodeReply}
 use Rattle.rule_table.specs.RuleSet.{RuleSet, rule_set_at}
 use Rattle.rule_table.specs.Sound.{IsSound}
 use Rattle.router_core.specs.Batch.{Batch}
-use Rattle.router_core.specs.Request.{Action, Request, create_event_bus, delete_event_bus, describe_event_bus, list_event_buses, put_rule, delete_rule}
-use Rattle.router_core.specs.Request.{put_rule_state, describe_rule, list_rules, put_targets, remove_targets, list_targets_by_rule}
-use Rattle.router_core.specs.Request.{list_rule_names_by_target, put_policy, put_statement, remove_policy, remove_statement, put_events}
-use Rattle.router_core.specs.Request.{test_event_pattern, create_queue, delete_queue, peek_messages, delete_messages, duty_counts, deliver_due}
-use Rattle.router_core.specs.Matching.{HasValue, IsSeen}
+use Rattle.router_core.specs.Request.{Request}
+use Rattle.router_core.specs.Matching.{IsSeen}
 use Rattle.router_core.specs.Ready.{IsReadyFor}
 use Rattle.router_core.specs.declared.seen.Seen.{Seen}
-use Rattle.router_core.specs.Bounds.{IsBounded}
 use Rattle.router_calls.specs.Matched.{IsMatchedOn}
 use Rattle.router_core.specs.Tables.{Tables, first_tables, tables_after}
 use Rattle.router_core.specs.View.{batch_of}
@@ -30,34 +26,6 @@ use Rattle.router_sessions.specs.Book.{BookState, state_of, IsBook}
 use Rattle.router_sessions.specs.Answered.{turn_text, IsUnrendered, IsFrom, IsAnswered, IsDecided}
 use Rattle.router_sessions.proofs.ServedLemmas.{answer_served}
 use Rattle.router_sessions.proofs.BookLemmas.{book_more, turn_of_ask, tables_of_ask}
-
--- the event of a bounded TestEventPattern is a JSON value
-pub has_value : (a : Action) → IsBounded a → HasValue a
-has_value (create_event_bus name) is = tt
-has_value (delete_event_bus name) is = tt
-has_value (describe_event_bus name) is = tt
-has_value (list_event_buses prefix) is = tt
-has_value (put_rule bus name pattern enabled) is = tt
-has_value (delete_rule bus name) is = tt
-has_value (put_rule_state bus name enabled) is = tt
-has_value (describe_rule bus name) is = tt
-has_value (list_rules bus prefix) is = tt
-has_value (put_targets bus rule targets) is = tt
-has_value (remove_targets bus rule ids) is = tt
-has_value (list_targets_by_rule bus rule) is = tt
-has_value (list_rule_names_by_target arn bus) is = tt
-has_value (put_policy bus policy) is = tt
-has_value (put_statement bus sid account) is = tt
-has_value (remove_policy bus) is = tt
-has_value (remove_statement bus sid) is = tt
-has_value (put_events entries size) is = tt
-has_value (test_event_pattern pattern event) is = is.1
-has_value (create_queue name) is = tt
-has_value (delete_queue name) is = tt
-has_value (peek_messages queue limit) is = tt
-has_value (delete_messages queue through) is = tt
-has_value duty_counts is = tt
-has_value (deliver_due budget) is = tt
 
 -- the latest rule set
 pub matched_on : (t : Tables) (request : Request) (seen : Seen) → IsSound t.set → IsSeen t.set request seen → IsMatchedOn t request t.set seen

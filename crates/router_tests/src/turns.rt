@@ -47,7 +47,6 @@ fn is_one_turn(action: &Action) -> bool
 }
 
 /// The request that the message asks for. Nothing if the message is refused, or the request has several turns.
-#[tactic(auto, using(crate::proofs::BoundLemmas::asked_bounded))]
 pub(crate) fn request(alloc: Global, asked: &str, body: &str) -> Result<Option<Request>, Fail>
     ensures bounded { IfOk result (λ found. IfSome found (λ r. IsBounded (action_of r.action))) }
     ensures one_turn { IfOk result (λ found. IfSome found (λ r. IsOneTurn (action_of r.action))) }

@@ -1,9 +1,10 @@
 //! The operations.
 ghost use Rattle.std.specs.Prelude.{◌≡◌, ◌↔◌, IsTrue, MatchResult};
+ghost use Rattle.std.specs.Option.{option_map, option_copied};
 ghost use Rattle.json_text.specs.Tree.{members_of};
-ghost use Rattle.json_text.specs.View.{pairs_of};
-ghost use Rattle.api_members.specs.Refusal.{AreSound, FirstFault};
-ghost use Rattle.api_wire.specs.Call.{asked, local_operation, named_operation, operation_of, MayCall};
+ghost use Rattle.json_text.specs.View.{tree_of, pairs_of};
+ghost use Rattle.api_members.specs.Refusal.{AreSound, IsFirstRefusal, RefusedFor};
+ghost use Rattle.api_wire.specs.Call.{asked, permission_asked, local_operation, named_operation, operation_of, MayCall};
 
 use api_members::{Asked, CallFault, Syntax, check_members, given};
 use api_replies::Member;
@@ -103,11 +104,15 @@ fn local_operation(name: &str) -> Option<Operation>
     }
 }
 
+/// The greatest number that a message can have.
+pub(super) const LAST_NUMBER: u64 = 281_474_976_710_655;
+
 /// A member that names a bus; without it the bus is `default`.
 const BUS: Asked = Asked::Optional(Member::EventBusName, Syntax::Bus);
 
-/// The name of a rule.
 const RULE_NAME: Asked = Asked::Required(Member::Name, Syntax::RuleName);
+
+const BUS_NAME: Asked = Asked::Required(Member::Name, Syntax::BusName);
 
 /// The rule of targets.
 const RULE: Asked = Asked::Required(Member::Rule, Syntax::RuleName);
@@ -116,14 +121,16 @@ const PREFIX: Asked = Asked::Optional(Member::NamePrefix, Syntax::AnyText);
 
 const QUEUE: Asked = Asked::Required(Member::QueueName, Syntax::QueueName);
 
+const PATTERN: Asked = Asked::Required(Member::EventPattern, Syntax::Pattern);
+
+/// A Condition is not served.
+const CONDITION: Asked = Asked::Optional(Member::Condition, Syntax::Unserved);
+
 /// How many messages are shown, or attempts made.
 const UP_TO_1000: Syntax = Syntax::Count {
     least: 1,
     most: 1_000,
 };
-
-/// The greatest number that a message can have.
-pub(super) const LAST_NUMBER: u64 = 281_474_976_710_655;
 
 /// The number of a message, or 0, which none has.
 const NUMBER: Syntax = Syntax::Count {
@@ -139,106 +146,71 @@ pub(super) fn check_asked(
 ) -> Result<(), CallFault>
     ensures { MatchResult result
         (λ _. AreSound (asked operation (members_of (pairs_of members.now))) (members_of (pairs_of members.now)))
-        (FirstFault (asked operation (members_of (pairs_of members.now))) (members_of (pairs_of members.now))) }
+        (RefusedFor (IsFirstRefusal (asked operation (members_of (pairs_of members.now))) (members_of (pairs_of members.now)))) }
+{
+    check_members(alloc, asked(operation, members), members)
+}
+
+/// What the operation asks of its members, in the order in which they are checked.
+fn asked(operation: Operation, members: &[(Text, Json)]) -> &'static [Asked]
+    ensures { result.now ≡ asked operation (members_of (pairs_of members.now)) }
 {
     match operation {
-        Operation::CreateEventBus | Operation::DeleteEventBus => {
-            let name = Asked::Required(Member::Name, Syntax::BusName);
-            check_members(alloc, &[name], members)
-        }
-        Operation::DescribeEventBus => {
-            let name = Asked::Optional(Member::Name, Syntax::Bus);
-            check_members(alloc, &[name], members)
-        }
-        Operation::ListEventBuses => check_members(alloc, &[PREFIX], members),
-        Operation::PutRule => check_rule(alloc, members),
+        Operation::CreateEventBus | Operation::DeleteEventBus => &[BUS_NAME],
+        Operation::DescribeEventBus => &[Asked::Optional(Member::Name, Syntax::Bus)],
+        Operation::ListEventBuses => &[PREFIX],
+        Operation::PutRule => &[
+            RULE_NAME,
+            PATTERN,
+            Asked::Optional(Member::ScheduleExpression, Syntax::Unserved),
+            Asked::Optional(Member::State, Syntax::State),
+            BUS,
+        ],
         Operation::DeleteRule
         | Operation::EnableRule
         | Operation::DisableRule
-        | Operation::DescribeRule => check_members(alloc, &[RULE_NAME, BUS], members),
-        Operation::ListRules => check_members(alloc, &[PREFIX, BUS], members),
-        Operation::PutTargets => {
-            let targets = Asked::Required(Member::Targets, Syntax::Targets);
-            check_members(alloc, &[RULE, BUS, targets], members)
-        }
-        Operation::RemoveTargets => {
-            let ids = Asked::Required(Member::Ids, Syntax::Ids);
-            check_members(alloc, &[RULE, BUS, ids], members)
-        }
-        Operation::ListTargetsByRule => check_members(alloc, &[RULE, BUS], members),
-        Operation::ListRuleNamesByTarget => {
-            let arn = Asked::Required(Member::TargetArn, Syntax::TargetArn);
-            check_members(alloc, &[arn, BUS], members)
-        }
-        Operation::PutPermission => check_permission(alloc, members),
-        Operation::RemovePermission => check_removal(alloc, members),
-        Operation::PutEvents => {
-            let entries = Asked::Required(Member::Entries, Syntax::Entries);
-            check_members(alloc, &[entries], members)
-        }
-        Operation::TestEventPattern => {
-            let pattern = Asked::Required(Member::EventPattern, Syntax::Pattern);
-            let event = Asked::Required(Member::Event, Syntax::Event);
-            check_members(alloc, &[pattern, event], members)
-        }
-        Operation::CreateQueue | Operation::DeleteQueue => check_members(alloc, &[QUEUE], members),
-        Operation::PeekMessages => {
-            let limit = Asked::Optional(Member::Limit, UP_TO_1000);
-            check_members(alloc, &[QUEUE, limit], members)
-        }
-        Operation::DeleteMessages => {
-            let through = Asked::Required(Member::Through, NUMBER);
-            check_members(alloc, &[QUEUE, through], members)
-        }
-        Operation::DeliverDue => {
-            let budget = Asked::Optional(Member::Budget, UP_TO_1000);
-            check_members(alloc, &[budget], members)
-        }
-        Operation::DutyCounts => Ok(()),
+        | Operation::DescribeRule => &[RULE_NAME, BUS],
+        Operation::ListRules => &[PREFIX, BUS],
+        Operation::PutTargets => &[RULE, BUS, Asked::Required(Member::Targets, Syntax::Targets)],
+        Operation::RemoveTargets => &[RULE, BUS, Asked::Required(Member::Ids, Syntax::Ids)],
+        Operation::ListTargetsByRule => &[RULE, BUS],
+        Operation::ListRuleNamesByTarget => &[
+            Asked::Required(Member::TargetArn, Syntax::TargetArn),
+            BUS,
+        ],
+        Operation::PutPermission => permission_asked(given(members, Member::Policy)),
+        Operation::RemovePermission => &[
+            BUS,
+            Asked::Optional(Member::RemoveAllPermissions, Syntax::Truth),
+            Asked::Optional(Member::StatementId, Syntax::StatementId),
+        ],
+        Operation::PutEvents => &[Asked::Required(Member::Entries, Syntax::Entries)],
+        Operation::TestEventPattern => &[PATTERN, Asked::Required(Member::Event, Syntax::Event)],
+        Operation::CreateQueue | Operation::DeleteQueue => &[QUEUE],
+        Operation::PeekMessages => &[QUEUE, Asked::Optional(Member::Limit, UP_TO_1000)],
+        Operation::DeleteMessages => &[QUEUE, Asked::Required(Member::Through, NUMBER)],
+        Operation::DeliverDue => &[Asked::Optional(Member::Budget, UP_TO_1000)],
+        Operation::DutyCounts => &[],
     }
 }
 
-/// Checks the members of a PutRule.
-fn check_rule(alloc: Global, members: &[(Text, Json)]) -> Result<(), CallFault>
-    ensures { MatchResult result
-        (λ _. AreSound (asked Operation.PutRule (members_of (pairs_of members.now))) (members_of (pairs_of members.now)))
-        (FirstFault (asked Operation.PutRule (members_of (pairs_of members.now))) (members_of (pairs_of members.now))) }
+/// What a PutPermission asks: with a Policy nothing of a statement.
+fn permission_asked(policy: Option<&Json>) -> &'static [Asked]
+    ensures { result.now ≡ permission_asked (option_map tree_of (option_copied policy.entry)) }
 {
-    let pattern = Asked::Required(Member::EventPattern, Syntax::Pattern);
-    let schedule = Asked::Optional(Member::ScheduleExpression, Syntax::Unserved);
-    let state = Asked::Optional(Member::State, Syntax::State);
-    check_members(alloc, &[RULE_NAME, pattern, schedule, state, BUS], members)
-}
-
-/// Checks the members of a PutPermission: those of a policy if one is given, else those of a statement.
-fn check_permission(alloc: Global, members: &[(Text, Json)]) -> Result<(), CallFault>
-    ensures { MatchResult result
-        (λ _. AreSound (asked Operation.PutPermission (members_of (pairs_of members.now))) (members_of (pairs_of members.now)))
-        (FirstFault (asked Operation.PutPermission (members_of (pairs_of members.now))) (members_of (pairs_of members.now))) }
-{
-    let condition = Asked::Optional(Member::Condition, Syntax::Unserved);
-    match given(members, Member::Policy) {
-        Some(_) => {
-            let text = Asked::Required(Member::Policy, Syntax::AnyText);
-            let policy = Asked::Required(Member::Policy, Syntax::Policy);
-            check_members(alloc, &[BUS, text, condition, policy], members)
-        }
-        None => {
-            let sid = Asked::Required(Member::StatementId, Syntax::StatementId);
-            let action = Asked::Required(Member::Action, Syntax::PutEventsAction);
-            let principal = Asked::Required(Member::Principal, Syntax::Principal);
-            check_members(alloc, &[BUS, sid, action, principal, condition], members)
-        }
+    match policy {
+        Some(_) => &[
+            BUS,
+            Asked::Required(Member::Policy, Syntax::AnyText),
+            CONDITION,
+            Asked::Required(Member::Policy, Syntax::Policy),
+        ],
+        None => &[
+            BUS,
+            Asked::Required(Member::StatementId, Syntax::StatementId),
+            Asked::Required(Member::Action, Syntax::PutEventsAction),
+            Asked::Required(Member::Principal, Syntax::Principal),
+            CONDITION,
+        ],
     }
-}
-
-/// Checks the members of a RemovePermission.
-fn check_removal(alloc: Global, members: &[(Text, Json)]) -> Result<(), CallFault>
-    ensures { MatchResult result
-        (λ _. AreSound (asked Operation.RemovePermission (members_of (pairs_of members.now))) (members_of (pairs_of members.now)))
-        (FirstFault (asked Operation.RemovePermission (members_of (pairs_of members.now))) (members_of (pairs_of members.now))) }
-{
-    let all = Asked::Optional(Member::RemoveAllPermissions, Syntax::Truth);
-    let sid = Asked::Optional(Member::StatementId, Syntax::StatementId);
-    check_members(alloc, &[BUS, all, sid], members)
 }

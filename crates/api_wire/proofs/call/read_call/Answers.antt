@@ -1,16 +1,18 @@
-use Rattle.std.proofs.Common.{sym, refl, ◌∙◌}
+use Rattle.std.proofs.Common.{inl, inr, sym, refl, ◌∙◌}
 use Rattle.std.specs.Prelude.{IsTrue}
 use Rattle.std.proofs.lemmas.Bool.{false≢true}
 use Rattle.std.proofs.lemmas.Result.{err_from_is_err_and}
 use Rattle.json_text.specs.Tree.{members_of}
 use Rattle.json_text.specs.View.{pairs_of}
 use Rattle.event_shape.specs.Names.{is_account}
-use Rattle.api_members.specs.Refusal.{FirstFault}
+use Rattle.api_replies.specs.declared.cause.Cause.TheVariants as cause
+use Rattle.api_members.specs.Refusal.{IsFirstRefusal, RefusedFor}
 use Rattle.router_core.specs.View.{request_of}
-use Rattle.api_wire.specs.Call.{caller_of, MayCall, asked, IsBody, IsAsked, not_entitled}
+use Rattle.api_wire.specs.Call.{caller_of, MayCall, asked, IsBody, IsAsked}
 use Rattle.api_wire.specs.CallAnswers.{IsFault}
-use Rattle.api_wire.proofs.CallLemmas.{one_request, only_memory, members_fault}
+use Rattle.api_wire.proofs.CallLemmas.{one_request, only_memory, named_refused, members_fault}
 use Rattle.api_wire.proofs.EntitledLemmas.{is_entitled}
+use Rattle.api_wire.proofs.BoundLemmas.{asked_bounded}
 use Rattle.api_wire.proofs.call.read_call.Goals as goal
 
 pub returns-then-not-may_call-clause-refused : goal.returns-then-not-may_call-clause-refused
@@ -21,7 +23,7 @@ returns-then-not-may_call-clause-refused c =
     let body : IsBody c.args.message.now.body ms = rw (← c.as_slice.ensures) c.in_ok-members.ensures.read in
     let never : ¬ MayCall c.in-Some.operation (caller_of c.args.message.now.caller) =
     λ may. false≢true (sym c.if-not-may_call.true ∙ c.may_call.ensures.1 (rw c.caller_of-caller.ensures may)) in
-    not_entitled c.in-Some.operation ms (sym c.in-Some.ensures) account body never refl
+    named_refused c.args.message.now c.in-Some.operation cause.OwnerOnly (sym c.in-Some.ensures) (inr (account, inr ((ms, body), inl (refl, never))))
 
 refused_fault : (c : goal.After-drop-members-in_err-check_asked) → IsFault c.args.message.now c.in_err-check_asked.field-0.0
 refused_fault c =
@@ -31,7 +33,7 @@ refused_fault c =
     let body : IsBody c.args.message.now.body ms = rw (← c.as_slice.ensures) c.in_ok-members.ensures.read in
     let may : MayCall c.in-Some.operation (caller_of c.args.message.now.caller) =
     rw (← c.caller_of-caller.ensures) (c.may_call.ensures.0 c.if-not-may_call.false) in
-    let first : FirstFault (asked c.in-Some.operation ms) ms c.in_err-check_asked.field-0.0 =
+    let first : RefusedFor (IsFirstRefusal (asked c.in-Some.operation ms) ms) c.in_err-check_asked.field-0.0 =
     rw (← c.as_slice-2.ensures.value) c.in_err-check_asked.ensures in
     members_fault c.args.message.now c.in-Some.operation ms c.in_err-check_asked.field-0.0 (sym c.in-Some.ensures) account body may first
 
@@ -66,3 +68,6 @@ returns-clause-only c = λ q other. one_request c.args.message.now c.args.readin
 
 pub returns-clause-entitled : goal.returns-clause-entitled
 returns-clause-entitled c = is_entitled c.args.message.now c.args.reading _ (is_asked c)
+
+pub returns-clause-bounded : goal.returns-clause-bounded
+returns-clause-bounded c = asked_bounded c.args.message.now c.args.reading _ (is_asked c)

@@ -12,4 +12,4 @@ returns-in-Some-clause-only c =
 pub returns-in-None-clause-read : goal.returns-in-None-clause-read
 returns-in-None-clause-read c =
     let some : 0 < length c.args.bytes.now = grind (arith, nat_tests) in
-    (body_none c.args.bytes.now (tree_of c.in_ok-read.field-0) some c.in_ok-read.ensures.only c.in-None.ensures, refl)
+    (refl, λ given. body_none c.args.bytes.now (tree_of c.in_ok-read.field-0) some c.in_ok-read.ensures.only c.in-None.ensures given.0 given.1)

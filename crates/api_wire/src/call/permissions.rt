@@ -1,14 +1,17 @@
-//! PutPermission: with a Policy that of the bus, else one more statement of it.
-ghost use Rattle.std.specs.Prelude.{◌≡◌, ℕ, List, IfOk};
+//! Calls on the policies of buses.
+ghost use Rattle.std.specs.Prelude.{◌≡◌, Some, IfOk};
+ghost use Rattle.std.specs.Option.{option_map, option_copied};
 ghost use Rattle.json_text.specs.Tree.{members_of};
-ghost use Rattle.json_text.specs.View.{pairs_of};
+ghost use Rattle.json_text.specs.View.{tree_of, pairs_of};
 ghost use Rattle.router_core.specs.View.{action_of};
+ghost use Rattle.api_replies.specs.declared.member.Member.TheVariants.{Policy as PolicyMember};
+ghost use Rattle.api_members.specs.Given.{given};
 ghost use Rattle.api_members.specs.Refusal.{AreSound};
 ghost use Rattle.api_members.specs.Value.{GivesPolicy};
-ghost use Rattle.api_wire.specs.Call.{account_in, asked, IsAction, IsStoredAs};
-ghost use Rattle.api_wire.specs.declared.call.operation.Operation.TheVariants.{PutPermission};
+ghost use Rattle.api_wire.specs.Call.{account_in, action_in, asked, IsPermission, IsStoredAs, removes_all};
+ghost use Rattle.api_wire.specs.declared.call.operation.Operation.TheVariants.{PutPermission, RemovePermission};
 
-use api_members::{bus_given, given, text_of};
+use api_members::{bus_given, given, read_text, text_of};
 use api_replies::Member;
 use bus_policy::{Policy, PolicyFault};
 use json_text::{Json, NoMemory, Text};
@@ -16,9 +19,10 @@ use router_core::Action;
 use rule_table::StoredPolicy;
 use std::alloc::Global;
 
+/// With a Policy, the bus gets it; without one, the policy of the bus gets one more statement.
 pub(super) fn put_permission(alloc: Global, members: &[(Text, Json)]) -> Result<Action, NoMemory>
     requires sound { AreSound (asked PutPermission (members_of (pairs_of members.now))) (members_of (pairs_of members.now)) }
-    ensures { (caller : List ℕ) (reading : ℕ) → IfOk result (λ a. IsAction PutPermission caller (members_of (pairs_of members.now)) reading (action_of a)) }
+    ensures { IfOk result (λ a. IsPermission (given PolicyMember (members_of (pairs_of members.now))) (members_of (pairs_of members.now)) (action_of a)) }
 {
     let bus = bus_given(alloc, members, Member::EventBusName)?;
     match given(members, Member::Policy) {
@@ -54,5 +58,27 @@ fn account_in(alloc: Global, principal: &str) -> Result<Option<Text>, NoMemory>
         Ok(None)
     } else {
         Ok(Some(Text::from_str(alloc, principal)?))
+    }
+}
+
+/// The whole policy of the bus, or one statement of it.
+pub(super) fn remove_permission(alloc: Global, members: &[(Text, Json)]) -> Result<Action, NoMemory>
+    ensures { IfOk result (λ a. action_in RemovePermission (members_of (pairs_of members.now)) ≡ Some (action_of a)) }
+{
+    let bus = bus_given(alloc, members, Member::EventBusName)?;
+    if removes_all(given(members, Member::RemoveAllPermissions)) {
+        return Ok(Action::RemovePolicy { bus });
+    }
+    let sid = read_text(alloc, members, Member::StatementId)?;
+    Ok(Action::RemoveStatement { bus, sid })
+}
+
+/// Whether `RemoveAllPermissions` is given as `true`.
+fn removes_all(value: Option<&Json>) -> bool
+    ensures { result ≡ removes_all (option_map tree_of (option_copied value.entry)) }
+{
+    match value {
+        Some(Json::Truth(all)) => *all,
+        _ => false,
     }
 }

@@ -4,7 +4,7 @@ use Rattle.json_text.specs.View.{pairs_of}
 use Rattle.api_replies.specs.declared.member.Member.TheVariants as member
 use Rattle.api_members.specs.Event.{IsEventGiven}
 use Rattle.api_members.proofs.TextLemmas.{pattern_text, event_text}
-use Rattle.api_wire.proofs.call.test_event_pattern.test_event_pattern.Goals as goal
+use Rattle.api_wire.proofs.call.events.test_event_pattern.Goals as goal
 
 pub read_pattern-requires : goal.read_pattern-requires
 read_pattern-requires c = pattern_text member.EventPattern (members_of (pairs_of c.args.members.now)) c.requires.sound.0

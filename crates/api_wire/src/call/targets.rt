@@ -1,14 +1,15 @@
-//! PutTargets.
-ghost use Rattle.std.specs.Prelude.{◌≡◌, ℕ, List, IfOk};
+//! Calls on the targets of rules.
+ghost use Rattle.std.specs.Prelude.{◌≡◌, Some, IfOk};
 ghost use Rattle.std.specs.Option.{option_map, option_copied};
 ghost use Rattle.json_text.specs.Tree.{members_of};
 ghost use Rattle.json_text.specs.View.{tree_of, trees_of, pairs_of};
 ghost use Rattle.router_core.specs.View.{action_of};
-ghost use Rattle.api_wire.specs.Call.{IsAction, retry_given, target_with, targets_of, first_given, unsupported};
-ghost use Rattle.api_wire.specs.declared.call.operation.Operation.TheVariants.{PutTargets};
+ghost use Rattle.api_wire.specs.Call.{action_in, retry_given, target_with, targets_of, first_given, unsupported};
+ghost use Rattle.api_wire.specs.declared.call.operation.Operation.TheVariants.{PutTargets, RemoveTargets, ListTargetsByRule, ListRuleNamesByTarget};
 
 use api_members::{
-    age_given, attempts_given, bus_given, given, members_in, read_dead_letter, text_of, values_in,
+    age_given, attempts_given, bus_given, given, members_in, read_dead_letter, read_texts, text_of,
+    values_in,
 };
 use api_replies::Member;
 use json_text::{Json, NoMemory, Text};
@@ -17,7 +18,7 @@ use rule_targets::{AskedRetry, AskedTarget};
 use std::alloc::Global;
 
 pub(super) fn put_targets(alloc: Global, members: &[(Text, Json)]) -> Result<Action, NoMemory>
-    ensures { (caller : List ℕ) (reading : ℕ) → IfOk result (λ a. IsAction PutTargets caller (members_of (pairs_of members.now)) reading (action_of a)) }
+    ensures { IfOk result (λ a. action_in PutTargets (members_of (pairs_of members.now)) ≡ Some (action_of a)) }
 {
     let bus = bus_given(alloc, members, Member::EventBusName)?;
     let rule = Text::from_str(alloc, text_of(members, Member::Rule))?;
@@ -77,4 +78,35 @@ fn first_unsupported(members: &[(Text, Json)]) -> Option<Member>
     } else {
         None
     }
+}
+
+pub(super) fn remove_targets(alloc: Global, members: &[(Text, Json)]) -> Result<Action, NoMemory>
+    ensures { IfOk result (λ a. action_in RemoveTargets (members_of (pairs_of members.now)) ≡ Some (action_of a)) }
+{
+    let bus = bus_given(alloc, members, Member::EventBusName)?;
+    let rule = Text::from_str(alloc, text_of(members, Member::Rule))?;
+    let ids = read_texts(alloc, values_in(members, Member::Ids))?;
+    Ok(Action::RemoveTargets { bus, rule, ids })
+}
+
+pub(super) fn list_targets_by_rule(
+    alloc: Global,
+    members: &[(Text, Json)],
+) -> Result<Action, NoMemory>
+    ensures { IfOk result (λ a. action_in ListTargetsByRule (members_of (pairs_of members.now)) ≡ Some (action_of a)) }
+{
+    let bus = bus_given(alloc, members, Member::EventBusName)?;
+    let rule = Text::from_str(alloc, text_of(members, Member::Rule))?;
+    Ok(Action::ListTargetsByRule { bus, rule })
+}
+
+pub(super) fn list_rule_names_by_target(
+    alloc: Global,
+    members: &[(Text, Json)],
+) -> Result<Action, NoMemory>
+    ensures { IfOk result (λ a. action_in ListRuleNamesByTarget (members_of (pairs_of members.now)) ≡ Some (action_of a)) }
+{
+    let arn = Text::from_str(alloc, text_of(members, Member::TargetArn))?;
+    let bus = bus_given(alloc, members, Member::EventBusName)?;
+    Ok(Action::ListRuleNamesByTarget { arn, bus })
 }

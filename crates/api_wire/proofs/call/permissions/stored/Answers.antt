@@ -1,4 +1,4 @@
-use Rattle.api_wire.proofs.call.put_permission.stored.Goals as goal
+use Rattle.api_wire.proofs.call.permissions.stored.Goals as goal
 
 pub unreachable-requires : goal.unreachable-requires
 unreachable-requires c =

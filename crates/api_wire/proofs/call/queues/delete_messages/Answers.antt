@@ -3,7 +3,7 @@ use Rattle.json_text.specs.Tree.{members_of}
 use Rattle.json_text.specs.View.{pairs_of}
 use Rattle.api_replies.specs.declared.member.Member.TheVariants as member
 use Rattle.api_members.proofs.CountLemmas.{count_there}
-use Rattle.api_wire.proofs.call.delete_messages.delete_messages.Goals as goal
+use Rattle.api_wire.proofs.call.queues.delete_messages.Goals as goal
 
 pub unreachable-requires : goal.unreachable-requires
 unreachable-requires c =
