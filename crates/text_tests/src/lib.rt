@@ -4,6 +4,8 @@
 #[cfg(test)]
 mod rows;
 #[cfg(test)]
+mod test_input_transform;
+#[cfg(test)]
 mod test_json_text;
 #[cfg(test)]
 mod test_key_tree;

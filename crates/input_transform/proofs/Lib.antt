@@ -1,0 +1,12 @@
+pub mod PathLemmas
+pub mod NameLemmas
+pub mod RewriteLemmas
+pub mod StringLemmas
+pub mod PlainLemmas
+pub mod GrammarLemmas
+pub mod FlatLemmas
+pub mod SceneLemmas
+pub mod FilledLemmas
+pub mod TemplateLemmas
+pub mod FillLemmas
+pub mod LawLemmas

@@ -1,0 +1,5 @@
+use Rattle.input_transform.proofs.LawLemmas as lemmas
+use Rattle.input_transform.proofs.laws.one_path.Goals as goal
+
+pub returns : goal.returns
+returns c = lemmas.one_path

@@ -1,0 +1,9 @@
+pub mod Path
+pub mod Names
+pub mod Template
+pub mod Filled
+pub mod Stored
+pub mod Fills
+pub mod Cuts
+pub mod Letters
+pub mod Filling
