@@ -165,7 +165,7 @@ class Crate:
         self.name, self.folder = name, root / "crates" / name
         self.sources = [Source(it) for it in sorted(self.folder.glob("src/**/*.rt"))]
         self.functions = [it for source in self.sources for it in source.functions]
-        self.edits = {it.name for folder in ("must-fail", "edits") for it in self.folder.glob(f"{folder}/*.edit")}
+        self.edits = {it.name for it in self.folder.glob("edits/*.edit")}
         self.exported = set()
         for source in self.sources:
             if source.path.name == "lib.rt" and source.path.parent.name == "src":
@@ -477,7 +477,7 @@ def promises(functions, label):
 
 def words_outside_docs(root):
     words = set()
-    for folder in ("crates/*/src", "crates/*/specs", "crates/*/proofs", "crates/*/must-fail", "crates/*/edits", ".ci", "bin", "bench", "examples"):
+    for folder in ("crates/*/src", "crates/*/specs", "crates/*/proofs", "crates/*/edits", ".ci", "bin", "bench", "examples"):
         for base in root.glob(folder):
             for file in base.rglob("*"):
                 words.add(file.stem)

@@ -10,7 +10,7 @@
 #    Each of X and Y is one of these, and exists:
 #        crate file.rt: test_a, test_b   functions with `#[test]`, by their crate and their file below src/
 #        NAME                            a stored run: examples/NAME.http
-#        name.edit                       an edit in crates/NAME/must-fail/ or crates/NAME/edits/
+#        name.edit                       an edit in crates/NAME/edits/
 #        law name                        a theorem: a `pub fn name()` with clauses alone, or a lemma of a proofs/ folder
 #        .ci/checks/name.sh              a check
 #        as name                         what shows another definition of the same file
@@ -23,7 +23,7 @@
 #    - `file.rt`: `f`, `g`, `Type::h`   each function, type, constant or test is in a file of that name. If a crate's
 #      name without or with backticks comes directly before (router_core `tables.rt`: `claim`), the file is that crate's.
 #      Another file begins after a semicolon and belongs to the same crate: router_core `tables.rt`: `claim`; `rows.rt`: `row`.
-#    - `name.edit`   an edit of that name is in crates/NAME/must-fail/ or crates/NAME/edits/ of some crate.
+#    - `name.edit`   an edit of that name is in crates/NAME/edits/ of some crate.
 #    - `crates/..`, `docs/..`, `examples/..`, `bench/..`, `bin/..`, `.ci/..`, `specs/X.antt`, `proofs/X.antt`   the path
 #      exists (specs/ and proofs/ in the crate of the heading, or, outside such a part, in some crate). NAME stands for any
 #      name. A path crates/X/out/.. need not exist.

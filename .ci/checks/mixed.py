@@ -20,6 +20,7 @@ import subprocess
 import sys
 import threading
 import time
+from concurrent.futures import ProcessPoolExecutor
 
 import rows
 from mixed_requests import ACTIONS, a_request, all_that_is_due, conditions, faults_of_targets, in_order_of_names, most_bytes
@@ -235,23 +236,33 @@ def run(command, reading, counts, causes):
         raise Failure(failure)
 
 
+def one(command, reading):
+    """Makes the run of one reading: why it failed, or nothing; its counts, its refusals and its seconds."""
+    began = time.monotonic()
+    counts, causes = {}, set()
+    try:
+        run(command, reading, counts, causes)
+        return None, counts, causes, time.monotonic() - began
+    except Failure as found:
+        return str(found), counts, causes, time.monotonic() - began
+
+
 def main():
     words = sys.argv[1:]
     command = words or [PROGRAM if os.access(PROGRAM, os.X_OK) else EBUSD]
     rows.check()
     passed = failed = 0
     causes = set()
-    for reading in READINGS:
-        began = time.monotonic()
-        counts = {}
-        try:
-            run(command, reading, counts, causes)
-            passed += 1
-        except Failure as found:
-            print(f"--now {reading}: {found}")
-            failed += 1
+    # The runs need nothing of each other, and each keeps a processor busy.
+    with ProcessPoolExecutor(len(READINGS)) as pool:
+        found = list(pool.map(one, [command] * len(READINGS), READINGS))
+    for reading, (failure, counts, refusals, seconds) in zip(READINGS, found):
+        causes |= refusals
+        passed, failed = passed + (failure is None), failed + (failure is not None)
+        if failure is not None:
+            print(f"--now {reading}: {failure}")
         if os.environ.get("MIXED_COUNTS"):
-            print(f"--now {reading}: {sum(counts.values())} replies in {time.monotonic() - began:.1f} s", file=sys.stderr)
+            print(f"--now {reading}: {sum(counts.values())} replies in {seconds:.1f} s", file=sys.stderr)
             for key, count in sorted(counts.items(), key=str):
                 print(f"  {key[0]} {key[1]}: {count}", file=sys.stderr)
     lacking = [] if failed else [it for it in wanted_refusals() if it not in causes]
