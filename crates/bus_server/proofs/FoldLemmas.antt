@@ -1,8 +1,7 @@
 -- The tables after legal turns, claims set aside, are the fold of the batches that the turns wrote: `folds`, `folds_book`.
 use Rattle.std.proofs.Common.{◌≡◌, ℕ, ◌+◌, Bool, max, true, false, cond, eqb, ltb, List, [], ◌∷◌, map, Option, Some, None, refl, sym, ap, ◌∙◌, subst}
 use Rattle.std.specs.Option.{option_map}
-use Rattle.rule_table.specs.Control.{Control, bus_created, bus_deleted, rule_put, rule_deleted, state_put, targets_put, targets_removed, policy_put}
-use Rattle.rule_table.specs.Control.{queue_created, queue_deleted}
+use Rattle.rule_table.specs.Control.{Control, bus_created}
 use Rattle.key_tree.specs.Entries.{value_at, placed, without}
 use Rattle.delivery_duties.specs.declared.duty.DutyRow.{DutyRow}
 use Rattle.delivery_duties.specs.declared.duty.NewDuty.{NewDuty}
@@ -126,15 +125,7 @@ settled_freed n moment outcome d =
 
 control_freed : (c : Control) (d : Duties) → free_duties (duties_after c d) ≡ duties_after c (free_duties d)
 control_freed (bus_created name) d = refl
-control_freed (bus_deleted name) d = refl
-control_freed (rule_put bus name pattern enabled) d = refl
-control_freed (rule_deleted bus name) d = refl
-control_freed (state_put bus name enabled) d = refl
-control_freed (targets_put bus rule targets) d = refl
-control_freed (targets_removed bus rule ids) d = refl
-control_freed (policy_put bus policy) d = refl
-control_freed (queue_created name) d = refl
-control_freed (queue_deleted name) d = refl
+control_freed _ d = refl
 
 entry_freed : (moment : ℕ) (e : Entry) (t : Tables) → without_claims (after_entry moment e t) ≡ after_entry moment e (without_claims t)
 entry_freed moment (control c) t = ap (λ d. record (after_entry moment (control c) t) { duties = d }) (control_freed c t.duties)

@@ -9,11 +9,7 @@ use Rattle.api_replies.specs.declared.cause.Cause.TheVariants as cause
 use Rattle.api_replies.specs.Reply.{Reply, refused}
 use Rattle.rule_table.specs.RuleSet.{RuleSet}
 use Rattle.router_core.specs.Batch as batch
-use Rattle.router_core.specs.Request.{Action, create_event_bus, delete_event_bus, describe_event_bus, list_event_buses, put_rule, delete_rule, put_rule_state}
-use Rattle.router_core.specs.Request.{describe_rule, list_rules, put_targets, remove_targets, list_targets_by_rule, list_rule_names_by_target, put_policy}
-use Rattle.router_core.specs.Request.{put_statement, remove_policy, remove_statement, put_events, test_event_pattern, create_queue, delete_queue}
-use Rattle.router_core.specs.Request.{peek_messages, delete_messages, duty_counts, deliver_due}
-use Rattle.router_core.specs.Request.{Request, IsPublishing}
+use Rattle.router_core.specs.Request.{Action, Request, IsPublishing, put_events}
 use Rattle.router_core.specs.Tables.{Tables, is_full, moment_at}
 use Rattle.router_core.specs.Verdict.{IsEntryVerdict}
 use Rattle.router_core.specs.declared.seen.SeenVerdict.{SeenVerdict}
@@ -95,31 +91,8 @@ other_one P Q (inr q) not_p = q
 
 publishing_allowed : (t : Tables) (set : RuleSet) (caller : List ℕ) (moment : ℕ) (action : Action) (a : Answer) → IsPublishing action
     → IsAnswerAt t set caller moment action a → IsPublishedBy set caller (entries_in action) a.batch
-publishing_allowed t set caller moment (create_event_bus name) a p h = absurd p
-publishing_allowed t set caller moment (delete_event_bus name) a p h = absurd p
-publishing_allowed t set caller moment (describe_event_bus name) a p h = absurd p
-publishing_allowed t set caller moment (list_event_buses prefix) a p h = absurd p
-publishing_allowed t set caller moment (put_rule bus name pattern enabled) a p h = absurd p
-publishing_allowed t set caller moment (delete_rule bus name) a p h = absurd p
-publishing_allowed t set caller moment (put_rule_state bus name enabled) a p h = absurd p
-publishing_allowed t set caller moment (describe_rule bus name) a p h = absurd p
-publishing_allowed t set caller moment (list_rules bus prefix) a p h = absurd p
-publishing_allowed t set caller moment (put_targets bus rule targets) a p h = absurd p
-publishing_allowed t set caller moment (remove_targets bus rule ids) a p h = absurd p
-publishing_allowed t set caller moment (list_targets_by_rule bus rule) a p h = absurd p
-publishing_allowed t set caller moment (list_rule_names_by_target arn bus) a p h = absurd p
-publishing_allowed t set caller moment (put_policy bus policy) a p h = absurd p
-publishing_allowed t set caller moment (put_statement bus sid account) a p h = absurd p
-publishing_allowed t set caller moment (remove_policy bus) a p h = absurd p
-publishing_allowed t set caller moment (remove_statement bus sid) a p h = absurd p
 publishing_allowed t set caller moment (put_events entries size) a p h = published_allowed t set caller moment entries size a h
-publishing_allowed t set caller moment (test_event_pattern pattern event) a p h = absurd p
-publishing_allowed t set caller moment (create_queue name) a p h = absurd p
-publishing_allowed t set caller moment (delete_queue name) a p h = absurd p
-publishing_allowed t set caller moment (peek_messages queue limit) a p h = absurd p
-publishing_allowed t set caller moment (delete_messages queue through) a p h = absurd p
-publishing_allowed t set caller moment duty_counts a p h = absurd p
-publishing_allowed t set caller moment (deliver_due budget) a p h = absurd p
+publishing_allowed t set caller moment _ a p h = absurd p
 
 pub stranger_publishes : (t : Tables) (r : Request) (k : ℕ) (set : RuleSet) (a : Answer) → IsAnswer t r k set a → ¬ (r.caller ≡ owner)
     → IsPublishedBy set r.caller (entries_in r.action) a.batch

@@ -8,11 +8,7 @@ use Rattle.rule_table.specs.RuleSet.{Rule, RuleSet, rule_at}
 use Rattle.rule_table.specs.Sound.{IsSound}
 use Rattle.api_replies.specs.Reply.{Reply}
 use Rattle.api_replies.specs.declared.reply.Reply.{Reply as CodeReply}
-use Rattle.router_core.specs.Request.{Action, create_event_bus, delete_event_bus, describe_event_bus, list_event_buses, put_rule, delete_rule, put_rule_state}
-use Rattle.router_core.specs.Request.{describe_rule, list_rules, put_targets, remove_targets, list_targets_by_rule, list_rule_names_by_target, put_policy}
-use Rattle.router_core.specs.Request.{put_statement, remove_policy, remove_statement, put_events, test_event_pattern, create_queue, delete_queue}
-use Rattle.router_core.specs.Request.{peek_messages, delete_messages, duty_counts, deliver_due}
-use Rattle.router_core.specs.Request.{Request}
+use Rattle.router_core.specs.Request.{Action, Request, put_events, test_event_pattern}
 use Rattle.router_core.specs.Tables.{Tables, moment_at}
 use Rattle.router_core.specs.Matching.{HasValue, IsSeen}
 use Rattle.router_core.specs.declared.ready.Ready.{Ready}
@@ -63,31 +59,9 @@ answered (Err e) t seen moment is h = tt
 
 answer_at : (t : Tables) (set : RuleSet) (caller : List ℕ) (seen : Seen) (moment : ℕ) (action : Action) (a : Answer)
     → IsSeenOn t set caller action seen → IsAnsweredBy t seen moment action a → IsAnswerAt t set caller moment action a
-answer_at t set caller seen moment (create_event_bus name) a is h = h
-answer_at t set caller seen moment (delete_event_bus name) a is h = h
-answer_at t set caller seen moment (describe_event_bus name) a is h = h
-answer_at t set caller seen moment (list_event_buses prefix) a is h = h
-answer_at t set caller seen moment (put_rule bus name pattern enabled) a is h = h
-answer_at t set caller seen moment (delete_rule bus name) a is h = h
-answer_at t set caller seen moment (put_rule_state bus name enabled) a is h = h
-answer_at t set caller seen moment (describe_rule bus name) a is h = h
-answer_at t set caller seen moment (list_rules bus prefix) a is h = h
-answer_at t set caller seen moment (put_targets bus rule targets) a is h = h
-answer_at t set caller seen moment (remove_targets bus rule ids) a is h = h
-answer_at t set caller seen moment (list_targets_by_rule bus rule) a is h = h
-answer_at t set caller seen moment (list_rule_names_by_target arn bus) a is h = h
-answer_at t set caller seen moment (put_policy bus policy) a is h = h
-answer_at t set caller seen moment (put_statement bus sid account) a is h = h
-answer_at t set caller seen moment (remove_policy bus) a is h = h
-answer_at t set caller seen moment (remove_statement bus sid) a is h = h
 answer_at t set caller seen moment (put_events entries size) a is h = h set caller is
 answer_at t set caller seen moment (test_event_pattern pattern event) a is h = h set caller is
-answer_at t set caller seen moment (create_queue name) a is h = h
-answer_at t set caller seen moment (delete_queue name) a is h = h
-answer_at t set caller seen moment (peek_messages queue limit) a is h = h
-answer_at t set caller seen moment (delete_messages queue through) a is h = h
-answer_at t set caller seen moment duty_counts a is h = h
-answer_at t set caller seen moment (deliver_due budget) a is h = h
+answer_at t set caller seen moment _ a is h = h
 
 -- what was matched on a rule set was seen on it
 pub seen_on : (t : Tables) (request : Request) (set : RuleSet) (seen : Seen) → IsMatchedOn t request set seen

@@ -15,4 +15,4 @@ pub mod QueueLemmas
 pub mod PolicyLemmas
 pub mod OneLemmas
 pub mod AllowedLemmas
-pub mod ChangeLemmas
+pub mod FormLemmas

@@ -1,5 +1,5 @@
 -- A request has at most one answer: `one_answer`, which the law of src/laws.rt cites. The other lemmas lead to it.
-use Rattle.std.proofs.Common.{◌≡◌, ◌⊎◌, ℕ, ◌+◌, inl, inr, Bool, false, true, ◌&&◌, List, [], ◌∷◌, ◌++◌, map, drop, Option, Some, None, is_some, Ok, Err}
+use Rattle.std.proofs.Common.{◌≡◌, ℕ, ◌+◌, inl, inr, Bool, false, true, ◌&&◌, List, [], ◌∷◌, ◌++◌, map, Option, Some, None, is_some, Ok, Err}
 use Rattle.std.proofs.Common.{sym, refl, ap, ◌∙◌, subst, arith}
 use Rattle.std.proofs.lemmas.Bool.{false≢true}
 use Rattle.json_text.specs.Tree.{Tree, no_items}
@@ -25,10 +25,10 @@ use Rattle.router_core.specs.Verdict.{IsPolicyOf, asker_for, seen_verdict, IsVer
 use Rattle.router_core.specs.declared.seen.SeenTarget.{SeenTarget}
 use Rattle.router_core.specs.declared.seen.SeenVerdict.{SeenVerdict}
 use Rattle.router_core.specs.declared.seen.SeenVerdict.TheVariants as verdict
-use Rattle.router_core.specs.Request.{Action, create_event_bus, delete_event_bus, describe_event_bus, list_event_buses, put_rule, delete_rule, put_rule_state}
-use Rattle.router_core.specs.Request.{describe_rule, list_rules, put_targets, remove_targets, list_targets_by_rule, list_rule_names_by_target, put_policy}
+use Rattle.router_core.specs.Request.{Action, create_event_bus, delete_event_bus, put_rule, delete_rule, put_rule_state}
+use Rattle.router_core.specs.Request.{put_policy}
 use Rattle.router_core.specs.Request.{put_statement, remove_policy, remove_statement, put_events, test_event_pattern, create_queue, delete_queue}
-use Rattle.router_core.specs.Request.{peek_messages, delete_messages, duty_counts, deliver_due}
+use Rattle.router_core.specs.Request.{deliver_due}
 use Rattle.router_core.specs.Request.{Request}
 use Rattle.router_core.specs.Tables.{Tables, moment_at}
 use Rattle.call_replies.specs.Causes.{change_cause}
@@ -223,17 +223,9 @@ answer_once : (t : Tables) (set : RuleSet) (caller : List ℕ) (moment : ℕ) (a
     → IsAnswerAt t set caller moment action b → a ≡ b
 answer_once t set caller moment (create_event_bus name) a b p q = controlled_once t moment _ _ a b p q
 answer_once t set caller moment (delete_event_bus name) a b p q = controlled_once t moment _ _ a b p q
-answer_once t set caller moment (describe_event_bus name) a b p q = p ∙ sym q
-answer_once t set caller moment (list_event_buses prefix) a b p q = p ∙ sym q
 answer_once t set caller moment (put_rule bus name pattern enabled) a b p q = controlled_once t moment _ _ a b p q
 answer_once t set caller moment (delete_rule bus name) a b p q = deleted_once t moment bus name a b p q
 answer_once t set caller moment (put_rule_state bus name enabled) a b p q = controlled_once t moment _ _ a b p q
-answer_once t set caller moment (describe_rule bus name) a b p q = p ∙ sym q
-answer_once t set caller moment (list_rules bus prefix) a b p q = p ∙ sym q
-answer_once t set caller moment (put_targets bus rule targets) a b p q = p ∙ sym q
-answer_once t set caller moment (remove_targets bus rule ids) a b p q = p ∙ sym q
-answer_once t set caller moment (list_targets_by_rule bus rule) a b p q = p ∙ sym q
-answer_once t set caller moment (list_rule_names_by_target arn bus) a b p q = p ∙ sym q
 answer_once t set caller moment (put_policy bus policy) a b p q = controlled_once t moment _ _ a b p q
 answer_once t set caller moment (put_statement bus sid account) a b p q = statement_put_once t moment bus sid account a b p q
 answer_once t set caller moment (remove_policy bus) a b p q = controlled_once t moment _ _ a b p q
@@ -242,10 +234,8 @@ answer_once t set caller moment (put_events entries size) a b p q = published_on
 answer_once t set caller moment (test_event_pattern pattern event) a b p q = tested_once pattern event a b p q
 answer_once t set caller moment (create_queue name) a b p q = controlled_once t moment _ _ a b p q
 answer_once t set caller moment (delete_queue name) a b p q = queue_deleted_once t moment name a b p q
-answer_once t set caller moment (peek_messages queue limit) a b p q = p ∙ sym q
-answer_once t set caller moment (delete_messages queue through) a b p q = p ∙ sym q
-answer_once t set caller moment duty_counts a b p q = p ∙ sym q
 answer_once t set caller moment (deliver_due budget) a b p q = absurd p
+answer_once t set caller moment _ a b p q = p ∙ sym q
 
 pub one_answer : (t : Tables) (r : Request) (k : ℕ) (set : RuleSet) (a b : Answer) → IsAnswer t r k set a → IsAnswer t r k set b → a ≡ b
 one_answer t r k set a b p q = answer_once t set r.caller (moment_at t r.reading) r.action a b p.answers q.answers

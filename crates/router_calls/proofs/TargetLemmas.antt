@@ -1,7 +1,7 @@
 -- A call on a rule: `on_rule_found`. The targets of a PutTargets: `adds_none`, `adds_target` (one target and those after it) and
 -- `all_split`; `put_answered` (the accepted ones are an allowed change) and `targets_unwritten` (there is none); `accepted_within` (the
 -- accepted ones are of those of the request) and `put_form` (their change is well formed).
-use Rattle.std.proofs.Common.{◌≡◌, ℕ, suc, ◌≤◌, ◌<◌, ◌&&◌, inl, inr, Bool, true, false, not, is_some, List, [], ◌∷◌, ◌++◌, length, map, Some, sym, refl, ap, ◌∙◌, subst, arith}
+use Rattle.std.proofs.Common.{◌≡◌, ℕ, suc, ◌≤◌, ◌<◌, ◌&&◌, inl, inr, Bool, true, not, is_some, List, [], ◌∷◌, ◌++◌, length, map, Some, sym, refl, ap, ◌∙◌, subst, arith}
 use Rattle.std.proofs.Common.{append_assoc, append-nil}
 use Rattle.std.specs.Prelude.{codes, nat_le, Option, None, Result, Ok, Err, IfOk, All}
 use Rattle.std.specs.List.{Contains}
@@ -19,14 +19,12 @@ use Rattle.rule_table.specs.declared.control.TargetFault.{TargetFault}
 use Rattle.rule_table.specs.declared.control.ControlFault.TheVariants.{Validation}
 use Rattle.api_replies.specs.declared.member.Member.TheVariants as member
 use Rattle.rule_table.specs.Control.{targets_put}
-use Rattle.rule_table.specs.RuleSet.{Rule, RuleSet, put_target, has_bus, rule_at, targets_of}
+use Rattle.rule_table.specs.RuleSet.{Rule, RuleSet, put_target, rule_at, targets_of}
 use Rattle.rule_table.specs.Refusal.{target_fault, are_put, are_some_put, IsAllowed}
 use Rattle.rule_table.specs.WellFormed.{IsWellFormed}
 use Rattle.rule_table.proofs.AllowedLemmas.{no_member_fault, put_formed, targets_fine}
 use Rattle.rule_table.proofs.ChangeLemmas.{bus_of_rule, after_rule}
 use Rattle.name_rows.specs.Rows.{named}
-use Rattle.api_replies.specs.declared.kind.Kind.TheVariants as kind
-use Rattle.api_replies.specs.declared.cause.Cause.TheVariants as cause
 use Rattle.call_replies.specs.Causes.{target_cause}
 use Rattle.api_replies.specs.declared.cause.Cause.{Cause}
 use Rattle.api_replies.specs.Reply.{Reply, refused}

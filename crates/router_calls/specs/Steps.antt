@@ -1,5 +1,5 @@
 -- For private clauses: what was seen of an action, and what one entry or target, or several, add to what was read before them.
-use Rattle.std.specs.Prelude.{◌≡◌, ◌⊎◌, ℕ, ◌+◌, ◌≤◌, List, [], ◌∷◌, ◌++◌, length, map, Result, Ok, Err, All, codes}
+use Rattle.std.specs.Prelude.{◌≡◌, ℕ, ◌+◌, ◌≤◌, List, [], ◌∷◌, ◌++◌, length, map, Result, Ok, Err, All, codes}
 use Rattle.json_text.specs.Moment.{IsMoment}
 use Rattle.json_text.specs.View.{trees_of}
 use Rattle.event_shape.specs.Names.{owner}

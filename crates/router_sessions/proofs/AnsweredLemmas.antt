@@ -19,12 +19,12 @@ use Rattle.router_core.specs.View.{batch_of}
 use Rattle.router_core.specs.declared.ready.Ready.{Ready}
 use Rattle.router_calls.specs.Answer.{IsAnswer}
 use Rattle.router_calls.specs.Decided.{answer_of}
+use Rattle.router_calls.proofs.FormLemmas.{request_form}
 use Rattle.router_sessions.specs.declared.book.Seat.{Seat}
 use Rattle.router_sessions.specs.declared.book.TurnReply.{TurnReply}
 use Rattle.router_sessions.specs.History.{Turn, State, asked, IsAnsweredBy, after_written, with_written, begun}
 use Rattle.router_sessions.specs.Book.{BookState, state_of, IsBook}
 use Rattle.router_sessions.specs.Answered.{turn_text, IsUnrendered, IsFrom, IsAnswered, IsDecided}
-use Rattle.router_sessions.proofs.ServedLemmas.{answer_served}
 use Rattle.router_sessions.proofs.BookLemmas.{book_more, turn_of_ask, tables_of_ask}
 
 -- the latest rule set
@@ -35,7 +35,7 @@ pub decided_by : (t : Tables) (request : Request) (seen : Seen) (p : Option Read
     → IsAnswer t request seen.k t.set (answer_of p) → IfSome p.0 (λ r. IsReadyFor t r) → IsDecided t request p
 decided_by t request seen p is answer ready =
     let latest : IsAnswer t request t.set.count t.set (answer_of p) = subst (λ n. IsAnswer t request n t.set (answer_of p)) is.k answer in
-    record { answer = latest; ready = ready; status = answer_served t request t.set.count t.set (answer_of p) latest }
+    record { answer = latest; ready = ready; status = (request_form latest).status }
 
 -- the batch of a decision, if it has one
 abbrev pub decided_batch : Option Ready × CodeReply → Option Batch

@@ -27,7 +27,6 @@ pub mod HistoryLemmas
 pub mod IncomingLemmas
 pub mod MadeLemmas
 pub mod MovingLemmas
-pub mod NoAttemptLemmas
 pub mod OneDeliveryLemmas
 pub mod OneExchangeLemmas
 pub mod OneSessionLemmas
@@ -40,6 +39,5 @@ pub mod RecordLemmas
 pub mod RunningLemmas
 pub mod SeatedLemmas
 pub mod SentLemmas
-pub mod ServedLemmas
 pub mod StaysOpenLemmas
 pub mod SteadyLemmas

@@ -4,8 +4,7 @@
 use Rattle.std.proofs.Common.{◌≡◌, ◌≢◌, ℕ, ◌+◌, ◌<◌, ◌≤◌, Bool, true, false, cond, eqb, ltb, List, [], ◌∷◌, Option, Some, None, refl, sym, ap, ◌∙◌, subst}
 use Rattle.std.proofs.Common.{arith}
 use Rattle.std.proofs.lemmas.Bool.{eq-eqb, eqb-true, le-ltb}
-use Rattle.rule_table.specs.Control.{Control, bus_created, bus_deleted, rule_put, rule_deleted, state_put, targets_put, targets_removed, policy_put}
-use Rattle.rule_table.specs.Control.{queue_created, queue_deleted}
+use Rattle.rule_table.specs.Control.{Control, bus_created}
 use Rattle.key_tree.specs.Entries.{value_at, placed, without, AllKeys, AreSorted}
 use Rattle.key_tree.proofs.EntryLemmas.{AllKeys-weaker, AllKeys-placed, AllKeys-without, others, placed_lower, sorted_placed, sorted_without}
 use Rattle.key_tree.proofs.EntryLemmas.{value_at-placed, value_at-without_same, without_none}
@@ -178,15 +177,7 @@ settled_there (Some row) n moment outcome d there h = settled_as row (attempt_of
 
 control_numbered : (c : Control) (d : Duties) → AreNumbered d → AreNumbered (duties_after c d)
 control_numbered (bus_created name) d h = h
-control_numbered (bus_deleted name) d h = h
-control_numbered (rule_put bus name pattern enabled) d h = h
-control_numbered (rule_deleted bus name) d h = h
-control_numbered (state_put bus name enabled) d h = h
-control_numbered (targets_put bus rule targets) d h = h
-control_numbered (targets_removed bus rule ids) d h = h
-control_numbered (policy_put bus policy) d h = h
-control_numbered (queue_created name) d h = h
-control_numbered (queue_deleted name) d h = h
+control_numbered _ d h = h
 
 entry_numbered : (moment : ℕ) (e : Entry) (t : Tables) → AreNumbered t.duties → AreNumbered (after_entry moment e t).duties
 entry_numbered moment (control c) t h = control_numbered c t.duties h

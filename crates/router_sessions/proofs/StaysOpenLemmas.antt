@@ -6,9 +6,7 @@ use Rattle.std.proofs.lemmas.Bool.{eqb-true, ne_eqb, true≢false}
 use Rattle.std.specs.Prelude.{not}
 use Rattle.key_tree.specs.Entries.{value_at, placed, without}
 use Rattle.key_tree.proofs.EntryLemmas.{value_at-without_other}
-use Rattle.rule_table.specs.Control.{Control, bus_created, bus_deleted, rule_put, rule_deleted, state_put, targets_put, targets_removed}
-use Rattle.rule_table.specs.Control.{policy_put}
-use Rattle.rule_table.specs.Control.{queue_created, queue_deleted}
+use Rattle.rule_table.specs.Control.{Control, bus_created}
 use Rattle.delivery_duties.specs.declared.duty.DutyRow.{DutyRow}
 use Rattle.delivery_duties.specs.declared.duty.NewDuty.{NewDuty}
 use Rattle.delivery_duties.specs.declared.outcome.Outcome.{Outcome}
@@ -19,6 +17,8 @@ use Rattle.delivery_duties.specs.Duties.{Duties, pending_row, replaced, failed, 
 use Rattle.delivery_duties.specs.Duties.{settled_by, settled_row, attempt_of, IsNext}
 use Rattle.router_core.specs.Batch.{Batch, Entry, control, accepted, attempt, messages_deleted}
 use Rattle.router_core.specs.Tables.{Tables, first_tables, duties_after, after_entry, after_entries, moment_at}
+use Rattle.router_core.specs.Request.{Action}
+use Rattle.router_calls.proofs.FormLemmas.{IsOf, AreOf, WritesOf, request_form}
 use Rattle.courier_run.specs.Claim.{Claim}
 use Rattle.router_sessions.specs.History.{Ask, asked, claims, records, puts_back, Turn, State, OpenClaim, open_claim, closed_claims}
 use Rattle.router_sessions.specs.History.{after_written, after_ask, after_turn, state_after, IsTurnFor, IsTurnOf, IsLegal, begun as state_begun}
@@ -29,7 +29,6 @@ use Rattle.router_sessions.proofs.SteadyLemmas.{IsSteady, steady_turn, open_writ
 use Rattle.router_sessions.proofs.HistoryLemmas.{legal_back}
 use Rattle.router_sessions.proofs.BookLemmas.{steady_book}
 use Rattle.router_sessions.proofs.PlacedLemmas.{state_added}
-use Rattle.router_sessions.proofs.NoAttemptLemmas.{IsNoAttempt, AreNoAttempts, HasNoAttempt, no_attempt}
 use Rattle.router_sessions.specs.History.{turns_by}
 use Rattle.router_sessions.proofs.PassLemmas.{first_other}
 
@@ -100,36 +99,28 @@ all_added (duty ∷ duties) moment key d known =
 
 changed : (c : Control) (key : ℕ) (d : Duties) → key ≤ d.created → Keeps key d (duties_after c d)
 changed (bus_created name) key d known = (refl, known)
-changed (bus_deleted name) key d known = (refl, known)
-changed (rule_put bus name pattern enabled) key d known = (refl, known)
-changed (rule_deleted bus name) key d known = (refl, known)
-changed (state_put bus name enabled) key d known = (refl, known)
-changed (targets_put bus rule targets) key d known = (refl, known)
-changed (targets_removed bus rule ids) key d known = (refl, known)
-changed (policy_put bus policy) key d known = (refl, known)
-changed (queue_created name) key d known = (refl, known)
-changed (queue_deleted name) key d known = (refl, known)
+changed _ key d known = (refl, known)
 
-entry_keeps : (moment : ℕ) (e : Entry) (key : ℕ) (t : Tables) → IsNoAttempt e → key ≤ t.duties.created
+entry_keeps : (action : Action) (moment : ℕ) (e : Entry) (key : ℕ) (t : Tables) → IsOf action e → key ≤ t.duties.created
     → Keeps key t.duties (after_entry moment e t).duties
-entry_keeps moment (control c) key t is known = changed c key t.duties known
-entry_keeps moment (accepted e) key t is known = all_added e.duties moment key t.duties known
-entry_keeps moment (attempt duty outcome) key t is known = absurd is
-entry_keeps moment (messages_deleted queue through) key t is known = (refl, known)
+entry_keeps action moment (control c) key t is known = changed c key t.duties known
+entry_keeps action moment (accepted e) key t is known = all_added e.duties moment key t.duties known
+entry_keeps action moment (attempt duty outcome) key t is known = absurd is
+entry_keeps action moment (messages_deleted queue through) key t is known = (refl, known)
 
-entries_keep : (moment : ℕ) (es : List Entry) (key : ℕ) (t : Tables) → AreNoAttempts es → key ≤ t.duties.created
+entries_keep : (action : Action) (moment : ℕ) (es : List Entry) (key : ℕ) (t : Tables) → AreOf action es → key ≤ t.duties.created
     → Keeps key t.duties (after_entries moment es t).duties
-entries_keep moment [] key t are known = (refl, known)
-entries_keep moment (e ∷ es) key t are known =
-    let first = entry_keeps moment e key t are.0 known in
-    let rest = entries_keep moment es key (after_entry moment e t) are.1 first.1 in
+entries_keep action moment [] key t are known = (refl, known)
+entries_keep action moment (e ∷ es) key t are known =
+    let first = entry_keeps action moment e key t are.0 known in
+    let rest = entries_keep action moment es key (after_entry moment e t) are.1 first.1 in
     (rest.0 ∙ first.0, rest.1)
 
--- the row of a duty after a batch that records no attempt
-written_keeps : (b : Option Batch) (key : ℕ) (s : State) → HasNoAttempt b → key ≤ s.tables.duties.created
+-- the row of a duty after a batch of a request, which records no attempt
+written_keeps : (action : Action) (b : Option Batch) (key : ℕ) (s : State) → WritesOf action b → key ≤ s.tables.duties.created
     → pending_row key (after_written b s).tables.duties ≡ pending_row key s.tables.duties
-written_keeps None key s none known = refl
-written_keeps (Some b) key s none known = (entries_keep b.moment b.entries key s.tables none known).0
+written_keeps action None key s of known = refl
+written_keeps action (Some b) key s of known = (entries_keep action b.moment b.entries key s.tables of known).0
 
 -- the open claim of a duty, once another duty's claim was made or ended
 claimed_other : (key : ℕ) (c : OpenClaim) (cs : List OpenClaim) → c.duty ≢ key → open_claim key (c ∷ cs) ≡ open_claim key cs
@@ -180,7 +171,7 @@ open_asked n s turn (asked request) c h (named, (reply, is)) other o =
     let known : c.number ≤ s.tables.duties.created =
     key_has (λ k. k ≤ s.tables.duties.created) c.number o.row s.tables.duties.pending h.numbered.known o.pending in
     still_open n s (after_written turn.batch s) c (ap (open_claim c.number) (open_written turn.batch s))
-    (written_keeps turn.batch c.number s (no_attempt is.answer) known) o
+    (written_keeps request.action turn.batch c.number s (request_form is.answer).writes known) o
 open_asked n s turn (claims duty reading) c h is other o =
     let now : ℕ = moment_at s.tables reading in
     let ne : duty ≢ c.number = next_other n s c now duty is.next o in

@@ -4,8 +4,7 @@ use Rattle.std.proofs.Common.{◌≡◌, ℕ, ◌+◌, ◌≤◌, max, true, fal
 use Rattle.std.proofs.Common.{length-append}
 use Rattle.std.proofs.Math.Nat.{le-max_left}
 use Rattle.std.specs.Prelude.{not, ◌==◌}
-use Rattle.rule_table.specs.Control.{Control, bus_created, bus_deleted, rule_put, rule_deleted, state_put, targets_put, targets_removed, policy_put}
-use Rattle.rule_table.specs.Control.{queue_created, queue_deleted}
+use Rattle.rule_table.specs.Control.{Control, bus_created}
 use Rattle.rule_table.specs.RuleSet.{RuleSet, first_set, applied, applied_all}
 use Rattle.router_core.specs.Batch.{Batch, Entry, control, accepted, attempt, messages_deleted}
 use Rattle.router_core.specs.Tables.{Tables, first_tables, after_entry, after_entries}
@@ -54,15 +53,7 @@ applied_append (c ∷ cs) ds set = applied_append cs ds (applied c set)
 
 applied_count : (c : Control) (set : RuleSet) → (applied c set).count ≡ set.count + 1
 applied_count (bus_created name) set = refl
-applied_count (bus_deleted name) set = refl
-applied_count (rule_put bus name pattern enabled) set = refl
-applied_count (rule_deleted bus name) set = refl
-applied_count (state_put bus name enabled) set = refl
-applied_count (targets_put bus rule targets) set = refl
-applied_count (targets_removed bus rule ids) set = refl
-applied_count (policy_put bus policy) set = refl
-applied_count (queue_created name) set = refl
-applied_count (queue_deleted name) set = refl
+applied_count _ set = refl
 
 counted : (cs : List Control) (set : RuleSet) → (applied_all cs set).count ≡ set.count + length cs
 counted [] set = omega arith

@@ -1,4 +1,3 @@
-use Rattle.std.proofs.Common.{◌<◌, length, arith}
 use Rattle.router_calls.proofs.QueueLemmas.{queue_there}
 use Rattle.router_calls.proofs.delete_messages.written.Goals as goal
 

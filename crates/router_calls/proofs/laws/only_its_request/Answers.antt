@@ -1,4 +1,4 @@
-use Rattle.router_calls.proofs.ChangeLemmas as lemmas
+use Rattle.router_calls.proofs.FormLemmas as lemmas
 use Rattle.router_calls.proofs.laws.only_its_request.Goals as goal
 
 pub returns : goal.returns

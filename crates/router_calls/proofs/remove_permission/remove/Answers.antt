@@ -1,4 +1,4 @@
-use Rattle.std.proofs.Common.{subst, ◌∙◌}
+use Rattle.std.proofs.Common.{subst}
 use Rattle.bus_policy.specs.Grantee.{IsRemoved}
 use Rattle.router_calls.proofs.PolicyLemmas.{rest_revoked}
 use Rattle.router_calls.proofs.remove_permission.remove.Goals as goal
