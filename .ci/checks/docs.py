@@ -339,6 +339,13 @@ def laws_of(root):
 
 
 SHOWN_TEST = re.compile(r"([a-z0-9_]+) ([\w/]+\.rt): (\w+(?:, \w+)*)$")
+SHOWN_ROWS = re.compile(r"tables ([a-z0-9_]+\.rows): (\w+(?:, \w+)*)$")
+
+
+def tables_in(root, file):
+    """The names of the tables of a file of rows; nothing if there is no such file."""
+    path = root / "examples" / "tables" / file
+    return re.findall(r"^== (\w+), ", path.read_text(encoding="utf-8"), flags=re.M) if path.is_file() else []
 
 
 def check_shown(root, crates, laws, place, shown, others):
@@ -352,6 +359,9 @@ def check_shown(root, crates, laws, place, shown, others):
             check(sources and sources[0].is_test, place, f"{crate} has no file of tests {file}")
             for name in names.split(", ") if sources else ():
                 check(any(it.name == name and it.is_test for it in sources[0].functions), place, f"{crate} {file} has no test {name}")
+        elif found := SHOWN_ROWS.match(item):
+            for name in found[2].split(", "):
+                check(name in tables_in(root, found[1]), place, f"examples/tables/{found[1]} has no table {name}")
         elif item.endswith(".edit"):
             check(any(item in it.edits for it in crates.values()), place, f"there is no edit {item}")
         elif item.startswith("law "):
@@ -481,7 +491,7 @@ def words_outside_docs(root):
         for base in root.glob(folder):
             for file in base.rglob("*"):
                 words.add(file.stem)
-                if file.is_file() and file.suffix in (".rt", ".antt", ".py", ".sh", ".edit", ".http", ".replies", ""):
+                if file.is_file() and file.suffix in (".rt", ".antt", ".py", ".sh", ".edit", ".http", ".replies", ".rows", ""):
                     words.update(re.findall(r"\w+", file.read_text(encoding="utf-8", errors="replace")))
     return words
 

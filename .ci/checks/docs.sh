@@ -9,6 +9,7 @@
 #    `pub fn` of crates/*/src, or of a function of a trait that is `pub`; not of `pub(crate)`, not of tests.
 #    Each of X and Y is one of these, and exists:
 #        crate file.rt: test_a, test_b   functions with `#[test]`, by their crate and their file below src/
+#        tables file.rows: a, b          tables of rows, by their file in examples/tables/
 #        NAME                            a stored run: examples/NAME.http
 #        name.edit                       an edit in crates/NAME/edits/
 #        law name                        a theorem: a `pub fn name()` with clauses alone, or a lemma of a proofs/ folder

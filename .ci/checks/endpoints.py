@@ -224,15 +224,21 @@ def two_retries():
 
 
 def delays_grow():
-    """With an age of 60 seconds there are six attempts, after 0, 1, 3, 7, 15 and 31 seconds; a seventh would be too late."""
+    """With an age of 60 seconds there are six attempts, after 0, 1, 3, 7, 15 and 31 seconds, none of them early; a seventh would be too late."""
     with Endpoint(503) as endpoint, session() as it:
         it.put_rule("r", [("t", endpoint.url, {BY_AGE: AGE})])
         it.put_event()
-        began = time.monotonic()
-        expect("the sums of DeliverDue", deliver(it, 1, AGE), counts(6, dead_lettered=1))
-        spent = time.monotonic() - began
-        if not 30 <= spent < 40:
-            raise Failure(f"the six attempts took {spent:.1f} s, and 31 s are wanted")
+        made, ended, end = [], 0, time.monotonic() + AGE
+        while not ended and time.monotonic() < end:
+            before = int(time.time())
+            got = it.ask("DeliverDue")
+            made += [(before, int(time.time()))] * got["Attempts"]
+            ended += got["DeadLettered"]
+            time.sleep(0.1)
+        expect("the numbers of attempts and of dead letters", (len(made), ended), (6, 1))
+        gaps = [after - before for (before, _), (_, after) in zip(made, made[1:])]
+        if any(gap < wanted for gap, wanted in zip(gaps, (1, 2, 4, 8, 16))) or not 31 <= made[-1][1] - made[0][0] < 40:
+            raise Failure(f"the six attempts were {gaps} s apart, and 1, 2, 4, 8 and 16 s are wanted")
         expect("PeekMessages", [it["Attributes"] for it in it.messages()], [answered(endpoint.url, 503, BY_AGE, 5)])
 
 

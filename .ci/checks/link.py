@@ -173,6 +173,13 @@ CASES = {
     "closed in the head": Case(replies(b"HTTP/1.1 200 OK\r\nContent-"), NO_ANSWER),
     "103, then 200": Case(replies(HINTS, OK), DELIVERED),
     "103 and 200 at once": Case(replies(HINTS + OK), DELIVERED),
+    "103 and a part of 200, then its rest": Case(
+        replies(b"HTTP/1.1 103 Early Hints\r\n\r\nHTTP/1.1 2", b"00 OK\r\nContent-Length: 2\r\n\r\nok", pause=0.3),
+        DELIVERED,
+        url="http://localhost:%d/x?a=1",
+        host="localhost",
+        target="/x?a=1",
+    ),
     "100, 103, 103, then 503": Case(replies(CONTINUE, HINTS, HINTS, head("503 Service Unavailable")), "STATUS_503"),
     "103, then closed": Case(replies(HINTS), "STATUS_103"),
     "103, then silence": Case(replies_and_holds(HINTS), "STATUS_103", WAITS),

@@ -8,7 +8,7 @@ use Rattle.event_shape.specs.Unnumbered.{Unnumbered}
 use Rattle.event_shape.specs.declared.entry.EntryFault.{EntryFault}
 
 -- An entry without a fault gives its event, whose number is open and whose account is the caller. Another entry gives its first fault.
--- Shown by: wire_tests test_api_wire/requests.rt: an_event_has_the_account_of_its_caller, a_request_has_what_the_message_gives.
+-- Shown by: tables api_wire.rows: an_event_has_the_account_of_its_caller, a_request_has_what_the_message_gives.
 abbrev pub IsChecked : ℕ → List ℕ → Entry → Result Unnumbered EntryFault → Type 0
 IsChecked reading caller entry (Ok u) =
     (c : Checked) × IsCheckedOf entry c × IsMade c 0 reading caller u.event × (u.bus ≡ c.bus)
@@ -16,13 +16,13 @@ IsChecked reading caller entry (Ok u) =
 IsChecked reading caller entry (Err fault) = IsFirst (entry_checks entry) fault
 
 -- Each entry gives what `IsChecked` says, in order.
--- Shown by: wire_tests test_api_wire/requests.rt: a_request_has_what_the_message_gives.
+-- Shown by: tables api_wire.rows: a_request_has_what_the_message_gives.
 abbrev pub AreChecked : ℕ → List ℕ → List Entry → List (Result Unnumbered EntryFault) → Type 0
 AreChecked reading caller [] all = all ≡ []
 AreChecked reading caller (entry ∷ entries) all = (one : Result Unnumbered EntryFault) × (rest : List (Result Unnumbered EntryFault))
     × (all ≡ one ∷ rest) × IsChecked reading caller entry one × AreChecked reading caller entries rest
 
 -- The number of bytes that the entries have together, faulty ones included.
--- Shown by: wire_tests test_api_wire/requests.rt: a_request_has_what_the_message_gives.
+-- Shown by: tables api_wire.rows: a_request_has_what_the_message_gives.
 abbrev pub total_size : List Entry → ℕ
 total_size entries = sum_by size_of entries

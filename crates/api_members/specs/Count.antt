@@ -14,7 +14,7 @@ is_int [] = false
 is_int (b ∷ bs) = ((b == 48) && (length bs == 0)) || (is_digit_above_zero b && list_all is_ascii_digit bs)
 
 -- The number that such a spelling (`is_int`) writes.
--- Shown by: wire_tests test_api_members.rt: a_value_is_valid.
+-- Shown by: tables api_members.rows: a_value_is_valid.
 abbrev pub whole_number : List ℕ → Option ℕ
 whole_number spelling = if is_int spelling then Some (digits_value 10 spelling) else None
 
@@ -29,6 +29,6 @@ count_of least most (number spelling) = option_and_then (if_within least most) (
 count_of least most _ = None
 
 -- The `count_of` of an optional value.
--- Shown by: wire_tests test_api_wire.rt: a_deletion_has_its_first_refusal.
+-- Shown by: tables api_wire.rows: a_deletion_has_its_first_refusal.
 abbrev pub count_given : ℕ → ℕ → Option Tree → Option ℕ
 count_given least most value = option_and_then (count_of least most) value

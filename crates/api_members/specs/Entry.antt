@@ -13,19 +13,19 @@ are_entry_members ms = may_be is.Text (given Source ms) && may_be is.Text (given
     && may_be is.Text (given EventBusName ms) && may_be is.Texts (given Resources ms) && may_be is.NumberOrText (given Time ms)
 
 -- An object whose members have the JSON types of an entry.
--- Shown by: wire_tests test_api_wire.rt: entries_have_their_json_types.
+-- Shown by: tables api_wire.rows: entries_have_their_json_types.
 abbrev pub is_entry : Tree → Bool
 is_entry tree = must_pass are_entry_members (object_in tree)
 
 -- The texts of a list, in order; a value that is no text is left out.
--- Shown by: wire_tests test_api_wire/requests.rt: a_call_on_a_rule_has_what_the_message_gives.
+-- Shown by: tables api_wire.rows: a_call_on_a_rule_has_what_the_message_gives.
 abbrev pub texts_of : List Tree → List (List ℕ)
 texts_of [] = []
 texts_of (text t ∷ values) = t ∷ texts_of values
 texts_of (_ ∷ values) = texts_of values
 
 -- The entry with these members, as they are given.
--- Shown by: wire_tests test_api_wire/requests.rt: a_request_has_what_the_message_gives.
+-- Shown by: tables api_wire.rows: a_request_has_what_the_message_gives.
 abbrev pub entry_with : Members → Entry
 entry_with ms = record {
   time = given Time ms;
@@ -37,6 +37,6 @@ entry_with ms = record {
 }
 
 -- The entries that the values of a list are, in order.
--- Shown by: wire_tests test_api_wire/requests.rt: a_request_has_what_the_message_gives.
+-- Shown by: tables api_wire.rows: a_request_has_what_the_message_gives.
 abbrev pub entries_of : List Tree → List Entry
 entries_of values = map (λ tree. entry_with (members_in tree)) values

@@ -23,7 +23,7 @@ abbrev pub is_event : Tree → Bool
 is_event tree = must_pass are_event_members (object_in tree)
 
 -- The text is JSON within 100 levels, of this event. A repeated key keeps its last value.
--- Shown by: wire_tests test_api_wire.rt: a_pattern_is_refused_before_its_event.
+-- Shown by: tables api_wire.rows: a_pattern_is_refused_before_its_event.
 abbrev pub IsEventGiven : List ℕ → Tree → Type 0
 IsEventGiven t event = (node : Node) × IsText 100 t node × (value_of node ≡ event) × IsTrue (is_event event)
 

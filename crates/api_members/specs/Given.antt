@@ -22,12 +22,12 @@ abbrev pub given : Member → Members → Option Tree
 given m members = value_at (member_name m) members
 
 -- The member's text, if it is given as a text.
--- Shown by: wire_tests test_api_wire/requests.rt: a_request_has_what_the_message_gives.
+-- Shown by: tables api_wire.rows: a_request_has_what_the_message_gives.
 abbrev pub text_given : Member → Members → Option (List ℕ)
 text_given m members = option_and_then text_in (given m members)
 
 -- The member's text, empty if no text is given.
--- Shown by: wire_tests test_api_wire/requests.rt: a_request_has_what_the_message_gives.
+-- Shown by: tables api_wire.rows: a_request_has_what_the_message_gives.
 abbrev pub text_of : Member → Members → List ℕ
 text_of m members = unwrap_or (text_given m members) []
 
@@ -42,11 +42,11 @@ list_in (list items) = Some (trees_in items)
 list_in _ = None
 
 -- The values of a member's list; none if no list is given.
--- Shown by: wire_tests test_api_wire/requests.rt: a_request_has_what_the_message_gives.
+-- Shown by: tables api_wire.rows: a_request_has_what_the_message_gives.
 abbrev pub values_in : Member → Members → List Tree
 values_in m members = unwrap_or (option_and_then list_in (given m members)) []
 
 -- The members of an object; none if the value is no object.
--- Shown by: wire_tests test_api_wire/requests.rt: a_request_has_what_the_message_gives.
+-- Shown by: tables api_wire.rows: a_request_has_what_the_message_gives.
 abbrev pub members_in : Tree → Members
 members_in tree = unwrap_or (object_in tree) no_members

@@ -12,7 +12,7 @@ each_value test no_members = true
 each_value test (member key t members) = test t && each_value test members
 
 -- The value has this JSON type: text, number, number or text, list of texts, object of texts.
--- Shown by: wire_tests test_api_wire.rt: entries_have_their_json_types.
+-- Shown by: tables api_wire.rows: entries_have_their_json_types.
 abbrev pub has_type : JsonType → Tree → Bool
 has_type is.Text tree = is_text tree
 has_type is.Number (number spelling) = true

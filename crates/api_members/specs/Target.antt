@@ -29,7 +29,7 @@ are_target_members ms = must_be is.Text (given Id ms) && must_be is.Text (given 
     && may_pass is_retry_policy (given RetryPolicy ms) && may_pass is_dead_letter_config (given DeadLetterConfig ms)
 
 -- An object with an Id and an Arn, whose members have the JSON types of a target.
--- Shown by: wire_tests test_api_wire.rt: targets_have_their_json_types.
+-- Shown by: tables api_wire.rows: targets_have_their_json_types.
 abbrev pub is_target : Tree → Bool
 is_target tree = must_pass are_target_members (object_in tree)
 
@@ -41,7 +41,8 @@ number_or default greatest (Some tree) = count_of 0 greatest tree
 
 -- `MaximumRetryAttempts` of a retry policy; 185 if it is absent. None if it is no whole number, or above 65,535, the greatest value of its
 -- type.
--- Shown by: wire_tests test_api_members.rt: a_retry_policy_has_plain_numbers_or_defaults.
+-- Shown by: tables api_members.rows: a_retry_policy_has_plain_numbers_or_defaults; request_tests test_api_members.rt:
+-- a_retry_policy_has_plain_numbers_or_defaults.
 abbrev pub attempts_given : Members → Option ℕ
 attempts_given policy = number_or 185 65535 (value_at (codes "MaximumRetryAttempts") policy)
 
@@ -52,6 +53,6 @@ abbrev pub age_given : Members → Option ℕ
 age_given policy = number_or 86400 4294967295 (value_at (codes "MaximumEventAgeInSeconds") policy)
 
 -- The Arn of a target's DeadLetterConfig, if one is given.
--- Shown by: wire_tests test_api_members.rt: a_dead_letter_queue_is_that_of_the_config.
+-- Shown by: tables api_members.rows: a_dead_letter_queue_is_that_of_the_config.
 abbrev pub dead_letter_given : Members → Option (List ℕ)
 dead_letter_given ms = option_and_then (λ config. text_given Arn (members_in config)) (given DeadLetterConfig ms)

@@ -48,7 +48,7 @@ is_truth (truth b) = true
 is_truth _ = false
 
 -- The bus whose name or ARN is given, or else `default`.
--- Shown by: wire_tests test_api_wire.rt: a_rule_is_refused_for_its_first_member.
+-- Shown by: tables api_wire.rows: a_rule_is_refused_for_its_first_member.
 abbrev pub bus_or_default : Option (List ℕ) → List ℕ
 bus_or_default given = unwrap_or (option_and_then bus_in given) default_bus
 
@@ -64,7 +64,7 @@ is_list_of test most tree = must_pass (are_few test most) (list_in tree)
 -- pattern's text, an event's text, a state, a whole number within limits, a list of 1 to 10 entries, of 1 to 100 targets or of 1 to 100
 -- targets' ids, a policy's text, a StatementId, `events:PutEvents`, an account or `*`, a truth value. A member that is not served is never
 -- valid.
--- Shown by: wire_tests test_api_members.rt: a_value_is_valid.
+-- Shown by: tables api_members.rows: a_value_is_valid.
 abbrev pub IsValid : Syntax → Tree → Type 0
 IsValid syntax.QueueName tree = IsTextThat IsQueueName tree
 IsValid syntax.RuleName tree = IsTextThat IsShortName tree

@@ -6,7 +6,7 @@ use Rattle.bus_policy.specs.declared.fault.PolicyCause.{PolicyCause}
 use Rattle.bus_policy.specs.declared.fault.PolicyCause.TheVariants as policy
 
 -- The name of the reason why a text is no pattern, as a message has it.
--- Shown by: wire_tests test_api_wire.rt: a_rule_is_refused_for_its_first_member.
+-- Shown by: tables api_wire.rows: a_rule_is_refused_for_its_first_member.
 abbrev pub why_name : Why → List ℕ
 why_name why.TooLong = codes "TooLong"
 why_name why.NotJson = codes "NotJson"
@@ -25,7 +25,7 @@ why_name why.BadWildcard = codes "BadWildcard"
 why_name why.TooMany = codes "TooMany"
 
 -- The name of the reason why a text is no policy, as a message has it.
--- Shown by: wire_tests test_api_members.rt: a_text_is_no_policy_for_its_reason.
+-- Shown by: tables api_members.rows: a_text_is_no_policy_for_its_reason.
 abbrev pub policy_why_name : PolicyCause → List ℕ
 policy_why_name policy.TooLong = codes "TooLong"
 policy_why_name policy.NotJson = codes "NotJson"

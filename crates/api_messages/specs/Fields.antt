@@ -15,7 +15,7 @@ use Rattle.api_messages.specs.declared.message.Refusal.{Refusal}
 use Rattle.api_messages.specs.declared.message.Refusal.TheVariants.{BadHead, LengthRequired, TooLarge}
 
 -- The method that the bytes name: POST, HEAD or another. Case counts (RFC 9110, section 9.1).
--- Shown by: wire_tests test_api_messages.rt: other_methods_may_have_a_body_or_none.
+-- Shown by: tables api_messages.rows: other_methods_may_have_a_body_or_none.
 unfoldable pub method_of : List ℕ → Method
 method_of bytes = if bytes_eq bytes (codes "POST") then Post else (if bytes_eq bytes (codes "HEAD") then Head else Other)
 
@@ -39,7 +39,7 @@ unfoldable pub is_named : List ℕ → List ℕ → Bool
 is_named name field = bytes_eq (map to_ascii_lowercase field) (map to_ascii_lowercase name)
 
 -- The values of the fields of a name, in order, without the white space around each value. Names are compared without case.
--- Shown by: wire_tests test_api_messages.rt: a_sender_asks_to_close_by_version_or_by_a_field.
+-- Shown by: tables api_messages.rows: a_sender_asks_to_close_by_version_or_by_a_field.
 abbrev pub values_of : List ℕ → List Pair → List (List ℕ)
 values_of name pairs = map (λ p. p.1) (filter (λ p. is_named name p.0) pairs)
 
@@ -49,7 +49,7 @@ pub data Occurrence : Type 0 where
   once : List ℕ → Occurrence
 
 -- A field is absent, occurs once with this value, or is repeated.
--- Shown by: wire_tests test_api_messages.rt: heads_that_break_a_rule_are_refused_from_their_last_byte_on.
+-- Shown by: tables api_messages.rows: heads_that_break_a_rule_are_refused_from_their_last_byte_on.
 abbrev pub occurs : List (List ℕ) → Occurrence
 occurs [] = absent
 occurs (value ∷ []) = once value
@@ -61,7 +61,7 @@ occurrence_of name pairs = occurs (values_of name pairs)
 
 -- A Connection value that asks to close: `close` as a whole, without case (RFC 9112, section 9.6). A list of options is not read (this
 -- project's own rule).
--- Shown by: wire_tests test_api_messages.rt: a_sender_asks_to_close_by_version_or_by_a_field.
+-- Shown by: tables api_messages.rows: a_sender_asks_to_close_by_version_or_by_a_field.
 abbrev pub is_close : List ℕ → Bool
 is_close value = is_named (codes "close") value
 
@@ -104,13 +104,13 @@ is_repeated (once value) = false
 is_repeated repeated = true
 
 -- 1 to 10 decimal digits, leading zeros too (RFC 9110, section 8.6; the number of digits is this project's own bound).
--- Shown by: wire_tests test_api_messages.rt: heads_that_break_a_rule_are_refused_from_their_last_byte_on.
+-- Shown by: tables api_messages.rows: heads_that_break_a_rule_are_refused_from_their_last_byte_on.
 unfoldable pub is_length : List ℕ → Bool
 is_length value = (nat_le 1 (length value) && nat_le (length value) 10) && list_all is_ascii_digit value
 
 -- The length that a Content-Length writes: `0000000017` is 17. `1048577` is refused as `TooLarge` (this project's own limit), `+1` as
 -- `BadHead`.
--- Shown by: wire_tests test_api_messages.rt: heads_that_break_a_rule_are_refused_from_their_last_byte_on.
+-- Shown by: tables api_messages.rows: heads_that_break_a_rule_are_refused_from_their_last_byte_on.
 unfoldable pub length_of : List ℕ → Result ℕ Refusal
 length_of value =
     if is_length value then (if nat_le (digits_value 10 value) most_body then Ok (digits_value 10 value) else Err TooLarge) else Err BadHead
@@ -124,7 +124,8 @@ length_at method (once value) = length_of value
 length_at method repeated = Err BadHead
 
 -- A field's value as a text; a value that is not UTF-8 is the empty text.
--- Shown by: wire_tests test_api_messages.rt: a_field_that_is_not_utf_8_is_an_empty_text.
+-- Shown by: tables api_messages.rows: a_field_that_is_not_utf_8_is_an_empty_text; request_tests test_api_messages.rt:
+-- a_field_that_is_not_utf_8_is_an_empty_text.
 unfoldable pub text_of : List ℕ → List ℕ
 text_of value = if is_utf8 value then value else []
 
@@ -151,6 +152,6 @@ abbrev pub body_length : RequestHead → Result ℕ Refusal
 body_length h = body_length_by (method_of h.method) h.minor (known_of (pairs_of h))
 
 -- Version 1.0, or a Connection field that is `close` (RFC 9112, section 9.3). `Connection: keep-alive, close` does not ask to close.
--- Shown by: wire_tests test_api_messages.rt: a_sender_asks_to_close_by_version_or_by_a_field.
+-- Shown by: tables api_messages.rows: a_sender_asks_to_close_by_version_or_by_a_field.
 abbrev pub asks_to_close : RequestHead → Bool
 asks_to_close h = (h.minor == 0) || (known_of (pairs_of h)).close

@@ -5,7 +5,7 @@ use Rattle.httparse.specs.Grammar.{RequestHead, lf, print_end, ReadsRequest, is_
 use Rattle.httparse.specs.Pieces.{is_newline}
 
 -- With an empty line, which is a single LF, the bytes are a head with 64 fields.
--- Shown by: wire_tests test_api_messages.rt: a_65th_field_is_refused_at_its_first_byte.
+-- Shown by: tables api_messages.rows: a_65th_field_is_refused_at_its_first_byte.
 pub record IsFull (front : List ℕ) : Type 0 where
   pub head : RequestHead
   pub reads : ReadsRequest (front ++ print_end lf) head []

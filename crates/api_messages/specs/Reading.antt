@@ -88,7 +88,8 @@ pub record Incoming : Type 0 where
 
 -- What `WireIn::next` returns and leaves: a message, which is taken from the front; `None` if the bytes are awaited; `Refused` with the
 -- reason if they are refused, and then forever; or out of memory, only if a message is whole.
--- Shown by: wire_tests test_api_messages.rt: messages_follow_one_another_in_any_pieces.
+-- Shown by: tables api_messages.rows: messages_follow_one_another_in_any_pieces; request_tests test_api_messages.rt:
+-- a_refusal_stays_and_keeps_its_bytes.
 abbrev pub Answers : Incoming → Incoming → Result (Option Message) WireFault → Type 0
 Answers old new (Ok (Some m)) = HoldsMessage old.rest m new.rest × (new.refused ≡ None)
 Answers old new (Ok None) = IsAwaited old.rest × (new ≡ old)

@@ -7,7 +7,7 @@ use Rattle.api_replies.specs.declared.cause.Cause.{Cause}
 use Rattle.api_replies.specs.declared.cause.Cause.TheVariants as cause
 
 -- The type of the error that reports a cause: `__type` of a refusal, `ErrorCode` of a failed entry or target.
--- Shown by: table_tests test_api_replies.rt: each_refusal_has_its_status_and_its_text, each_refused_deletion_has_its_type_and_message.
+-- Shown by: tables api_replies.rows: each_refusal_has_its_status_and_its_text, each_refused_deletion_has_its_type_and_message.
 abbrev pub type_of : Cause → List ℕ
 type_of cause.UnknownOperation = codes "UnknownOperationException"
 type_of cause.NoObject = codes "SerializationException"
@@ -34,8 +34,7 @@ type_of (cause.DeniedBy statement) = codes "AccessDeniedException"
 type_of cause.NotAllowed = codes "AccessDeniedException"
 
 -- The message that reports a cause: `message` of a refusal, `ErrorMessage` of a failed entry or target.
--- Shown by: table_tests test_api_replies.rt: each_refusal_has_its_status_and_its_text,
--- each_refused_change_of_a_policy_has_its_type_and_message.
+-- Shown by: tables api_replies.rows: each_refusal_has_its_status_and_its_text, each_refused_change_of_a_policy_has_its_type_and_message.
 abbrev pub message_of : Cause → List ℕ
 message_of cause.UnknownOperation = codes "Unknown operation."
 message_of cause.NoObject = codes "The body is not a JSON object."
@@ -62,6 +61,6 @@ message_of (cause.DeniedBy statement) = codes "Denied by statement " ++ (stateme
 message_of cause.NotAllowed = codes "No statement allows it."
 
 -- The members `ErrorCode` and `ErrorMessage` of an entry or target that failed for a cause.
--- Shown by: table_tests test_api_replies.rt: each_cause_of_a_failed_item_has_its_members.
+-- Shown by: tables api_replies.rows: each_cause_of_a_failed_item_has_its_members.
 abbrev pub failed_members : Cause → List (List ℕ × Tree)
 failed_members c = (codes "ErrorCode", text (type_of c)) ∷ (codes "ErrorMessage", text (message_of c)) ∷ []

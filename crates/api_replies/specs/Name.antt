@@ -6,7 +6,7 @@ use Rattle.api_replies.specs.declared.member.Member.{Member}
 use Rattle.api_replies.specs.declared.member.Member.TheVariants as member
 
 -- The word of a kind of things, as a message begins with it (this project's own): `Event bus`, `Rule`, `Target`, `Queue`.
--- Shown by: table_tests test_api_replies.rt: each_refusal_has_its_status_and_its_text.
+-- Shown by: tables api_replies.rows: each_refusal_has_its_status_and_its_text.
 abbrev pub kind_word : Kind → List ℕ
 kind_word kind.EventBus = codes "Event bus"
 kind_word kind.Rule = codes "Rule"
@@ -15,7 +15,7 @@ kind_word kind.Queue = codes "Queue"
 
 -- How many there may be: 100 event buses, 300 rules of a bus and 5 targets of a rule, which are EventBridge quotas, and 1,000 queues (this
 -- project's own limit).
--- Shown by: table_tests test_api_replies.rt: each_kind_has_its_limit.
+-- Shown by: tables api_replies.rows: each_kind_has_its_limit; most-buses; .ci/checks/mixed.sh.
 abbrev pub kind_limit : Kind → ℕ
 kind_limit kind.EventBus = 100
 kind_limit kind.Rule = 300
@@ -23,7 +23,7 @@ kind_limit kind.Target = 5
 kind_limit kind.Queue = 1000
 
 -- The name of a member, as requests spell it, or of the header field `x-caller-account`.
--- Shown by: table_tests test_api_replies.rt: each_refusal_has_its_status_and_its_text, each_refused_caller_has_its_type_and_message.
+-- Shown by: tables api_replies.rows: each_refusal_has_its_status_and_its_text, each_refused_caller_has_its_type_and_message.
 abbrev pub member_name : Member → List ℕ
 member_name member.Action = codes "Action"
 member_name member.Arn = codes "Arn"

@@ -14,13 +14,13 @@ close_field true = codes "Connection: close" ++ crlf
 close_field false = []
 
 -- The field `Allow: POST`, in a reply 405 alone (RFC 9110, section 10.2.1).
--- Shown by: table_tests test_api_replies.rt: replies_without_memory_are_written_out.
+-- Shown by: get-is-refused.
 abbrev pub allow_field : ℕ → List ℕ
 allow_field status = if status == 405 then codes "Allow: POST" ++ crlf else []
 
 -- Status line, Content-Type, the Content-Length of a body of that length, these further fields, `Connection: close` if the connection ends,
 -- an empty line, and what is sent after it (RFC 9112, section 4).
--- Shown by: table_tests test_api_replies.rt: replies_without_memory_are_written_out.
+-- Shown by: get-is-refused; bad-head.
 abbrev pub message_with : ℕ → ℕ → List ℕ → Bool → List ℕ → List ℕ
 message_with status len more close sent =
     codes "HTTP/1.1 " ++ (decimal status ++ (codes " " ++ (unwrap_or (reason_phrase status) [] ++ (crlf
@@ -39,7 +39,7 @@ abbrev pub reply_text : Reply → Bool → List ℕ
 reply_text reply close = message_text reply.status (compact_text reply.body) close
 
 -- The `reply_text` without the body, as the reply to a HEAD. Its Content-Length is that of the body (RFC 9110, section 9.3.2).
--- Shown by: table_tests test_api_replies.rt: replies_without_memory_are_written_out.
+-- Shown by: head-request.
 abbrev pub reply_head : Reply → Bool → List ℕ
 reply_head reply close = message_with reply.status (length (compact_text reply.body)) (allow_field reply.status) close []
 

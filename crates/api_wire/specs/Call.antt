@@ -42,7 +42,7 @@ use Rattle.api_wire.specs.declared.call.operation.Operation.TheVariants.{CreateQ
 use Rattle.api_messages.specs.declared.message.Message.{Message}
 
 -- The operations that are this project's own: those whose name begins with `RouterLocal.`
--- Shown by: wire_tests test_api_wire.rt: a_deletion_has_its_first_refusal.
+-- Shown by: tables api_wire.rows: a_deletion_has_its_first_refusal.
 abbrev pub local_operation : List ℕ → Option Operation
 local_operation name =
     if bytes_eq name (codes "RouterLocal.CreateQueue") then Some CreateQueue else (
@@ -53,7 +53,7 @@ local_operation name =
     if bytes_eq name (codes "RouterLocal.DutyCounts") then Some DutyCounts else None)))))
 
 -- The operation of an X-Amz-Target, compared exactly: `RouterLocal.CreateQueue` has one, `routerlocal.createqueue` has none.
--- Shown by: wire_tests test_api_wire.rt: a_message_has_its_first_refusal.
+-- Shown by: tables api_wire.rows: a_message_has_its_first_refusal.
 abbrev pub named_operation : List ℕ → Option Operation
 named_operation name =
     if bytes_eq name (codes "AWSEvents.CreateEventBus") then Some CreateEventBus else (
@@ -76,14 +76,14 @@ named_operation name =
     if bytes_eq name (codes "AWSEvents.TestEventPattern") then Some TestEventPattern else local_operation name)))))))))))))))))
 
 -- The operation of an optional X-Amz-Target. A message without the field has none.
--- Shown by: wire_tests test_api_wire.rt: a_message_has_its_first_refusal.
+-- Shown by: tables api_wire.rows: a_message_has_its_first_refusal.
 abbrev pub operation_of : Option (List ℕ) → Option Operation
 operation_of None = None
 operation_of (Some name) = named_operation name
 
 -- What a PutPermission asks: with a Policy nothing of a statement. A Condition is refused after the other members, but before a fault of
 -- the policy.
--- Shown by: wire_tests test_api_wire.rt: a_permission_is_refused_for_its_first_member.
+-- Shown by: tables api_wire.rows: a_permission_is_refused_for_its_first_member.
 abbrev pub permission_asked : Option Tree → List Asked
 permission_asked None = Optional member.EventBusName syntax.Bus ∷ Required member.StatementId syntax.StatementId
     ∷ Required member.Action syntax.PutEventsAction ∷ Required member.Principal syntax.Principal ∷ Optional member.Condition syntax.Unserved ∷ []
@@ -91,7 +91,7 @@ permission_asked (Some policy) = Optional member.EventBusName syntax.Bus ∷ Req
     ∷ Optional member.Condition syntax.Unserved ∷ Required member.Policy syntax.Policy ∷ []
 
 -- What each operation asks of its members, in the order in which they are checked. A PutPermission asks otherwise if a Policy is given.
--- Shown by: wire_tests test_api_wire.rt: a_rule_is_refused_for_its_first_member, a_call_on_a_bus_has_its_first_refusal,
+-- Shown by: tables api_wire.rows: a_rule_is_refused_for_its_first_member, a_call_on_a_bus_has_its_first_refusal,
 -- a_removal_has_its_first_refusal.
 abbrev pub asked : Operation → Members → List Asked
 asked CreateEventBus ms = Required member.Name syntax.BusName ∷ []
@@ -127,28 +127,28 @@ abbrev pub bus_named : Member → Members → List ℕ
 bus_named m ms = bus_or_default (text_given m ms)
 
 -- The `bus_named` of the member EventBusName.
--- Shown by: wire_tests test_api_wire/requests.rt: a_request_has_what_the_message_gives.
+-- Shown by: tables api_wire.rows: a_request_has_what_the_message_gives.
 abbrev pub event_bus : Members → List ℕ
 event_bus ms = bus_named member.EventBusName ms
 
 -- Whom a Principal names: `*` is everyone, any other text an account.
--- Shown by: wire_tests test_api_wire/requests.rt: a_permission_has_what_the_message_gives.
+-- Shown by: tables api_wire.rows: a_permission_has_what_the_message_gives.
 abbrev pub account_in : List ℕ → Option (List ℕ)
 account_in principal = if bytes_eq principal (codes "*") then None else Some principal
 
 -- The text as which the policy of this text is stored.
--- Shown by: wire_tests test_api_wire/requests.rt: a_permission_has_what_the_message_gives.
+-- Shown by: tables api_wire.rows: a_permission_has_what_the_message_gives.
 abbrev pub IsStoredAs : List ℕ → List ℕ → Type 0
 IsStoredAs given_text stored = (policy : Tree) × IsPolicyText given_text policy × (stored ≡ compact_text policy)
 
 -- RemoveAllPermissions is given as `true`.
--- Shown by: wire_tests test_api_wire/requests.rt: a_removal_has_what_the_message_gives.
+-- Shown by: tables api_wire.rows: a_removal_has_what_the_message_gives.
 abbrev pub removes_all : Option Tree → Bool
 removes_all (Some (truth b)) = b
 removes_all _ = false
 
 -- A rule is enabled unless its State is `DISABLED`.
--- Shown by: wire_tests test_api_wire/requests.rt: a_request_has_what_the_message_gives.
+-- Shown by: tables api_wire.rows: a_request_has_what_the_message_gives.
 abbrev pub is_enabled : Option (List ℕ) → Bool
 is_enabled None = true
 is_enabled (Some state) = not (bytes_eq state (codes "DISABLED"))
@@ -160,7 +160,7 @@ first_given [] ms = None
 first_given (m ∷ others) ms = if is_some (given m ms) then Some m else first_given others ms
 
 -- The members of a target that are not supported yet: Input, InputPath, InputTransformer.
--- Shown by: wire_tests test_api_wire/requests.rt: a_target_has_its_retry_policy_and_its_dead_letter_queue.
+-- Shown by: tables api_wire.rows: a_target_has_its_retry_policy_and_its_dead_letter_queue.
 abbrev pub unsupported : List Member
 unsupported = member.Input ∷ member.InputPath ∷ member.InputTransformer ∷ []
 
@@ -171,7 +171,7 @@ retry_given None = None
 retry_given (Some policy) = Some (record { attempts = attempts_given (members_in policy); age = age_given (members_in policy) })
 
 -- The target with these members: its id, ARN, retry policy and dead-letter queue, and the first member that is not supported yet.
--- Shown by: wire_tests test_api_wire/requests.rt: a_request_has_what_the_message_gives.
+-- Shown by: tables api_wire.rows: a_request_has_what_the_message_gives.
 abbrev pub target_with : Members → AskedTarget
 target_with ms = record {
   id = text_of member.Id ms;
@@ -187,14 +187,15 @@ abbrev pub targets_of : List Tree → List AskedTarget
 targets_of values = map (λ tree. target_with (members_in tree)) values
 
 -- A RemovePermission: the whole policy, or one statement of it.
--- Shown by: wire_tests test_api_wire/requests.rt: a_removal_has_what_the_message_gives.
+-- Shown by: tables api_wire.rows: a_removal_has_what_the_message_gives.
 abbrev pub removal_in : Members → Action
 removal_in ms =
     if removes_all (given member.RemoveAllPermissions ms) then remove_policy (event_bus ms) else remove_statement (event_bus ms) (text_given member.StatementId ms)
 
 -- The action that sound members of an operation make, a line for each operation. PutPermission, PutEvents and TestEventPattern have none
--- here: theirs depend on what a text spells, on the caller or on the reading (`IsAction`). A DeleteMessages has one if its Through is valid.
--- Shown by: wire_tests test_api_wire/requests.rt: a_request_has_what_the_message_gives, a_call_on_a_queue_has_what_the_message_gives,
+-- here: theirs depend on what a text spells, on the caller or on the reading (`IsAction`). A DeleteMessages has one if its Through is
+-- valid.
+-- Shown by: tables api_wire.rows: a_request_has_what_the_message_gives, a_call_on_a_queue_has_what_the_message_gives,
 -- a_call_on_a_rule_has_what_the_message_gives, a_removal_has_what_the_message_gives; the_default_budget_is_the_limit.edit.
 abbrev pub action_in : Operation → Members → Option Action
 action_in CreateEventBus ms = Some (create_event_bus (text_of member.Name ms))
@@ -221,13 +222,13 @@ action_in DutyCounts ms = Some duty_counts
 action_in _ ms = None
 
 -- A PutPermission: with a Policy, the bus gets it as it is stored; without one, the policy of the bus gets one more statement.
--- Shown by: wire_tests test_api_wire/requests.rt: a_permission_has_what_the_message_gives.
+-- Shown by: tables api_wire.rows: a_permission_has_what_the_message_gives.
 abbrev pub IsPermission : Option Tree → Members → Action → Type 0
 IsPermission None ms a = a ≡ put_statement (event_bus ms) (text_of member.StatementId ms) (account_in (text_of member.Principal ms))
 IsPermission (Some _) ms a = (policy : List ℕ) × IsStoredAs (text_of member.Policy ms) policy × (a ≡ put_policy (event_bus ms) policy)
 
 -- The members of an operation make this action of the caller, if they are sound.
--- Shown by: wire_tests test_api_wire/requests.rt: a_request_has_what_the_message_gives.
+-- Shown by: tables api_wire.rows: a_request_has_what_the_message_gives.
 abbrev pub IsAction : Operation → List ℕ → Members → ℕ → Action → Type 0
 IsAction PutPermission caller ms reading a = IsPermission (given member.Policy ms) ms a
 IsAction PutEvents caller ms reading a = (entries : List (Result Unnumbered EntryFault))
@@ -238,26 +239,26 @@ IsAction TestEventPattern caller ms reading a = (event : Tree) × IsEventGiven (
 IsAction operation caller ms reading a = action_in operation ms ≡ Some a
 
 -- The body is JSON within 100 levels, and an object with these members. An empty body counts as `{}`.
--- Shown by: wire_tests test_api_wire.rt: a_message_has_its_first_refusal.
+-- Shown by: tables api_wire.rows: a_message_has_its_first_refusal.
 abbrev pub IsBody : List ℕ → Members → Type 0
 IsBody [] members = members ≡ no_members
 IsBody (b ∷ bytes) members = (node : Node) × IsText 100 (b ∷ bytes) node × (value_of node ≡ object members)
 
 -- The account that asks: the one of the field `x-caller-account`, or the owner if there is no such field.
--- Shown by: wire_tests test_api_wire/requests.rt: an_event_has_the_account_of_its_caller.
+-- Shown by: tables api_wire.rows: an_event_has_the_account_of_its_caller.
 abbrev pub caller_of : Option (List ℕ) → List ℕ
 caller_of None = owner
 caller_of (Some account) = account
 
 -- Only the owner calls any operation but PutEvents.
--- Shown by: wire_tests test_api_wire.rt: a_caller_is_refused_before_the_members.
+-- Shown by: tables api_wire.rows: a_caller_is_refused_before_the_members.
 abbrev pub MayCall : Operation → List ℕ → Type 0
 MayCall PutEvents caller = Unit {0}
 MayCall _ caller = caller ≡ owner
 
 -- The message asks for this request: its caller is an account that may call its operation, whose sound members make the action; the request
 -- has this caller and this reading.
--- Shown by: wire_tests test_api_wire/requests.rt: a_request_has_what_the_message_gives.
+-- Shown by: tables api_wire.rows: a_request_has_what_the_message_gives.
 pub record IsAsked (m : Message) (reading : ℕ) (request : Request) : Type 0 where
   pub operation : Operation
   pub named : operation_of m.target ≡ Some operation
@@ -283,7 +284,7 @@ body_check operation bytes = record {
 
 -- The checks of a message that names this operation, in their order: the operation is known; the caller is an account; the body is an
 -- object; the caller may call the operation; the members have what it asks.
--- Shown by: wire_tests test_api_wire.rt: a_message_has_its_first_refusal, a_caller_is_refused_before_the_members.
+-- Shown by: tables api_wire.rows: a_message_has_its_first_refusal, a_caller_is_refused_before_the_members.
 abbrev pub message_checks : Message → Option Operation → List (Check Cause)
 message_checks m None = else_fault ⊥ cause.UnknownOperation ∷ []
 message_checks m (Some operation) =
@@ -294,6 +295,6 @@ message_checks m (Some operation) =
     ∷ []
 
 -- The message's first refusal.
--- Shown by: wire_tests test_api_wire.rt: a_message_has_its_first_refusal, a_caller_is_refused_before_the_members.
+-- Shown by: tables api_wire.rows: a_message_has_its_first_refusal, a_caller_is_refused_before_the_members.
 abbrev pub IsCallRefused : Message → Cause → Type 0
 IsCallRefused m = IsFirst (message_checks m (operation_of m.target))

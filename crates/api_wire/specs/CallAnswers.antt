@@ -8,7 +8,7 @@ use Rattle.api_messages.specs.declared.message.Message.{Message}
 use Rattle.api_wire.specs.Call.{GivesBody, IsCallRefused}
 
 -- The fault is the message's first refusal, or out of memory.
--- Shown by: wire_tests test_api_wire.rt: a_message_has_its_first_refusal.
+-- Shown by: tables api_wire.rows: a_message_has_its_first_refusal.
 abbrev pub IsFault : Message → CallFault → Type 0
 IsFault m = RefusedFor (IsCallRefused m)
 

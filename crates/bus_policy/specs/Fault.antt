@@ -10,7 +10,7 @@ use Rattle.bus_policy.specs.Grammar.{fault_of}
 use Rattle.bus_policy.specs.Text.{IsTextFault}
 
 -- The code's fault is the first fault of the text, at its place, or out of memory.
--- Shown by: event_tests test_bus_policy.rt: the_first_fault_is_reported_at_its_place.
+-- Shown by: tables bus_policy.rows: the_first_fault_is_reported_at_its_place.
 abbrev pub IsFirstFaultOrMemory : List ℕ → PolicyFault → Type 0
 IsFirstFaultOrMemory bytes (Bad cause place) = IsTextFault bytes cause place
 IsFirstFaultOrMemory bytes NoMemory = Unit {0}

@@ -108,7 +108,7 @@ is_statement_key key =
     list_any (bytes_eq key) (codes "Sid" ∷ codes "Effect" ∷ codes "Principal" ∷ codes "Action" ∷ codes "Resource" ∷ codes "Condition" ∷ [])
 
 -- The statement, after the statements before it, has a fault of this cause.
--- Shown by: event_tests test_bus_policy.rt: the_first_fault_is_reported_at_its_place.
+-- Shown by: tables bus_policy.rows: the_first_fault_is_reported_at_its_place.
 abbrev pub has_fault : List Tree → Tree → PolicyCause → Bool
 has_fault earlier s BadSid = not (member_is true (text_passes (is_new_sid earlier)) (member_of (codes "Sid") s))
 has_fault earlier s BadEffect = not (member_is false (text_passes is_effect) (member_of (codes "Effect") s))
@@ -125,7 +125,7 @@ has_fault earlier s NotObject = false
 has_fault earlier s BadVersion = false
 
 -- The first fault of a statement, in the order Sid, Effect, Principal, Action, Resource, Condition, any other member.
--- Shown by: event_tests test_bus_policy.rt: the_first_fault_is_reported_at_its_place.
+-- Shown by: tables bus_policy.rows: the_first_fault_is_reported_at_its_place.
 abbrev pub statement_fault : List Tree → Tree → Option PolicyCause
 statement_fault earlier s =
     find (has_fault earlier s) (BadSid ∷ BadEffect ∷ BadPrincipal ∷ BadAction ∷ BadResource ∷ BadCondition ∷ UnknownMember ∷ [])
@@ -142,7 +142,7 @@ first_fault earlier (item s statements) =
     fault_or (length earlier + 1) (statement_fault earlier s) (first_fault (earlier ++ s ∷ []) statements)
 
 -- The first fault of a policy's value with the place of its statement from 1, or 0 for the whole policy.
--- Shown by: event_tests test_bus_policy.rt: the_first_fault_is_reported_at_its_place.
+-- Shown by: tables bus_policy.rows: the_first_fault_is_reported_at_its_place.
 abbrev pub fault_of : Tree → Option (PolicyCause × ℕ)
 fault_of policy =
     if not (member_is false are_statements (member_of (codes "Statement") policy)) then Some (NotObject, 0) else
@@ -150,6 +150,6 @@ fault_of policy =
     first_fault [] (statements_of policy)
 
 -- The value has no fault.
--- Shown by: event_tests test_bus_policy.rt: the_first_fault_is_reported_at_its_place.
+-- Shown by: tables bus_policy.rows: the_first_fault_is_reported_at_its_place.
 abbrev pub IsPolicy : Tree → Type 0
 IsPolicy policy = fault_of policy ≡ None

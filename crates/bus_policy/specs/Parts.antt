@@ -15,7 +15,7 @@ statements_in (Some (number spelling)) = no_items
 statements_in (Some (text t)) = no_items
 
 -- The statements of a policy; a single object is a list of one.
--- Shown by: event_tests test_bus_policy.rt: version_and_statements_are_stored_and_read_back.
+-- Shown by: tables bus_policy.rows: version_and_statements_are_stored_and_read_back.
 abbrev pub statements_of : Tree → Items
 statements_of policy = statements_in (member_of (codes "Statement") policy)
 
@@ -34,16 +34,16 @@ is_text t None = false
 is_text t (Some value) = text_passes (λ other. bytes_eq other t) value
 
 -- The statement has this Sid.
--- Shown by: event_tests test_bus_policy.rt: names_follow_the_places_after_a_removal.
+-- Shown by: tables bus_policy.rows: names_follow_the_places_after_a_removal.
 abbrev pub has_sid : List ℕ → Tree → Bool
 has_sid sid statement = is_text sid (member_of (codes "Sid") statement)
 
 -- The statement has this Effect.
--- Shown by: event_tests test_bus_policy.rt: one_account_is_allowed_but_for_one_source.
+-- Shown by: tables bus_policy.rows: one_account_is_allowed_but_for_one_source.
 abbrev pub has_effect : List ℕ → Tree → Bool
 has_effect effect statement = is_text effect (member_of (codes "Effect") statement)
 
 -- The ARN of an account's root, which represents the account: `arn:aws:iam::444455556666:root`.
--- Shown by: event_tests test_bus_policy.rt: a_policy_of_the_guides_form_is_decided_by_all_its_statements.
+-- Shown by: tables bus_policy.rows: a_policy_of_the_guides_form_is_decided_by_all_its_statements.
 abbrev pub root_arn : List ℕ → List ℕ
 root_arn account = codes "arn:aws:iam::" ++ (account ++ codes ":root")

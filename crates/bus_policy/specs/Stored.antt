@@ -17,12 +17,12 @@ policy_with version statements = object (members_of ((codes "Version", version) 
 
 -- The stored form of a policy: its Version, or `2012-10-17`, and its statements, as they were given, as a list. Id and other members are
 -- dropped.
--- Shown by: event_tests test_bus_policy.rt: version_and_statements_are_stored_and_read_back.
+-- Shown by: tables bus_policy.rows: version_and_statements_are_stored_and_read_back.
 abbrev pub stored_of : Tree → Tree
 stored_of policy = policy_with (unwrap_or (member_of (codes "Version") policy) default_version) (statements_of policy)
 
 -- A policy in its stored form.
--- Shown by: event_tests test_bus_policy.rt: version_and_statements_are_stored_and_read_back.
+-- Shown by: tables bus_policy.rows: version_and_statements_are_stored_and_read_back.
 pub record IsStored (policy : Tree) : Type 0 where
   pub is_policy : IsPolicy policy
   pub stored : stored_of policy ≡ policy

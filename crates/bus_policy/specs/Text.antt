@@ -12,7 +12,7 @@ use Rattle.bus_policy.specs.Grammar.{IsPolicy, fault_of}
 use Rattle.bus_policy.specs.Stored.{stored_of}
 
 -- The text is JSON within 100 levels (this project's own limit), no object has a key twice, and this is its value.
--- Shown by: event_tests test_bus_policy.rt: at_most_100_levels_are_read.
+-- Shown by: tables bus_policy.rows: at_most_100_levels_are_read.
 pub record Spells (bytes : List ℕ) (value : Tree) : Type 0 where
   pub node : Node
   pub spelled : IsText 100 bytes node
@@ -20,14 +20,14 @@ pub record Spells (bytes : List ℕ) (value : Tree) : Type 0 where
   pub stands_for : value_of node ≡ value
 
 -- The text, of at most 10,240 bytes (an EventBridge quota), spells this value, as it was given, which is a policy.
--- Shown by: event_tests test_bus_policy.rt: at_most_10240_bytes_are_read_and_more_may_be_stored.
+-- Shown by: tables bus_policy.rows: at_most_10240_bytes_are_read_and_more_may_be_stored.
 pub record SpellsPolicy (bytes : List ℕ) (value : Tree) : Type 0 where
   pub short : length bytes ≤ 10240
   pub spelled : Spells bytes value
   pub is_policy : IsPolicy value
 
 -- The text is a policy, and this is its stored form.
--- Shown by: event_tests test_bus_policy.rt: version_and_statements_are_stored_and_read_back.
+-- Shown by: tables bus_policy.rows: version_and_statements_are_stored_and_read_back.
 pub record IsPolicyText (bytes : List ℕ) (policy : Tree) : Type 0 where
   pub value : Tree
   pub spelled : SpellsPolicy bytes value
@@ -66,6 +66,6 @@ HasValueFault bytes cause place = (length bytes ≤ 10240) × ((value : Tree) ×
 
 -- The first fault of a text that is no policy: its length, its JSON, a key twice, or the first fault of its value. The text's own faults
 -- have the place 0.
--- Shown by: event_tests test_bus_policy.rt: the_first_fault_is_reported_at_its_place.
+-- Shown by: tables bus_policy.rows: the_first_fault_is_reported_at_its_place.
 abbrev pub IsTextFault : List ℕ → PolicyCause → ℕ → Type 0
 IsTextFault bytes cause place = (IsSpellingFault bytes cause × (place ≡ 0)) ⊎ HasValueFault bytes cause place

@@ -11,7 +11,7 @@ use Rattle.json_text.specs.Access.{IsTextThat, member_of}
 use Rattle.bus_policy.specs.Parts.{has_effect, root_arn, statements_of}
 
 -- Who asks to put which event on which bus, each by its text; the bus by its name.
--- Shown by: event_tests test_bus_policy.rt: source_and_detail_type_have_to_fit.
+-- Shown by: tables bus_policy.rows: source_and_detail_type_have_to_fit.
 pub record Asker : Type 0 where
   pub account : List ℕ
   pub bus : List ℕ
@@ -19,7 +19,7 @@ pub record Asker : Type 0 where
   pub detail_type : List ℕ
 
 -- Allowed, denied by the statement of a name, or not allowed.
--- Shown by: event_tests test_bus_policy.rt: the_first_deny_is_reported.
+-- Shown by: tables bus_policy.rows: the_first_deny_is_reported.
 pub data Verdict : Type 0 where
   allowed : Verdict
   denied_by : List ℕ → Verdict
@@ -44,12 +44,12 @@ HasText P None = ⊥
 HasText P (Some t) = SomeText P t
 
 -- A word names an account: `*`, the account's twelve digits, or its root's ARN.
--- Shown by: event_tests test_bus_policy.rt: what_is_not_known_applies_to_nothing.
+-- Shown by: tables bus_policy.rows: what_is_not_known_applies_to_nothing.
 abbrev pub Names : List ℕ → List ℕ → Type 0
 Names account word = (word ≡ codes "*") ⊎ (IsTrue (is_account account) × ((word ≡ account) ⊎ (word ≡ root_arn account)))
 
 -- The Principal is `"*"`, or its member `AWS` has a word that names the account.
--- Shown by: event_tests test_bus_policy.rt: one_of_a_list_is_enough.
+-- Shown by: tables bus_policy.rows: one_of_a_list_is_enough.
 abbrev pub IsPrincipal : List ℕ → Option Tree → Type 0
 IsPrincipal account None = ⊥
 IsPrincipal account (Some (text t)) = t ≡ codes "*"
@@ -61,17 +61,17 @@ IsPrincipal account (Some (list items)) = ⊥
 
 -- An action word that means PutEvents: `*`, `events:*` or `events:PutEvents`. `events:Put*` does not (this project's own rule: no other
 -- wildcard is known).
--- Shown by: event_tests test_bus_policy.rt: what_is_not_known_applies_to_nothing.
+-- Shown by: tables bus_policy.rows: what_is_not_known_applies_to_nothing.
 abbrev pub IsPutEvents : List ℕ → Type 0
 IsPutEvents word = (word ≡ codes "*") ⊎ (word ≡ codes "events:*") ⊎ (word ≡ codes "events:PutEvents")
 
 -- A resource word that means the bus: `*`, or the bus's ARN.
--- Shown by: event_tests test_bus_policy.rt: what_is_not_known_applies_to_nothing.
+-- Shown by: tables bus_policy.rows: what_is_not_known_applies_to_nothing.
 abbrev pub IsBus : List ℕ → List ℕ → Type 0
 IsBus bus word = (word ≡ codes "*") ⊎ (word ≡ bus_arn bus)
 
 -- By StringEquals the text is the same; by StringLike leaf_match's `Fits` holds of its `like_pieces`.
--- Shown by: event_tests test_bus_policy.rt: source_and_detail_type_have_to_fit.
+-- Shown by: tables bus_policy.rows: source_and_detail_type_have_to_fit.
 abbrev pub FitsBy : List ℕ → List ℕ → List ℕ → Type 0
 FitsBy operator wanted asked =
     ((operator ≡ codes "StringEquals") × (wanted ≡ asked)) ⊎ ((operator ≡ codes "StringLike") × Fits (like_pieces wanted) asked)
@@ -105,7 +105,7 @@ EachOperator asker (member operator t members) = OperatorHolds asker operator t 
 
 -- Every operator holds for each of its keys: one of the key's texts fits the asker's. A statement without a Condition asks for nothing
 -- here.
--- Shown by: event_tests test_bus_policy.rt: each_key_of_an_operator_has_to_hold.
+-- Shown by: tables bus_policy.rows: each_key_of_an_operator_has_to_hold.
 abbrev pub ConditionHolds : Asker → Option Tree → Type 0
 ConditionHolds asker None = Unit {0}
 ConditionHolds asker (Some (object inside)) = EachOperator asker inside
@@ -116,7 +116,7 @@ ConditionHolds asker (Some (text t)) = ⊥
 ConditionHolds asker (Some (list items)) = ⊥
 
 -- Principal, action, resource and condition of the statement are about the asker.
--- Shown by: event_tests test_bus_policy.rt: a_policy_of_the_guides_form_is_decided_by_all_its_statements.
+-- Shown by: tables bus_policy.rows: a_policy_of_the_guides_form_is_decided_by_all_its_statements.
 pub record Applies (asker : Asker) (statement : Tree) : Type 0 where
   pub principal : IsPrincipal asker.account (member_of (codes "Principal") statement)
   pub action : HasText IsPutEvents (member_of (codes "Action") statement)
@@ -148,7 +148,7 @@ name_by place (Some (list items)) = codes "#" ++ decimal place
 name_by place (Some (object inside)) = codes "#" ++ decimal place
 
 -- A statement's name: its Sid, or `#` and its place from 1 (this project's own rule).
--- Shown by: event_tests test_bus_policy.rt: names_follow_the_places_after_a_removal.
+-- Shown by: tables bus_policy.rows: names_follow_the_places_after_a_removal.
 abbrev pub name_of : ℕ → Tree → List ℕ
 name_of place statement = name_by place (member_of (codes "Sid") statement)
 
@@ -170,19 +170,19 @@ IsOwnerOrAllowed asker statements = (asker.account ≡ owner) ⊎ SomeAllows ask
 
 -- The verdict of statements, in order. The first Deny that applies denies by its name. Else the owner is allowed, and so is each account
 -- that an applying Allow names. Else nobody is.
--- Shown by: event_tests test_bus_policy.rt: one_account_is_allowed_but_for_one_source.
+-- Shown by: tables bus_policy.rows: one_account_is_allowed_but_for_one_source.
 abbrev pub IsVerdictOf : Items → Asker → Verdict → Type 0
 IsVerdictOf statements asker (denied_by name) = FirstDenies asker 1 statements name
 IsVerdictOf statements asker allowed = NoneDenies asker statements × IsOwnerOrAllowed asker statements
 IsVerdictOf statements asker no_allow = NoneDenies asker statements × (¬ IsOwnerOrAllowed asker statements)
 
 -- The verdict of a policy by its JSON value, as it was given or as it is stored.
--- Shown by: event_tests test_bus_policy.rt: a_deny_binds_the_owner_too.
+-- Shown by: tables bus_policy.rows: a_deny_binds_the_owner_too.
 abbrev pub IsVerdict : Tree → Asker → Verdict → Type 0
 IsVerdict policy asker verdict = IsVerdictOf (statements_of policy) asker verdict
 
 -- The verdict of a bus, which has a policy or none. Without one it has no statement.
--- Shown by: event_tests test_bus_policy.rt: a_bus_without_a_policy_is_the_owners.
+-- Shown by: tables bus_policy.rows: a_bus_without_a_policy_is_the_owners.
 abbrev pub IsBusVerdict : Option Tree → Asker → Verdict → Type 0
 IsBusVerdict None asker verdict = IsVerdictOf no_items asker verdict
 IsBusVerdict (Some policy) asker verdict = IsVerdict policy asker verdict

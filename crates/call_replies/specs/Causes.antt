@@ -15,7 +15,7 @@ use Rattle.rule_table.specs.declared.control.ControlFault.{ControlFault}
 use Rattle.rule_table.specs.declared.control.ControlFault.TheVariants as fault
 
 -- The name that a change has for a thing of this kind: its bus, its rule or its queue.
--- Shown by: table_tests test_call_replies.rt: each_fault_of_a_change_has_its_cause.
+-- Shown by: tables call_replies.rows: each_fault_of_a_change_has_its_cause.
 abbrev pub name_in : Control → Kind → List ℕ
 name_in (rule_put bus name pattern enabled) kind.EventBus = bus
 name_in (rule_put bus name pattern enabled) _ = name
@@ -34,7 +34,8 @@ name_in (queue_created name) _ = name
 name_in (queue_deleted name) _ = name
 
 -- The refusal of a change that has this fault; none if it is out of memory.
--- Shown by: table_tests test_call_replies.rt: each_fault_of_a_change_has_its_cause.
+-- Shown by: tables call_replies.rows: each_fault_of_a_change_has_its_cause; table_tests test_call_replies.rt:
+-- each_fault_of_a_change_has_its_cause.
 abbrev pub change_cause : Control → ControlFault → Option Cause
 change_cause control (fault.ResourceNotFound kind) = Some (cause.NotFound kind (name_in control kind))
 change_cause control (fault.AlreadyExists kind) = Some (cause.Exists kind (name_in control kind))
@@ -55,7 +56,7 @@ target_cause (target_fault.NoDeadLetterQueue queue) = cause.NotFound kind.Queue 
 target_cause target_fault.Sixth = cause.LimitReached kind.Target
 
 -- The refusal of an entry that has this fault of its own.
--- Shown by: table_tests test_call_replies.rt: each_fault_of_a_target_or_an_entry_has_its_cause.
+-- Shown by: tables call_replies.rows: each_fault_of_a_target_or_an_entry_has_its_cause.
 abbrev pub entry_cause : EntryFault → Cause
 entry_cause Source = cause.Parameter member.Source
 entry_cause DetailType = cause.Parameter member.DetailType

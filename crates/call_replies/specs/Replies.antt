@@ -14,27 +14,27 @@ use Rattle.api_replies.specs.Cause.{failed_members}
 use Rattle.api_replies.specs.Reply.{Reply, served, refused}
 
 -- The reply that has no member.
--- Shown by: table_tests test_call_replies.rt: replies_have_their_members.
+-- Shown by: tables call_replies.rows: replies_have_their_members.
 abbrev pub empty_reply : Reply
 empty_reply = served []
 
 -- A reply with the number of items that failed, and a list.
--- Shown by: table_tests test_call_replies.rt: replies_have_their_members.
+-- Shown by: tables call_replies.rows: replies_have_their_members.
 abbrev pub items_reply : ℕ → List ℕ → List Tree → Reply
 items_reply failed key items = served ((codes "FailedEntryCount", number (decimal failed)) ∷ (key, list (items_of items)) ∷ [])
 
 -- The item of a target that failed: its id, and why.
--- Shown by: table_tests test_call_replies.rt: replies_have_their_members.
+-- Shown by: tables call_replies.rows: replies_have_their_members.
 abbrev pub target_report : List ℕ × Cause → Tree
 target_report failed = object (members_of ((codes "TargetId", text failed.0) ∷ failed_members failed.1))
 
 -- The reply to a PutTargets or a RemoveTargets: the targets that failed.
--- Shown by: router_tests test_router_calls.rt: each_request_is_answered.
+-- Shown by: tables router_calls.rows: each_request_is_answered.
 abbrev pub targets_reply : List (List ℕ × Cause) → Reply
 targets_reply failed = items_reply (length failed) (codes "FailedEntries") (map target_report failed)
 
 -- The six attributes of a dead letter, in the order of the Amazon EventBridge User Guide. A delivered text has none.
--- Shown by: table_tests test_call_replies.rt: deliveries_are_counted_and_messages_are_shown.
+-- Shown by: tables call_replies.rows: deliveries_are_counted_and_messages_are_shown.
 abbrev pub attribute_members : Option DeadLetterAttributes → List (List ℕ × Tree)
 attribute_members None = []
 attribute_members (Some a) =
@@ -47,7 +47,7 @@ attribute_members (Some a) =
     ∷ []
 
 -- The element of a PeekMessages reply for one queue message: `Number`, `Body` and `Attributes`.
--- Shown by: table_tests test_call_replies.rt: deliveries_are_counted_and_messages_are_shown.
+-- Shown by: tables call_replies.rows: deliveries_are_counted_and_messages_are_shown.
 abbrev pub message_report : QueueMessage → Tree
 message_report m = object (members_of (
     (codes "Number", number (decimal m.number))
@@ -56,19 +56,20 @@ message_report m = object (members_of (
     ∷ []))
 
 -- The reply that shows these queue messages.
--- Shown by: table_tests test_call_replies.rt: deliveries_are_counted_and_messages_are_shown.
+-- Shown by: tables call_replies.rows: deliveries_are_counted_and_messages_are_shown.
 abbrev pub messages_reply : List QueueMessage → Reply
 messages_reply messages = served ((codes "Messages", list (items_of (map message_report messages))) ∷ [])
 
 -- The reply to a PeekMessages: the oldest queue messages of the queue, at most `limit`; a missing queue is refused.
--- Shown by: table_tests test_call_replies.rt: deliveries_are_counted_and_messages_are_shown.
+-- Shown by: tables call_replies.rows: deliveries_are_counted_and_messages_are_shown; table_tests test_call_replies.rt:
+-- a_limit_of_0_shows_no_message.
 abbrev pub peeked : List ℕ → ℕ → RuleSet → Duties → Reply
 peeked queue limit set duties =
     if has_queue queue set then messages_reply (map shown (take limit (messages_of queue duties.queues)))
     else refused (cause.NotFound kind.Queue queue)
 
 -- The reply to a DeleteMessages: how many messages it deletes.
--- Shown by: table_tests test_call_replies.rt: replies_have_their_members.
+-- Shown by: tables call_replies.rows: replies_have_their_members.
 abbrev pub deletion_reply : ℕ → Reply
 deletion_reply count = served ((codes "Deleted", number (decimal count)) ∷ [])
 
@@ -84,6 +85,6 @@ duties_reply duties = served (
     ∷ [])
 
 -- The reply to a TestEventPattern: `{"Result":true}` or `{"Result":false}`.
--- Shown by: table_tests test_call_replies.rt: replies_have_their_members.
+-- Shown by: tables call_replies.rows: replies_have_their_members.
 abbrev pub tested_reply : Bool → Reply
 tested_reply matches = served ((codes "Result", truth matches) ∷ [])

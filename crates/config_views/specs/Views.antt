@@ -14,7 +14,7 @@ use Rattle.api_replies.specs.declared.cause.Cause.TheVariants as cause
 use Rattle.api_replies.specs.Reply.{Reply, served, refused}
 
 -- A reply whose only member is a list.
--- Shown by: table_tests test_config_views.rt: the_configuration_is_shown.
+-- Shown by: tables config_views.rows: the_configuration_is_shown.
 abbrev pub listing : List ℕ → List Tree → Reply
 listing key items = served ((key, list (items_of items)) ∷ [])
 
@@ -25,7 +25,7 @@ has_prefix None name = true
 has_prefix (Some prefix) name = starts_with eqb name prefix
 
 -- The rows whose name has the prefix. Without a prefix these are all rows.
--- Shown by: table_tests test_config_views.rt: the_configuration_is_shown.
+-- Shown by: tables config_views.rows: the_configuration_is_shown.
 abbrev pub with_prefix : {A : Type 0} → (A → List ℕ) → Option (List ℕ) → List A → List A
 with_prefix name_of prefix rows = filter (λ row. has_prefix prefix (name_of row)) rows
 
@@ -36,7 +36,7 @@ policy_member None = []
 policy_member (Some policy) = (codes "Policy", text policy) ∷ []
 
 -- What a reply shows of a bus: `Name`, `Arn`, and `Policy` if it has one.
--- Shown by: table_tests test_config_views.rt: a_policy_is_shown.
+-- Shown by: tables config_views.rows: a_policy_is_shown.
 abbrev pub bus_members : Bus → List (List ℕ × Tree)
 bus_members bus = (codes "Name", text bus.name) ∷ (codes "Arn", text (bus_arn bus.name)) ∷ policy_member bus.policy
 
@@ -51,17 +51,17 @@ abbrev pub on_bus_of : RuleSet → List ℕ → (Bus → Reply) → Reply
 on_bus_of set name show = on_bus name show (named (λ b. b.name) name set.buses)
 
 -- The reply to a DescribeEventBus.
--- Shown by: table_tests test_config_views.rt: the_configuration_is_shown.
+-- Shown by: tables config_views.rows: the_configuration_is_shown.
 abbrev pub described_bus : List ℕ → RuleSet → Reply
 described_bus name set = on_bus_of set name (λ bus. served (bus_members bus))
 
 -- The items of the buses whose names have the prefix.
--- Shown by: table_tests test_config_views.rt: the_configuration_is_shown.
+-- Shown by: tables config_views.rows: the_configuration_is_shown.
 abbrev pub bus_items : Option (List ℕ) → List Bus → List Tree
 bus_items prefix buses = map (λ bus. object (members_of (bus_members bus))) (with_prefix (λ b. b.name) prefix buses)
 
 -- The reply to a ListEventBuses.
--- Shown by: table_tests test_config_views.rt: the_configuration_is_shown.
+-- Shown by: tables config_views.rows: the_configuration_is_shown.
 abbrev pub listed_buses : Option (List ℕ) → RuleSet → Reply
 listed_buses prefix set = listing (codes "EventBuses") (bus_items prefix set.buses)
 
@@ -87,7 +87,7 @@ on_rule name show None = refused (cause.NotFound kind.Rule name)
 on_rule name show (Some rule) = show rule
 
 -- A reply about a rule of a bus. A missing rule is refused.
--- Shown by: table_tests test_config_views.rt: the_configuration_is_shown.
+-- Shown by: tables config_views.rows: the_configuration_is_shown.
 abbrev pub on_rule_of : List ℕ → (Rule → Reply) → Bus → Reply
 on_rule_of name show bus = on_rule name show (named (λ r. r.name) name bus.rules)
 
@@ -97,12 +97,12 @@ abbrev pub described_rule : List ℕ → List ℕ → RuleSet → Reply
 described_rule bus name set = on_bus_of set bus (on_rule_of name (λ rule. served (rule_members bus rule)))
 
 -- The items of the rules whose names have the prefix.
--- Shown by: table_tests test_config_views.rt: the_configuration_is_shown.
+-- Shown by: tables config_views.rows: the_configuration_is_shown.
 abbrev pub rule_items : List ℕ → Option (List ℕ) → List Rule → List Tree
 rule_items bus prefix rules = map (λ rule. object (members_of (rule_members bus rule))) (with_prefix (λ r. r.name) prefix rules)
 
 -- The reply to a ListRules.
--- Shown by: table_tests test_config_views.rt: the_configuration_is_shown.
+-- Shown by: tables config_views.rows: the_configuration_is_shown.
 abbrev pub listed_rules : List ℕ → Option (List ℕ) → RuleSet → Reply
 listed_rules bus prefix set = on_bus_of set bus (λ b. listing (codes "Rules") (rule_items bus prefix b.rules))
 
@@ -125,7 +125,7 @@ dead_letter_member None = []
 dead_letter_member (Some arn) = (codes "DeadLetterConfig", object (members_of ((codes "Arn", text arn) ∷ []))) ∷ []
 
 -- What a reply shows of a target: `Id`, `Arn`, `RetryPolicy` if one was given, and `DeadLetterConfig` if it has one.
--- Shown by: table_tests test_config_views.rt: the_configuration_is_shown.
+-- Shown by: tables config_views.rows: the_configuration_is_shown.
 abbrev pub target_members : Target → List (List ℕ × Tree)
 target_members target =
     (codes "Id", text target.id)
@@ -133,12 +133,12 @@ target_members target =
     ∷ (retry_member target.retry ++ dead_letter_member target.dead_letter)
 
 -- The items of a rule's targets.
--- Shown by: table_tests test_config_views.rt: the_configuration_is_shown.
+-- Shown by: tables config_views.rows: the_configuration_is_shown.
 abbrev pub target_items : List Target → List Tree
 target_items targets = map (λ target. object (members_of (target_members target))) targets
 
 -- The reply to a ListTargetsByRule. The bus is looked for first, then the rule.
--- Shown by: table_tests test_config_views.rt: the_configuration_is_shown.
+-- Shown by: tables config_views.rows: the_configuration_is_shown.
 abbrev pub listed_targets : List ℕ → List ℕ → RuleSet → Reply
 listed_targets bus name set = on_bus_of set bus (on_rule_of name (λ rule. listing (codes "Targets") (target_items rule.targets)))
 
@@ -148,7 +148,7 @@ abbrev pub has_target_arn : List ℕ → Rule → Bool
 has_target_arn arn rule = list_any (λ target. bytes_eq target.arn arn) rule.targets
 
 -- The names of the rules that have a target with this ARN, each once.
--- Shown by: table_tests test_config_views.rt: the_configuration_is_shown.
+-- Shown by: tables config_views.rows: the_configuration_is_shown.
 abbrev pub rule_names : List ℕ → List Rule → List Tree
 rule_names arn rules = map (λ rule. text rule.name) (filter (has_target_arn arn) rules)
 

@@ -11,7 +11,7 @@ use Rattle.delivery_duties.specs.declared.message.DeadLetterAttributes.{DeadLett
 use Rattle.delivery_duties.specs.declared.message.QueueMessage.{QueueMessage}
 
 -- `ERROR_CODE` of a dead letter: `STATUS_404` and the like, `NO_ANSWER`, `NO_ATTEMPT`, `TEXT_TOO_LONG` or `QUEUE_NOT_FOUND`.
--- Shown by: table_tests test_delivery_duties.rt: dead_letters.
+-- Shown by: tables delivery_duties.rows: dead_letters; table_tests test_delivery_duties.rt: each_delivery_ends_in_time.
 abbrev pub error_code : Cause → List ℕ
 error_code (Answered code) = codes "STATUS_" ++ decimal code
 error_code Unanswered = codes "NO_ANSWER"
@@ -20,7 +20,7 @@ error_code TextTooLong = codes "TEXT_TOO_LONG"
 error_code QueueMissing = codes "QUEUE_NOT_FOUND"
 
 -- `ERROR_MESSAGE` of a dead letter: one sentence for each cause, as `Target answered 404.`
--- Shown by: table_tests test_delivery_duties.rt: dead_letters.
+-- Shown by: tables delivery_duties.rows: dead_letters; table_tests test_delivery_duties.rt: each_delivery_ends_in_time.
 abbrev pub error_message : Cause → List ℕ
 error_message (Answered code) = codes "Target answered " ++ (decimal code ++ codes ".")
 error_message Unanswered = codes "Target gave no answer."
@@ -29,7 +29,7 @@ error_message TextTooLong = codes "The text is over 1048576 bytes."
 error_message QueueMissing = codes "The queue does not exist."
 
 -- `EXHAUSTED_RETRY_CONDITION` of a dead letter: `MaximumRetryAttempts`, `MaximumEventAgeInSeconds`, or empty if no limit ended the duty.
--- Shown by: table_tests test_delivery_duties.rt: always_503_with_an_age_of_60.
+-- Shown by: table_tests test_delivery_duties.rt: each_delivery_ends_in_time.
 abbrev pub exhausted_retry_condition : Option RetryLimit → List ℕ
 exhausted_retry_condition None = []
 exhausted_retry_condition (Some MaximumAttempts) = codes "MaximumRetryAttempts"
@@ -37,7 +37,7 @@ exhausted_retry_condition (Some MaximumAge) = codes "MaximumEventAgeInSeconds"
 
 -- The six texts of a dead letter: the ARNs of its rule and target, its error code and error message, the exhausted condition, and the
 -- number of retries.
--- Shown by: table_tests test_delivery_duties.rt: dead_letters.
+-- Shown by: tables delivery_duties.rows: dead_letters; table_tests test_delivery_duties.rt: each_delivery_ends_in_time.
 abbrev pub attributes_of : DeadLetter → DeadLetterAttributes
 attributes_of d = record {
   rule_arn = d.target.rule_arn;
@@ -54,6 +54,6 @@ attributes_in None = None
 attributes_in (Some d) = Some (attributes_of d)
 
 -- A message as a peek returns it: its number, its text, and the attributes of a dead letter.
--- Shown by: table_tests test_delivery_duties.rt: dead_letters.
+-- Shown by: tables delivery_duties.rows: dead_letters; table_tests test_delivery_duties.rt: each_delivery_ends_in_time.
 abbrev pub shown : StoredMessage → QueueMessage
 shown m = record { number = m.number; body = m.body; attributes = attributes_in m.dead }

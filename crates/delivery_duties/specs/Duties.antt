@@ -22,7 +22,7 @@ use Rattle.delivery_duties.specs.Queues.{Queue, has_arn, sent_to, messages_of, w
 
 -- The pending duties by number; the duties that ended, in the order of their ends; the queues, in the byte order of their names; and the
 -- number of duties made so far.
--- Shown by: table_tests test_delivery_duties.rt: dead_letters.
+-- Shown by: table_tests test_delivery_duties.rt: each_delivery_ends_in_time.
 pub record Duties : Type 0 where
   pub pending : List (ℕ × DutyRow)
   pub ended : List SettledDuty
@@ -30,12 +30,12 @@ pub record Duties : Type 0 where
   pub created : ℕ
 
 -- No duty and no queue.
--- Shown by: table_tests test_delivery_duties.rt: dead_letters.
+-- Shown by: table_tests test_delivery_duties.rt: each_delivery_ends_in_time.
 abbrev pub no_duties : Duties
 no_duties = record { pending = []; ended = []; queues = []; created = 0 }
 
 -- The pending duty of this number, if there is one.
--- Shown by: table_tests test_delivery_duties.rt: order_by_due_moment_then_number.
+-- Shown by: table_tests test_delivery_duties.rt: each_delivery_ends_in_time.
 abbrev pub pending_row : ℕ → Duties → Option DutyRow
 pending_row number s = value_at number s.pending
 
@@ -49,7 +49,7 @@ is_one_of None queues = false
 is_one_of (Some arn) queues = list_any (has_arn arn) queues
 
 -- The target names a dead-letter queue, and one of the queues has its ARN.
--- Shown by: table_tests test_delivery_duties.rt: dropped_without_a_dead_letter_queue.
+-- Shown by: table_tests test_delivery_duties.rt: each_delivery_ends_in_time.
 abbrev pub has_dead_letter_queue : TargetRow → List Queue → Bool
 has_dead_letter_queue target queues = is_one_of target.dead_letter queues
 
@@ -80,7 +80,7 @@ abbrev pub failed : Option (List ℕ) → Failure → DutyRow → Duties → Dut
 failed arn failure row s = ended_as row (failed_fate arn) (dead_lettered arn failure row s.queues) s
 
 -- A duty gets the next number and is due at once; one whose text is too long ends at once.
--- Shown by: table_tests test_delivery_duties.rt: dead_letters.
+-- Shown by: table_tests test_delivery_duties.rt: each_delivery_ends_in_time.
 abbrev pub added_one : NewDuty → ℕ → Duties → Duties
 added_one duty moment s =
     let row : DutyRow = begun (s.created + 1) moment duty in
@@ -89,7 +89,7 @@ added_one duty moment s =
     else record s { created = s.created + 1; pending = placed (s.created + 1, row) s.pending }
 
 -- Duties are added in their order.
--- Shown by: table_tests test_delivery_duties.rt: order_by_due_moment_then_number.
+-- Shown by: table_tests test_delivery_duties.rt: each_delivery_ends_in_time.
 abbrev pub added : List NewDuty → ℕ → Duties → Duties
 added [] moment s = s
 added (duty ∷ duties) moment s = added duties moment (added_one duty moment s)
@@ -109,22 +109,22 @@ pub record IsNext (s : Duties) (moment number : ℕ) : Type 0 where
   pub first : (n : ℕ) (other : DutyRow) → pending_row n s ≡ Some other → other.claimed ≡ false → other.due ≤ moment → IsNoLater row other
 
 -- No duty that is not claimed is due.
--- Shown by: table_tests test_delivery_duties.rt: always_503_with_an_age_of_60.
+-- Shown by: table_tests test_delivery_duties.rt: each_delivery_ends_in_time.
 abbrev pub NoneDue : Duties → ℕ → Type 0
 NoneDue s moment = (n : ℕ) (row : DutyRow) → pending_row n s ≡ Some row → row.claimed ≡ false → moment < row.due
 
 -- The duty of this number is pending and claimed.
--- Shown by: table_tests test_delivery_duties.rt: order_by_due_moment_then_number.
+-- Shown by: table_tests test_delivery_duties.rt: each_delivery_ends_in_time.
 abbrev pub IsOut : ℕ → Duties → Type 0
 IsOut number s = (row : DutyRow) × (pending_row number s ≡ Some row) × (row.claimed ≡ true)
 
 -- The duty of this number is pending and not claimed.
--- Shown by: table_tests test_delivery_duties.rt: order_by_due_moment_then_number.
+-- Shown by: table_tests test_delivery_duties.rt: each_delivery_ends_in_time.
 abbrev pub IsFree : ℕ → Duties → Type 0
 IsFree number s = (row : DutyRow) × (pending_row number s ≡ Some row) × (row.claimed ≡ false)
 
 -- The pending duties are in the order of their numbers, each under its own.
--- Shown by: table_tests test_delivery_duties.rt: order_by_due_moment_then_number.
+-- Shown by: table_tests test_delivery_duties.rt: each_delivery_ends_in_time.
 pub record IsOrdered (s : Duties) : Type 0 where
   pub sorted : AreSorted s.pending
   pub named : (n : ℕ) (row : DutyRow) → pending_row n s ≡ Some row → row.number ≡ n
@@ -135,7 +135,7 @@ marked_row mark None s = s
 marked_row mark (Some row) s = record s { pending = replaced (record row { claimed = mark }) s.pending }
 
 -- The duty of this number is marked as claimed; nothing else changes.
--- Shown by: table_tests test_delivery_duties.rt: order_by_due_moment_then_number.
+-- Shown by: table_tests test_delivery_duties.rt: each_delivery_ends_in_time.
 abbrev pub claimed : ℕ → Duties → Duties
 claimed number s = marked_row true (pending_row number s) s
 
@@ -151,7 +151,7 @@ settled_by row attempt (Retry due) s = record s { pending = replaced (retried du
 settled_by row attempt (Fail failure) s = failed (dead_letter_queue row.duty.target attempt.has_dead_letter_queue) failure row s
 
 -- An attempt of a pending duty as it is recorded; the queues say whether its dead-letter queue exists.
--- Shown by: table_tests test_delivery_duties.rt: dropped_without_a_dead_letter_queue.
+-- Shown by: table_tests test_delivery_duties.rt: each_delivery_ends_in_time.
 abbrev pub attempt_of : DutyRow → ℕ → Outcome → Duties → Attempt
 attempt_of row moment outcome s =
     record { moment = moment; outcome = outcome; has_dead_letter_queue = has_dead_letter_queue row.duty.target s.queues }
@@ -163,7 +163,7 @@ settled_row (Some row) moment outcome s = settled_by row (attempt_of row moment 
 
 -- The duty of this number after an attempt: its queue gets its text, it is due again, its text becomes a dead letter, or it is dropped.
 -- Number and fate of a duty that ends are recorded.
--- Shown by: table_tests test_delivery_duties.rt: dead_letters.
+-- Shown by: table_tests test_delivery_duties.rt: each_delivery_ends_in_time.
 abbrev pub settled : ℕ → ℕ → Outcome → Duties → Duties
 settled number moment outcome s = settled_row (pending_row number s) moment outcome s
 
@@ -198,32 +198,32 @@ abbrev pub was_dropped : SettledDuty → Bool
 was_dropped d = is_dropped d.fate
 
 -- The number of ended duties that were delivered.
--- Shown by: table_tests test_delivery_duties.rt: numbers_go_on_after_a_delete.
+-- Shown by: tables delivery_duties.rows: numbers_go_on_after_a_delete.
 abbrev pub delivered_of : List SettledDuty → ℕ
 delivered_of ended = length (filter was_delivered ended)
 
 -- The number of ended duties that were dead-lettered.
--- Shown by: table_tests test_delivery_duties.rt: dead_letters.
+-- Shown by: table_tests test_delivery_duties.rt: each_delivery_ends_in_time.
 abbrev pub dead_lettered_of : List SettledDuty → ℕ
 dead_lettered_of ended = length (filter was_dead_lettered ended)
 
 -- The number of ended duties that were dropped.
--- Shown by: table_tests test_delivery_duties.rt: dropped_without_a_dead_letter_queue.
+-- Shown by: table_tests test_delivery_duties.rt: each_delivery_ends_in_time.
 abbrev pub dropped_of : List SettledDuty → ℕ
 dropped_of ended = length (filter was_dropped ended)
 
 -- A pending duty has this number.
--- Shown by: table_tests test_delivery_duties.rt: dead_letters.
+-- Shown by: table_tests test_delivery_duties.rt: each_delivery_ends_in_time.
 abbrev pub IsPending : ℕ → List (ℕ × DutyRow) → Type 0
 IsPending number rows = (row : DutyRow) × (value_at number rows ≡ Some row)
 
 -- An ended duty has this number.
--- Shown by: table_tests test_delivery_duties.rt: dead_letters.
+-- Shown by: table_tests test_delivery_duties.rt: each_delivery_ends_in_time.
 abbrev pub HasEnded : ℕ → List SettledDuty → Type 0
 HasEnded number ended = Any (λ d. d.number ≡ number) ended
 
 -- The duty of this number is pending and has not ended, or has ended once and is not pending.
--- Shown by: table_tests test_delivery_duties.rt: dead_letters.
+-- Shown by: table_tests test_delivery_duties.rt: each_delivery_ends_in_time.
 abbrev pub HasOneFate : ℕ → Duties → Type 0
 HasOneFate number s =
     (IsPending number s.pending × (HasEnded number s.ended → ⊥))
@@ -231,17 +231,17 @@ HasOneFate number s =
     × ((other : SettledDuty) → Contains s.ended other → other.number ≡ number → other ≡ d)))
 
 -- A queue is created without messages; one that is there stays as it is.
--- Shown by: table_tests test_delivery_duties.rt: numbers_go_on_after_a_delete.
+-- Shown by: delete-queue; tables delivery_duties.rows: numbers_go_on_after_a_delete.
 abbrev pub with_new_queue : List ℕ → Duties → Duties
 with_new_queue name s = record s { queues = with_queue name s.queues }
 
 -- A queue is deleted with its messages.
--- Shown by: table_tests test_delivery_duties.rt: numbers_go_on_after_a_delete.
+-- Shown by: delete-queue.
 abbrev pub forgotten : List ℕ → Duties → Duties
 forgotten name s = record s { queues = without_queue name s.queues }
 
 -- The messages of a queue with numbers up to this one are deleted.
--- Shown by: table_tests test_delivery_duties.rt: numbers_go_on_after_a_delete.
+-- Shown by: tables delivery_duties.rows: numbers_go_on_after_a_delete.
 abbrev pub with_deleted : List ℕ → ℕ → Duties → Duties
 with_deleted queue through s = record s { queues = deleted_through queue through s.queues }
 
@@ -251,7 +251,7 @@ is_given_as text None = false
 is_given_as text (Some given) = bytes_eq given text
 
 -- The duty is for the queue, or its dead letter would be.
--- Shown by: table_tests test_delivery_duties.rt: dead_letters.
+-- Shown by: table_tests test_delivery_duties.rt: each_delivery_ends_in_time.
 abbrev pub is_for_queue : List ℕ → DutyRow → Bool
 is_for_queue queue row = bytes_eq row.duty.target.endpoint (queue_arn queue) || is_given_as (queue_arn queue) row.duty.target.dead_letter
 

@@ -8,7 +8,7 @@ use Rattle.delivery_duties.specs.declared.stored.DeadLetter.{DeadLetter}
 use Rattle.delivery_duties.specs.declared.stored.StoredMessage.{StoredMessage}
 
 -- A queue: its name, the number of its last message, and its messages, oldest first.
--- Shown by: table_tests test_delivery_duties.rt: numbers_go_on_after_a_delete.
+-- Shown by: tables delivery_duties.rows: numbers_go_on_after_a_delete.
 pub record Queue : Type 0 where
   pub name : List ℕ
   pub sent : ℕ
@@ -26,23 +26,23 @@ abbrev pub keeping : Queue → Queue → Queue
 keeping old new = old
 
 -- The queues, in the byte order of their names, with one of this name, which is empty if there was none.
--- Shown by: table_tests test_delivery_duties.rt: numbers_go_on_after_a_delete.
+-- Shown by: delete-queue; tables delivery_duties.rows: numbers_go_on_after_a_delete.
 abbrev pub with_queue : List ℕ → List Queue → List Queue
 with_queue name queues = placed name_of keeping (empty_queue name) queues
 
 -- The queues without the one of this name.
--- Shown by: table_tests test_delivery_duties.rt: numbers_go_on_after_a_delete.
+-- Shown by: delete-queue.
 abbrev pub without_queue : List ℕ → List Queue → List Queue
 without_queue name queues = without name_of name queues
 
 -- One of the queues has this name.
--- Shown by: table_tests test_delivery_duties.rt: numbers_go_on_after_a_delete.
+-- Shown by: tables delivery_duties.rows: numbers_go_on_after_a_delete.
 abbrev pub has_queue : List ℕ → List Queue → Bool
 has_queue queue [] = false
 has_queue queue (m ∷ ms) = if bytes_eq m.name queue then true else has_queue queue ms
 
 -- The text is the ARN of one of the queues.
--- Shown by: table_tests test_delivery_duties.rt: dropped_without_a_dead_letter_queue.
+-- Shown by: table_tests test_delivery_duties.rt: each_delivery_ends_in_time.
 abbrev pub IsArnOfOne : List ℕ → List Queue → Type 0
 IsArnOfOne arn queues = Any (λ m. arn ≡ queue_arn m.name) queues
 
@@ -68,12 +68,12 @@ abbrev pub is_named : List ℕ → Queue → Bool
 is_named name m = bytes_eq m.name name
 
 -- The queue that has this ARN gets the text as its next message; nothing changes if there is none.
--- Shown by: table_tests test_delivery_duties.rt: numbers_go_on_after_a_delete.
+-- Shown by: tables delivery_duties.rows: numbers_go_on_after_a_delete.
 abbrev pub sent_to : List ℕ → List ℕ → Option DeadLetter → List Queue → List Queue
 sent_to arn body dead queues = changed_first (has_arn arn) (with_next body dead) queues
 
 -- The messages of the queue of this name; none if there is no such queue.
--- Shown by: table_tests test_delivery_duties.rt: numbers_go_on_after_a_delete.
+-- Shown by: tables delivery_duties.rows: numbers_go_on_after_a_delete.
 abbrev pub messages_of : List ℕ → List Queue → List StoredMessage
 messages_of queue [] = []
 messages_of queue (m ∷ ms) = if bytes_eq m.name queue then m.messages else messages_of queue ms
@@ -83,7 +83,7 @@ abbrev pub messages_after : ℕ → List StoredMessage → List StoredMessage
 messages_after through messages = filter (λ m. not (nat_le m.number through)) messages
 
 -- The messages with numbers up to this one.
--- Shown by: table_tests test_delivery_duties.rt: messages_up_to_a_number_are_counted.
+-- Shown by: tables delivery_duties.rows: messages_up_to_a_number_are_counted.
 abbrev pub messages_through : ℕ → List StoredMessage → List StoredMessage
 messages_through through messages = filter (λ m. nat_le m.number through) messages
 

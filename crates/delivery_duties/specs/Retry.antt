@@ -62,7 +62,7 @@ abbrev pub too_long : Failure
 too_long = record { cause = TextTooLong; exhausted = None; retries = 0 }
 
 -- The row of a new duty: its number, due at the moment at which it is made, no attempts, not claimed.
--- Shown by: table_tests test_delivery_duties.rt: always_503_with_an_age_of_60.
+-- Shown by: table_tests test_delivery_duties.rt: each_delivery_ends_in_time.
 abbrev pub begun : ℕ → ℕ → NewDuty → DutyRow
 begun number moment duty = record {
   number = number;
@@ -75,12 +75,12 @@ begun number moment duty = record {
 }
 
 -- The row after one more failed attempt: due again at a moment, not claimed.
--- Shown by: table_tests test_delivery_duties.rt: always_503_with_an_age_of_60.
+-- Shown by: table_tests test_delivery_duties.rt: each_delivery_ends_in_time.
 abbrev pub retried : ℕ → Outcome → DutyRow → DutyRow
 retried due outcome row = record row { due = due; attempts = row.attempts + 1; last = Some outcome; claimed = false }
 
 -- The ARN of a target's dead-letter queue, if one is named and it exists.
--- Shown by: table_tests test_delivery_duties.rt: dropped_without_a_dead_letter_queue.
+-- Shown by: table_tests test_delivery_duties.rt: each_delivery_ends_in_time.
 abbrev pub dead_letter_queue : TargetRow → Bool → Option (List ℕ)
 dead_letter_queue target false = None
 dead_letter_queue target true = target.dead_letter
@@ -92,14 +92,14 @@ failed_fate None = Dropped
 failed_fate (Some arn) = DeadLettered
 
 -- An attempt as it is recorded: its moment, its outcome, and whether the dead-letter queue existed then.
--- Shown by: table_tests test_delivery_duties.rt: dead_letters.
+-- Shown by: table_tests test_delivery_duties.rt: each_delivery_ends_in_time.
 pub record Attempt : Type 0 where
   pub moment : ℕ
   pub outcome : Outcome
   pub has_dead_letter_queue : Bool
 
 -- What recorded attempts made of a duty: it waits, with its row (`waits`), or it ended with a fate (`ended_with`).
--- Shown by: table_tests test_delivery_duties.rt: dead_letters.
+-- Shown by: table_tests test_delivery_duties.rt: each_delivery_ends_in_time.
 pub data State : Type 0 where
   waits : DutyRow → State
   ended_with : Fate → State
@@ -111,7 +111,7 @@ state_by row attempt (Retry due) = waits (retried due attempt.outcome row)
 state_by row attempt (Fail failure) = ended_with (failed_fate (dead_letter_queue row.duty.target attempt.has_dead_letter_queue))
 
 -- The state after one more attempt; a duty that ended stays as it is.
--- Shown by: table_tests test_delivery_duties.rt: dead_letters.
+-- Shown by: table_tests test_delivery_duties.rt: each_delivery_ends_in_time.
 abbrev pub after_attempt : State → Attempt → State
 after_attempt (waits row) attempt = state_by row attempt (verdict_of row attempt.moment attempt.outcome)
 after_attempt (ended_with fate) attempt = ended_with fate

@@ -13,5 +13,3 @@ mod test_event_shape;
 mod test_event_time;
 #[cfg(test)]
 mod test_pattern_meaning;
-#[cfg(test)]
-mod test_pattern_read;

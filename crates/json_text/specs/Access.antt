@@ -1,4 +1,5 @@
--- Access to a JSON value: the value of a member, the values of a list, whether the value is an object or a string, and the bytes of a string.
+-- Access to a JSON value: the value of a member, the values of a list, whether the value is an object or a string, and the bytes of a
+-- string.
 use Rattle.std.specs.Prelude.{ℕ, Bool, true, false, List, [], ◌∷◌, Option, Some, None, if◌then◌else◌, IsTrue}
 use Rattle.std.specs.Str.{bytes_eq}
 use Rattle.json_text.specs.Tree.{Tree, null, truth, number, text, list, object, Items, no_items, item, Members, no_members, member}
@@ -35,7 +36,7 @@ abbrev pub IsObject : Tree → Type 0
 IsObject tree = IsTrue (is_object tree)
 
 -- The value is a string.
--- Shown by: wire_tests test_api_members.rt: a_value_is_valid.
+-- Shown by: tables api_members.rows: a_value_is_valid.
 abbrev pub is_text : Tree → Bool
 is_text (text t) = true
 is_text null = false
@@ -45,7 +46,7 @@ is_text (list items) = false
 is_text (object inside) = false
 
 -- The value is a string with this property.
--- Shown by: wire_tests test_api_members.rt: a_value_is_valid.
+-- Shown by: tables api_members.rows: a_value_is_valid.
 abbrev pub IsTextThat : (List ℕ → Type 0) → Tree → Type 0
 IsTextThat P (text t) = P t
 IsTextThat P null = ⊥
@@ -55,7 +56,7 @@ IsTextThat P (list items) = ⊥
 IsTextThat P (object inside) = ⊥
 
 -- The values of a list, in order.
--- Shown by: wire_tests test_api_members.rt: a_value_is_valid.
+-- Shown by: tables api_members.rows: a_value_is_valid.
 abbrev pub trees_in : Items → List Tree
 trees_in no_items = []
 trees_in (item t items) = t ∷ trees_in items

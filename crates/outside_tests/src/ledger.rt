@@ -1,14 +1,15 @@
 //! A list of turns, as the value that threads share, and a door in memory.
-ghost use Rattle.std.specs.Prelude.{◌≡◌, ◌⊎◌, ◌==◌, true, Some, IfOk};
+ghost use Rattle.std.specs.Prelude.{◌≡◌, ◌⊎◌, ◌==◌, true, Some};
 ghost use Rattle.std.specs.List.{list_any};
 ghost use Rattle.turn_book.specs.Passes.{view, IsFree, Extends};
 
-use bus_host::{MemDoor, Plan};
-use router_disk::{MemSink, MemSource};
+use bus_host::{Door, Knock, MemDoor, Plan};
+use router_disk::{MemSink, MemSource, Sink};
 use shared_door::Served;
-use std::alloc::{AllocError, Global};
+use std::alloc::Global;
 use std::collections::LinkedList;
-use turn_book::{Hall, NoMemory, Pass, Story};
+use std::process::Abort;
+use turn_book::{Hall, Pass, Story};
 
 /// A list of turns: the pass that made each, and the connection that it served.
 #[derive(Drop)]
@@ -52,15 +53,16 @@ pub(crate) fn add(ledger: Ledger, pass: u64, connection: u64) -> (Ledger, bool)
 }
 
 /// A hall for so many passes, with the first of them.
-pub(crate) fn make_hall(alloc: Global, seats: u32) -> Result<(Hall<Ledger>, Pass<Ledger>), NoMemory>
-    ensures { IfOk result (λ r. (r.1.seat.table_id ≡ r.0.table.shared.table_id) × IsFree r.1.seat × ((view r.1.seat).made ≡ 1) × (r.0.seats ≡ seats)) }
+pub(crate) fn make_hall<R: Abort>(rt: &R, alloc: Global, seats: u32) -> (Hall<Ledger>, Pass<Ledger>)
+    ensures hall { (result.1.seat.table_id ≡ result.0.table.shared.table_id) × (result.0.seats ≡ seats) }
+    ensures pass { IsFree result.1.seat × ((view result.1.seat).made ≡ 1) }
 {
     let ledger = Ledger {
         entries: Vec::new(alloc),
     };
     match Hall::make(alloc, ledger, seats) {
-        Ok(made) => Ok(made),
-        Err(_) => Err(NoMemory),
+        Ok(made) => made,
+        Err(_) => panic!(rt; "out of memory"),
     }
 }
 
@@ -75,20 +77,38 @@ pub(crate) fn turns_of(ledger: &Ledger) -> [u32; 5] {
     turns
 }
 
-/// A door with a plan for each letter: `C` is a connection, `q` quiet, `f` a failure and `m` out of memory.
-pub(crate) fn door(
-    alloc: Global,
-    letters: &str,
-) -> Result<MemDoor<MemSource, MemSink>, AllocError> {
+/// A plan by its letter: `C` is a connection, `q` quiet, `f` a failure and `m` out of memory.
+fn plan(alloc: Global, letter: u8) -> Plan<MemSource, MemSink> {
+    match letter {
+        b'C' => Plan::Conn(MemSource::new(Vec::new(alloc)), MemSink::new(alloc)),
+        b'q' => Plan::Quiet,
+        b'f' => Plan::Failed,
+        _ => Plan::NoMemory,
+    }
+}
+
+/// A door with a plan for each letter.
+pub(crate) fn door<R: Abort>(rt: &R, alloc: Global, letters: &str) -> MemDoor<MemSource, MemSink> {
     let mut plans = LinkedList::new(alloc);
     for letter in letters.bytes() {
-        let plan = match letter {
-            b'C' => Plan::Conn(MemSource::new(Vec::new(alloc)), MemSink::new(alloc)),
-            b'q' => Plan::Quiet,
-            b'f' => Plan::Failed,
-            _ => Plan::NoMemory,
-        };
-        plans.push_back(plan)?;
+        plans
+            .push_back(plan(alloc, letter))
+            .expect(rt, "out of memory");
     }
-    Ok(MemDoor::new(alloc, plans))
+    MemDoor::new(alloc, plans)
+}
+
+/// A letter for what a door gives; `c` if it is closed. A connection gets `pong`, and ends as out of memory ends it.
+pub(crate) fn knock<D: Door>(door: &mut D) -> u8 {
+    match door.next() {
+        Knock::Conn(input, mut output) => {
+            let written = output.write_all(b"pong");
+            door.done(input, output, true);
+            if written.is_ok() { b'C' } else { b'w' }
+        }
+        Knock::Quiet => b'q',
+        Knock::Closed => b'c',
+        Knock::Failed => b'f',
+        Knock::NoMemory => b'm',
+    }
 }

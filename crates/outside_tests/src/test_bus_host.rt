@@ -1,10 +1,8 @@
 //! A host that opens nothing, and a door and a host in memory.
-use bus_host::{
-    Door, Host, HostFault, Knock, MemDoor, MemHost, NoDisk, NoDoor, NoHost, NoLink, Plan,
-};
-use router_disk::{Disk, Failed, Link, LinkFault, MemLink, MemSink, MemSource, Sink};
+use crate::ledger::{door, knock};
+use bus_host::{Door, Host, HostFault, Knock, MemDoor, MemHost, NoDisk, NoDoor, NoHost, NoLink};
+use router_disk::{Disk, Failed, Link, LinkFault, MemLink, MemSink, MemSource};
 use std::collections::LinkedList;
-use std::test::Fail;
 
 #[test]
 fn each_call_of_no_host_fails_and_is_counted_apart(rt: HostRuntime) {
@@ -33,62 +31,74 @@ fn its_disk_door_and_link_fail_too(rt: HostRuntime) {
 }
 
 #[test]
-fn a_door_in_memory_gives_what_it_plans(rt: HostRuntime) -> Result<(), Fail> {
-    let alloc = rt.alloc();
-    let mut plans = LinkedList::new(alloc);
-    plans.push_back(Plan::Quiet)?;
-    plans.push_back(Plan::Conn(MemSource::new(Vec::new(alloc)), MemSink::new(alloc)))?;
-    plans.push_back(Plan::Failed)?;
-    let mut door = MemDoor::new(alloc, plans);
-    assert!(rt; matches!(door.next(), Knock::Quiet));
-    let Knock::Conn(input, mut output) = door.next() else {
-        panic!(rt; "no connection");
-    };
-    assert_eq!(rt; output.write_all(b"pong"), Ok(()));
-    door.done(input, output, true);
-    assert!(rt; matches!(door.next(), Knock::Failed));
-    assert!(rt; matches!(door.next(), Knock::Closed));
+fn a_door_in_memory_gives_what_it_plans(rt: HostRuntime) {
+    let mut door = door(&rt, rt.alloc(), "qCf");
+    let letters = [
+        knock(&mut door),
+        knock(&mut door),
+        knock(&mut door),
+        knock(&mut door),
+    ];
+    assert_eq!(rt; letters, *b"qCfc");
     assert_eq!(rt; door.faults(), 1);
     assert_eq!(rt; door.back.len(), 1);
     for ended in &door.back {
         assert_eq!(rt; ended.output.bytes(), b"pong".as_slice());
         assert!(rt; ended.cut);
     }
-    Ok(())
+}
+
+/// What a link of the host answers, or a letter for why there is none.
+fn sent<H: Host>(host: &mut H) -> Result<Result<u16, LinkFault>, u8> {
+    match host.link() {
+        Ok(mut link) => {
+            let sent = link.send("http://localhost/", "{}");
+            host.back_link(link);
+            Ok(sent)
+        }
+        Err(HostFault::Failed) => Err(b'f'),
+        Err(HostFault::NoMemory) => Err(b'm'),
+    }
+}
+
+/// A letter for what a door of the host gives, or for why there is none.
+fn knocked<H: Host>(host: &mut H) -> Result<u8, u8> {
+    match host.door(8080) {
+        Ok(mut door) => {
+            let letter = knock(&mut door);
+            host.back_door(door);
+            Ok(letter)
+        }
+        Err(HostFault::Failed) => Err(b'f'),
+        Err(HostFault::NoMemory) => Err(b'm'),
+    }
 }
 
 #[test]
-fn a_host_in_memory_gives_what_it_plans(rt: HostRuntime) -> Result<(), Fail> {
+fn a_host_in_memory_gives_what_it_plans(rt: HostRuntime) {
     let alloc = rt.alloc();
     let mut links = LinkedList::new(alloc);
-    links.push_back(Ok(MemLink::always(alloc, Ok(204))))?;
-    links.push_back(Err(HostFault::NoMemory))?;
+    let link = MemLink::always(alloc, Ok(204));
+    links.push_back(Ok(link)).expect(&rt, "links");
+    links
+        .push_back(Err(HostFault::NoMemory))
+        .expect(&rt, "links");
     let mut doors = LinkedList::new(alloc);
-    doors.push_back(Err(HostFault::Failed))?;
-    doors.push_back(Ok(MemDoor::new(alloc, LinkedList::new(alloc))))?;
+    doors.push_back(Err(HostFault::Failed)).expect(&rt, "doors");
+    doors
+        .push_back(Ok(MemDoor::new(alloc, LinkedList::new(alloc))))
+        .expect(&rt, "doors");
     let mut host: MemHost<MemSource, MemSink> = MemHost::new(alloc, doors, links);
-    let Ok(mut link) = host.link() else {
-        panic!(rt; "no link");
-    };
-    assert_eq!(rt; link.send("http://localhost/", "{}"), Ok(204));
-    host.back_link(link);
-    assert!(rt; matches!(host.link(), Err(HostFault::NoMemory)));
-    assert!(rt;
-        matches!(host.link(), Err(HostFault::Failed)),
-        "no further plan"
-    );
+    assert_eq!(rt; sent(&mut host), Ok(Ok(204)));
+    assert_eq!(rt; sent(&mut host), Err(b'm'));
+    assert_eq!(rt; sent(&mut host), Err(b'f'), "no further plan");
     assert_eq!(rt; host.link_faults(), 1, "link");
-    assert!(rt; matches!(host.door(8080), Err(HostFault::Failed)));
-    let Ok(mut door) = host.door(8080) else {
-        panic!(rt; "no door");
-    };
-    assert!(rt; matches!(door.next(), Knock::Closed));
-    host.back_door(door);
+    assert_eq!(rt; knocked(&mut host), Err(b'f'));
+    assert_eq!(rt; knocked(&mut host), Ok(b'c'));
     assert_eq!(rt; host.door_faults(), 1, "door");
     assert_eq!(rt; host.doors.held().len(), 1);
     assert_eq!(rt; host.links.held().len(), 1);
     for link in host.links.held() {
         assert_eq!(rt; link.answers.len(), 1);
     }
-    Ok(())
 }

@@ -1,12 +1,12 @@
 //! Steps of delivery over a book, a link and a clock in memory. The rows are worked by hand.
-use crate::rows::{each_row, three};
 use courier_run::{BookFault, DutyBook, HeldDuty, TurnFault, Turned, Way, turn};
 use delivery_duties::{Fate, Outcome};
 use event_shape::queue_of;
 use router_disk::{Clock, Link, LinkFault, MemClock, MemLink};
-use std::alloc::{AllocError, Global};
+use std::alloc::Global;
+use std::fmt::Write;
 use std::process::Abort;
-use std::test::Fail;
+use test_rows::{four, two};
 
 // A duty of the plain book, which may be claimed. It is accepted at 1000 and attempted up to an age of 60.
 #[derive(Clone, Copy)]
@@ -67,13 +67,13 @@ enum Did {
     Refused,
 }
 
-// A book in memory. Each of its duties is due until it is claimed. What is special of it: if `full`, no duty can be claimed; no
-// attempt can be recorded if `broken`, nor if `refuses`, at the number limit; if `no queues`, no queue exists. It stops the test
-// if it is out of memory.
+// A book in memory. Each of its duties is due until it is claimed. What is special of it, by its first letter: if `full`, no duty can
+// be claimed; no attempt can be recorded if `broken`, nor if `refuses`, at the number limit; if `no queues`, no queue exists. It stops
+// the test if it is out of memory.
 #[derive(Drop)]
 struct PlainBook<R: Abort> {
     rt: R,
-    special: &'static str,
+    special: u8,
     duties: Vec<PlainDuty>,
     log: Vec<(PlainDuty, Did)>,
 }
@@ -106,7 +106,7 @@ impl<R: Abort> PlainBook<R> {
         ensures { IsOutcomeIn (⟦<PlainDuty as HeldDuty>⟧.shows duty.now) outcome result }
     {
         match (duty.way(), outcome) {
-            (Way::Queue, Outcome::Accepted) if self.special == "no queues" => Outcome::NoQueue,
+            (Way::Queue, Outcome::Accepted) if self.special == b'n' => Outcome::NoQueue,
             _ => outcome,
         }
     }
@@ -159,7 +159,7 @@ impl<R: Abort> DutyBook for PlainBook<R> {
         if self.duties.is_empty() {
             return Ok(None);
         }
-        if self.special == "full" {
+        if self.special == b'f' {
             return Err(BookFault::NumberLimit);
         }
         let mut duty = self.duties.remove(0);
@@ -174,11 +174,11 @@ impl<R: Abort> DutyBook for PlainBook<R> {
         outcome: Outcome,
         _moment: u64,
     ) -> Result<Fate, BookFault> {
-        if self.special == "broken" {
+        if self.special == b'b' {
             self.restore(held, Did::PutBack);
             return Err(BookFault::DiskFault);
         }
-        if self.special == "refuses" {
+        if self.special == b'r' {
             self.restore(held, Did::Refused);
             return Err(BookFault::NumberLimit);
         }
@@ -238,7 +238,7 @@ const READINGS: &str =
 |ququ|200|18446744073709551615 0|2|Ok 2 1 0 1|1|0|0| +1@250000000000 -1 TooOld Dropped +2@0 -2 Accepted Delivered
 ";
 
-fn duties_of(alloc: Global, letters: &str) -> Result<Vec<PlainDuty>, AllocError> {
+fn duties_of<R: Abort + Drop>(rt: R, alloc: Global, letters: &str) -> Vec<PlainDuty> {
     let mut duties = Vec::new(alloc);
     let mut number = 0u64;
     for letter in letters.bytes() {
@@ -248,145 +248,140 @@ fn duties_of(alloc: Global, letters: &str) -> Result<Vec<PlainDuty>, AllocError>
         } else {
             "http://127.0.0.1/x"
         };
-        duties.push(PlainDuty {
+        let duty = PlainDuty {
             number,
             endpoint,
             moment: 0,
-        })?;
-    }
-    Ok(duties)
-}
-
-fn link_of(alloc: Global, words: &str) -> Result<MemLink, Fail> {
-    let mut later = Vec::new(alloc);
-    for word in words.split(' ') {
-        let answer = match word {
-            "failed" => Err(LinkFault::Failed),
-            "memory" => Err(LinkFault::NoMemory),
-            _ => Ok(word.parse::<u16>()?),
         };
-        later.push(answer)?;
+        duties.push(duty).expect(&rt, "duties");
     }
-    if later.is_empty() {
-        return Err("no answer".into());
-    }
-    let first = later.remove(0);
-    Ok(MemLink::new(alloc, first, later))
+    duties
 }
 
-fn clock_of(alloc: Global, words: &str) -> Result<MemClock, Fail> {
+fn answer_of<R: Abort + Drop>(rt: R, word: &str) -> Result<u16, LinkFault> {
+    match word {
+        "failed" => Err(LinkFault::Failed),
+        "memory" => Err(LinkFault::NoMemory),
+        _ => Ok(word.parse::<u16>().expect(&rt, word)),
+    }
+}
+
+fn link_of<R: Abort + Copy + Drop>(rt: R, alloc: Global, words: &str) -> MemLink {
+    let (first, rest) = words.split_once(' ').unwrap_or((words, ""));
     let mut later = Vec::new(alloc);
-    for word in words.split(' ') {
-        later.push(word.parse::<u64>()?)?;
+    for word in rest.split_whitespace() {
+        later.push(answer_of(rt, word)).expect(&rt, "answers");
     }
-    if later.is_empty() {
-        return Err("no reading".into());
-    }
-    let first = later.remove(0);
-    Ok(MemClock::new(first, later))
+    MemLink::new(alloc, answer_of(rt, first), later)
 }
 
-fn ended(alloc: Global, end: Result<Turned, TurnFault>) -> Result<String, AllocError> {
-    let (how, turned) = match end {
+fn clock_of<R: Abort + Drop>(rt: R, alloc: Global, words: &str) -> MemClock {
+    let (first, rest) = words.split_once(' ').unwrap_or((words, ""));
+    let mut later = Vec::new(alloc);
+    for word in rest.split_whitespace() {
+        let reading = word.parse::<u64>().expect(&rt, word);
+        later.push(reading).expect(&rt, "readings");
+    }
+    MemClock::new(first.parse::<u64>().expect(&rt, first), later)
+}
+
+fn ended(end: Result<Turned, TurnFault>) -> (&'static str, Turned) {
+    match end {
         Ok(turned) => ("Ok", turned),
         Err(TurnFault::DiskFault(turned)) => ("DiskFault", turned),
         Err(TurnFault::NumberLimit(turned)) => ("NumberLimit", turned),
         Err(TurnFault::NoMemory(turned)) => ("NoMemory", turned),
-    };
+    }
+}
+
+fn note<R: Abort + Drop>(rt: R, text: &mut String, duty: PlainDuty, did: Did) {
+    let PlainDuty { number, moment, .. } = duty;
+    match did {
+        Did::Claimed => write!(text, " +{number}@{moment}"),
+        Did::Recorded(outcome, fate) => write!(text, " -{number} {outcome:?} {fate:?}"),
+        Did::PutBack => write!(text, " -{number} back"),
+        Did::Refused => write!(text, " -{number} refused"),
+    }
+    .expect(&rt, "a text");
+}
+
+// What a turn of the book leaves, as a row has it.
+fn left<R: Abort + Copy + Drop>(
+    rt: R,
+    alloc: Global,
+    book: &mut PlainBook<R>,
+    link: &mut MemLink,
+    clock: &mut MemClock,
+    budget: u32,
+) -> String {
+    let (how, turned) = ended(turn(book, link, clock, budget));
     let Turned {
         attempts,
         delivered,
         dead,
         dropped,
     } = turned;
-    format!(in alloc; "{how} {attempts} {delivered} {dead} {dropped}")
-}
-
-fn noted(alloc: Global, duty: PlainDuty, did: Did) -> Result<String, AllocError> {
-    let PlainDuty { number, moment, .. } = duty;
-    match did {
-        Did::Claimed => format!(in alloc; " +{number}@{moment}"),
-        Did::Recorded(outcome, fate) => format!(in alloc; " -{number} {outcome:?} {fate:?}"),
-        Did::PutBack => format!(in alloc; " -{number} back"),
-        Did::Refused => format!(in alloc; " -{number} refused"),
-    }
-}
-
-fn log_of(alloc: Global, log: &[(PlainDuty, Did)]) -> Result<String, AllocError> {
-    let mut text = String::new(alloc);
-    for (duty, did) in log {
-        text.push_str(noted(alloc, *duty, *did)?.as_str())?;
-    }
-    Ok(text)
-}
-
-fn turned<R: Abort>(
-    alloc: Global,
-    book: &mut PlainBook<R>,
-    link: &mut MemLink,
-    clock: &mut MemClock,
-    budget: u32,
-) -> Result<String, AllocError> {
-    let end = ended(alloc, turn(book, link, clock, budget))?;
-    let log = log_of(alloc, book.log.as_slice())?;
     let (answers, faults, next) = (link.answers.len(), link.faults(), clock.now());
-    format!(in alloc; "{end}|{answers}|{faults}|{next}|{log}")
+    let mut text = format!(in alloc;
+        "{how} {attempts} {delivered} {dead} {dropped}|{answers}|{faults}|{next}|"
+    ).expect(&rt, "a text");
+    for (duty, did) in &book.log {
+        note(rt, &mut text, *duty, *did);
+    }
+    text
 }
 
-fn is_met<R: Abort + Drop>(rt: R, alloc: Global, row: &'static str) -> Result<bool, Fail> {
-    let Some((special, duties, rest)) = three(row) else {
-        return Ok(false);
-    };
-    let Some((answers, readings, rest)) = three(rest) else {
-        return Ok(false);
-    };
-    let Some((budget, want)) = rest.split_once('|') else {
-        return Ok(false);
-    };
-    let budget = budget.parse::<u32>()?;
+// Fails unless each row of the table is met.
+fn meet_all<R: Abort + Copy + Drop>(rt: R, alloc: Global, rows: &str, count: usize) {
+    assert_eq!(rt; rows.lines().count(), count);
+    for row in rows.lines() {
+        meet(rt, alloc, row);
+    }
+}
+
+fn meet<R: Abort + Copy + Drop>(rt: R, alloc: Global, row: &str) {
+    let (special, duties, answers, rest) = four(row);
+    let (readings, rest) = two(rest);
+    let (budget, want) = two(rest);
     let mut book = PlainBook {
         rt,
-        special,
-        duties: duties_of(alloc, duties)?,
+        special: special.bytes().next().unwrap_or(b' '),
+        duties: duties_of(rt, alloc, duties),
         log: Vec::new(alloc),
     };
-    let mut link = link_of(alloc, answers)?;
-    let mut clock = clock_of(alloc, readings)?;
-    Ok(turned(alloc, &mut book, &mut link, &mut clock, budget)?.as_str() == want)
+    let mut link = link_of(rt, alloc, answers);
+    let mut clock = clock_of(rt, alloc, readings);
+    let budget = budget.parse::<u32>().expect(&rt, row);
+    let left = left(rt, alloc, &mut book, &mut link, &mut clock, budget);
+    assert_eq!(rt; left.as_str(), want, "{row}");
 }
 
 #[test]
-fn an_outcome_is_what_the_link_answered(rt: HostRuntime) -> Result<(), Fail> {
-    each_row!(rt; ANSWERS, 6, row => is_met(rt, rt.alloc(), row)?);
-    Ok(())
+fn an_outcome_is_what_the_link_answered(rt: HostRuntime) {
+    meet_all(rt, rt.alloc(), ANSWERS, 6);
 }
 
 #[test]
-fn only_a_young_duty_of_an_endpoint_is_sent(rt: HostRuntime) -> Result<(), Fail> {
-    each_row!(rt; AGES, 6, row => is_met(rt, rt.alloc(), row)?);
-    Ok(())
+fn only_a_young_duty_of_an_endpoint_is_sent(rt: HostRuntime) {
+    meet_all(rt, rt.alloc(), AGES, 6);
 }
 
 #[test]
-fn a_turn_makes_attempts_within_its_budget(rt: HostRuntime) -> Result<(), Fail> {
-    each_row!(rt; BUDGETS, 5, row => is_met(rt, rt.alloc(), row)?);
-    Ok(())
+fn a_turn_makes_attempts_within_its_budget(rt: HostRuntime) {
+    meet_all(rt, rt.alloc(), BUDGETS, 5);
 }
 
 #[test]
-fn a_fault_leaves_no_claim_open(rt: HostRuntime) -> Result<(), Fail> {
-    each_row!(rt; FAULTS, 3, row => is_met(rt, rt.alloc(), row)?);
-    Ok(())
+fn a_fault_leaves_no_claim_open(rt: HostRuntime) {
+    meet_all(rt, rt.alloc(), FAULTS, 3);
 }
 
 #[test]
-fn a_refused_record_puts_its_claim_back(rt: HostRuntime) -> Result<(), Fail> {
-    assert!(rt; is_met(rt, rt.alloc(), REFUSED)?);
-    Ok(())
+fn a_refused_record_puts_its_claim_back(rt: HostRuntime) {
+    meet(rt, rt.alloc(), REFUSED);
 }
 
 #[test]
-fn each_claim_has_a_reading_of_its_own(rt: HostRuntime) -> Result<(), Fail> {
-    each_row!(rt; READINGS, 4, row => is_met(rt, rt.alloc(), row)?);
-    Ok(())
+fn each_claim_has_a_reading_of_its_own(rt: HostRuntime) {
+    meet_all(rt, rt.alloc(), READINGS, 4);
 }

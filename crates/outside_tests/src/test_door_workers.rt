@@ -2,13 +2,14 @@
 ghost use Rattle.std.specs.Prelude.{◌<◌, ◌≤◌, length};
 
 use crate::ledger::{Ledger, add, door, make_hall, turns_of};
-use crate::rows::{each_row, flag, number, three};
 use door_workers::{Serving, Work, may_leave, serve_door};
 use std::alloc::Global;
+use std::process::Abort;
 use std::sync::Wait;
 use std::sync::atomic::{AtomicU64, Ordering};
 use std::test::Fail;
 use std::thread::Threads;
+use test_rows::{all_met, four, two};
 use turn_book::{Hall, Pass};
 
 /// Each connection is a turn. A worker counts how often it did something else.
@@ -44,18 +45,18 @@ impl<R: Wait, I, O> Work<Ledger, I, O, u32> for Adding<'_, R> {
 
 // Serves a door with these plans, with a worker for each count. Returns how it ended, the turns of each connection, how many
 // connections came back and how many were served; and the counts.
-fn served_by<R: Threads + Wait + Sync>(
+fn served_by<R: Threads + Wait + Sync + Abort>(
     rt: &R,
     alloc: Global,
     plans: &str,
     counts: &[u32],
     most: Option<u64>,
-) -> Result<(String, Vec<u32>), Fail>
+) -> (String, Vec<u32>)
     requires { (0 < length counts.now) × (length counts.now ≤ 2) }
 {
-    let (hall, mut pass) = make_hall(alloc, 4)?;
-    let counts = counts.to_vec(alloc)?;
-    let door = door(alloc, plans)?;
+    let (hall, mut pass) = make_hall(rt, alloc, 4);
+    let counts = counts.to_vec(alloc).expect(rt, "counts");
+    let door = door(rt, alloc, plans);
     let work = Adding {
         rt,
         served: AtomicU64::new(0),
@@ -68,39 +69,33 @@ fn served_by<R: Threads + Wait + Sync>(
     } = serve_door(rt, alloc, &hall, &mut pass, counts, door, most, &work);
     let turns = turns_of(&hall.close(pass, passes));
     let (back, served) = (door.back.len(), work.served.load(Ordering::SeqCst));
-    Ok((
-        format!(in alloc; "{end:?} {turns:?} {back} {served}")?,
-        owns,
-    ))
+    let served = format!(in alloc; "{end:?} {turns:?} {back} {served}").expect(rt, "a text");
+    (served, owns)
 }
 
 #[test]
-fn two_workers_serve_three_connections(rt: HostRuntime) -> Result<(), Fail> {
-    let (served, _) = served_by(&rt, rt.alloc(), "CCqC", &[0, 0], None)?;
+fn two_workers_serve_three_connections(rt: HostRuntime) {
+    let (served, _) = served_by(&rt, rt.alloc(), "CCqC", &[0, 0], None);
     assert_eq!(rt; served.as_str(), "Done [0, 1, 1, 1, 0] 3 3");
-    Ok(())
 }
 
 #[test]
-fn one_worker_stops_at_the_limit(rt: HostRuntime) -> Result<(), Fail> {
-    let (served, _) = served_by(&rt, rt.alloc(), "CCC", &[0], Some(2))?;
+fn one_worker_stops_at_the_limit(rt: HostRuntime) {
+    let (served, _) = served_by(&rt, rt.alloc(), "CCC", &[0], Some(2));
     assert_eq!(rt; served.as_str(), "Done [0, 1, 1, 0, 0] 2 2");
-    Ok(())
 }
 
 #[test]
-fn one_worker_is_idle_while_none_comes(rt: HostRuntime) -> Result<(), Fail> {
-    let (served, counts) = served_by(&rt, rt.alloc(), "qCm", &[0], None)?;
+fn one_worker_is_idle_while_none_comes(rt: HostRuntime) {
+    let (served, counts) = served_by(&rt, rt.alloc(), "qCm", &[0], None);
     assert_eq!(rt; served.as_str(), "Done [0, 1, 0, 0, 0] 1 1");
     assert_eq!(rt; counts.as_slice(), [2].as_slice());
-    Ok(())
 }
 
 #[test]
-fn a_door_that_fails_is_reported(rt: HostRuntime) -> Result<(), Fail> {
-    let (served, _) = served_by(&rt, rt.alloc(), "CfC", &[0, 0], None)?;
+fn a_door_that_fails_is_reported(rt: HostRuntime) {
+    let (served, _) = served_by(&rt, rt.alloc(), "CfC", &[0, 0], None);
     assert_eq!(rt; served.as_str(), "DoorFault [0, 1, 0, 0, 0] 1 1");
-    Ok(())
 }
 
 // How many workers are busy, this one counted, how many have begun, how many connections are out, how many the door gives at
@@ -118,14 +113,15 @@ const LEAVES: &str = "1|1|0|1|true
 3|3|2|2|true
 ";
 
-fn is_leave_met(row: &str) -> Option<bool> {
-    let (busy, begun, rest) = three(row)?;
-    let (out, limit, want) = three(rest)?;
-    let may = may_leave(number(busy)?, number(begun)?, number(out)?, number(limit)?);
-    Some(may == flag(want)?)
+fn is_leave_met(alloc: Global, row: &str) -> Result<bool, Fail> {
+    let (busy, begun, out, rest) = four(row);
+    let (limit, want) = two(rest);
+    let (busy, begun) = (busy.parse::<u64>()?, begun.parse::<u64>()?);
+    let may = may_leave(busy, begun, out.parse::<u64>()?, limit.parse::<u64>()?);
+    Ok(format!(in alloc; "{may}")?.as_str() == want)
 }
 
 #[test]
-fn a_worker_may_leave_if_another_knocks(rt: HostRuntime) {
-    each_row!(rt; LEAVES, 9, row => is_leave_met(row) == Some(true));
+fn a_worker_may_leave_if_another_knocks(rt: HostRuntime) -> Result<(), Fail> {
+    all_met(rt.alloc(), LEAVES, 9, is_leave_met)
 }

@@ -1,9 +1,9 @@
 //! The command line, and the lines that the program prints. The rows are worked by hand. No clause says that the two writers
 //! succeed if memory is available.
-use crate::rows::each_row;
 use program_lines::{Command, Summary, listening_line, read_command, summary_text};
 use std::alloc::Global;
 use std::test::Fail;
+use test_rows::{all_met, two};
 
 // A command line, and what it is read to.
 const COMMANDS: &str = "ebusd once|Some(Once { now: None })
@@ -59,26 +59,24 @@ fn command_of(alloc: Global, line: &str) -> Result<Option<Command>, Fail> {
 }
 
 fn is_met(alloc: Global, row: &str) -> Result<bool, Fail> {
-    match row.split_once('|') {
-        Some((line, want)) => {
-            let command = command_of(alloc, line)?;
-            Ok(format!(in alloc; "{command:?}")?.as_str() == want)
-        }
-        None => Ok(false),
-    }
+    let (line, want) = two(row);
+    let command = command_of(alloc, line)?;
+    Ok(format!(in alloc; "{command:?}")?.as_str() == want)
+}
+
+fn is_none(alloc: Global, line: &str) -> Result<bool, Fail> {
+    Ok(command_of(alloc, line)?.is_none())
 }
 
 #[test]
 fn words_are_read_to_their_command(rt: HostRuntime) -> Result<(), Fail> {
-    each_row!(rt; COMMANDS, 11, row => is_met(rt.alloc(), row)?);
-    Ok(())
+    all_met(rt.alloc(), COMMANDS, 11, is_met)
 }
 
 #[test]
 fn other_words_are_no_command(rt: HostRuntime) -> Result<(), Fail> {
     assert_eq!(rt; read_command(&[]), None);
-    each_row!(rt; NO_COMMANDS, 27, row => command_of(rt.alloc(), row)?.is_none());
-    Ok(())
+    all_met(rt.alloc(), NO_COMMANDS, 27, is_none)
 }
 
 #[test]

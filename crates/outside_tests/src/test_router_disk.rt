@@ -3,46 +3,48 @@ use router_disk::{
     Clock, Failed, Failing, Link, LinkFault, MemClock, MemLink, MemSink, MemSource, ReaderSource,
     Sink, Source, SystemClock, WriterSink,
 };
-use std::alloc::{AllocError, Global};
+use std::alloc::Global;
 use std::io;
 use std::io::{ErrorKind, Read, Write};
-use std::test::Fail;
+use std::process::Abort;
 use std::time::Duration;
 
 const TEXT: &[u8] = b"POST / HTTP/1.1\r\n";
 
 // Reads to the end, past failures, and returns the bytes and the number of calls that failed.
-fn read_all<S: Source>(alloc: Global, source: &mut S) -> Result<(Vec<u8>, u64), AllocError> {
+fn read_all<R: Abort, S: Source>(rt: &R, alloc: Global, source: &mut S) -> (Vec<u8>, u64) {
     let mut bytes = Vec::new(alloc);
     let mut failed = 0u64;
     let mut buf = [0u8; 8];
     for _ in 0..100 {
         match source.read(&mut buf) {
             Ok(0) => break,
-            Ok(count) => bytes.extend_from_slice(&buf[..count])?,
+            Ok(count) => bytes.extend_from_slice(&buf[..count]).expect(rt, "bytes"),
             Err(Failed) => failed = failed.saturating_add(1),
         }
     }
-    Ok((bytes, failed))
+    (bytes, failed)
+}
+
+fn source<R: Abort>(rt: &R, alloc: Global) -> MemSource {
+    MemSource::new(TEXT.to_vec(alloc).expect(rt, "bytes"))
 }
 
 #[test]
-fn a_source_gives_the_same_bytes_in_any_pieces(rt: HostRuntime) -> Result<(), Fail> {
+fn a_source_gives_the_same_bytes_in_any_pieces(rt: HostRuntime) {
     for most in [1, 2, 7, 8, 9, 1000] {
-        let mut source = MemSource::new(TEXT.to_vec(rt.alloc())?).in_pieces(most);
-        let (bytes, failed) = read_all(rt.alloc(), &mut source)?;
+        let mut source = source(&rt, rt.alloc()).in_pieces(most);
+        let (bytes, failed) = read_all(&rt, rt.alloc(), &mut source);
         assert_eq!(rt; bytes.as_slice(), TEXT, "in pieces of {most}");
         assert_eq!(rt; failed, 0, "in pieces of {most}");
     }
-    Ok(())
 }
 
 #[test]
-fn a_failed_call_loses_no_byte_and_is_counted(rt: HostRuntime) -> Result<(), Fail> {
+fn a_failed_call_loses_no_byte_and_is_counted(rt: HostRuntime) {
     for sound in [0, 1, 2] {
-        let source = MemSource::new(TEXT.to_vec(rt.alloc())?);
-        let mut failing = Failing::after(sound, source);
-        let (bytes, failed) = read_all(rt.alloc(), &mut failing)?;
+        let mut failing = Failing::after(sound, source(&rt, rt.alloc()));
+        let (bytes, failed) = read_all(&rt, rt.alloc(), &mut failing);
         assert_eq!(rt; bytes.as_slice(), TEXT, "after {sound}");
         assert_eq!(rt; failed, 1, "after {sound}");
         assert_eq!(rt; Source::faults(&failing), 1, "after {sound}");
@@ -53,12 +55,12 @@ fn a_failed_call_loses_no_byte_and_is_counted(rt: HostRuntime) -> Result<(), Fai
     assert_eq!(rt; sink.write_all(b"ef"), Ok(()));
     assert_eq!(rt; sink.inner.bytes(), b"abef".as_slice());
     assert_eq!(rt; Sink::faults(&sink), 1);
-    Ok(())
 }
 
 #[test]
-fn a_clock_in_memory_repeats_its_last_reading(rt: HostRuntime) -> Result<(), Fail> {
-    let mut clock = MemClock::new(5, [3, 9].to_vec(rt.alloc())?);
+fn a_clock_in_memory_repeats_its_last_reading(rt: HostRuntime) {
+    let later = [3, 9].to_vec(rt.alloc()).expect(&rt, "readings");
+    let mut clock = MemClock::new(5, later);
     for want in [5, 3, 9, 9, 9] {
         assert_eq!(rt; clock.now(), want);
     }
@@ -66,7 +68,6 @@ fn a_clock_in_memory_repeats_its_last_reading(rt: HostRuntime) -> Result<(), Fai
     for _ in 0..3 {
         assert_eq!(rt; still.now(), 1_700_000_000);
     }
-    Ok(())
 }
 
 const URL: &str = "http://localhost/";
@@ -82,8 +83,9 @@ fn has_answered(link: &MemLink, place: usize, text: &str, code: u16) -> bool {
 }
 
 #[test]
-fn a_link_in_memory_keeps_to_its_plan(rt: HostRuntime) -> Result<(), Fail> {
-    let later = [Err(LinkFault::Failed), Err(LinkFault::NoMemory), Ok(200)].to_vec(rt.alloc())?;
+fn a_link_in_memory_keeps_to_its_plan(rt: HostRuntime) {
+    let later = [Err(LinkFault::Failed), Err(LinkFault::NoMemory), Ok(200)].to_vec(rt.alloc());
+    let later = later.expect(&rt, "results");
     let mut link = MemLink::new(rt.alloc(), Ok(503), later);
     assert_eq!(rt; link.send(URL, "a"), Ok(503));
     assert_eq!(rt; link.send(URL, "b"), Err(LinkFault::Failed));
@@ -100,7 +102,6 @@ fn a_link_in_memory_keeps_to_its_plan(rt: HostRuntime) -> Result<(), Fail> {
         assert_eq!(rt; silent.send(URL, "{}"), Err(LinkFault::Failed));
     }
     assert_eq!(rt; silent.faults(), 3);
-    Ok(())
 }
 
 // Reads or writes one byte a call. Every second call is interrupted, and call number `fails` fails.
@@ -169,10 +170,11 @@ impl std::time::Clock for Slow {
 }
 
 #[test]
-fn adapters_try_again_if_interrupted_and_count_failures(rt: HostRuntime) -> Result<(), Fail> {
+fn adapters_try_again_if_interrupted_and_count_failures(rt: HostRuntime) {
     let alloc = rt.alloc();
-    let mut source = ReaderSource::new(Slow::new(5, b"abcd".to_vec(alloc)?));
-    let (bytes, failed) = read_all(alloc, &mut source)?;
+    let bytes = b"abcd".to_vec(alloc).expect(&rt, "bytes");
+    let mut source = ReaderSource::new(Slow::new(5, bytes));
+    let (bytes, failed) = read_all(&rt, alloc, &mut source);
     assert_eq!(rt; bytes.as_slice(), b"abcd".as_slice());
     assert_eq!(rt; failed, 1);
     assert_eq!(rt; source.faults(), 1);
@@ -182,5 +184,4 @@ fn adapters_try_again_if_interrupted_and_count_failures(rt: HostRuntime) -> Resu
     assert_eq!(rt; sink.faults(), 1);
     let mut clock = SystemClock::new(Slow::new(0, Vec::new(alloc)));
     assert_eq!(rt; clock.now(), 1_700_000_000);
-    Ok(())
 }

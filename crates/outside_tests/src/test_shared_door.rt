@@ -8,8 +8,8 @@ use bus_host::Door;
 use shared_door::{Knocked, Naming, Over, Parts, Porch, Tickets};
 use std::alloc::Global;
 use std::marker::Brand;
+use std::process::Abort;
 use std::sync::{Mutex, Wait};
-use std::test::Fail;
 use std::thread;
 use std::thread::Threads;
 use turn_book::{Hall, Pass};
@@ -128,9 +128,9 @@ fn served<D: Door, R: Threads + Wait + Sync>(
 }
 
 #[test]
-fn two_threads_serve_four_connections(rt: HostRuntime) -> Result<(), Fail> {
+fn two_threads_serve_four_connections(rt: HostRuntime) {
     let alloc = rt.alloc();
-    let (hall, mut pass) = make_hall(alloc, 4)?;
+    let (hall, mut pass) = make_hall(&rt, alloc, 4);
     let own = hall.another(&mut pass);
     let mut workers = [
         Worker {
@@ -142,58 +142,53 @@ fn two_threads_serve_four_connections(rt: HostRuntime) -> Result<(), Fail> {
             letters: [0; 5],
         },
     ];
-    let tickets = Tickets::make(alloc)?;
-    let door = door(alloc, "CCqCC")?;
-    let parts = served(&rt, &hall, own, tickets, door, None, &mut workers);
+    let tickets = Tickets::make(alloc).expect(&rt, "tickets");
+    let door = door(&rt, alloc, "CCqCC");
     let Parts {
         door,
         pass: _,
         standing,
         visits: _,
-    } = parts;
+    } = served(&rt, &hall, own, tickets, door, None, &mut workers);
     assert_eq!(rt; standing.gave, 4);
     assert!(rt; standing.over == Some(Over::Closed));
     assert_eq!(rt; door.back.len(), 4);
     let ledger = hall.take(&rt, &mut pass);
     assert!(rt; turns_of(&ledger) == [0, 1, 1, 1, 1]);
-    Ok(())
 }
 
 // Whether five knocks at a door with these plans return these letters, and the door gets this many connections back.
-fn returns<R: Threads + Wait + Sync>(
+fn returns<R: Threads + Wait + Sync + Abort>(
     rt: &R,
     alloc: Global,
     plans: &str,
     most: Option<u64>,
     letters: [u8; 5],
     back: usize,
-) -> Result<bool, Fail> {
-    let (hall, mut pass) = make_hall(alloc, 2)?;
+) -> bool {
+    let (hall, mut pass) = make_hall(rt, alloc, 2);
     let own = hall.another(&mut pass);
     let mut workers = [Worker {
         pass,
         letters: [0; 5],
     }];
-    let tickets = Tickets::make(alloc)?;
-    let door = door(alloc, plans)?;
-    let parts = served(rt, &hall, own, tickets, door, most, &mut workers);
+    let tickets = Tickets::make(alloc).expect(rt, "tickets");
+    let door = door(rt, alloc, plans);
     let Parts {
         door,
         pass: _,
         standing: _,
         visits: _,
-    } = parts;
-    Ok(workers[0].letters == letters && door.back.len() == back)
+    } = served(rt, &hall, own, tickets, door, most, &mut workers);
+    workers[0].letters == letters && door.back.len() == back
 }
 
 #[test]
-fn a_porch_returns_what_its_door_returns(rt: HostRuntime) -> Result<(), Fail> {
-    assert!(rt; returns(&rt, rt.alloc(), "qCmfC", None, *b"qCmff", 1)?);
-    Ok(())
+fn a_porch_returns_what_its_door_returns(rt: HostRuntime) {
+    assert!(rt; returns(&rt, rt.alloc(), "qCmfC", None, *b"qCmff", 1));
 }
 
 #[test]
-fn a_porch_gives_no_more_than_it_may(rt: HostRuntime) -> Result<(), Fail> {
-    assert!(rt; returns(&rt, rt.alloc(), "CCC", Some(2), *b"CCccc", 2)?);
-    Ok(())
+fn a_porch_gives_no_more_than_it_may(rt: HostRuntime) {
+    assert!(rt; returns(&rt, rt.alloc(), "CCC", Some(2), *b"CCccc", 2));
 }

@@ -1,11 +1,11 @@
 //! Turns of threads that share a list of turns.
-ghost use Rattle.std.specs.Prelude.{◌≡◌, ◌+◌, ◌<◌, length, All, IfOk};
+ghost use Rattle.std.specs.Prelude.{◌≡◌, ◌+◌, ◌<◌, length, All};
 ghost use Rattle.turn_book.specs.Passes.{view, IsFree, IsSamePass};
 
 use crate::ledger::{Ledger, add, make_hall, turns_of};
-use std::alloc::{AllocError, Global};
+use std::alloc::Global;
+use std::process::Abort;
 use std::sync::Wait;
-use std::test::Fail;
 use std::thread;
 use std::thread::Threads;
 use turn_book::{Hall, Pass};
@@ -34,25 +34,26 @@ fn enter_often<R: Wait>(rt: &R, hall: &Hall<Ledger>, pass: &mut Pass<Ledger>, tu
 }
 
 // Makes this many more passes, for other threads.
-fn more(
+fn more<R: Abort>(
+    rt: &R,
     alloc: Global,
     hall: &Hall<Ledger>,
     pass: &mut Pass<Ledger>,
     count: u32,
-) -> Result<Vec<Pass<Ledger>>, AllocError>
+) -> Vec<Pass<Ledger>>
     requires here { (pass.old.seat.table_id ≡ hall.now.table.shared.table_id) × IsFree pass.old.seat }
     requires first { (view pass.old.seat).made ≡ 1 }
     requires room { count < hall.now.seats }
     ensures pass { (pass.new.seat.table_id ≡ hall.now.table.shared.table_id) × IsFree pass.new.seat }
-    ensures made { IfOk result (λ ps. (view pass.new.seat).made ≡ 1 + length ps.items) }
-    ensures others { IfOk result (λ ps. All (λ p. (p.seat.table_id ≡ hall.now.table.shared.table_id) × IsFree p.seat) ps.items) }
+    ensures made { (view pass.new.seat).made ≡ 1 + length result.items }
+    ensures others { All (λ p. (p.seat.table_id ≡ hall.now.table.shared.table_id) × IsFree p.seat) result.items }
 {
     let mut others = Vec::new(alloc);
     for _ in 0..count {
         let other = hall.another(pass);
-        others.push(other)?;
+        others.push(other).expect(rt, "passes");
     }
-    Ok(others)
+    others
 }
 
 // Each thread makes turns with a pass of its own.
@@ -80,31 +81,28 @@ fn enter_all<R: Threads + Wait + Sync>(
 }
 
 #[test]
-fn one_pass_gives_its_turns(rt: HostRuntime) -> Result<(), Fail> {
-    let (hall, mut pass) = make_hall(rt.alloc(), 1)?;
+fn one_pass_gives_its_turns(rt: HostRuntime) {
+    let (hall, mut pass) = make_hall(&rt, rt.alloc(), 1);
     enter(&rt, &hall, &mut pass);
     enter(&rt, &hall, &mut pass);
     let ledger = hall.close(pass, Vec::new(rt.alloc()));
     assert!(rt; ledger.entries.as_slice() == [(0, 0), (0, 0)].as_slice());
-    Ok(())
 }
 
 #[test]
-fn four_threads_share_one_history(rt: HostRuntime) -> Result<(), Fail> {
-    let (hall, mut pass) = make_hall(rt.alloc(), 5)?;
-    let mut others = more(rt.alloc(), &hall, &mut pass, 4)?;
+fn four_threads_share_one_history(rt: HostRuntime) {
+    let (hall, mut pass) = make_hall(&rt, rt.alloc(), 5);
+    let mut others = more(&rt, rt.alloc(), &hall, &mut pass, 4);
     enter_all(&rt, &hall, others.as_mut_slice(), 4, 50_000);
     let ledger = hall.close(pass, others);
     assert!(rt; turns_of(&ledger) == [0, 50_000, 50_000, 50_000, 50_000]);
-    Ok(())
 }
 
 #[test]
-fn sixteen_threads_return(rt: HostRuntime) -> Result<(), Fail> {
-    let (hall, mut pass) = make_hall(rt.alloc(), 17)?;
-    let mut others = more(rt.alloc(), &hall, &mut pass, 16)?;
+fn sixteen_threads_return(rt: HostRuntime) {
+    let (hall, mut pass) = make_hall(&rt, rt.alloc(), 17);
+    let mut others = more(&rt, rt.alloc(), &hall, &mut pass, 16);
     enter_all(&rt, &hall, others.as_mut_slice(), 16, 100_000);
     let ledger = hall.close(pass, others);
     assert_eq!(rt; ledger.entries.len(), 1_600_000);
-    Ok(())
 }

@@ -13,7 +13,7 @@ use Rattle.pattern_meaning.specs.Pattern.{Pattern, pattern, Fields, no_fields, f
 use Rattle.pattern_meaning.specs.View.{IsView, leaf_at}
 
 -- Two scalars are the same; numbers are compared by their spelling, so `1` is not `1.0` (this project's own rule).
--- Shown by: event_tests test_pattern_meaning.rt: a_scalar_is_compared_by_its_spelling.
+-- Shown by: tables pattern_meaning.rows: a_scalar_is_compared_by_its_spelling.
 abbrev pub IsSame : Tree → Tree → Type 0
 IsSame a b = a ≡ b
 
@@ -22,7 +22,7 @@ abbrev pub OnText : (List ℕ → Type 0) → Tree → Type 0
 OnText holds leaf = (t : List ℕ) × (leaf ≡ text t) × holds t
 
 -- A number, in millionths, meets a comparison with a bound.
--- Shown by: event_tests test_pattern_meaning.rt: all_comparisons_are_required.
+-- Shown by: tables pattern_meaning.rows: all_comparisons_are_required.
 abbrev pub Compares : Operator → ℤ → ℤ → Type 0
 Compares Equal n m = n ≡ m
 Compares Less n m = n <ℤ m
@@ -32,7 +32,7 @@ Compares AtLeast n m = m ≤ℤ n
 
 -- A leaf meets a test: a line for each kind, in the words of leaf_match and numeric_keys. `anything_but` is met by each leaf that meets
 -- none of its tests, whether it is a string or not. `missing` is met by no leaf.
--- Shown by: event_tests test_pattern_meaning.rt: a_front_is_a_front, an_end_is_an_end, a_wildcard_fits, an_address_has_the_first_bits.
+-- Shown by: tables pattern_meaning.rows: a_front_is_a_front, an_end_is_an_end, a_wildcard_fits, an_address_has_the_first_bits.
 abbrev mutual
   pub IsMet : Test → Tree → Type 0
   IsMet (same scalar) leaf = IsSame scalar leaf
@@ -55,19 +55,19 @@ abbrev mutual
   IsMetBySome (test t ts) leaf = IsMet t leaf ⊎ IsMetBySome ts leaf
 
 -- No view of the whole event has a leaf at the path. `a.b` is absent from `{"a":{"b":[]}}` and not from `{"a":[{"c":1},{"b":1}]}`.
--- Shown by: event_tests test_pattern_meaning.rt: a_missing_leaf_is_missing_in_all_views.
+-- Shown by: tables pattern_meaning.rows: a_missing_leaf_is_missing_in_all_views.
 abbrev pub IsAbsent : Tree → List (List ℕ) → Type 0
 IsAbsent event path = (view : Tree) → IsView event view → leaf_at path view ≡ None
 
 -- A test holds at a path of a view of the event: the leaf at the path meets it; or the test is `exists: false`, and no view of the event
 -- has a leaf at the path.
--- Shown by: event_tests test_pattern_meaning.rt: a_leaf_exists, a_missing_leaf_is_missing_in_all_views.
+-- Shown by: tables pattern_meaning.rows: a_leaf_exists, a_missing_leaf_is_missing_in_all_views.
 abbrev pub TestHolds : Tree → List (List ℕ) → Tree → Test → Type 0
 TestHolds event path view t = ((leaf : Tree) × (leaf_at path view ≡ Some leaf) × IsMet t leaf) ⊎ ((t ≡ missing) × IsAbsent event path)
 
 -- On one view of the event, below a path: each field has a test that holds at its path, or a pattern that holds from there; and of the
 -- branches, if there are any, one holds on the same view.
--- Shown by: event_tests test_pattern_meaning.rt: a_field_and_a_branch_speak_of_one_member.
+-- Shown by: tables pattern_meaning.rows: a_field_and_a_branch_speak_of_one_member.
 abbrev mutual
   pub HoldsOnView : Pattern → Tree → List (List ℕ) → Tree → Type 0
   HoldsOnView (pattern fs bs) event path view = FieldsHold fs event path view × BranchesHold bs event path view
@@ -91,7 +91,7 @@ abbrev mutual
 
 -- Some view of the whole value satisfies the pattern. `{"a":{"b":[1],"c":[2]}}` does not hold of `{"a":[{"b":1},{"c":2}]}`, and holds of
 -- `{"a":[{"b":1,"c":2}]}`.
--- Shown by: event_tests test_pattern_meaning.rt: two_fields_need_one_member_of_a_list; event_tests test_pattern_read.rt:
+-- Shown by: tables pattern_meaning.rows: two_fields_need_one_member_of_a_list; tables pattern_read.rows:
 -- patterns_hold_of_events.
 abbrev pub PatternHolds : Pattern → Tree → Type 0
 PatternHolds p event = (view : Tree) × IsView event view × HoldsOnView p event [] view

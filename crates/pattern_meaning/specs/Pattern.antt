@@ -8,7 +8,7 @@ use Rattle.pattern_meaning.specs.declared.comparison.Comparison.{Comparison}
 -- A test of a leaf: a constructor for each kind of test of the Amazon EventBridge User Guide. `prefix`, `suffix` and `equals-ignore-case`
 -- have a text; the first two may ignore the case of ASCII letters. `anything-but` has the tests that the leaf must not meet. The
 -- comparisons of `numeric` are all required. `missing` is `exists: false`.
--- Shown by: event_tests test_pattern_meaning.rt: anything_but_needs_a_leaf, all_comparisons_are_required.
+-- Shown by: tables pattern_meaning.rows: anything_but_needs_a_leaf, all_comparisons_are_required.
 mutual
   pub data Test : Type 0 where
     same : Tree → Test
@@ -30,7 +30,7 @@ mutual
 
 -- A pattern is its fields, in order, all required, and the branches of its `$or`, one of them required; without `$or` it has no branches. A
 -- field has a key, and tests, one of which is enough, or a pattern.
--- Shown by: event_tests test_pattern_meaning.rt: a_field_and_a_branch_speak_of_one_member.
+-- Shown by: tables pattern_meaning.rows: a_field_and_a_branch_speak_of_one_member.
 mutual
   pub data Pattern : Type 0 where
     pattern : Fields → Branches → Pattern
@@ -66,7 +66,7 @@ LacksField key no_fields = Unit {0}
 LacksField key (field k f fs) = (key ≢ k) × LacksField key fs
 
 -- What a reader of patterns accepts: in the pattern, and in each pattern inside it, the keys of the fields are distinct.
--- Shown by: event_tests test_pattern_read.rt: texts_that_are_no_json_are_refused.
+-- Shown by: tables pattern_read.rows: texts_that_are_no_json_are_refused.
 abbrev mutual
   pub IsPattern : Pattern → Type 0
   IsPattern (pattern fs bs) = AreFields fs × AreBranches bs
@@ -84,7 +84,7 @@ abbrev mutual
   AreBranches (branch p bs) = IsPattern p × AreBranches bs
 
 -- No field of the root has this key, and no field of a branch of the root's `$or`. A `$or` in such a branch counts as the root's.
--- Shown by: event_tests test_pattern_read.rt: values_that_are_no_patterns_are_refused.
+-- Shown by: tables pattern_read.rows: values_that_are_no_patterns_are_refused.
 abbrev mutual
   pub LacksRoot : List ℕ → Pattern → Type 0
   LacksRoot key (pattern fs bs) = LacksField key fs × LackRoot key bs

@@ -43,7 +43,7 @@ abbrev pub field_of : CodeField → Field
 field_of = fold-Field Field Pattern field_step pattern_step
 
 -- What contracts see of the code's pattern.
--- Shown by: event_tests test_pattern_meaning.rt: a_scalar_is_compared_by_its_spelling.
+-- Shown by: tables pattern_meaning.rows: a_scalar_is_compared_by_its_spelling.
 abbrev pub pattern_of : CodePattern → Pattern
 pattern_of = fold-Pattern Field Pattern field_step pattern_step
 

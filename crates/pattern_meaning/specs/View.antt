@@ -5,7 +5,7 @@ use Rattle.std.specs.Str.{bytes_eq}
 use Rattle.json_text.specs.Tree.{Tree, null, truth, number, text, list, object, Items, no_items, item, Members, no_members, member}
 
 -- A value has a view unless it is a list of which no member has one. `[]` and `[[],[]]` have none.
--- Shown by: event_tests test_pattern_meaning.rt: a_missing_leaf_is_missing_in_all_views.
+-- Shown by: tables pattern_meaning.rows: a_missing_leaf_is_missing_in_all_views.
 abbrev mutual
   pub has_view : Tree → Bool
   has_view null = true
@@ -22,7 +22,7 @@ abbrev mutual
 -- IsView e v: v is a view of the value e. In each list one member is chosen, so that no list is left. In an object each member's value
 -- becomes a view of it, and a member without a view is left out. The views of `{"a":[1,[2,3]],"b":[]}` are `{"a":1}`, `{"a":2}` and
 -- `{"a":3}` (this project's own reading of the Amazon EventBridge User Guide).
--- Shown by: event_tests test_pattern_meaning.rt: two_fields_need_one_member_of_a_list.
+-- Shown by: tables pattern_meaning.rows: two_fields_need_one_member_of_a_list.
 abbrev mutual
   pub IsView : Tree → Tree → Type 0
   IsView null v = v ≡ null
@@ -43,7 +43,7 @@ abbrev mutual
       ⊎ (IsFalse (has_view t) × AreViews members seen)
 
 -- The scalar of a view at a path of keys, if there is one. Of two members with one key the first counts.
--- Shown by: event_tests test_pattern_meaning.rt: a_scalar_is_compared_by_its_spelling.
+-- Shown by: tables pattern_meaning.rows: a_scalar_is_compared_by_its_spelling.
 abbrev mutual
   pub leaf_at : List (List ℕ) → Tree → Option Tree
   leaf_at [] null = Some null

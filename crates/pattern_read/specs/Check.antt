@@ -23,7 +23,7 @@ pub data Condition : Type 0 where
 
 -- A check passes: an operand is one that its kind allows (`IsOperand`), or a text is a wildcard. A check that is a fault in any case
 -- (`never`) does not pass.
--- Shown by: event_tests test_pattern_read.rt: tests_that_are_none_are_refused.
+-- Shown by: tables pattern_read.rows: tests_that_are_none_are_refused.
 abbrev pub Passes : Condition → Type 0
 Passes (never why) = ⊥
 Passes (operand kind t) = (test : Test) × IsOperand kind t test
@@ -60,7 +60,7 @@ AllPass [] = Unit {0}
 AllPass (c ∷ checks) = Passes c.1 × AllPass checks
 
 -- The first check of the list that does not pass has this cause and these keys.
--- Shown by: event_tests test_pattern_read.rt: the_first_fault_of_the_text_is_reported.
+-- Shown by: tables pattern_read.rows: the_first_fault_of_the_text_is_reported.
 abbrev pub IsFirst : Checks → List (List ℕ) → Why → Type 0
 IsFirst [] keys why = ⊥
 IsFirst (c ∷ checks) keys why = ((¬ Passes c.1) × (keys ≡ c.0) × (why ≡ cause_of c.1)) ⊎ (Passes c.1 × IsFirst checks keys why)
@@ -117,7 +117,7 @@ id_checks root key = if root && bytes_eq key (codes "id") then refused BadId els
 -- All that can be wrong with a value that is to be a pattern, but for the number of its alternatives, in the order of the text, each with
 -- the keys from the root to its place. Of `{"a":1,"b":[]}` there are two: `NotObject` at `a`, and `EmptyArray` at `b`. The truth value is
 -- true of the root, and of a branch of a `$or` there.
--- Shown by: event_tests test_pattern_read.rt: the_first_fault_of_the_text_is_reported.
+-- Shown by: tables pattern_read.rows: the_first_fault_of_the_text_is_reported.
 abbrev mutual
   pub pattern_checks : Bool → Tree → Checks
   pattern_checks root (object ms) = no_member_checks ms ++ members_checks root ms

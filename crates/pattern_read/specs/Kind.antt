@@ -6,7 +6,7 @@ use Rattle.pattern_read.specs.declared.kind.Kind.{Kind}
 use Rattle.pattern_read.specs.declared.kind.Kind.TheVariants.{Prefix, Suffix, EqualsIgnoreCase, Wildcard, AnythingBut, Numeric, Cidr, Exists}
 
 -- The test that a key names: `prefix`, `suffix`, `equals-ignore-case`, `wildcard`, `anything-but`, `numeric`, `cidr` or `exists`.
--- Shown by: event_tests test_pattern_read.rt: each_kind_of_test_is_read.
+-- Shown by: tables pattern_read.rows: each_kind_of_test_is_read.
 abbrev pub kind_of : List ℕ → Option Kind
 kind_of key =
     if bytes_eq key (codes "prefix") then Some Prefix else (

@@ -14,7 +14,7 @@ use Rattle.pattern_read.specs.declared.fault.PatternFault.TheVariants as fault
 
 -- The text is refused with this cause at these keys. First comes its length, then the first place that is no JSON or too deep, a key twice,
 -- the first fault of its value in the order of the text, and last too many alternatives.
--- Shown by: event_tests test_pattern_read.rt: texts_that_are_no_json_are_refused, very_many_alternatives_are_too_many.
+-- Shown by: tables pattern_read.rows: texts_that_are_no_json_are_refused, very_many_alternatives_are_too_many.
 pub data IsRefused (bytes : List ℕ) : Why → List (List ℕ) → Type 0 where
   too_long : 4096 < length bytes → IsRefused bytes TooLong []
   not_json : (at : ℕ) → length bytes ≤ 4096 → FailsAt 100 bytes at → ¬ OpensTooMany 100 bytes at → IsRefused bytes NotJson []
@@ -36,12 +36,12 @@ joined [] = None
 joined (key ∷ keys) = Some (before_dot key (joined keys))
 
 -- The keys joined by `.`; empty for the root.
--- Shown by: event_tests test_pattern_read.rt: values_that_are_no_patterns_are_refused.
+-- Shown by: tables pattern_read.rows: values_that_are_no_patterns_are_refused.
 abbrev pub path_text : List (List ℕ) → List ℕ
 path_text keys = unwrap_or (joined keys) []
 
 -- The fault that was returned is the text's, with its path; or memory ran out.
--- Shown by: event_tests test_pattern_read.rt: the_first_fault_of_the_text_is_reported.
+-- Shown by: tables pattern_read.rows: the_first_fault_of_the_text_is_reported.
 abbrev pub IsFault : List ℕ → PatternFault → Type 0
 IsFault bytes (fault.Refused why path) = (keys : List (List ℕ)) × IsRefused bytes why keys × (path ≡ path_text keys)
 IsFault bytes fault.NoMemory = Unit {0}

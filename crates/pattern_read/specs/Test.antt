@@ -33,7 +33,7 @@ folded_in ms = option_and_then (λ named. folded_text named.0 named.1) (named_in
 
 -- The rows of `prefix` and `suffix` (a text, or `{"equals-ignore-case": text}`), `equals-ignore-case` (a text) and `exists` (true or
 -- false).
--- Shown by: event_tests test_pattern_read.rt: each_kind_of_test_is_read.
+-- Shown by: tables pattern_read.rows: each_kind_of_test_is_read.
 abbrev pub plain_test : Kind → Tree → Option Test
 plain_test Prefix (text t) = Some (prefix t)
 plain_test Prefix (object ms) = option_map prefix_ignoring_case (folded_in ms)
@@ -116,7 +116,7 @@ AreExcluded operand tests = option_map (map same) (scalars_in operand) ≡ Some 
 
 -- The test of a kind with its operand, a line for each kind, in the words of leaf_match and numeric_keys. `numeric` has one comparison or
 -- two. `anything-but` has a text, a number, a list of texts alone or of numbers alone, or one test of texts.
--- Shown by: event_tests test_pattern_read.rt: each_kind_of_test_is_read, tests_that_are_none_are_refused,
+-- Shown by: tables pattern_read.rows: each_kind_of_test_is_read, tests_that_are_none_are_refused,
 -- other_operands_of_anything_but_are_refused.
 abbrev pub IsOperand : Kind → Tree → Test → Type 0
 IsOperand Wildcard (text t) test = IsTextTest Wildcard t test
@@ -132,7 +132,7 @@ IsNamedTest (Some named) test = IsOperand named.0 named.1 test
 
 -- The test that a value in a list is. A scalar is the test that the leaf is the same; an object is what its one member names. A list is no
 -- test.
--- Shown by: event_tests test_pattern_read.rt: tests_that_are_none_are_refused.
+-- Shown by: tables pattern_read.rows: tests_that_are_none_are_refused.
 abbrev pub IsTest : Tree → Test → Type 0
 IsTest (list items) test = ⊥
 IsTest (object ms) test = IsNamedTest (named_in ms) test

@@ -8,7 +8,7 @@ use Rattle.pattern_read.specs.Value.{IsPatternOf}
 
 -- The text is this pattern: at most 4,096 bytes (an EventBridge quota), JSON within 100 levels, no object with a key twice, and at most
 -- 1,000 alternatives (both limits are this project's own).
--- Shown by: event_tests test_pattern_read.rt: a_text_of_4096_bytes_is_read_and_one_of_4097_is_not, alternatives_of_fields_are_multiplied.
+-- Shown by: tables pattern_read.rows: a_text_of_4096_bytes_is_read_and_one_of_4097_is_not, alternatives_of_fields_are_multiplied.
 pub record IsPatternText (bytes : List ℕ) (p : Pattern) : Type 0 where
   pub short : length bytes ≤ 4096
   pub node : Node

@@ -38,7 +38,7 @@ Makes ms Make p = HasMember ms
 -- The pattern that a value is: an object with a member. `$or` has at least two branches, each a pattern; each other member is a field,
 -- which is a list of at least one test, or a pattern. The truth value says whether the value is the root, or a branch of a `$or` there. If
 -- so, no field has the key `id`.
--- Shown by: law faults_decide; event_tests test_pattern_read.rt: values_that_are_no_patterns_are_refused.
+-- Shown by: law faults_decide; tables pattern_read.rows: values_that_are_no_patterns_are_refused.
 abbrev mutual
   pub IsPatternOf : Bool → Tree → Pattern → Type 0
   IsPatternOf root (object ms) p = Makes ms (AreMembers root ms) p

@@ -17,18 +17,18 @@ use Rattle.router_core.specs.declared.seen.SeenVerdict.TheVariants as verdict
 use Rattle.call_replies.specs.Causes.{entry_cause}
 
 -- An entry of a PutEvents as its request holds it: an event without its number, or a fault.
--- Shown by: router_tests test_router_calls.rt: each_request_is_answered.
+-- Shown by: tables router_calls.rows: each_request_is_answered.
 abbrev pub Given : Type 0
 Given = Result Unnumbered EntryFault
 
 -- What becomes of an entry: an accepted event, or a refusal.
--- Shown by: router_tests test_router_calls.rt: each_request_is_answered.
+-- Shown by: tables router_calls.rows: each_request_is_answered.
 abbrev pub Placed : Type 0
 Placed = Result batch.Accepted Cause
 
 -- What an allowed entry becomes on a rule set: its event with this number, that event's text, the moment of its time, the configuration
 -- version of the rule set, and its duties there. The event's account is the one that the entry was made with (`IsEntitled`: its caller).
--- Shown by: router_tests test_router_calls.rt: each_request_is_answered.
+-- Shown by: tables router_calls.rows: each_request_is_answered.
 pub record IsAcceptedAs (set : RuleSet) (n : ℕ) (event : Unnumbered) (a : batch.Accepted) : Type 0 where
   pub is_event : IsEvent (with_number n event.event)
   pub number : a.number ≡ n
@@ -40,7 +40,7 @@ pub record IsAcceptedAs (set : RuleSet) (n : ℕ) (event : Unnumbered) (a : batc
 
 -- What becomes of an entry with a verdict, if the next event gets this number. A fault is refused for its cause, an event without a bus for
 -- `EventBusName`, a denied one by the statement that denies it, one that no statement allows as such. An allowed event is accepted.
--- Shown by: router_tests test_router_calls.rt: each_change_is_answered.
+-- Shown by: tables router_calls.rows: each_change_is_answered.
 abbrev pub IsPlacedBy : SeenVerdict → RuleSet → ℕ → Given → Placed → Type 0
 IsPlacedBy (verdict.Fault fault) set n entry placed = placed ≡ Err (entry_cause fault)
 IsPlacedBy verdict.NoBus set n entry placed = placed ≡ Err (cause.Parameter member.EventBusName)
@@ -68,14 +68,14 @@ ArePlaced set caller n (entry ∷ entries) all =
     × ArePlaced set caller (number_after n placed) entries rest
 
 -- The accepted events.
--- Shown by: router_tests test_router_calls.rt: each_request_is_answered.
+-- Shown by: tables router_calls.rows: each_request_is_answered.
 abbrev pub events_in : List Placed → List batch.Accepted
 events_in [] = []
 events_in (Ok a ∷ rest) = a ∷ events_in rest
 events_in (Err c ∷ rest) = events_in rest
 
 -- The number of refused entries.
--- Shown by: router_tests test_router_calls.rt: each_request_is_answered.
+-- Shown by: tables router_calls.rows: each_request_is_answered.
 abbrev pub failures_in : List Placed → ℕ
 failures_in [] = 0
 failures_in (Ok a ∷ rest) = failures_in rest

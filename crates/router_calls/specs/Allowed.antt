@@ -11,7 +11,7 @@ use Rattle.router_calls.specs.Accepted.{Given, IsAcceptedAs}
 
 -- The accepted event is one of these entries, its bus exists, and the verdict of the bus's policy on it, for this caller on a rule set, is
 -- that it is allowed.
--- Shown by: router_tests test_router_calls.rt: each_change_is_answered.
+-- Shown by: tables router_calls.rows: each_change_is_answered.
 pub record IsAllowedEvent (set : RuleSet) (caller : List ℕ) (entries : List Given) (e : batch.Accepted) : Type 0 where
   pub event : Unnumbered
   pub asked : Contains entries (Ok event)
@@ -19,7 +19,7 @@ pub record IsAllowedEvent (set : RuleSet) (caller : List ℕ) (entries : List Gi
   pub accepted : IsAcceptedAs set e.number event e
 
 -- The entry of a batch is such an event, and no other operation.
--- Shown by: router_tests test_router_calls.rt: each_change_is_answered.
+-- Shown by: tables router_calls.rows: each_change_is_answered.
 abbrev pub IsAllowedEntry : RuleSet → List ℕ → List Given → batch.Entry → Type 0
 IsAllowedEntry set caller entries (batch.accepted e) = IsAllowedEvent set caller entries e
 IsAllowedEntry set caller entries (batch.control c) = ⊥
@@ -27,13 +27,13 @@ IsAllowedEntry set caller entries (batch.attempt duty outcome) = ⊥
 IsAllowedEntry set caller entries (batch.messages_deleted queue through) = ⊥
 
 -- Nothing is written, or a batch of such entries.
--- Shown by: router_tests test_router_calls.rt: each_change_is_answered.
+-- Shown by: tables router_calls.rows: each_change_is_answered.
 abbrev pub IsPublishedBy : RuleSet → List ℕ → List Given → Option batch.Batch → Type 0
 IsPublishedBy set caller entries None = Unit {0}
 IsPublishedBy set caller entries (Some b) = All (IsAllowedEntry set caller entries) b.entries
 
 -- The entries of a PutEvents. Another action has none.
--- Shown by: router_tests test_router_calls.rt: each_change_is_answered.
+-- Shown by: tables router_calls.rows: each_change_is_answered.
 abbrev pub entries_in : Action → List Given
 entries_in (put_events entries size) = entries
 entries_in _ = []

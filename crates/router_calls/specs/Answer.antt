@@ -42,18 +42,18 @@ use Rattle.router_calls.specs.Removals.{removed_ids, failed_ids}
 use Rattle.router_calls.specs.Permission.{has_statement, granting, revoking}
 
 -- What a request's turn writes, a batch or none, and its reply.
--- Shown by: router_tests test_router_calls.rt: each_request_is_answered.
+-- Shown by: tables router_calls.rows: each_request_is_answered.
 pub record Answer : Type 0 where
   pub batch : Option batch.Batch
   pub reply : Reply
 
 -- A reply without a batch.
--- Shown by: router_tests test_router_calls.rt: each_request_is_answered.
+-- Shown by: tables router_calls.rows: each_request_is_answered.
 abbrev pub reply_alone : Reply → Answer
 reply_alone reply = record { batch = None; reply = reply }
 
 -- A batch with its reply, or the refusal of the number limit without a batch.
--- Shown by: router_tests test_router_calls.rt: each_request_is_answered.
+-- Shown by: tables router_calls.rows: each_request_is_answered.
 abbrev pub writes : Tables → ℕ → List batch.Entry → Reply → Answer
 writes t moment entries reply =
     if is_full t then reply_alone (refused cause.NumberLimit)
@@ -68,7 +68,7 @@ IsControlled t moment control reply a =
     × (a ≡ reply_alone (refused c)))
 
 -- The answer to a PutTargets on a rule: the accepted targets are one operation of a batch; without one nothing is written.
--- Shown by: router_tests test_router_calls.rt: each_request_is_answered.
+-- Shown by: tables router_calls.rows: each_request_is_answered.
 abbrev pub targets_answer : Tables → ℕ → List ℕ → List ℕ → List Target → List (List ℕ × Cause) → Answer
 targets_answer t moment bus rule [] failed = reply_alone (targets_reply failed)
 targets_answer t moment bus rule (target ∷ targets) failed =
@@ -80,25 +80,25 @@ for_rule None name answer = reply_alone (refused (cause.NotFound kind.Rule name)
 for_rule (Some rule) name answer = answer rule
 
 -- The answer to a call on a rule: a missing bus or rule is refused.
--- Shown by: router_tests test_router_calls.rt: each_request_is_answered.
+-- Shown by: tables router_calls.rows: each_request_is_answered.
 abbrev pub on_rule : Tables → List ℕ → List ℕ → (Rule → Answer) → Answer
 on_rule t bus rule answer =
     if has_bus bus t.set then for_rule (rule_at bus rule t.set) rule answer else reply_alone (refused (cause.NotFound kind.EventBus bus))
 
 -- PutTargets. A missing bus or rule is refused; else each target is accepted or fails by itself.
--- Shown by: router_tests test_router_calls.rt: each_request_is_answered.
+-- Shown by: tables router_calls.rows: each_request_is_answered.
 abbrev pub targets_put_answer : Tables → ℕ → List ℕ → List ℕ → List AskedTarget → Answer
 targets_put_answer t moment bus rule targets = on_rule t bus rule (λ r.
     targets_answer t moment bus rule (accepted_targets t.set r.targets targets) (failed_targets t.set r.targets targets))
 
 -- The item of an entry: its event's id, or why it failed.
--- Shown by: router_tests test_router_calls.rt: each_request_is_answered.
+-- Shown by: tables router_calls.rows: each_request_is_answered.
 abbrev pub entry_report : Placed → Tree
 entry_report (Ok e) = object (members_of ((codes "EventId", text (event_id e.number)) ∷ []))
 entry_report (Err c) = object (members_of (failed_members c))
 
 -- The reply to a PutEvents: an item for each entry, in their order.
--- Shown by: router_tests test_router_calls.rt: each_request_is_answered.
+-- Shown by: tables router_calls.rows: each_request_is_answered.
 abbrev pub entries_reply : List Placed → Reply
 entries_reply all = items_reply (failures_in all) (codes "Entries") (map entry_report all)
 
@@ -142,7 +142,7 @@ deletion_answer t moment queue through (m ∷ ms) =
     writes t moment (batch.messages_deleted queue through ∷ []) (deletion_reply (length (m ∷ ms)))
 
 -- DeleteMessages: the queue's messages with numbers up to `Through` are deleted; a missing queue is refused.
--- Shown by: router_tests test_router_calls.rt: a_queue_is_deleted_once_nothing_names_it.
+-- Shown by: tables router_calls.rows: a_queue_is_deleted_once_nothing_names_it.
 abbrev pub messages_deletion : Tables → ℕ → List ℕ → ℕ → Answer
 messages_deletion t moment queue through =
     if has_queue queue t.set then deletion_answer t moment queue through (messages_through through (messages_of queue t.duties.queues))
@@ -161,20 +161,20 @@ IsRuleDeleted t moment bus name a =
     ⊎ ((lacks_rule bus name t.set ≡ false) × IsControlled t moment (rule_deleted bus name) empty_reply a)
 
 -- The answer to a RemoveTargets on a rule: the removed ids are one operation of a batch; without one nothing is written.
--- Shown by: router_tests test_router_calls.rt: each_change_is_answered.
+-- Shown by: tables router_calls.rows: each_change_is_answered.
 abbrev pub removals_answer : Tables → ℕ → List ℕ → List ℕ → List (List ℕ) → List (List ℕ × Cause) → Answer
 removals_answer t moment bus rule [] failed = reply_alone (targets_reply failed)
 removals_answer t moment bus rule (id ∷ ids) failed =
     writes t moment (batch.control (targets_removed bus rule (id ∷ ids)) ∷ []) (targets_reply failed)
 
 -- RemoveTargets. A missing bus or rule is refused; else each id is removed or fails by itself.
--- Shown by: router_tests test_router_calls.rt: each_change_is_answered.
+-- Shown by: tables router_calls.rows: each_change_is_answered.
 abbrev pub targets_removed_answer : Tables → ℕ → List ℕ → List ℕ → List (List ℕ) → Answer
 targets_removed_answer t moment bus rule ids = on_rule t bus rule (λ r.
     removals_answer t moment bus rule (removed_ids ids r.targets) (failed_ids ids r.targets))
 
 -- A change of the policy of a bus. A missing bus is refused.
--- Shown by: router_tests test_router_calls.rt: each_change_is_answered.
+-- Shown by: tables router_calls.rows: each_change_is_answered.
 abbrev pub IsOnBus : Tables → List ℕ → (Bus → Answer → Type 0) → Answer → Type 0
 IsOnBus t bus IsChanged a =
     ((has_bus bus t.set ≡ false) × (a ≡ reply_alone (refused (cause.NotFound kind.EventBus bus))))
@@ -186,7 +186,7 @@ abbrev pub IsPolicyPut : Tables → ℕ → List ℕ → List ℕ → Answer →
 IsPolicyPut t moment bus policy a = IsControlled t moment (policy_put bus (Some policy)) empty_reply a
 
 -- A statement is put to a policy: refused if the policy has its StatementId already, else the policy with the statement is put.
--- Shown by: router_tests test_router_calls.rt: each_change_is_answered.
+-- Shown by: tables router_calls.rows: each_change_is_answered.
 abbrev pub IsGranted : Tables → ℕ → List ℕ → List ℕ → Option (List ℕ) → Option Tree → Answer → Type 0
 IsGranted t moment bus sid account policy a =
     ((has_statement sid policy ≡ true) × (a ≡ reply_alone (refused (cause.StatementExists sid))))
@@ -200,7 +200,7 @@ IsStatementPut t moment bus sid account a =
     IsOnBus t bus (λ b answer. (policy : Option Tree) × IsPolicyOf b.policy policy × IsGranted t moment bus sid account policy answer) a
 
 -- A statement is removed from a policy: refused if the policy has none of this StatementId, else what is left is put.
--- Shown by: router_tests test_router_calls.rt: each_change_is_answered.
+-- Shown by: tables router_calls.rows: each_change_is_answered.
 abbrev pub IsRevoked : Tables → ℕ → List ℕ → List ℕ → Option Tree → Answer → Type 0
 IsRevoked t moment bus sid None a = a ≡ reply_alone (refused (cause.NoStatement sid))
 IsRevoked t moment bus sid (Some policy) a =
@@ -208,21 +208,21 @@ IsRevoked t moment bus sid (Some policy) a =
     ⊎ ((has_statement sid (Some policy) ≡ false) × (a ≡ reply_alone (refused (cause.NoStatement sid))))
 
 -- RemovePermission on a bus: without a StatementId it is refused.
--- Shown by: router_tests test_router_calls.rt: each_change_is_answered.
+-- Shown by: tables router_calls.rows: each_change_is_answered.
 abbrev pub IsStatementRemovedFrom : Tables → ℕ → List ℕ → Option (List ℕ) → Bus → Answer → Type 0
 IsStatementRemovedFrom t moment bus None b a = a ≡ reply_alone (refused (cause.Required member.StatementId))
 IsStatementRemovedFrom t moment bus (Some sid) b a =
     (policy : Option Tree) × IsPolicyOf b.policy policy × IsRevoked t moment bus sid policy a
 
 -- RemovePermission of a statement: a missing bus is refused; else by `IsStatementRemovedFrom`.
--- Shown by: router_tests test_router_calls.rt: each_change_is_answered.
+-- Shown by: tables router_calls.rows: each_change_is_answered.
 abbrev pub IsStatementRemoved : Tables → ℕ → List ℕ → Option (List ℕ) → Answer → Type 0
 IsStatementRemoved t moment bus sid a = IsOnBus t bus (IsStatementRemovedFrom t moment bus sid) a
 
 -- The answer to a request of a caller by cases on its action, at the moment of its turn, from the tables before it. Events are matched on
 -- the given rule set; everything else goes by that of the tables. A DeliverDue has no answer here: it is answered by its steps
 -- (router_sessions `IsDelivery`).
--- Shown by: router_tests test_router_calls.rt: each_request_is_answered.
+-- Shown by: tables router_calls.rows: each_request_is_answered.
 abbrev pub IsAnswerAt : Tables → RuleSet → List ℕ → ℕ → Action → Answer → Type 0
 IsAnswerAt t set caller moment (create_event_bus name) a =
     IsControlled t moment (bus_created name) (served ((codes "EventBusArn", text (bus_arn name)) ∷ [])) a
@@ -256,7 +256,7 @@ IsAnswerAt t set caller moment (deliver_due budget) a = ⊥
 -- `IsAnswerAt` at the moment of the turn, on a configuration version that the tables have had. Only a PutEvents may be matched on an
 -- earlier version than the latest. A request outside `IsBounded` has no answer, and neither has one that its caller may not make
 -- (router_core `IsEntitled`).
--- Shown by: router_tests test_router_calls.rt: each_request_is_answered.
+-- Shown by: tables router_calls.rows: each_request_is_answered.
 pub record IsAnswer (t : Tables) (request : Request) (k : ℕ) (set : RuleSet) (a : Answer) : Type 0 where
   pub bounded : IsBounded request.action
   pub entitled : IsEntitled request

@@ -10,7 +10,7 @@ use Rattle.router_core.specs.Request.{put_policy, put_statement, remove_policy, 
 
 -- The change of the configuration is one that the action makes. A PutTargets puts some of its targets, and a RemoveTargets removes some of
 -- its ids; another call makes the change that it names.
--- Shown by: router_tests test_router_calls.rt: each_change_is_answered.
+-- Shown by: tables router_calls.rows: each_change_is_answered.
 abbrev pub MayMake : Action → Control → Type 0
 MayMake (create_event_bus name) c = c ≡ bus_created name
 MayMake (delete_event_bus name) c = c ≡ bus_deleted name

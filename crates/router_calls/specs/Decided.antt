@@ -8,6 +8,6 @@ use Rattle.api_replies.specs.declared.reply.Reply.{Reply}
 use Rattle.router_calls.specs.Answer.{Answer}
 
 -- What contracts see of the code's answer: the batch of the change, if there is one, and the reply.
--- Shown by: router_tests test_router_calls.rt: each_request_is_answered.
+-- Shown by: tables router_calls.rows: each_request_is_answered.
 abbrev pub answer_of : Option Ready × Reply → Answer
 answer_of p = record { batch = option_map (λ r. batch_of r.batch) p.0; reply = reply_of p.1 }

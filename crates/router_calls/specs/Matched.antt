@@ -9,7 +9,7 @@ use Rattle.router_core.specs.declared.seen.Seen.{Seen}
 
 -- What `decide` asks of the result of matching: it is that of the request on a sound rule set, whose version the tables have had; the
 -- latest one, unless the request publishes events.
--- Shown by: router_tests test_router_calls.rt: each_request_is_answered.
+-- Shown by: tables router_calls.rows: each_request_is_answered.
 pub record IsMatchedOn (t : Tables) (request : Request) (set : RuleSet) (seen : Seen) : Type 0 where
   pub sound : IsSound set
   pub is_seen : IsSeen set request seen

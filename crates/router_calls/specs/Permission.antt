@@ -6,7 +6,7 @@ use Rattle.bus_policy.specs.Parts.{statements_of}
 use Rattle.bus_policy.specs.Change.{allow_for, first_policy, with_statement, some_has_sid, without_sid, without_statement}
 
 -- Some statement of the policy has this StatementId as its Sid. Without a policy there is no statement.
--- Shown by: router_tests test_router_calls.rt: each_change_is_answered.
+-- Shown by: tables router_calls.rows: each_change_is_answered.
 abbrev pub has_statement : List ℕ → Option Tree → Bool
 has_statement sid None = false
 has_statement sid (Some policy) = some_has_sid sid (statements_of policy)
@@ -18,12 +18,12 @@ granting bus sid account None = first_policy (allow_for sid account bus)
 granting bus sid account (Some policy) = with_statement policy (allow_for sid account bus)
 
 -- The text of a policy if statements are left in it. With its last statement the policy goes.
--- Shown by: router_tests test_router_calls.rt: each_change_is_answered.
+-- Shown by: tables router_calls.rows: each_change_is_answered.
 abbrev pub unless_empty : Items → Tree → Option (List ℕ)
 unless_empty no_items policy = None
 unless_empty (item statement_value statements) policy = Some (compact_text policy)
 
 -- The policy without the statements of a StatementId.
--- Shown by: router_tests test_router_calls.rt: each_change_is_answered.
+-- Shown by: tables router_calls.rows: each_change_is_answered.
 abbrev pub revoking : List ℕ → Tree → Option (List ℕ)
 revoking sid policy = unless_empty (without_sid sid (statements_of policy)) (without_statement policy sid)

@@ -9,7 +9,7 @@ use Rattle.api_replies.specs.declared.cause.Cause.{Cause}
 use Rattle.api_replies.specs.declared.cause.Cause.TheVariants as cause
 
 -- One of the targets has this id.
--- Shown by: router_tests test_router_calls.rt: each_change_is_answered.
+-- Shown by: tables router_calls.rows: each_change_is_answered.
 abbrev pub has_target : List ℕ → List Target → Bool
 has_target id targets = list_any (λ target. bytes_eq target.id id) targets
 
@@ -26,7 +26,7 @@ removed_ids (id ∷ ids) targets =
     if has_target id targets then id ∷ removed_ids ids (without_target id targets) else removed_ids ids targets
 
 -- Each id that is not removed (`removed_ids`), with its refusal.
--- Shown by: router_tests test_router_calls.rt: each_change_is_answered.
+-- Shown by: tables router_calls.rows: each_change_is_answered.
 abbrev pub failed_ids : List (List ℕ) → List Target → List (List ℕ × Cause)
 failed_ids [] targets = []
 failed_ids (id ∷ ids) targets =

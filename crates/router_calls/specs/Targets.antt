@@ -33,7 +33,7 @@ accepted_targets set have (target ∷ targets) =
     accepted_first (target_fault set have target) target (accepted_targets set (having (target_fault set have target) target have) targets)
 
 -- The id and the refusal of each target that is not accepted, in their order.
--- Shown by: router_tests test_router_calls.rt: each_request_is_answered.
+-- Shown by: tables router_calls.rows: each_request_is_answered.
 abbrev pub failed_targets : RuleSet → List Target → List AskedTarget → List (List ℕ × Cause)
 failed_targets set have [] = []
 failed_targets set have (target ∷ targets) =

@@ -19,13 +19,13 @@ use Rattle.router_core.specs.Request.{list_rule_names_by_target, put_policy, put
 use Rattle.router_core.specs.Request.{test_event_pattern, create_queue, delete_queue, peek_messages, delete_messages, duty_counts, deliver_due}
 
 -- An entry without a fault is for a bus name.
--- Shown by: router_tests test_router_calls.rt: each_request_is_answered.
+-- Shown by: tables router_calls.rows: each_request_is_answered.
 abbrev pub IsForBus : Result Unnumbered EntryFault → Type 0
 IsForBus (Ok event) = IsBusName event.bus
 IsForBus (Err fault) = Unit {0}
 
 -- A StatementId, if one is given.
--- Shown by: router_tests test_router_calls.rt: each_change_is_answered.
+-- Shown by: tables router_calls.rows: each_change_is_answered.
 abbrev pub IsStatementIdIfGiven : Option (List ℕ) → Type 0
 IsStatementIdIfGiven None = Unit {0}
 IsStatementIdIfGiven (Some sid) = IsStatementId sid
@@ -36,7 +36,7 @@ IsStatementIdIfGiven (Some sid) = IsStatementId sid
 -- 1 to 1,000 messages, a DeleteMessages deletes those up to a number below 2 ^ 48, a DeliverDue makes 1 to 1,000 steps. A PutRule has a
 -- pattern, a TestEventPattern a pattern and a JSON value. A policy that is put is one as it is stored, of any length; a statement that is
 -- put is for an account or for everyone.
--- Shown by: wire_tests test_api_wire.rt: a_message_has_its_first_refusal.
+-- Shown by: tables api_wire.rows: a_message_has_its_first_refusal.
 abbrev pub IsBounded : Action → Type 0
 IsBounded (create_event_bus name) = IsWellFormed (bus_created name)
 IsBounded (delete_event_bus name) = IsWellFormed (bus_deleted name)

@@ -24,7 +24,7 @@ use Rattle.router_core.specs.declared.seen.SeenResult.TheVariants.{Entries, Test
 use Rattle.router_core.specs.declared.seen.Seen.{Seen}
 
 -- The text is a pattern, which holds of the event.
--- Shown by: router_tests test_router_calls.rt: a_pattern_is_tested_on_an_event.
+-- Shown by: tables router_calls.rows: a_pattern_is_tested_on_an_event.
 pub record TextMatches (text : List ℕ) (event : Tree) : Type 0 where
   pub pattern : Pattern
   pub read : IsPatternText text pattern
@@ -36,7 +36,7 @@ abbrev pub Matches : Rule → Tree → Type 0
 Matches rule event = (rule.enabled ≡ true) × TextMatches rule.pattern event
 
 -- A target of a rule as matching finds it: its row (rule_table `row_of`).
--- Shown by: router_tests test_router_core.rt: the_targets_of_the_rules_that_match_are_seen.
+-- Shown by: tables router_core.rows: the_targets_of_the_rules_that_match_are_seen.
 abbrev pub seen_target : Rule → Target → SeenTarget
 seen_target rule target = record { row = row_of rule target }
 
@@ -50,38 +50,38 @@ AreMatched (rule ∷ rules) event targets =
     ⊎ ((¬ Matches rule event) × (targets ≡ rest)))
 
 -- The targets of the rules of its bus that match an event which has no number yet, whatever number it gets: no pattern tests an event's id.
--- Shown by: router_tests test_router_core.rt: the_targets_of_the_rules_that_match_are_seen.
+-- Shown by: tables router_core.rows: the_targets_of_the_rules_that_match_are_seen.
 abbrev pub AreMatchedFor : RuleSet → Unnumbered → List SeenTarget → Type 0
 AreMatchedFor set event targets =
     (number : ℕ) → AreMatched (rules_of event.bus set) (event_tree (with_number number event.event) None) targets
 
 -- An allowed event has the targets that match it; any other entry has none.
--- Shown by: router_tests test_router_core.rt: a_policy_decides_who_publishes.
+-- Shown by: tables router_core.rows: a_policy_decides_who_publishes.
 abbrev pub AreTargetsOf : RuleSet → Result Unnumbered EntryFault → SeenVerdict → List SeenTarget → Type 0
 AreTargetsOf set (Ok event) Allowed targets = AreMatchedFor set event targets
 AreTargetsOf set entry verdict targets = targets ≡ []
 
 -- The result of matching an entry of a caller: its verdict and its targets.
--- Shown by: router_tests test_router_core.rt: a_policy_decides_who_publishes.
+-- Shown by: tables router_core.rows: a_policy_decides_who_publishes.
 pub record IsSeenEntry (set : RuleSet) (caller : List ℕ) (entry : Result Unnumbered EntryFault) (seen : SeenEntry) : Type 0 where
   pub verdict : IsEntryVerdict set caller entry seen.verdict
   pub targets : AreTargetsOf set entry seen.verdict seen.targets.items
 
 -- The results of matching entries, one each, in their order.
--- Shown by: router_tests test_router_core.rt: the_targets_of_the_rules_that_match_are_seen.
+-- Shown by: tables router_core.rows: the_targets_of_the_rules_that_match_are_seen.
 abbrev pub AreSeenEntries : RuleSet → List ℕ → List (Result Unnumbered EntryFault) → List SeenEntry → Type 0
 AreSeenEntries set caller [] all = all ≡ []
 AreSeenEntries set caller (entry ∷ entries) [] = ⊥
 AreSeenEntries set caller (entry ∷ entries) (seen ∷ all) = IsSeenEntry set caller entry seen × AreSeenEntries set caller entries all
 
 -- Whether the pattern of this text matches the event.
--- Shown by: router_tests test_router_calls.rt: a_pattern_is_tested_on_an_event.
+-- Shown by: tables router_calls.rows: a_pattern_is_tested_on_an_event.
 abbrev pub IsTestedAs : List ℕ → Tree → Bool → Type 0
 IsTestedAs pattern event true = TextMatches pattern event
 IsTestedAs pattern event false = ¬ TextMatches pattern event
 
 -- What matching finds for an action: for a PutEvents what becomes of each entry, for a TestEventPattern whether it matches, else nothing.
--- Shown by: router_tests test_router_core.rt: the_targets_of_the_rules_that_match_are_seen.
+-- Shown by: tables router_core.rows: the_targets_of_the_rules_that_match_are_seen.
 abbrev pub IsSeenResult : RuleSet → List ℕ → Action → SeenResult → Type 0
 IsSeenResult set caller (put_events entries size) (Entries all) = AreSeenEntries set caller entries all.items
 IsSeenResult set caller (put_events entries size) result = ⊥
@@ -90,25 +90,26 @@ IsSeenResult set caller (test_event_pattern pattern event) result = ⊥
 IsSeenResult set caller action result = result ≡ Nothing
 
 -- The result of matching a request on a rule set: the configuration version `k`, and what is found.
--- Shown by: router_tests test_router_core.rt: the_targets_of_the_rules_that_match_are_seen.
+-- Shown by: tables router_core.rows: the_targets_of_the_rules_that_match_are_seen.
 pub record IsSeen (set : RuleSet) (request : Request) (seen : Seen) : Type 0 where
   pub k : seen.k ≡ set.count
   pub result : IsSeenResult set request.caller request.action seen.result
 
 -- A tested event is a JSON value.
--- Shown by: router_tests test_router_calls.rt: a_pattern_is_tested_on_an_event.
+-- Shown by: tables router_calls.rows: a_pattern_is_tested_on_an_event.
 abbrev pub HasValue : Action → Type 0
 HasValue (test_event_pattern pattern event) = IsValue event
 HasValue action = Unit {0}
 
 -- The result of matching one event that is there already: the configuration version, and the targets of `AreMatched`.
--- Shown by: router_tests test_router_core.rt: the_targets_of_the_rules_that_match_are_seen.
+-- Shown by: tables router_core.rows: the_targets_of_the_rules_that_match_are_seen; session_tests tables.rt:
+-- a_replay_has_the_targets_of_the_rules_that_match.
 pub record IsSeenEvent (set : RuleSet) (bus : List ℕ) (event : Tree) (k : ℕ) (targets : List SeenTarget) : Type 0 where
   pub version : k ≡ set.count
   pub matched : AreMatched (rules_of bus set) event targets
 
 -- The text has more bytes than a target accepts, which are 1,048,576 (this project's own limit).
--- Shown by: router_tests test_router_core.rt: each_target_is_owed_one_duty.
+-- Shown by: tables router_core.rows: each_target_is_owed_one_duty.
 abbrev pub is_too_long : List ℕ → Bool
 is_too_long text = not (nat_le (length text) most_text)
 
@@ -122,6 +123,6 @@ duty_of text seen = record {
 }
 
 -- One duty for each target of each rule that matches, in their order.
--- Shown by: router_tests test_router_core.rt: each_target_is_owed_one_duty.
+-- Shown by: tables router_core.rows: each_target_is_owed_one_duty.
 abbrev pub AreDuties : List Rule → Tree → List ℕ → List NewDuty → Type 0
 AreDuties rules event text duties = (targets : List SeenTarget) × AreMatched rules event targets × (duties ≡ map (duty_of text) targets)

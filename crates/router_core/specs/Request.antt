@@ -9,7 +9,7 @@ use Rattle.rule_targets.specs.declared.target.AskedTarget.{AskedTarget}
 -- What a request asks for: an action with its members. Each bus is given by its name. An entry of a PutEvents is an event without its
 -- number, or has a fault; `size` is the number of bytes of all entries together. `put_policy` has the policy's text as it would be stored.
 -- A `put_statement` allows this account, or everyone. A `remove_statement` that gives no StatementId is refused.
--- Shown by: wire_tests test_api_wire.rt: a_message_has_its_first_refusal.
+-- Shown by: tables api_wire.rows: a_message_has_its_first_refusal.
 pub data Action : Type 0 where
   create_event_bus : (name : List ℕ) → Action
   delete_event_bus : (name : List ℕ) → Action
@@ -38,7 +38,7 @@ pub data Action : Type 0 where
   duty_counts : Action
 
 -- The action is done by one turn. That is every action except DeliverDue, whose steps are turns of their own.
--- Shown by: wire_tests test_api_wire.rt: a_message_has_its_first_refusal.
+-- Shown by: tables api_wire.rows: a_message_has_its_first_refusal.
 abbrev pub IsOneTurn : Action → Type 0
 IsOneTurn (deliver_due budget) = ⊥
 IsOneTurn _ = Unit {0}
@@ -59,14 +59,14 @@ AreEntriesOf account (put_events entries size) = All (IsEntryOf account) entries
 AreEntriesOf account _ = Unit {0}
 
 -- An action, the account that asks for it, and the clock's reading when its message was whole.
--- Shown by: wire_tests test_api_wire/requests.rt: a_request_has_what_the_message_gives.
+-- Shown by: tables api_wire.rows: a_request_has_what_the_message_gives.
 pub record Request : Type 0 where
   pub action : Action
   pub caller : List ℕ
   pub reading : ℕ
 
 -- The caller may make the request: it is the owner, or it publishes events; and the events have the caller's account.
--- Shown by: wire_tests test_api_wire.rt: a_message_has_its_first_refusal.
+-- Shown by: tables api_wire.rows: a_message_has_its_first_refusal.
 pub record IsEntitled (request : Request) : Type 0 where
   pub allowed : (request.caller ≡ owner) ⊎ IsPublishing request.action
   pub own : AreEntriesOf request.caller request.action

@@ -13,7 +13,7 @@ use Rattle.router_core.specs.Tables.{Tables}
 use Rattle.router_core.specs.declared.errand.Errand.{Errand}
 
 -- The tables with the duty claimed. No batch records it.
--- Shown by: router_tests test_router_calls.rt: a_delivery_is_retried_until_its_event_is_too_old.
+-- Shown by: .ci/checks/endpoints.sh.
 abbrev pub claiming : ℕ → Tables → Tables
 claiming duty t = record t { duties = claimed duty t.duties }
 

@@ -8,7 +8,7 @@ use Rattle.router_core.specs.Batch.{Entry, control, accepted, attempt, messages_
 
 -- The state of the router: the rule set, the duties and the queue messages, the numbers of events, of operations and of batches so far, and
 -- the moment of the last batch.
--- Shown by: router_tests test_router_core.rt: the_first_tables_are_empty.
+-- Shown by: tables router_core.rows: the_first_tables_are_empty.
 pub record Tables : Type 0 where
   pub set : RuleSet
   pub duties : Duties
@@ -18,7 +18,7 @@ pub record Tables : Type 0 where
   pub moment : ℕ
 
 -- The tables before any batch; all numbers and the moment are 0.
--- Shown by: router_tests test_router_core.rt: the_first_tables_are_empty.
+-- Shown by: tables router_core.rows: the_first_tables_are_empty.
 abbrev pub first_tables : Tables
 first_tables = record { set = first_set; duties = no_duties; events = 0; entries = 0; batches = 0; moment = 0 }
 
@@ -73,7 +73,7 @@ moment_at t reading = max reading t.moment
 
 -- What holds of all tables that admitted batches make from the first ones: the queues with messages are those of the rule set, in the same
 -- order, and all numbers are in range.
--- Shown by: router_tests test_router_core.rt: the_first_tables_are_empty.
+-- Shown by: tables router_core.rows: the_first_tables_are_empty.
 pub record IsConsistent (t : Tables) : Type 0 where
   pub queues : map (λ queue. queue.name) t.duties.queues ≡ t.set.queues
   pub moment : IsMoment t.moment

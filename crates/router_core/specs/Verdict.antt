@@ -34,7 +34,7 @@ IsVerdictOn (Some bus) caller event seen = (policy : Option Tree) × (verdict : 
     × IsBusVerdict policy (asker_for caller event) verdict × (seen ≡ seen_verdict verdict)
 
 -- The verdict on an entry of a caller: its own fault; or its bus does not exist; or what its bus's policy says of the caller and the event.
--- Shown by: router_tests test_router_core.rt: a_policy_decides_who_publishes.
+-- Shown by: tables router_core.rows: a_policy_decides_who_publishes.
 abbrev pub IsEntryVerdict : RuleSet → List ℕ → Result Unnumbered EntryFault → SeenVerdict → Type 0
 IsEntryVerdict set caller (Err fault) seen = seen ≡ Fault fault
 IsEntryVerdict set caller (Ok event) seen = IsVerdictOn (named (λ b. b.name) event.bus set.buses) caller event seen

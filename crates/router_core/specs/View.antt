@@ -13,7 +13,7 @@ use Rattle.router_core.specs.Request as request
 use Rattle.router_core.specs.Batch as batch
 
 -- What contracts see of the code's `Action`, with its vectors as lists.
--- Shown by: wire_tests test_api_wire/requests.rt: a_request_has_what_the_message_gives.
+-- Shown by: tables api_wire.rows: a_request_has_what_the_message_gives.
 abbrev pub action_of : Action → request.Action
 action_of (action.CreateEventBus name) = request.create_event_bus name
 action_of (action.DeleteEventBus name) = request.delete_event_bus name
@@ -42,7 +42,7 @@ action_of (action.DeliverDue budget) = request.deliver_due budget
 action_of action.DutyCounts = request.duty_counts
 
 -- What contracts see of the code's `Request`, with the view of its action.
--- Shown by: wire_tests test_api_wire/requests.rt: a_request_has_what_the_message_gives.
+-- Shown by: tables api_wire.rows: a_request_has_what_the_message_gives.
 abbrev pub request_of : Request → request.Request
 request_of r = record { action = action_of r.action; caller = r.caller; reading = r.reading }
 

@@ -5,7 +5,7 @@ use Rattle.rule_targets.specs.declared.target.Target.{Target}
 -- A change of the configuration: a bus is created or deleted; a rule is put (its bus, its name, its pattern's text, and whether it is
 -- enabled) or deleted, enabled or disabled; targets are put to a rule of a bus, or removed from it by their ids; a bus gets a policy, by
 -- its text, or loses it; a queue is created or deleted.
--- Shown by: table_tests test_rule_table.rt: each_change_is_made_or_refused.
+-- Shown by: tables rule_table.rows: each_change_is_made_or_refused.
 pub data Control : Type 0 where
   bus_created : (name : List ℕ) → Control
   bus_deleted : (name : List ℕ) → Control

@@ -28,7 +28,7 @@ missing_in set None = None
 missing_in set (Some queue) = unless (has_queue queue set) queue
 
 -- The conditions on a target, whatever targets its rule has: those on its members, then its queue and its dead-letter queue exist.
--- Shown by: table_tests test_rule_table.rt: a_target_has_its_first_fault.
+-- Shown by: tables rule_table.rows: a_target_has_its_first_fault.
 abbrev pub own_checks : RuleSet → AskedTarget → List (Option TargetFault)
 own_checks set target =
     map (option_map fault.Member) (member_checks target)
@@ -37,40 +37,40 @@ own_checks set target =
     ∷ []
 
 -- The conditions on a target that is put to a rule with these targets: its own, then the rule has at most five targets with it.
--- Shown by: a_replaced_target_is_a_sixth.edit; table_tests test_rule_table.rt: a_target_has_its_first_fault.
+-- Shown by: a_replaced_target_is_a_sixth.edit; tables rule_table.rows: a_target_has_its_first_fault.
 abbrev pub target_checks : RuleSet → List Target → AskedTarget → List (Option TargetFault)
 target_checks set targets target = own_checks set target ++ unless (nat_le (length (put_target (put_as target) targets)) 5) fault.Sixth ∷ []
 
 -- The first fault of a target that is put to a rule with these targets.
--- Shown by: table_tests test_rule_table.rt: a_target_has_its_first_fault.
+-- Shown by: tables rule_table.rows: a_target_has_its_first_fault.
 abbrev pub target_fault : RuleSet → List Target → AskedTarget → Option TargetFault
 target_fault set targets target = first_fault (target_checks set targets target)
 
 -- Each target of a list has no fault once those before it are put.
--- Shown by: table_tests test_rule_table.rt: each_change_is_made_or_refused.
+-- Shown by: table_tests test_rule_table.rt: each_refused_change_has_its_fault.
 abbrev pub are_put : RuleSet → List Target → List Target → Bool
 are_put set [] targets = true
 are_put set (new ∷ news) targets = not (is_some (target_fault set targets (asked_of new))) && are_put set news (put_target new targets)
 
 -- There is at least one target, and each has no fault once those before it are put.
--- Shown by: table_tests test_rule_table.rt: each_change_is_made_or_refused.
+-- Shown by: table_tests test_rule_table.rt: each_refused_change_has_its_fault.
 abbrev pub are_some_put : RuleSet → List Target → List Target → Bool
 are_some_put set news targets = nat_le 1 (length news) && are_put set news targets
 
 -- Each of the ids is that of a target, and none comes twice.
--- Shown by: table_tests test_rule_table.rt: each_removal_is_made_or_refused.
+-- Shown by: table_tests test_rule_table.rt: each_refused_change_has_its_fault.
 abbrev pub are_removable : List (List ℕ) → List Target → Bool
 are_removable [] targets = true
 are_removable (id ∷ ids) targets =
     is_some (named (λ target. target.id) id targets) && are_removable ids (without (λ target. target.id) id targets)
 
 -- There is at least one id, and each is that of a target, once.
--- Shown by: table_tests test_rule_table.rt: each_removal_is_made_or_refused.
+-- Shown by: table_tests test_rule_table.rt: each_refused_change_has_its_fault.
 abbrev pub are_some_removable : List (List ℕ) → List Target → Bool
 are_some_removable ids targets = nat_le 1 (length ids) && are_removable ids targets
 
 -- The policy, if there is one, has at most 10,240 bytes as it is stored.
--- Shown by: table_tests test_rule_table.rt: a_policy_has_at_most_10240_bytes.
+-- Shown by: tables rule_table.rows: a_policy_has_at_most_10240_bytes.
 abbrev pub is_short : Option (List ℕ) → Bool
 is_short None = true
 is_short (Some policy) = nat_le (length policy) 10240
@@ -89,8 +89,8 @@ rule_checks bus name set = bus_check bus set ∷ unless (has_rule bus name set) 
 -- and the rule exist, there is at least one target, and each has no fault after those before it. Targets that are removed: the bus and the
 -- rule exist, there is at least one id, and each is that of a target, once. A policy: its bus exists, and it has at most 10,240 bytes. A queue that is created: it does not exist,
 -- and there are fewer than 1,000. A queue that is deleted: it exists, and no target names it.
--- Shown by: table_tests test_rule_table.rt: each_removal_is_made_or_refused, each_bus_is_made_or_refused, each_policy_is_put_or_refused,
--- a_queue_in_use_stays.
+-- Shown by: tables rule_table.rows: each_removal_is_made_or_refused, each_bus_is_made_or_refused, each_policy_is_put_or_refused,
+-- a_queue_in_use_stays; table_tests test_rule_table.rt: each_refused_change_has_its_fault.
 abbrev pub checks : Control → RuleSet → List (Option ControlFault)
 checks (bus_created name) set =
     unless (not (has_bus name set)) (AlreadyExists kind.EventBus) ∷ unless (nat_lt (length set.buses) 100) (LimitExceeded kind.EventBus) ∷ []
@@ -111,8 +111,8 @@ checks (queue_deleted name) set =
     unless (has_queue name set) (ResourceNotFound kind.Queue) ∷ unless (not (is_queue_used name set)) (InUse kind.Queue) ∷ []
 
 -- The first refusal of a change.
--- Shown by: table_tests test_rule_table.rt: each_removal_is_made_or_refused, each_bus_is_made_or_refused, each_policy_is_put_or_refused,
--- a_queue_in_use_stays.
+-- Shown by: tables rule_table.rows: each_removal_is_made_or_refused, each_bus_is_made_or_refused, each_policy_is_put_or_refused,
+-- a_queue_in_use_stays; table_tests test_rule_table.rt: each_refused_change_has_its_fault.
 abbrev pub refusal : Control → RuleSet → Option ControlFault
 refusal control set = first_fault (checks control set)
 
@@ -122,7 +122,7 @@ abbrev pub IsAllowed : Control → RuleSet → Type 0
 IsAllowed control set = refusal control set ≡ None
 
 -- The answer to a change of a rule set: the rule set after the change, which is allowed, or its first refusal, or out of memory.
--- Shown by: table_tests test_rule_table.rt: each_change_is_made_or_refused.
+-- Shown by: tables rule_table.rows: each_change_is_made_or_refused.
 abbrev pub IsChanged : Control → RuleSet → Result RuleSet ControlFault → Type 0
 IsChanged control old result = MatchResult result
     (λ set. IsAllowed control old × (set ≡ applied control old))

@@ -10,7 +10,7 @@ use Rattle.rule_table.specs.Control.{Control, bus_created, bus_deleted, rule_put
 use Rattle.rule_table.specs.Control.{queue_created, queue_deleted}
 
 -- A rule: its ARN, its name, its pattern's text, whether it is enabled, and its targets in the byte order of their ids.
--- Shown by: table_tests test_rule_table.rt: each_change_is_made_or_refused.
+-- Shown by: tables rule_table.rows: each_change_is_made_or_refused.
 pub record Rule : Type 0 where
   pub arn : List ℕ
   pub name : List ℕ
@@ -19,31 +19,31 @@ pub record Rule : Type 0 where
   pub targets : List Target
 
 -- A bus: its name, its policy's text if it has a policy, and its rules in the byte order of their names.
--- Shown by: table_tests test_rule_table.rt: a_bus_shows_its_rule, each_policy_is_put_or_refused.
+-- Shown by: tables rule_table.rows: a_bus_shows_its_rule, each_policy_is_put_or_refused.
 pub record Bus : Type 0 where
   pub name : List ℕ
   pub policy : Option (List ℕ)
   pub rules : List Rule
 
 -- The configuration: buses and queues, both in the byte order of their names, and the number of changes that made it.
--- Shown by: table_tests test_rule_table.rt: each_change_is_made_or_refused.
+-- Shown by: tables rule_table.rows: each_change_is_made_or_refused.
 pub record RuleSet : Type 0 where
   pub buses : List Bus
   pub queues : List (List ℕ)
   pub count : ℕ
 
 -- The bus `default` without rules, and no queue.
--- Shown by: table_tests test_rule_table.rt: a_set_shows_its_queues, a_bus_shows_its_rule.
+-- Shown by: tables rule_table.rows: the_first_set_has_one_bus, a_set_shows_its_queues.
 abbrev pub first_set : RuleSet
 first_set = record { buses = record { name = default_bus; policy = None; rules = [] } ∷ []; queues = []; count = 0 }
 
 -- The rows, with a change made to each one of the name.
--- Shown by: table_tests test_rule_table.rt: each_change_is_made_or_refused.
+-- Shown by: tables rule_table.rows: each_change_is_made_or_refused.
 abbrev pub changed : {A : Type 0} → (A → List ℕ) → List ℕ → (A → A) → List A → List A
 changed name_of name change rows = map (λ row. if bytes_eq (name_of row) name then change row else row) rows
 
 -- A rule of a bus, with the ARN that names both, and without a target.
--- Shown by: table_tests test_rule_table.rt: a_rule_shows_its_target.
+-- Shown by: tables rule_table.rows: a_bus_shows_its_rule.
 abbrev pub new_rule : (bus name pattern : List ℕ) → Bool → Rule
 new_rule bus name pattern enabled = record { arn = rule_arn bus name; name = name; pattern = pattern; enabled = enabled; targets = [] }
 
@@ -62,7 +62,7 @@ abbrev pub put_target : Target → List Target → List Target
 put_target = placed (λ target. target.id) replacing
 
 -- Targets put one after the other; one with the same id is replaced, so the last one counts.
--- Shown by: table_tests test_rule_table.rt: each_change_is_made_or_refused.
+-- Shown by: tables rule_table.rows: each_change_is_made_or_refused.
 abbrev pub put_targets : List Target → List Target → List Target
 put_targets [] targets = targets
 put_targets (new ∷ news) targets = put_targets news (put_target new targets)
@@ -98,17 +98,17 @@ rules_in None = []
 rules_in (Some bus) = bus.rules
 
 -- The rules of a bus, none if there is no such bus.
--- Shown by: table_tests test_rule_table.rt: a_set_shows_its_queues, a_bus_shows_its_rule.
+-- Shown by: tables rule_table.rows: a_set_shows_its_queues, a_bus_shows_its_rule.
 abbrev pub rules_of : List ℕ → RuleSet → List Rule
 rules_of bus set = rules_in (named (λ b. b.name) bus set.buses)
 
 -- The rule of this name on the bus, if there is one.
--- Shown by: table_tests test_rule_table.rt: each_change_is_made_or_refused.
+-- Shown by: tables rule_table.rows: each_change_is_made_or_refused.
 abbrev pub rule_at : List ℕ → List ℕ → RuleSet → Option Rule
 rule_at bus name set = named (λ rule. rule.name) name (rules_of bus set)
 
 -- The targets of a rule, none if there is no rule.
--- Shown by: table_tests test_rule_table.rt: a_set_shows_its_queues, a_bus_shows_its_rule.
+-- Shown by: tables rule_table.rows: a_rule_shows_its_target; table_tests test_rule_table.rt: a_target_has_its_row.
 abbrev pub targets_in : Option Rule → List Target
 targets_in None = []
 targets_in (Some rule) = rule.targets
@@ -119,17 +119,17 @@ abbrev pub has_rule : List ℕ → List ℕ → RuleSet → Bool
 has_rule bus name set = is_some (rule_at bus name set)
 
 -- The targets of the rule of this name on the bus, none if there is no such rule.
--- Shown by: table_tests test_rule_table.rt: a_set_shows_its_queues, a_bus_shows_its_rule.
+-- Shown by: tables rule_table.rows: a_rule_shows_its_target; table_tests test_rule_table.rt: a_target_has_its_row.
 abbrev pub targets_of : List ℕ → List ℕ → RuleSet → List Target
 targets_of bus name set = targets_in (rule_at bus name set)
 
 -- The bus exists.
--- Shown by: table_tests test_rule_table.rt: a_set_shows_its_queues, a_bus_shows_its_rule.
+-- Shown by: tables rule_table.rows: a_set_shows_its_queues, a_bus_shows_its_rule.
 abbrev pub has_bus : List ℕ → RuleSet → Bool
 has_bus bus set = is_some (named (λ b. b.name) bus set.buses)
 
 -- The queue exists.
--- Shown by: table_tests test_rule_table.rt: a_set_shows_its_queues, a_bus_shows_its_rule.
+-- Shown by: tables rule_table.rows: a_set_shows_its_queues, a_bus_shows_its_rule.
 abbrev pub has_queue : List ℕ → RuleSet → Bool
 has_queue name set = is_some (named (λ queue. queue) name set.queues)
 
@@ -160,7 +160,7 @@ abbrev pub with_rule_changed : List ℕ → (Rule → Rule) → Bus → Bus
 with_rule_changed rule change b = record b { rules = changed (λ r. r.name) rule change b.rules }
 
 -- The rule set after a change.
--- Shown by: table_tests test_rule_table.rt: each_change_is_made_or_refused.
+-- Shown by: tables rule_table.rows: each_change_is_made_or_refused.
 abbrev pub applied : Control → RuleSet → RuleSet
 applied (bus_created name) set = record set { buses = put_bus name set.buses; count = set.count + 1 }
 applied (bus_deleted name) set = record set { buses = without_bus name set.buses; count = set.count + 1 }
@@ -198,6 +198,6 @@ applied_all [] set = set
 applied_all (control ∷ controls) set = applied_all controls (applied control set)
 
 -- Configuration version k: the rule set after the first k changes of a list, oldest first.
--- Shown by: table_tests test_rule_table.rt: each_change_is_made_or_refused.
+-- Shown by: tables rule_table.rows: each_change_is_made_or_refused.
 abbrev pub rule_set_at : ℕ → List Control → RuleSet
 rule_set_at k controls = applied_all (take k controls) first_set

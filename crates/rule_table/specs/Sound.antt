@@ -19,7 +19,7 @@ abbrev pub HasSoundTargets : RuleSet → Rule → Type 0
 HasSoundTargets set rule = (length rule.targets ≤ 5) × All (IsSoundTarget set) rule.targets
 
 -- The rule's ARN names the rule and this bus.
--- Shown by: table_tests test_rule_table.rt: a_rule_shows_its_target.
+-- Shown by: tables rule_table.rows: a_bus_shows_its_rule.
 abbrev pub HasItsArn : List ℕ → Rule → Type 0
 HasItsArn bus rule = rule.arn ≡ rule_arn bus rule.name
 

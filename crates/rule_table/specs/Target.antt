@@ -7,7 +7,7 @@ use Rattle.rule_targets.specs.Retry.{attempts_of, age_of}
 use Rattle.rule_table.specs.RuleSet.{Rule}
 
 -- A target as a rule stores it: its row, and whether it was put with a retry policy.
--- Shown by: table_tests test_rule_table.rt: a_target_shows_its_retries.
+-- Shown by: table_tests test_rule_table.rt: a_target_has_its_row.
 pub record StoredTarget : Type 0 where
   pub row : TargetRow
   pub has_retry_policy : Bool
@@ -27,18 +27,18 @@ row_of rule target = record {
 }
 
 -- A target of a rule, as the rule stores it.
--- Shown by: table_tests test_rule_table.rt: a_rule_shows_its_target.
+-- Shown by: table_tests test_rule_table.rt: a_target_has_its_row.
 abbrev pub stored_of : Rule → Target → StoredTarget
 stored_of rule target = record { row = row_of rule target; has_retry_policy = is_some target.retry }
 
 -- The retry policy that a stored target was put with; none if it was put without one.
--- Shown by: table_tests test_rule_table.rt: a_target_shows_its_retries.
+-- Shown by: tables rule_table.rows: a_target_shows_its_retries; table_tests test_rule_table.rt: a_target_has_its_row.
 abbrev pub retry_of : StoredTarget → Option RetryPolicy
 retry_of stored =
     if stored.has_retry_policy then Some (record { attempts = stored.row.attempts; age = stored.row.age }) else None
 
 -- The target that is stored so: with a retry policy only if it was put with one.
--- Shown by: table_tests test_rule_table.rt: a_target_shows_its_retries.
+-- Shown by: tables rule_table.rows: a_target_shows_its_retries; table_tests test_rule_table.rt: a_target_has_its_row.
 abbrev pub target_of : StoredTarget → Target
 target_of stored = record {
   id = stored.row.target_id;
@@ -52,7 +52,7 @@ abbrev pub IsStoredOf : Rule → StoredTarget → Type 0
 IsStoredOf rule stored = stored ≡ stored_of rule (target_of stored)
 
 -- The targets of a rule as it stores them, none if there is no rule.
--- Shown by: table_tests test_rule_table.rt: a_rule_shows_its_target.
+-- Shown by: table_tests test_rule_table.rt: a_target_has_its_row.
 abbrev pub stored_in : Option Rule → List StoredTarget
 stored_in None = []
 stored_in (Some rule) = map (stored_of rule) rule.targets

@@ -6,7 +6,7 @@ use Rattle.rule_table.specs.declared.control.Control.TheVariants.{BusCreated, Bu
 use Rattle.rule_table.specs.declared.control.Control.TheVariants.{TargetsRemoved, PolicyPut, QueueCreated, QueueDeleted}
 
 -- What contracts see of the code's `Control`, with its targets and ids as lists.
--- Shown by: table_tests test_rule_table.rt: each_change_is_made_or_refused.
+-- Shown by: tables rule_table.rows: each_change_is_made_or_refused.
 abbrev pub control_of : CodeControl → Control
 control_of (RulePut bus name pattern enabled) = rule_put bus name pattern enabled
 control_of (BusCreated name) = bus_created name

@@ -32,7 +32,7 @@ IsSomePattern text = (p : Pattern) × IsPatternText text p
 
 -- The text is that of a policy as it is stored: a policy that is read from it has this text. A text without `Version`, or with white space
 -- between its parts, is not.
--- Shown by: table_tests test_rule_table.rt: each_policy_is_put_or_refused.
+-- Shown by: tables rule_table.rows: each_policy_is_put_or_refused.
 abbrev pub IsBusPolicy : List ℕ → Type 0
 IsBusPolicy t = (policy : Tree) × IsPolicyText t policy × (t ≡ compact_text policy)
 

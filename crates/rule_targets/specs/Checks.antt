@@ -20,14 +20,14 @@ abbrev pub IsTargetArn : List ℕ → Type 0
 IsTargetArn arn = IsTrue (is_target_arn arn)
 
 -- A target has no dead-letter queue, or its ARN is that of a queue, which may be missing.
--- Shown by: table_tests test_rule_targets.rt: a_retry_policy_has_its_limits.
+-- Shown by: tables rule_targets.rows: a_retry_policy_has_its_limits.
 abbrev pub is_dead_letter_arn : Option (List ℕ) → Bool
 is_dead_letter_arn None = true
 is_dead_letter_arn (Some arn) = is_some (queue_in arn)
 
 -- The conditions on the members of a target, in the order in which their faults are reported: its id, its ARN, none of Input, InputPath
 -- and InputTransformer, its retry policy, the ARN of its dead-letter queue.
--- Shown by: table_tests test_rule_targets.rt: a_target_has_its_first_fault, a_retry_policy_has_its_limits.
+-- Shown by: tables rule_targets.rows: a_target_has_its_first_fault, a_retry_policy_has_its_limits.
 abbrev pub member_checks : AskedTarget → List (Option Member)
 member_checks target =
     unless (is_short_name target.id) member.Id
@@ -38,6 +38,6 @@ member_checks target =
     ∷ []
 
 -- The first member of a target that is outside its syntax or its limits, or not supported yet.
--- Shown by: table_tests test_rule_targets.rt: a_target_has_its_first_fault, a_retry_policy_has_its_limits.
+-- Shown by: tables rule_targets.rows: a_target_has_its_first_fault, a_retry_policy_has_its_limits.
 abbrev pub member_fault : AskedTarget → Option Member
 member_fault target = first_fault (member_checks target)

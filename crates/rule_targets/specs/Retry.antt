@@ -20,13 +20,13 @@ is_retry_valid None = true
 is_retry_valid (Some retry) = are_attempts_valid retry.attempts && is_age_valid retry.age
 
 -- The maximum number of retry attempts: the one of the retry policy, and else 185.
--- Shown by: table_tests test_rule_table.rt: a_rule_shows_its_target.
+-- Shown by: table_tests test_rule_table.rt: a_target_has_its_row.
 abbrev pub attempts_of : Option RetryPolicy → ℕ
 attempts_of None = 185
 attempts_of (Some policy) = policy.attempts
 
 -- The maximum age of an event: the one of the retry policy, and else 86,400 seconds.
--- Shown by: table_tests test_rule_table.rt: a_rule_shows_its_target.
+-- Shown by: table_tests test_rule_table.rt: a_target_has_its_row.
 abbrev pub age_of : Option RetryPolicy → ℕ
 age_of None = 86400
 age_of (Some policy) = policy.age

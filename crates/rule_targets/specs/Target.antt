@@ -11,7 +11,7 @@ abbrev pub asked_retry : RetryPolicy → AskedRetry
 asked_retry policy = record { attempts = Some policy.attempts; age = Some policy.age }
 
 -- This target, as a request would ask for it.
--- Shown by: table_tests test_rule_targets.rt: a_target_that_is_put_has_its_limits.
+-- Shown by: table_tests test_rule_table.rt: changes_are_well_formed.
 abbrev pub asked_of : Target → AskedTarget
 asked_of target = record {
   id = target.id;

@@ -2,10 +2,14 @@
 #![tactic(auto)]
 
 #[cfg(test)]
-mod first_run;
+mod exchanges;
 #[cfg(test)]
 mod program;
 #[cfg(test)]
+mod runs;
+#[cfg(test)]
 mod serve;
+#[cfg(test)]
+mod tables;
 #[cfg(test)]
 mod tests;

@@ -1,273 +1,215 @@
-ghost use Rattle.std.specs.Prelude.{◌≡◌};
-ghost use Rattle.turn_book.specs.Passes.{IsFree, IsSamePass};
+//! Tests of sessions over the first book.
+ghost use Rattle.std.specs.Prelude.{◌≡◌, []};
+ghost use Rattle.turn_book.specs.Rule.{opener};
+ghost use Rattle.turn_book.specs.Passes.{view, IsFree, IsSamePass};
 
-use crate::first_run::{
-    CREATE_QUEUE, CREATE_QUEUE_REPLY, DELIVER_DUE, DELIVER_DUE_REPLY, DROPPED_REPLY,
-    LAST_MOMENT_REPLY, NO_MESSAGES_REPLY, PEEK_MESSAGES, PEEK_MESSAGES_REPLY, PUT_EVENTS,
-    PUT_EVENTS_REPLY, PUT_RULE, PUT_RULE_REPLY, PUT_TARGETS, PUT_TARGETS_REPLY,
-};
+use crate::exchanges::{messages, wanted};
+use crate::runs::NOW;
 use bus_host::NoGate;
 use bus_server::{Book, SessionEnd, serve_session};
-use json_text::NoMemory;
 use router_disk::{Clock, Failing, LinkFault, MemClock, MemLink, MemSink, MemSource, Sink, Source};
-use std::alloc::{AllocError, Global};
+use std::alloc::Global;
+use std::process::Abort;
 use std::sync::Wait;
-use std::test::Fail;
+use test_rows::{four, two};
 use turn_book::{Hall, Pass};
 
-/// The reading of the first run's clock, in seconds: 2023-11-14T22:13:20Z.
-pub(crate) const NOW: u64 = 1_700_000_000;
-
-/// The texts, one after the other.
-pub(crate) fn joined(alloc: Global, texts: &[&str]) -> Result<Vec<u8>, AllocError> {
-    let mut bytes = Vec::new(alloc);
-    for text in texts {
-        bytes.extend_from_slice(text.as_bytes())?;
+/// A hall for so many passes, with the first book and the first pass.
+pub(crate) fn first_hall<R: Abort>(rt: &R, alloc: Global, seats: u32) -> (Hall<Book>, Pass<Book>)
+    ensures here { result.1.seat.table_id ≡ result.0.table.shared.table_id }
+    ensures free { IsFree result.1.seat }
+    ensures seats { result.0.seats ≡ seats }
+    ensures first { (view result.1.seat).made ≡ 1 }
+{
+    let book = Book::first(alloc).expect(rt, "a book");
+    match Hall::make(alloc, book, seats) {
+        Ok(made) => made,
+        Err(_) => panic!(rt; "a hall"),
     }
-    Ok(bytes)
 }
 
-/// The messages of the first run.
-pub(crate) fn messages(alloc: Global) -> Result<Vec<u8>, AllocError> {
-    joined(
-        alloc,
-        &[
-            CREATE_QUEUE,
-            PUT_RULE,
-            PUT_TARGETS,
-            PUT_EVENTS,
-            DELIVER_DUE,
-            PEEK_MESSAGES,
-        ],
-    )
-}
-
-/// The replies of the first run.
-pub(crate) fn replies(alloc: Global) -> Result<Vec<u8>, AllocError> {
-    joined(
-        alloc,
-        &[
-            CREATE_QUEUE_REPLY,
-            PUT_RULE_REPLY,
-            PUT_TARGETS_REPLY,
-            PUT_EVENTS_REPLY,
-            DELIVER_DUE_REPLY,
-            PEEK_MESSAGES_REPLY,
-        ],
-    )
-}
-
-/// How a session over the first book ends. Its link gives no answer, and its book has no other pass.
+/// A session of this pass. Its link gives no answer.
 fn session<Rt: Wait, S: Source, K: Sink, C: Clock>(
-    rt: &Rt,
-    alloc: Global,
-    input: &mut S,
-    output: &mut K,
-    clock: &mut C,
-) -> Result<SessionEnd, NoMemory> {
-    let book = Book::first(alloc)?;
-    let mut link = MemLink::always(alloc, Err(LinkFault::Failed));
-    match Hall::make(alloc, book, 1) {
-        Ok((hall, mut pass)) => {
-            let end = serve_session(
-                rt, alloc, &hall, &mut pass, &mut link, input, output, clock, 0, &NoGate,
-            );
-            let _book = hall.close(pass, Vec::new(alloc));
-            Ok(end)
-        }
-        Err((_, _)) => Err(NoMemory),
-    }
-}
-
-/// Serves the texts in a session of this pass.
-fn serve<Rt: Wait>(
     rt: &Rt,
     alloc: Global,
     hall: &Hall<Book>,
     pass: &mut Pass<Book>,
     connection: u64,
-    texts: &[&str],
-    output: &mut MemSink,
-) -> Result<SessionEnd, AllocError>
+    input: &mut S,
+    output: &mut K,
+    clock: &mut C,
+) -> SessionEnd
     requires here { pass.old.seat.table_id ≡ hall.now.table.shared.table_id }
     requires free { IsFree pass.old.seat }
     ensures pass { IsSamePass pass.old.seat pass.new.seat × IsFree pass.new.seat }
 {
-    let mut input = MemSource::new(joined(alloc, texts)?);
     let mut link = MemLink::always(alloc, Err(LinkFault::Failed));
-    let mut clock = MemClock::always(alloc, NOW);
-    Ok(serve_session(
-        rt, alloc, hall, pass, &mut link, &mut input, output, &mut clock, connection, &NoGate,
-    ))
+    serve_session(
+        rt, alloc, hall, pass, &mut link, input, output, clock, connection, &NoGate,
+    )
 }
 
-#[test]
-fn the_first_run_has_its_replies(rt: HostRuntime) -> Result<(), Fail> {
-    let mut input = MemSource::new(messages(rt.alloc())?);
-    let mut output = MemSink::new(rt.alloc());
-    let mut clock = MemClock::always(rt.alloc(), NOW);
-    let end = session(&rt, rt.alloc(), &mut input, &mut output, &mut clock)?;
-    assert_eq!(rt; end, SessionEnd::Closed);
-    assert_eq!(rt; output.bytes(), replies(rt.alloc())?.as_slice());
-    assert_eq!(rt; Sink::faults(&output), 0);
-    Ok(())
+/// A session of the one pass of a new book.
+fn first_session<R: Wait + Abort, S: Source, K: Sink, C: Clock>(
+    rt: &R,
+    alloc: Global,
+    input: &mut S,
+    output: &mut K,
+    clock: &mut C,
+) -> SessionEnd {
+    let (hall, mut pass) = first_hall(rt, alloc, 1);
+    let end = session(rt, alloc, &hall, &mut pass, 0, input, output, clock);
+    let _book = hall.close(pass, Vec::new(alloc));
+    end
 }
 
-#[test]
-fn input_cut_inside_a_message_gets_the_replies_before_it(rt: HostRuntime) -> Result<(), Fail> {
-    let cut = &CREATE_QUEUE[..CREATE_QUEUE.len() - 1];
-    let mut input = MemSource::new(joined(rt.alloc(), &[CREATE_QUEUE, cut])?);
-    let mut output = MemSink::new(rt.alloc());
-    let mut clock = MemClock::always(rt.alloc(), NOW);
-    let end = session(&rt, rt.alloc(), &mut input, &mut output, &mut clock)?;
-    assert_eq!(rt; end, SessionEnd::Cut);
-    assert_eq!(rt; output.bytes(), CREATE_QUEUE_REPLY.as_bytes());
-    Ok(())
+/// The messages of exchanges without their last `missing` bytes. A read gives `most` bytes at most.
+fn source<R: Abort>(rt: &R, alloc: Global, sent: &str, missing: &str, most: &str) -> MemSource {
+    let mut bytes = messages(rt, alloc, sent).into_bytes();
+    let missing = missing.parse::<usize>().unwrap_or(0);
+    bytes.truncate(bytes.len().saturating_sub(missing));
+    MemSource::new(bytes).in_pieces(most.parse::<usize>().unwrap_or(usize::MAX).max(1))
 }
 
-#[test]
-fn a_failed_read_ends_the_session_after_the_replies(rt: HostRuntime) -> Result<(), Fail> {
-    let bytes = joined(rt.alloc(), &[CREATE_QUEUE, PUT_RULE])?;
-    let pieces = MemSource::new(bytes).in_pieces(CREATE_QUEUE.len());
-    let mut input = Failing::after(1, pieces);
-    let mut output = MemSink::new(rt.alloc());
-    let mut clock = MemClock::always(rt.alloc(), NOW);
-    let end = session(&rt, rt.alloc(), &mut input, &mut output, &mut clock)?;
-    assert_eq!(rt; end, SessionEnd::ReadFault);
-    assert_eq!(rt; Source::faults(&input), 1);
-    assert_eq!(rt; output.bytes(), CREATE_QUEUE_REPLY.as_bytes());
-    Ok(())
+/// A clock with these readings.
+fn clock<R: Abort>(rt: &R, alloc: Global, readings: &str) -> MemClock {
+    let (first, rest) = readings.split_once(' ').unwrap_or((readings, ""));
+    let mut later = Vec::new(alloc);
+    for reading in rest.split_whitespace() {
+        later
+            .push(reading.parse::<u64>().expect(rt, "a reading"))
+            .expect(rt, "readings");
+    }
+    MemClock::new(first.parse::<u64>().expect(rt, "a reading"), later)
 }
 
-#[test]
-fn a_failed_first_write_ends_the_session_before_the_next_read(rt: HostRuntime) -> Result<(), Fail> {
-    let bytes = joined(rt.alloc(), &[CREATE_QUEUE, PUT_RULE])?;
-    let pieces = MemSource::new(bytes).in_pieces(CREATE_QUEUE.len());
-    // A second read would fail.
-    let mut input = Failing::after(1, pieces);
-    let mut output = Failing::after(0, MemSink::new(rt.alloc()));
-    let mut clock = MemClock::always(rt.alloc(), NOW);
-    let end = session(&rt, rt.alloc(), &mut input, &mut output, &mut clock)?;
-    assert_eq!(rt; end, SessionEnd::WriteFault);
-    assert_eq!(rt; Source::faults(&input), 0);
-    assert_eq!(rt; Sink::faults(&output), 1);
-    assert_eq!(rt; output.inner.bytes(), b"".as_slice());
-    Ok(())
-}
-
-#[test]
-fn a_failed_third_write_leaves_two_replies(rt: HostRuntime) -> Result<(), Fail> {
-    let mut input = MemSource::new(messages(rt.alloc())?);
-    let mut output = Failing::after(2, MemSink::new(rt.alloc()));
-    let mut clock = MemClock::always(rt.alloc(), NOW);
-    let end = session(&rt, rt.alloc(), &mut input, &mut output, &mut clock)?;
-    assert_eq!(rt; end, SessionEnd::WriteFault);
-    assert_eq!(rt; Sink::faults(&output), 1);
-    let want = joined(rt.alloc(), &[CREATE_QUEUE_REPLY, PUT_RULE_REPLY])?;
-    assert_eq!(rt; output.inner.bytes(), want.as_slice());
-    Ok(())
-}
-
-#[test]
-fn an_event_has_the_reading_of_its_own_request(rt: HostRuntime) -> Result<(), Fail> {
-    let mut input = MemSource::new(messages(rt.alloc())?);
-    let mut output = MemSink::new(rt.alloc());
-    // The fourth message puts the event.
-    let mut clock = MemClock::new(0, [1, 2, NOW].to_vec(rt.alloc())?);
-    let end = session(&rt, rt.alloc(), &mut input, &mut output, &mut clock)?;
-    assert_eq!(rt; end, SessionEnd::Closed);
-    assert_eq!(rt; output.bytes(), replies(rt.alloc())?.as_slice());
-    Ok(())
-}
-
-#[test]
-fn a_delivery_has_the_reading_of_its_own_step(rt: HostRuntime) -> Result<(), Fail> {
-    let mut input = MemSource::new(messages(rt.alloc())?);
-    let mut output = MemSink::new(rt.alloc());
-    // The event is older than 86,400 seconds when its delivery is due, so it is dropped.
-    let mut clock = MemClock::new(NOW, [NOW, NOW, NOW, NOW + 86_401].to_vec(rt.alloc())?);
-    let end = session(&rt, rt.alloc(), &mut input, &mut output, &mut clock)?;
-    assert_eq!(rt; end, SessionEnd::Closed);
-    let want = joined(
-        rt.alloc(),
-        &[
-            CREATE_QUEUE_REPLY,
-            PUT_RULE_REPLY,
-            PUT_TARGETS_REPLY,
-            PUT_EVENTS_REPLY,
-            DROPPED_REPLY,
-            NO_MESSAGES_REPLY,
-        ],
-    )?;
-    assert_eq!(rt; output.bytes(), want.as_slice());
-    Ok(())
-}
-
-#[test]
-fn a_reading_past_the_last_moment_counts_as_the_last_moment(rt: HostRuntime) -> Result<(), Fail> {
-    let mut input = MemSource::new(messages(rt.alloc())?);
-    let mut output = MemSink::new(rt.alloc());
-    let mut clock = MemClock::always(rt.alloc(), 250_000_000_001);
-    let end = session(&rt, rt.alloc(), &mut input, &mut output, &mut clock)?;
-    assert_eq!(rt; end, SessionEnd::Closed);
-    let want = joined(
-        rt.alloc(),
-        &[
-            CREATE_QUEUE_REPLY,
-            PUT_RULE_REPLY,
-            PUT_TARGETS_REPLY,
-            PUT_EVENTS_REPLY,
-            DELIVER_DUE_REPLY,
-            LAST_MOMENT_REPLY,
-        ],
-    )?;
-    assert_eq!(rt; output.bytes(), want.as_slice());
-    Ok(())
-}
-
-#[test]
-fn two_passes_go_on_from_what_the_other_did(rt: HostRuntime) -> Result<(), Fail> {
-    let alloc = rt.alloc();
-    let book = Book::first(alloc)?;
-    let Ok((hall, mut one)) = Hall::make(alloc, book, 2) else {
-        return Err("out of memory".into());
+/// Fails unless a session goes as a row wants. The row has the exchanges whose messages are sent, how many bytes are missing of them,
+/// and how many a read gives at most; after how many reads and after how many writes one fails; the readings of the clock; then the
+/// end of the session with the faults of input and output, and the output.
+fn meet<R: Wait + Abort>(rt: &R, alloc: Global, row: &str) {
+    let (sent, missing, most, rest) = four(row);
+    let (reads, writes, readings, want) = four(rest);
+    let mut input = Failing {
+        inner: source(rt, alloc, sent, missing, most),
+        sound: reads.parse::<u64>().ok(),
+        faults: 0,
     };
-    let mut others = Vec::with_capacity(alloc, 1)?;
+    let mut output = Failing {
+        inner: MemSink::new(alloc),
+        sound: writes.parse::<u64>().ok(),
+        faults: 0,
+    };
+    let mut clock = clock(rt, alloc, readings);
+    let end = first_session(rt, alloc, &mut input, &mut output, &mut clock);
+    let (reads, writes) = (input.faults, output.faults);
+    let text = str::from_utf8(output.inner.bytes()).expect(rt, "text");
+    let got = format!(in alloc; "|{end:?} {reads} {writes}|{text}").expect(rt, "a session");
+    let want = wanted(rt, alloc, want);
+    assert_eq!(*rt; got.as_str(), want.as_str(), "{row}");
+}
+
+#[test]
+fn the_first_run_has_its_replies(rt: HostRuntime) {
+    let row =
+        "queue rule target event delivered peek|||||1700000000|Closed 0 0|=queue rule target event delivered peek";
+    meet(&rt, rt.alloc(), row);
+}
+
+#[test]
+fn input_cut_inside_a_message_gets_the_replies_before_it(rt: HostRuntime) {
+    meet(
+        &rt,
+        rt.alloc(),
+        "queue queue|1||||1700000000|Cut 0 0|=queue",
+    );
+}
+
+#[test]
+fn a_failed_read_ends_the_session_after_the_replies(rt: HostRuntime) {
+    meet(
+        &rt,
+        rt.alloc(),
+        "queue rule||112|1||1700000000|ReadFault 1 0|=queue",
+    );
+}
+
+// A second read would fail.
+#[test]
+fn a_failed_first_write_ends_the_session_before_the_next_read(rt: HostRuntime) {
+    meet(
+        &rt,
+        rt.alloc(),
+        "queue rule||112|1|0|1700000000|WriteFault 0 1|",
+    );
+}
+
+#[test]
+fn a_failed_third_write_leaves_two_replies(rt: HostRuntime) {
+    let row = "queue rule target event delivered peek||||2|1700000000|WriteFault 0 1|=queue rule";
+    meet(&rt, rt.alloc(), row);
+}
+
+// The fourth message puts the event.
+#[test]
+fn an_event_has_the_reading_of_its_own_request(rt: HostRuntime) {
+    let row =
+        "queue rule target event delivered peek|||||0 1 2 1700000000|Closed 0 0|=queue rule target event delivered peek";
+    meet(&rt, rt.alloc(), row);
+}
+
+// The event is older than 86,400 seconds when its delivery is due, so it is dropped.
+#[test]
+fn a_delivery_has_the_reading_of_its_own_step(rt: HostRuntime) {
+    let row =
+        "queue rule target event dropped peek-none|||||1700000000 1700000000 1700000000 1700000000 1700086401|Closed 0 0|=queue rule target event dropped peek-none";
+    meet(&rt, rt.alloc(), row);
+}
+
+#[test]
+fn a_reading_past_the_last_moment_counts_as_the_last_moment(rt: HostRuntime) {
+    let row =
+        "queue rule target event delivered peek-last|||||250000000001|Closed 0 0|=queue rule target event delivered peek-last";
+    meet(&rt, rt.alloc(), row);
+}
+
+/// Sends messages in a session of this pass.
+fn send<R: Wait + Abort>(
+    rt: &R,
+    alloc: Global,
+    hall: &Hall<Book>,
+    pass: &mut Pass<Book>,
+    connection: u64,
+    names: &str,
+    output: &mut MemSink,
+)
+    requires here { pass.old.seat.table_id ≡ hall.now.table.shared.table_id }
+    requires free { IsFree pass.old.seat }
+    ensures pass { IsSamePass pass.old.seat pass.new.seat × IsFree pass.new.seat }
+{
+    let mut input = MemSource::new(messages(rt, alloc, names).into_bytes());
+    let mut clock = MemClock::always(alloc, NOW);
+    session(
+        rt, alloc, hall, pass, connection, &mut input, output, &mut clock,
+    );
+}
+
+// The first pass makes the queue and the rule. The second puts the event, so it matches that rule. The first has the version of
+// its own rule still, and looks for deliveries at a history that has gone on.
+#[test]
+fn two_passes_go_on_from_what_the_other_did(rt: HostRuntime) {
+    let alloc = rt.alloc();
+    let (hall, mut one) = first_hall(&rt, alloc, 2);
     let mut two = hall.another(&mut one);
     let mut output = MemSink::new(alloc);
-    // The first pass makes the queue and the rule. The second puts the event, so it matches that rule.
-    serve(
-        &rt,
-        alloc,
-        &hall,
-        &mut one,
-        0,
-        &[CREATE_QUEUE, PUT_RULE],
-        &mut output,
-    )?;
-    serve(
-        &rt,
-        alloc,
-        &hall,
-        &mut two,
-        1,
-        &[PUT_TARGETS, PUT_EVENTS],
-        &mut output,
-    )?;
-    // The first pass has the version of its own rule still, and looks for deliveries at a history that has gone on.
-    serve(&rt, alloc, &hall, &mut one, 2, &[DELIVER_DUE], &mut output)?;
-    serve(
-        &rt,
-        alloc,
-        &hall,
-        &mut two,
-        3,
-        &[PEEK_MESSAGES],
-        &mut output,
-    )?;
-    others.push_reserved(two);
+    send(&rt, alloc, &hall, &mut one, 0, "queue rule", &mut output);
+    send(&rt, alloc, &hall, &mut two, 1, "target event", &mut output);
+    send(&rt, alloc, &hall, &mut one, 2, "delivered", &mut output);
+    send(&rt, alloc, &hall, &mut two, 3, "peek", &mut output);
+    let others = Vec::from_array(alloc, [two]).expect(&rt, "passes");
     let book = hall.close(one, others);
     assert_eq!(rt; book.tables().events(), 1);
-    assert_eq!(rt; output.bytes(), replies(alloc)?.as_slice());
-    Ok(())
+    let text = str::from_utf8(output.bytes()).expect(&rt, "text");
+    let got = format!(in alloc; "|{text}").expect(&rt, "replies");
+    let want = wanted(&rt, alloc, "=queue rule target event delivered peek");
+    assert_eq!(rt; got.as_str(), want.as_str());
 }

@@ -1,161 +1,75 @@
-//! Changes of the configuration as the rows of tables describe them: a word and its parts, apart by commas.
+//! Changes of the configuration as the rows of tables describe them: a word and its parts, apart by `|`.
 //!
-//! A queue or a bus: `queue,NAME`, `no queue,NAME`, `bus,NAME`, `no bus,NAME`. A rule: `rule,BUS,NAME,PATTERN`, `off,BUS,NAME,PATTERN`
-//! (it is not enabled), `no rule,BUS,NAME`, `enable,BUS,NAME`, `disable,BUS,NAME`. Targets: `put,BUS,RULE,TARGET` and
-//! `remove,BUS,RULE,IDS`. A policy: `policy,BUS,TEXT`, `no policy,BUS`.
-use crate::faults::optional_member;
-use crate::rows::{four, three, two};
+//! A queue or a bus: `queue|NAME`, `no queue|NAME`, `bus|NAME`, `no bus|NAME`, `no policy|NAME`. A rule: `rule|BUS|NAME|PATTERN`,
+//! `no rule|BUS|NAME`, `enable|BUS|NAME`. Targets: `put|COUNT|BUS|RULE|TARGET`, so many times the same one, and `remove|BUS|RULE|IDS`, the
+//! ids apart by commas. A policy: `policy|BUS|TEXT`. TARGET is `ID|ARN|ATTEMPTS|AGE|DEAD`: the numbers of the retry policy and the ARN of
+//! the dead-letter queue. Its last three parts may be empty.
 use bus_policy::Policy;
-use event_shape::queue_arn;
 use json_text::Text;
 use pattern_read::SharedPattern;
 use rule_table::{Control, ControlFault, RuleSet, StoredPolicy};
-use rule_targets::{AskedRetry, AskedTarget, Target};
+use rule_targets::{RetryPolicy, Target};
 use std::alloc::Global;
 use std::test::Fail;
+use test_rows::{four, three, two};
 
-pub(crate) fn text(alloc: Global, text: &str) -> Result<Text, Fail> {
+pub(crate) fn number(text: &str) -> Result<u32, Fail> {
+    Ok(text.parse::<u32>()?)
+}
+
+fn text(alloc: Global, text: &str) -> Result<Text, Fail> {
     Ok(Text::from_str(alloc, text)?)
 }
 
-/// The target that the text describes: `ID,QUEUE`, or `ID,ARN,UNBUILT,ATTEMPTS,AGE,DEAD`. UNBUILT is an unsupported member, ATTEMPTS
-/// and AGE are the numbers of the retry policy, and DEAD is the ARN of the dead-letter queue; each may be empty.
-pub(crate) fn target(alloc: Global, parts: &str) -> Result<AskedTarget, Fail> {
-    let (id, more) = two(parts, ',')?;
-    match more.split_once(',') {
-        Some((arn, more)) => full_target(alloc, id, arn, more),
-        None => queue_target(alloc, id, more),
-    }
-}
-
-fn queue_target(alloc: Global, id: &str, queue: &str) -> Result<AskedTarget, Fail> {
-    Ok(AskedTarget {
-        id: text(alloc, id)?,
-        arn: queue_arn(alloc, queue)?,
-        unbuilt: None,
-        retry: None,
-        dead_letter: None,
-    })
-}
-
-fn full_target(alloc: Global, id: &str, arn: &str, more: &str) -> Result<AskedTarget, Fail> {
-    let (unbuilt, attempts, age, dead) = four(more, ',')?;
-    let unbuilt = optional_member(unbuilt)?;
-    Ok(AskedTarget {
-        id: text(alloc, id)?,
-        arn: text(alloc, arn)?,
-        unbuilt,
-        retry: retry(attempts, age),
-        dead_letter: optional_text(alloc, dead)?,
-    })
-}
-
-fn optional_text(alloc: Global, given: &str) -> Result<Option<Text>, Fail> {
+pub(crate) fn optional_text(alloc: Global, given: &str) -> Result<Option<Text>, Fail> {
     if given.is_empty() {
         return Ok(None);
     }
     Ok(Some(text(alloc, given)?))
 }
 
-/// The retry policy of these numbers. There is none if both are empty; a number that is empty alone is one that does not fit.
-fn retry(attempts: &str, age: &str) -> Option<AskedRetry> {
-    if attempts.is_empty() && age.is_empty() {
-        return None;
+fn retry(attempts: &str, age: &str) -> Result<Option<RetryPolicy>, Fail> {
+    if attempts.is_empty() {
+        return Ok(None);
     }
-    Some(AskedRetry {
-        attempts: attempts.parse::<u16>().ok(),
-        age: age.parse::<u32>().ok(),
+    Ok(Some(RetryPolicy {
+        attempts: attempts.parse::<u16>()?,
+        age: number(age)?,
+    }))
+}
+
+pub(crate) fn names(alloc: Global, first: &str, second: &str) -> Result<(Text, Text), Fail> {
+    let first = text(alloc, first)?;
+    Ok((first, text(alloc, second)?))
+}
+
+fn target(alloc: Global, parts: &str) -> Result<Target, Fail> {
+    let (id, arn, attempts, rest) = four(parts);
+    let (age, dead) = two(rest);
+    let retry = retry(attempts, age)?;
+    let dead_letter = optional_text(alloc, dead)?;
+    let (id, arn) = names(alloc, id, arn)?;
+    Ok(Target {
+        id,
+        arn,
+        retry,
+        dead_letter,
     })
 }
 
-/// The change that the text describes.
-pub(crate) fn control(alloc: Global, change: &str) -> Result<Control, Fail> {
-    let (word, parts) = two(change, ',')?;
-    match word {
-        "queue" => Ok(Control::QueueCreated {
-            name: text(alloc, parts)?,
-        }),
-        "no queue" => Ok(Control::QueueDeleted {
-            name: text(alloc, parts)?,
-        }),
-        "bus" => Ok(Control::BusCreated {
-            name: text(alloc, parts)?,
-        }),
-        "no bus" => Ok(Control::BusDeleted {
-            name: text(alloc, parts)?,
-        }),
-        "rule" => rule_put(alloc, parts, true),
-        "off" => rule_put(alloc, parts, false),
-        "no rule" => rule_deleted(alloc, parts),
-        "enable" => state_put(alloc, parts, true),
-        "disable" => state_put(alloc, parts, false),
-        "put" => targets_put(alloc, parts),
-        "remove" => targets_removed(alloc, parts),
-        "policy" => policy_put(alloc, parts),
-        "no policy" => Ok(Control::PolicyPut {
-            bus: text(alloc, parts)?,
-            policy: None,
-        }),
-        _ => Err(Fail::from("a row has no such change")),
-    }
-}
-
-fn rule_put(alloc: Global, parts: &str, enabled: bool) -> Result<Control, Fail> {
-    let (bus, name, pattern) = three(parts, ',')?;
-    Ok(Control::RulePut {
-        bus: text(alloc, bus)?,
-        name: text(alloc, name)?,
-        pattern: shared_pattern(alloc, pattern)?,
-        enabled,
-    })
-}
-
-fn shared_pattern(alloc: Global, pattern: &str) -> Result<SharedPattern, Fail> {
-    match SharedPattern::read(alloc, text(alloc, pattern)?) {
-        Ok(pattern) => Ok(pattern),
-        Err(_fault) => Err(Fail::from("a row has no pattern")),
-    }
-}
-
-fn rule_deleted(alloc: Global, parts: &str) -> Result<Control, Fail> {
-    let (bus, name) = two(parts, ',')?;
-    Ok(Control::RuleDeleted {
-        bus: text(alloc, bus)?,
-        name: text(alloc, name)?,
-    })
-}
-
-fn state_put(alloc: Global, parts: &str, enabled: bool) -> Result<Control, Fail> {
-    let (bus, name) = two(parts, ',')?;
-    Ok(Control::StatePut {
-        bus: text(alloc, bus)?,
-        name: text(alloc, name)?,
-        enabled,
-    })
-}
-
-fn targets_put(alloc: Global, parts: &str) -> Result<Control, Fail> {
-    let (bus, rule, target) = three(parts, ',')?;
-    Ok(Control::TargetsPut {
-        bus: text(alloc, bus)?,
-        rule: text(alloc, rule)?,
-        targets: one_target(alloc, target)?,
-    })
-}
-
-fn one_target(alloc: Global, parts: &str) -> Result<Vec<Target>, Fail> {
+fn targets(alloc: Global, count: u32, parts: &str) -> Result<Vec<Target>, Fail> {
     let mut targets = Vec::new(alloc);
-    targets.push(target(alloc, parts)?.put_as(alloc)?)?;
+    for _ in 0..count {
+        targets.push(target(alloc, parts)?)?;
+    }
     Ok(targets)
 }
 
-fn targets_removed(alloc: Global, parts: &str) -> Result<Control, Fail> {
-    let (bus, rule, ids) = three(parts, ',')?;
-    Ok(Control::TargetsRemoved {
-        bus: text(alloc, bus)?,
-        rule: text(alloc, rule)?,
-        ids: texts(alloc, ids)?,
-    })
+fn targets_put(alloc: Global, parts: &str) -> Result<Control, Fail> {
+    let (count, bus, rule, target) = four(parts);
+    let targets = targets(alloc, number(count)?, target)?;
+    let (bus, rule) = names(alloc, bus, rule)?;
+    Ok(Control::TargetsPut { bus, rule, targets })
 }
 
 /// The texts apart by commas; none if there is nothing.
@@ -170,57 +84,111 @@ fn texts(alloc: Global, parts: &str) -> Result<Vec<Text>, Fail> {
     Ok(texts)
 }
 
-fn policy_put(alloc: Global, parts: &str) -> Result<Control, Fail> {
-    let (bus, policy) = two(parts, ',')?;
-    policy_change(alloc, bus, policy_of(alloc, policy)?)
+fn targets_removed(alloc: Global, parts: &str) -> Result<Control, Fail> {
+    let (bus, rule, ids) = three(parts);
+    let ids = texts(alloc, ids)?;
+    let (bus, rule) = names(alloc, bus, rule)?;
+    Ok(Control::TargetsRemoved { bus, rule, ids })
 }
 
-fn policy_of(alloc: Global, policy: &str) -> Result<Policy, Fail> {
-    match Policy::read(alloc, policy.as_bytes()) {
-        Ok(policy) => Ok(policy),
+fn pattern(alloc: Global, given: Text) -> Result<SharedPattern, Fail> {
+    match SharedPattern::read(alloc, given) {
+        Ok(pattern) => Ok(pattern),
+        Err(_fault) => Err(Fail::from("a row has no pattern")),
+    }
+}
+
+fn rule_put(alloc: Global, parts: &str) -> Result<Control, Fail> {
+    let (bus, name, given) = three(parts);
+    let pattern = pattern(alloc, text(alloc, given)?)?;
+    let (bus, name) = names(alloc, bus, name)?;
+    Ok(Control::RulePut {
+        bus,
+        name,
+        pattern,
+        enabled: true,
+    })
+}
+
+fn policy(alloc: Global, given: &str) -> Result<StoredPolicy, Fail> {
+    match Policy::read(alloc, given.as_bytes()) {
+        Ok(policy) => Ok(StoredPolicy::new(alloc, policy)?),
         Err(_fault) => Err(Fail::from("a row has no policy")),
     }
 }
 
-/// The change that gives the bus this policy.
-pub(crate) fn policy_change(alloc: Global, bus: &str, policy: Policy) -> Result<Control, Fail> {
-    Ok(Control::PolicyPut {
-        bus: text(alloc, bus)?,
-        policy: Some(StoredPolicy::new(alloc, policy)?),
-    })
+fn policy_put(alloc: Global, parts: &str) -> Result<Control, Fail> {
+    let (bus, given) = two(parts);
+    let policy = Some(policy(alloc, given)?);
+    let bus = text(alloc, bus)?;
+    Ok(Control::PolicyPut { bus, policy })
+}
+
+/// The change of a rule that this word names.
+fn of_rule(alloc: Global, word: &str, parts: &str) -> Result<Control, Fail> {
+    let (bus, name) = two(parts);
+    let (bus, name) = names(alloc, bus, name)?;
+    if word == "enable" {
+        let enabled = true;
+        return Ok(Control::StatePut { bus, name, enabled });
+    }
+    Ok(Control::RuleDeleted { bus, name })
+}
+
+/// The change of a queue or of a bus that this word names.
+fn of_one(word: &str, name: Text) -> Control {
+    match word {
+        "queue" => Control::QueueCreated { name },
+        "no queue" => Control::QueueDeleted { name },
+        "bus" => Control::BusCreated { name },
+        "no bus" => Control::BusDeleted { name },
+        _ => Control::PolicyPut {
+            bus: name,
+            policy: None,
+        },
+    }
+}
+
+/// The change that the text describes.
+pub(crate) fn control(alloc: Global, change: &str) -> Result<Control, Fail> {
+    let (word, parts) = two(change);
+    match word {
+        "rule" => rule_put(alloc, parts),
+        "put" => targets_put(alloc, parts),
+        "remove" => targets_removed(alloc, parts),
+        "policy" => policy_put(alloc, parts),
+        "no rule" | "enable" => of_rule(alloc, word, parts),
+        "queue" | "no queue" | "bus" | "no bus" | "no policy" => Ok(of_one(
+            word,
+            text(alloc, parts)?,
+        )),
+        _ => Err(Fail::from("a row has no such change")),
+    }
 }
 
 /// The set after the change, or the change's refusal.
 pub(crate) fn made(
     alloc: Global,
     set: &RuleSet,
-    change: &str,
-) -> Result<Result<RuleSet, ControlFault>, Fail> {
-    made_by(alloc, set, &control(alloc, change)?)
-}
-
-/// The set after this change, or the change's refusal.
-pub(crate) fn made_by(
-    alloc: Global,
-    set: &RuleSet,
-    change: &Control,
-) -> Result<Result<RuleSet, ControlFault>, Fail> {
+    control: &Control,
+) -> Result<RuleSet, ControlFault> {
     if set.control_count() >= 1000 {
-        return Err(Fail::from("too many changes"));
+        return Err(ControlFault::NoMemory);
     }
-    Ok(set.apply(alloc, change))
+    set.apply(alloc, control)
 }
 
 /// The set after the change.
 pub(crate) fn after(alloc: Global, set: &RuleSet, change: &str) -> Result<RuleSet, Fail> {
-    match made(alloc, set, change)? {
+    let control = control(alloc, change)?;
+    match made(alloc, set, &control) {
         Ok(next) => Ok(next),
         Err(_fault) => Err(Fail::from("a change is refused")),
     }
 }
 
 /// The first set after these changes, one a line.
-pub(crate) fn configured(alloc: Global, changes: &str) -> Result<RuleSet, Fail> {
+pub(crate) fn after_all(alloc: Global, changes: &str) -> Result<RuleSet, Fail> {
     let mut set = RuleSet::first(alloc)?;
     for change in changes.lines() {
         set = after(alloc, &set, change)?;

@@ -1,6 +1,6 @@
 use denote.Param.Send.{sendable}
 use Rattle.router_core.proofs.MovingLemmas.{tables_send, errand_send}
-use Rattle.router_tests.proofs.test_router_core.move_between_threads.Goals as goal
+use Rattle.session_tests.proofs.tables.move_between_threads.Goals as goal
 
 pub may_move-requires-send-T : goal.may_move-requires-send-T
 may_move-requires-send-T c κs = search (sendable, tables_send)

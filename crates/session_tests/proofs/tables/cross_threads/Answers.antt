@@ -1,6 +1,6 @@
 use denote.Param.Send.{sendable}
 use Rattle.router_core.proofs.CrossingLemmas.{set_send, set_sync}
-use Rattle.router_tests.proofs.test_router_core.cross_threads.Goals as goal
+use Rattle.session_tests.proofs.tables.cross_threads.Goals as goal
 
 pub may_be_shared-requires-send-T : goal.may_be_shared-requires-send-T
 may_be_shared-requires-send-T c κs = search (sendable, set_send)
