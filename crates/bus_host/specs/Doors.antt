@@ -1,5 +1,5 @@
 -- The connections of a door: those to come, those that it gave, and those that it ended.
-use Rattle.std.specs.Prelude.{◌≡◌, List, [], ◌∷◌, ◌++◌, ⊤, Option, Some, None}
+use Rattle.std.specs.Prelude.{◌≡◌, Bool, true, List, [], ◌∷◌, ◌++◌, ⊤, Option, Some, None}
 use Rattle.bus_host.specs.declared.door.Knock.{Knock}
 use Rattle.bus_host.specs.declared.door.Knock.TheVariants.{Conn, Quiet, Closed, Failed, NoMemory}
 
@@ -41,3 +41,12 @@ given_by NoMemory = []
 abbrev pub HasNone : {A : Type 0} → Option (List A) → Type 0
 HasNone None = ⊤
 HasNone (Some ahead) = ahead ≡ []
+
+-- Whether a door has said that no further connection will come, after a call of `next` with this result.
+-- Shown by: outside_tests test_bus_host.rt: a_door_in_memory_gives_what_it_plans.
+abbrev pub closed_after : {I O : Type 0} → Bool → Knock I O → Bool
+closed_after closed (Conn input output) = closed
+closed_after closed Quiet = closed
+closed_after closed Closed = true
+closed_after closed Failed = closed
+closed_after closed NoMemory = closed

@@ -1,5 +1,5 @@
 // A listener as a trait.
-ghost use Rattle.std.specs.Prelude.{◌≡◌, ℕ, List, [], ◌∷◌, Option};
+ghost use Rattle.std.specs.Prelude.{◌≡◌, ℕ, Bool, List, [], ◌∷◌, ◌++◌, Option};
 
 use router_disk::{Sink, Source};
 
@@ -32,7 +32,7 @@ pub trait Door: Send {
     ghost use Rattle.router_disk.specs.Faults.{CountsFaults};
     ghost use Rattle.bus_host.specs.Knock.{knock_outcome};
     ghost use Rattle.bus_host.specs.declared.door.Ended.{Ended};
-    ghost use Rattle.bus_host.specs.Doors.{Lengthened, HasNone, Shortened, given_by};
+    ghost use Rattle.bus_host.specs.Doors.{Lengthened, HasNone, Shortened, closed_after, given_by};
 
     type In: Source;
 
@@ -47,6 +47,15 @@ pub trait Door: Send {
     /// The connections that ended so far, in order, as they were then. `None` if they are not known.
     ghost ended: { Self → Option (List (Ended Self.In Self.Out)) };
 
+    /// The connections given so far, in order, as they were given.
+    ghost gave: { Self → List (Self.In × Self.Out) };
+
+    /// The connections that ended so far, in order, as they were then.
+    ghost took_back: { Self → List (Ended Self.In Self.Out) };
+
+    /// Whether `next` has returned `Closed`.
+    ghost closed: { Self → Bool };
+
     /// The number of calls of `next` that have failed.
     ghost faults: { Self → ℕ };
 
@@ -60,12 +69,18 @@ pub trait Door: Send {
         ensures ahead { Shortened (ahead self.old) (ahead self.new) (given_by result) }
         ensures given { Lengthened (given self.old) (given self.new) (given_by result) }
         ensures ended { ended self.new ≡ ended self.old }
-        ensures closed { result ≡ Knock.Closed → HasNone (ahead self.old) };
+        ensures closed { result ≡ Knock.Closed → HasNone (ahead self.old) }
+        ensures gave { gave self.new ≡ gave self.old ++ given_by result }
+        ensures took_back { took_back self.new ≡ took_back self.old }
+        ensures over { closed self.new ≡ closed_after (closed self.old) result };
 
     /// Ends a connection that `next` gave. `cut` is true if out of memory ended it. The call needs no memory.
     fn done(&mut self, input: Self::In, output: Self::Out, cut: bool)
         ensures faults { faults self.new ≡ faults self.old }
         ensures ahead { ahead self.new ≡ ahead self.old }
         ensures given { given self.new ≡ given self.old }
-        ensures ended { Lengthened (ended self.old) (ended self.new) (record { input = input; output = output; cut = cut } ∷ []) };
+        ensures ended { Lengthened (ended self.old) (ended self.new) (record { input = input; output = output; cut = cut } ∷ []) }
+        ensures gave { gave self.new ≡ gave self.old }
+        ensures took_back { took_back self.new ≡ took_back self.old ++ record { input = input; output = output; cut = cut } ∷ [] }
+        ensures over { closed self.new ≡ closed self.old };
 }

@@ -1,5 +1,5 @@
 // A door in memory.
-ghost use Rattle.std.specs.Prelude.{◌≡◌, Some, [], map};
+ghost use Rattle.std.specs.Prelude.{◌≡◌, Some, [], false, map};
 ghost use Rattle.bus_host.specs.Plans.{connections_of};
 
 use crate::{Door, Ended, Knock, raise};
@@ -25,6 +25,7 @@ pub struct MemDoor<I, O> {
     pub back: Vec<Ended<I, O>>,
     given: Log<I, O>,
     ended: Log<Ended<I, O>, ()>,
+    closed: bool,
     faults: u64,
 }
 
@@ -34,6 +35,9 @@ impl<I: Source + Drop, O: Sink + Drop> MemDoor<I, O> {
         ensures ahead { ⟦<MemDoor<I, O> as Door>⟧.ahead result ≡ Some (connections_of plans) }
         ensures given { ⟦<MemDoor<I, O> as Door>⟧.given result ≡ Some [] }
         ensures ended { ⟦<MemDoor<I, O> as Door>⟧.ended result ≡ Some [] }
+        ensures gave { ⟦<MemDoor<I, O> as Door>⟧.gave result ≡ [] }
+        ensures took_back { ⟦<MemDoor<I, O> as Door>⟧.took_back result ≡ [] }
+        ensures closed { ⟦<MemDoor<I, O> as Door>⟧.closed result ≡ false }
         ensures faults { ⟦<MemDoor<I, O> as Door>⟧.faults result ≡ 0 }
     {
         MemDoor {
@@ -41,6 +45,7 @@ impl<I: Source + Drop, O: Sink + Drop> MemDoor<I, O> {
             back: Vec::new(alloc),
             given: Log::new(),
             ended: Log::new(),
+            closed: false,
             faults: 0,
         }
     }
@@ -59,6 +64,12 @@ impl<I: Source + Drop, O: Sink + Drop> Door for MemDoor<I, O> {
     ghost given = { λ d. Some d.given.items };
 
     ghost ended = { λ d. Some (map (λ pair. pair.0) d.ended.items) };
+
+    ghost gave = { λ d. d.given.items };
+
+    ghost took_back = { λ d. map (λ pair. pair.0) d.ended.items };
+
+    ghost closed = { λ d. d.closed };
 
     ghost faults = { λ d. d.faults };
 
@@ -81,7 +92,10 @@ impl<I: Source + Drop, O: Sink + Drop> Door for MemDoor<I, O> {
                 raise(&mut self.faults);
                 Knock::Failed
             }
-            None => Knock::Closed,
+            None => {
+                self.closed = true;
+                Knock::Closed
+            }
         }
     }
 

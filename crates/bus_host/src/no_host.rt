@@ -1,9 +1,9 @@
 // A host whose every call fails, with a disk, a door and a link whose calls fail.
-ghost use Rattle.std.specs.Prelude.{◌≡◌, [], ◌∷◌, ◌++◌, map, Err};
+ghost use Rattle.std.specs.Prelude.{◌≡◌, [], ◌∷◌, ◌++◌, false, map, Err};
 ghost use Rattle.router_disk.specs.Faults.{CountsFaults};
 ghost use Rattle.bus_host.specs.HostFault.{host_outcome};
 
-use crate::{Door, Host, HostFault, Knock, raise};
+use crate::{Door, Ended, Host, HostFault, Knock, raise};
 use http_server::Log;
 use router_disk::{Disk, Failed, Link, LinkFault, MemSink, MemSource};
 
@@ -14,8 +14,9 @@ pub struct NoDisk {
 }
 
 /// A door whose every call of `next` fails.
-#[derive(Debug, Default, Drop)]
+#[derive(Drop)]
 pub struct NoDoor {
+    took_back: Log<Ended<MemSource, MemSink>, ()>,
     faults: u64,
 }
 
@@ -50,6 +51,21 @@ impl NoHost {
             link_faults: 0,
             doors_back: Log::new(),
             links_back: Log::new(),
+        }
+    }
+}
+
+impl NoDoor {
+    /// A door with no fault yet.
+    pub fn new() -> Self
+        ensures gave { ⟦<NoDoor as Door>⟧.gave result ≡ [] }
+        ensures took_back { ⟦<NoDoor as Door>⟧.took_back result ≡ [] }
+        ensures closed { ⟦<NoDoor as Door>⟧.closed result ≡ false }
+        ensures faults { ⟦<NoDoor as Door>⟧.faults result ≡ 0 }
+    {
+        NoDoor {
+            took_back: Log::new(),
+            faults: 0,
         }
     }
 }
@@ -111,6 +127,8 @@ impl Link for NoLink {
 
     ghost answered = { λ l. Some [] };
 
+    ghost exchanges = { λ l. [] };
+
     ghost faults = { λ l. l.faults };
 
     fn faults(&self) -> u64 {
@@ -119,6 +137,7 @@ impl Link for NoLink {
 
     fn send(&mut self, _to: &str, _body: &str) -> Result<u16, LinkFault>
         ensures answers { Answered (Some []) (Some []) (exchanges_of result _to.now _body.now) }
+        ensures exchanges { [] ≡ [] ++ exchanges_of result _to.now _body.now }
         ensures count { CountsFaults self.old.faults self.new.faults (link_outcome result) }
         ensures fails { result ≡ Err LinkFault.Failed }
     {
@@ -128,7 +147,8 @@ impl Link for NoLink {
 }
 
 impl Door for NoDoor {
-    ghost use Rattle.std.specs.Prelude.{Some, None, []};
+    ghost use Rattle.std.specs.Prelude.{Some, None, [], ◌++◌, false, map};
+    ghost use Rattle.bus_host.specs.Doors.{closed_after, given_by};
     ghost use Rattle.bus_host.specs.Knock.{knock_outcome};
 
     type In = MemSource;
@@ -141,6 +161,12 @@ impl Door for NoDoor {
 
     ghost ended = { λ d. None };
 
+    ghost gave = { λ d. [] };
+
+    ghost took_back = { λ d. map (λ pair. pair.0) d.took_back.items };
+
+    ghost closed = { λ d. false };
+
     ghost faults = { λ d. d.faults };
 
     fn faults(&self) -> u64 {
@@ -149,13 +175,19 @@ impl Door for NoDoor {
 
     fn next(&mut self) -> Knock<MemSource, MemSink>
         ensures count { CountsFaults self.old.faults self.new.faults (knock_outcome result) }
+        ensures gave { [] ≡ [] ++ given_by result }
+        ensures took_back { self.new.took_back ≡ self.old.took_back }
+        ensures over { false ≡ closed_after false result }
         ensures fails { result ≡ Knock.Failed }
     {
         raise(&mut self.faults);
         Knock::Failed
     }
 
-    fn done(&mut self, _input: MemSource, _output: MemSink, _cut: bool) {}
+    fn done(&mut self, input: MemSource, output: MemSink, cut: bool) {
+        let ended = Ended { input, output, cut };
+        self.took_back = self.took_back.and(&ended, &());
+    }
 }
 
 impl Host for NoHost {

@@ -7,6 +7,7 @@ ghost use Rattle.router_sessions.specs.Visit.{IsVisit};
 
 use bus_host::Gate;
 use door_workers::Work;
+use http_server::Log;
 use router_disk::{Clock, Link, Sink, Source};
 use router_sessions::{Book, look, serve_quiet, serve_session, was_cut};
 use std::alloc::Global;
@@ -70,7 +71,11 @@ pub(crate) fn converse<I: Source, O: Sink, Rt: Wait + Sync, L: Link, C: Clock, G
     ensures pass { IsSamePass pass.old.seat pass.new.seat × IsFree pass.new.seat }
     ensures visit { IsVisit I.left O.written I.faults O.faults number (input.old, output.old) (input.new, output.new) result (seen_by pass.new.seat) }
 {
-    let mut clock = Reader { rt, clock };
+    let mut clock = Reader {
+        rt,
+        clock,
+        gave: Log::new(),
+    };
     let end = serve_session(
         rt, alloc, hall, pass, link, input, output, &mut clock, number, gate,
     );
@@ -93,7 +98,11 @@ pub(crate) fn deliver_for_a_while<Rt: Wait + Sync, L: Link, C: Clock>(
     ensures named { HasNamed (seat_of None pass.old.seat) (book_seen pass.old.seat) (book_seen pass.new.seat) }
 {
     look(rt, alloc, hall, pass);
-    let mut clock = Reader { rt, clock };
+    let mut clock = Reader {
+        rt,
+        clock,
+        gave: Log::new(),
+    };
     let begun = clock.now();
     for _ in 0..STEPS {
         if !deliver_once(rt, alloc, &mut clock, begun, link, hall, pass) {
@@ -125,19 +134,24 @@ fn deliver_once<Rt: Wait + Sync, L: Link, C: Clock>(
     }
 }
 
-/// One worker's view of the clock that all share. Its readings are not known ahead.
+/// One worker's view of the clock that all share. Its readings are not known ahead; it shows those that it gave.
 #[derive(Drop)]
 struct Reader<'a, 'c, C: Clock, Rt: Wait + Sync> {
     rt: &'a Rt,
     clock: &'a Mutex<&'c mut C>,
+    gave: Log<u64, ()>,
 }
 
 impl<C: Clock, Rt: Wait + Sync> Clock for Reader<'_, '_, C, Rt> {
-    ghost use Rattle.std.specs.Prelude.{None};
+    ghost use Rattle.std.specs.Prelude.{None, map};
 
     ghost ahead = { λ _. None };
 
+    ghost gave = { λ r. map (λ pair. pair.0) r.gave.items };
+
     fn now(&mut self) -> u64 {
-        self.clock.lock(self.rt).now()
+        let reading = self.clock.lock(self.rt).now();
+        self.gave = self.gave.and(&reading, &());
+        reading
     }
 }

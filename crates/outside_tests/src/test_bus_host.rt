@@ -21,7 +21,7 @@ fn its_disk_door_and_link_fail_too(rt: HostRuntime) {
     assert_eq!(rt; disk.size(), Err(Failed));
     assert_eq!(rt; disk.sync(), Err(Failed));
     assert_eq!(rt; disk.faults(), 2, "disk");
-    let mut door = NoDoor::default();
+    let mut door = NoDoor::new();
     assert!(rt; matches!(door.next(), Knock::Failed));
     assert_eq!(rt; door.faults(), 1, "door");
     let mut link = NoLink::default();

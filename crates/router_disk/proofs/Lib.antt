@@ -5,3 +5,4 @@
 -- reverse it.
 pub mod ClockLemmas
 pub mod StreamLemmas
+mod SourceLemmas

@@ -1,4 +1,5 @@
-// Adapters over the real outside, a few lines each. What the system does is trusted. Their contracts show no content.
+// Adapters over the real outside, a few lines each. Their contracts show what their calls gave and wrote. What the system does is trusted:
+// that a read gives what the system gave, that the bytes of a write reach the system, and that a reading is the system's.
 mod clock;
 mod sink;
 mod source;

@@ -1,5 +1,5 @@
 // An outbound link as a trait.
-ghost use Rattle.std.specs.Prelude.{◌≡◌, ℕ, List, Option};
+ghost use Rattle.std.specs.Prelude.{◌≡◌, ◌++◌, ℕ, List, Option};
 ghost use Rattle.router_disk.specs.Link.{Answered, Exchange, exchanges_of};
 
 use thiserror::Error;
@@ -23,6 +23,10 @@ pub trait Link: Send {
     /// not known. An exchange that failed may have reached its endpoint; it has no answer.
     ghost answered: { Self → Option (List Exchange) };
 
+    /// The exchanges so far that had an answer: endpoint, text and status code. An exchange that failed may have reached its
+    /// endpoint; it has no answer.
+    ghost exchanges: { Self → List Exchange };
+
     /// The number of sends that have failed.
     ghost faults: { Self → ℕ };
 
@@ -34,5 +38,6 @@ pub trait Link: Send {
     fn send(&mut self, to: &str, body: &str) -> Result<u16, LinkFault>
         ensures answers { Answered (answered self.old) (answered self.new)
             (exchanges_of result to.now body.now) }
+        ensures exchanges { exchanges self.new ≡ exchanges self.old ++ exchanges_of result to.now body.now }
         ensures count { CountsFaults (faults self.old) (faults self.new) (link_outcome result) };
 }

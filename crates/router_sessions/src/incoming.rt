@@ -73,6 +73,7 @@ pub(crate) fn next_message<S: Source>(
 
 /// Reads once. Between messages it first calls `rests` of the source.
 fn read_piece<S: Source>(wire: &WireIn, input: &mut S, piece: &mut [u8]) -> Result<usize, Failed>
+    requires room { 0 < length piece.old }
     ensures within { ReadsAtMost result piece.new }
     ensures bytes { ReadConsumes (S.left input.old) (S.left input.new) result piece.new }
     ensures count { CountsFaults (S.faults input.old) (S.faults input.new) result }

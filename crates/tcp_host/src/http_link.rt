@@ -1,6 +1,8 @@
 // A link over TCP, the adapter for the endpoints of this machine. What the system does is trusted.
+use crate::exchanged::Exchanged;
 use crate::heads::Heads;
 use bus_host::raise;
+use http_server::Log;
 use http_target::{Endpoint, Reply};
 use router_disk::{Link, LinkFault};
 use std::alloc::Global;
@@ -23,15 +25,21 @@ const PAUSE: u64 = 50;
 pub struct HttpLink<N> {
     alloc: Global,
     system: N,
+    exchanges: Log<Exchanged, ()>,
     faults: u64,
 }
 
 impl<N: Net + Clock> HttpLink<N> {
-    /// A link over the system's sockets and its monotonic clock.
-    pub fn new(alloc: Global, system: N) -> Self {
+    ghost use Rattle.std.specs.Prelude.{◌≡◌, [], map};
+
+    /// A link over the system's sockets and its monotonic clock. It has made no exchange.
+    pub fn new(alloc: Global, system: N) -> Self
+        ensures { map (λ pair. pair.0) result.exchanges.items ≡ [] }
+    {
         HttpLink {
             alloc,
             system,
+            exchanges: Log::new(),
             faults: 0,
         }
     }
@@ -135,11 +143,14 @@ pub(crate) fn is_waiting(kind: ErrorKind) -> bool {
 }
 
 impl<N: Net + Clock + Send> Link for HttpLink<N> {
-    ghost use Rattle.std.specs.Prelude.{◌≡◌, None, IsErr};
+    ghost use Rattle.std.specs.Prelude.{◌≡◌, ◌++◌, None, IsErr, map};
     ghost use Rattle.router_disk.specs.Faults.{CountsFaults, link_outcome};
+    ghost use Rattle.router_disk.specs.Link.{exchanges_of};
     ghost use Rattle.http_target.specs.Endpoint.{endpoint_of};
 
     ghost answered = { λ l. None };
+
+    ghost exchanges = { λ l. map (λ pair. pair.0) l.exchanges.items };
 
     ghost faults = { λ l. l.faults };
 
@@ -148,6 +159,8 @@ impl<N: Net + Clock + Send> Link for HttpLink<N> {
     }
 
     fn send(&mut self, to: &str, body: &str) -> Result<u16, LinkFault>
+        ensures exchanges { map (λ pair. pair.0) self.new.exchanges.items
+            ≡ map (λ pair. pair.0) self.old.exchanges.items ++ exchanges_of result to.now body.now }
         ensures count { CountsFaults self.old.faults self.new.faults (link_outcome result) }
         ensures other { endpoint_of to.now ≡ None → IsErr result }
     {
@@ -167,7 +180,10 @@ impl<N: Net + Clock + Send> Link for HttpLink<N> {
             Err(_) => return Err(LinkFault::NoMemory),
         };
         match self.exchange(&endpoint, request.as_slice()) {
-            Some(code) => Ok(code),
+            Some(code) => {
+                self.exchanges = self.exchanges.and(&Exchanged::new(to, body, code), &());
+                Ok(code)
+            }
             None => {
                 raise(&mut self.faults);
                 Err(LinkFault::Failed)

@@ -3,6 +3,7 @@
 
 mod closing;
 mod ending;
+mod exchanged;
 mod heads;
 mod http_link;
 mod line;

@@ -1,6 +1,6 @@
 // A listener over TCP, the adapter for the clients of this machine. What the system does is trusted.
-ghost use Rattle.std.specs.Prelude.{◌≡◌, ◌+◌, ◌-◌, ◌<◌, [], ◌∷◌, ◌++◌, map, Ok, Some, IfOk};
-ghost use Rattle.bus_host.specs.Doors.{Lengthened, given_by};
+ghost use Rattle.std.specs.Prelude.{◌≡◌, ◌+◌, ◌-◌, ◌<◌, false, [], ◌∷◌, ◌++◌, map, Ok, Some, IfOk};
+ghost use Rattle.bus_host.specs.Doors.{Lengthened, closed_after, given_by};
 ghost use Rattle.bus_host.specs.Knock.{knock_outcome};
 ghost use Rattle.tcp_host.specs.Places.{fresh, limit_for, out_after};
 
@@ -115,6 +115,7 @@ impl<N: Net<Stream = TcpStream, Listener = TcpListener> + Clock + Copy> TcpDoor<
     fn admit(&mut self, stream: TcpStream) -> Knock<TcpSource<N>, TcpSink<N>>
         requires { self.old.out < self.old.limit }
         ensures outcome { knock_outcome result ≡ Ok tt }
+        ensures open { false ≡ closed_after false result }
         ensures out { self.new ≡ record self.old { out = out_after self.old.out result; given = self.old.given ++ given_by result } }
     {
         self.mark.clear();
@@ -143,7 +144,7 @@ impl<N: Net<Stream = TcpStream, Listener = TcpListener> + Clock + Copy> TcpDoor<
 }
 
 impl<N: Net<Stream = TcpStream, Listener = TcpListener> + Clock + Copy + Send> Door for TcpDoor<N> {
-    ghost use Rattle.std.specs.Prelude.{None, Some};
+    ghost use Rattle.std.specs.Prelude.{None, Some, false};
     ghost use Rattle.router_disk.specs.Faults.{CountsFaults};
 
     type In = TcpSource<N>;
@@ -155,6 +156,12 @@ impl<N: Net<Stream = TcpStream, Listener = TcpListener> + Clock + Copy + Send> D
     ghost given = { λ d. Some d.given };
 
     ghost ended = { λ d. Some d.ended };
+
+    ghost gave = { λ d. d.given };
+
+    ghost took_back = { λ d. d.ended };
+
+    ghost closed = { λ d. false };
 
     ghost faults = { λ d. d.faults };
 
@@ -168,6 +175,9 @@ impl<N: Net<Stream = TcpStream, Listener = TcpListener> + Clock + Copy + Send> D
         ensures limit { self.new.limit ≡ self.old.limit }
         ensures given { Lengthened (Some self.old.given) (Some self.new.given) (given_by result) }
         ensures ended { self.new.ended ≡ self.old.ended }
+        ensures gave { self.new.given ≡ self.old.given ++ given_by result }
+        ensures took_back { self.new.ended ≡ self.old.ended }
+        ensures over { false ≡ closed_after false result }
     {
         if self.faults == u64::MAX {
             return Knock::Failed;
@@ -193,6 +203,7 @@ impl<N: Net<Stream = TcpStream, Listener = TcpListener> + Clock + Copy + Send> D
         ensures limit { self.new.limit ≡ self.old.limit }
         ensures given { self.new.given ≡ self.old.given }
         ensures ended { Lengthened (Some self.old.ended) (Some self.new.ended) (record { input = input; output = output; cut = cut } ∷ []) }
+        ensures took_back { self.new.ended ≡ self.old.ended ++ record { input = input; output = output; cut = cut } ∷ [] }
     {
         self.out = self.out.saturating_sub(1);
         let ended = Ended { input, output, cut };

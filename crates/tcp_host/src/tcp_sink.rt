@@ -1,10 +1,11 @@
 // The sink of a connection over TCP.
-ghost use Rattle.std.specs.Prelude.{◌≡◌};
+ghost use Rattle.std.specs.Prelude.{◌≡◌, []};
+ghost use Rattle.router_disk.specs.Sink.{AddsBytes};
 
 use crate::http_link::is_waiting;
 use crate::line::Line;
 use bus_host::raise;
-use router_disk::{Failed, Sink};
+use router_disk::{Failed, Heard, Sink};
 use std::sync::Arc;
 use std::time::{Clock, Duration, Instant};
 
@@ -17,22 +18,28 @@ const LIMIT: u64 = 20;
 pub struct TcpSink<C> {
     line: Arc<Line>,
     clock: C,
+    wrote: Heard,
     faults: u64,
 }
 
 impl<C: Clock> TcpSink<C> {
     pub(crate) fn new(line: Arc<Line>, clock: C) -> Self
-        ensures { result.faults ≡ 0 }
+        ensures wrote { result.wrote ≡ [] }
+        ensures faults { result.faults ≡ 0 }
     {
         TcpSink {
             line,
             clock,
+            wrote: Heard::new(),
             faults: 0,
         }
     }
 
     /// Writes until all is written or the time is over.
-    fn write_on(&self, bytes: &[u8]) -> Result<(), Failed> {
+    fn write_on(&mut self, bytes: &[u8]) -> Result<(), Failed>
+        ensures wrote { AddsBytes self.old.wrote self.new.wrote result bytes.now }
+        ensures faults { self.new.faults ≡ self.old.faults }
+    {
         let Ok(start) = Instant::now(&self.clock) else {
             return Err(Failed);
         };
@@ -48,7 +55,10 @@ impl<C: Clock> TcpSink<C> {
             }
             match self.line.write(rest, left) {
                 Ok(0) => break,
-                Ok(count) => rest = &rest[count..],
+                Ok(count) => {
+                    self.wrote.hear(&rest[..count]);
+                    rest = &rest[count..]
+                }
                 Err(fault) => {
                     if !is_waiting(fault.kind()) {
                         break;
@@ -72,6 +82,8 @@ impl<C: Clock + Send> Sink for TcpSink<C> {
     ghost use Rattle.std.specs.Prelude.{None};
 
     ghost written = { λ s. None };
+
+    ghost wrote = { λ s. s.wrote };
 
     ghost faults = { λ s. s.faults };
 

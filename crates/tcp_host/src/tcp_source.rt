@@ -1,5 +1,5 @@
 // The source of a connection over TCP. It ends the input of a client that waits too long.
-ghost use Rattle.std.specs.Prelude.{◌≡◌};
+ghost use Rattle.std.specs.Prelude.{◌≡◌, []};
 ghost use Rattle.std.specs.Io.{ReadsAtMost};
 
 use crate::ending::Waited;
@@ -7,7 +7,7 @@ use crate::http_link::is_waiting;
 use crate::line::Line;
 use crate::mark::Mark;
 use bus_host::raise;
-use router_disk::{Failed, Source};
+use router_disk::{Failed, Pieces, Source};
 use std::sync::Arc;
 use std::time::{Clock, Instant};
 
@@ -26,12 +26,14 @@ pub struct TcpSource<C> {
     rests: bool,
     /// Whether the input has ended for another client.
     pub(crate) took_mark: bool,
+    gave: Pieces,
     faults: u64,
 }
 
 impl<C: Clock> TcpSource<C> {
     pub(crate) fn new(line: Arc<Line>, mark: Arc<Mark>, clock: C, since: Instant) -> Self
-        ensures { result.faults ≡ 0 }
+        ensures gave { result.gave ≡ [] }
+        ensures faults { result.faults ≡ 0 }
     {
         TcpSource {
             line,
@@ -41,6 +43,7 @@ impl<C: Clock> TcpSource<C> {
             message: None,
             rests: false,
             took_mark: false,
+            gave: Pieces::new(),
             faults: 0,
         }
     }
@@ -55,6 +58,7 @@ impl<C: Clock> TcpSource<C> {
     /// Reads until there are bytes or the input ends.
     fn read_on(&mut self, buf: &mut [u8]) -> Result<usize, Failed>
         ensures within { ReadsAtMost result buf.new }
+        ensures gave { self.new.gave ≡ self.old.gave }
         ensures faults { self.new.faults ≡ self.old.faults }
     {
         self.begin()?;
@@ -81,7 +85,8 @@ impl<C: Clock> TcpSource<C> {
     /// Takes note of the replies since the last read. The session reads only if it has no whole message, so what is
     /// left after a reply came with the last bytes.
     fn begin(&mut self) -> Result<(), Failed>
-        ensures { self.new.faults ≡ self.old.faults }
+        ensures gave { self.new.gave ≡ self.old.gave }
+        ensures faults { self.new.faults ≡ self.old.faults }
     {
         let last = self.since;
         if self.line.take_reply() {
@@ -97,7 +102,8 @@ impl<C: Clock> TcpSource<C> {
 
     /// Takes note of bytes. A clock that fails changes nothing: the bytes are not lost.
     fn note_bytes(&mut self)
-        ensures { self.new.faults ≡ self.old.faults }
+        ensures gave { self.new.gave ≡ self.old.gave }
+        ensures faults { self.new.faults ≡ self.old.faults }
     {
         if let Ok(now) = self.now() {
             self.since = now;
@@ -109,7 +115,8 @@ impl<C: Clock> TcpSource<C> {
 
     /// Whether the input ends here. It ends for another client only if it takes the mark.
     fn is_over(&mut self) -> Result<bool, Failed>
-        ensures { self.new.faults ≡ self.old.faults }
+        ensures gave { self.new.gave ≡ self.old.gave }
+        ensures faults { self.new.faults ≡ self.old.faults }
     {
         let now = self.now()?;
         let waited = Waited {
@@ -129,6 +136,8 @@ impl<C: Clock + Send> Source for TcpSource<C> {
 
     ghost left = { λ s. None };
 
+    ghost gave = { λ s. s.gave };
+
     ghost faults = { λ s. s.faults };
 
     fn faults(&self) -> u64 {
@@ -144,7 +153,10 @@ impl<C: Clock + Send> Source for TcpSource<C> {
             return Err(Failed);
         }
         match self.read_on(buf) {
-            Ok(count) => Ok(count),
+            Ok(count) => {
+                self.gave.hear(&buf[..count]);
+                Ok(count)
+            }
             Err(Failed) => {
                 raise(&mut self.faults);
                 Err(Failed)

@@ -3,30 +3,39 @@ ghost use Rattle.std.specs.Io.{ReadsAtMost};
 ghost use Rattle.std.specs.Io.KnownBytes.{ReadConsumes};
 
 use crate::fault::fail;
-use crate::{Failed, Source};
+use crate::{Failed, Pieces, Source};
 use std::io::{ErrorKind, Read};
 
-/// A source that reads from a reader, and reads again if interrupted. Its contract shows the bytes that the reader's shows.
+/// A source that reads from a reader, and reads again if interrupted. Its contract shows what each read gave, and the bytes left that the
+/// reader's contract shows.
 #[derive(Drop)]
 pub struct ReaderSource<R> {
     reader: R,
+    gave: Pieces,
     faults: u64,
 }
 
 impl<R: Read + Send> ReaderSource<R> {
-    ghost use Rattle.std.specs.Prelude.{◌≡◌};
+    ghost use Rattle.std.specs.Prelude.{◌≡◌, []};
 
-    /// A source over `reader`, with no fault yet.
+    /// A source over `reader`, which has given nothing and has no fault yet.
     pub fn new(reader: R) -> Self
         ensures left { ⟦<ReaderSource<R> as Source>⟧.left result ≡ R.remaining reader }
+        ensures gave { ⟦<ReaderSource<R> as Source>⟧.gave result ≡ [] }
         ensures faults { ⟦<ReaderSource<R> as Source>⟧.faults result ≡ 0 }
     {
-        ReaderSource { reader, faults: 0 }
+        ReaderSource {
+            reader,
+            gave: Pieces::new(),
+            faults: 0,
+        }
     }
 }
 
 impl<R: Read + Send> Source for ReaderSource<R> {
     ghost left = { λ s. R.remaining s.reader };
+
+    ghost gave = { λ s. s.gave };
 
     ghost faults = { λ s. s.faults };
 
@@ -39,7 +48,10 @@ impl<R: Read + Send> Source for ReaderSource<R> {
             return Err(Failed);
         }
         match read_on(&mut self.reader, buf) {
-            Ok(count) => Ok(count),
+            Ok(count) => {
+                self.gave.hear(&buf[..count]);
+                Ok(count)
+            }
             Err(Failed) => fail(&mut self.faults),
         }
     }

@@ -1,5 +1,6 @@
 // A clock in memory.
 use crate::Clock;
+use http_server::Log;
 use std::alloc::Global;
 
 /// A clock that gives the readings that it holds, in order, and then its last one forever.
@@ -8,6 +9,7 @@ pub struct MemClock {
     reading: u64,
     later: Vec<u64>,
     place: usize,
+    gave: Log<u64, ()>,
 }
 
 impl MemClock {
@@ -16,28 +18,33 @@ impl MemClock {
 
     /// A clock that gives `reading`, and then those of `later`.
     pub fn new(reading: u64, later: Vec<u64>) -> Self
-        ensures { ⟦<MemClock as Clock>⟧.ahead result ≡ Some (repeating reading later.items) }
+        ensures ahead { ⟦<MemClock as Clock>⟧.ahead result ≡ Some (repeating reading later.items) }
+        ensures gave { ⟦<MemClock as Clock>⟧.gave result ≡ [] }
     {
         MemClock {
             reading,
             later,
             place: 0,
+            gave: Log::new(),
         }
     }
 
     /// A clock whose every reading is `reading`. It takes no memory.
     pub fn always(alloc: Global, reading: u64) -> Self
-        ensures { ⟦<MemClock as Clock>⟧.ahead result ≡ Some (repeating reading []) }
+        ensures ahead { ⟦<MemClock as Clock>⟧.ahead result ≡ Some (repeating reading []) }
+        ensures gave { ⟦<MemClock as Clock>⟧.gave result ≡ [] }
     {
         MemClock::new(reading, Vec::new(alloc))
     }
 }
 
 impl Clock for MemClock {
-    ghost use Rattle.std.specs.Prelude.{Some, drop};
+    ghost use Rattle.std.specs.Prelude.{Some, drop, map};
     ghost use Rattle.router_disk.specs.Clock.{repeating};
 
     ghost ahead = { λ c. Some (repeating c.reading (drop c.place c.later.items)) };
+
+    ghost gave = { λ c. map (λ pair. pair.0) c.gave.items };
 
     fn now(&mut self) -> u64 {
         let reading = self.reading;
@@ -45,6 +52,7 @@ impl Clock for MemClock {
             self.reading = next;
             self.place += 1;
         }
+        self.gave = self.gave.and(&reading, &());
         reading
     }
 }

@@ -42,13 +42,16 @@ impl<T> Failing<T> {
 }
 
 impl<S: Source> Source for Failing<S> {
-    ghost use Rattle.std.specs.Prelude.{◌≡◌, ◌⊎◌, Some, IsErr};
+    ghost use Rattle.std.specs.Prelude.{◌≡◌, ◌<◌, ◌⊎◌, length, Some, IsErr};
     ghost use Rattle.std.specs.Io.{ReadsAtMost};
     ghost use Rattle.std.specs.Io.KnownBytes.{ReadConsumes};
     ghost use Rattle.router_disk.specs.Faults.{CountsFaults, Rose, last_count};
     ghost use Rattle.router_disk.specs.Memory.{sound_after};
+    ghost use Rattle.router_disk.specs.Source.{GivesPiece};
 
     ghost left = { λ s. S.left s.inner };
+
+    ghost gave = { λ s. S.gave s.inner };
 
     ghost faults = { λ s. s.faults };
 
@@ -61,8 +64,10 @@ impl<S: Source> Source for Failing<S> {
     }
 
     fn read(&mut self, buf: &mut [u8]) -> Result<usize, Failed>
+        requires room { 0 < length buf.old }
         ensures within { ReadsAtMost result buf.new }
         ensures bytes { ReadConsumes (S.left self.old.inner) (S.left self.new.inner) result buf.new }
+        ensures piece { GivesPiece (S.gave self.old.inner) (S.gave self.new.inner) result buf.new }
         ensures count { CountsFaults self.old.faults self.new.faults result }
 
         ensures next { self.new.sound ≡ sound_after self.old.sound }
@@ -85,9 +90,11 @@ impl<K: Sink> Sink for Failing<K> {
     ghost use Rattle.std.specs.Prelude.{◌≡◌, ◌⊎◌, Some, IsErr};
     ghost use Rattle.router_disk.specs.Faults.{CountsFaults, Rose, last_count};
     ghost use Rattle.router_disk.specs.Memory.{sound_after};
-    ghost use Rattle.router_disk.specs.Sink.{WritesAll};
+    ghost use Rattle.router_disk.specs.Sink.{AddsBytes, WritesAll};
 
     ghost written = { λ s. K.written s.inner };
+
+    ghost wrote = { λ s. K.wrote s.inner };
 
     ghost faults = { λ s. s.faults };
 
@@ -97,6 +104,7 @@ impl<K: Sink> Sink for Failing<K> {
 
     fn write_all(&mut self, bytes: &[u8]) -> Result<(), Failed>
         ensures bytes { WritesAll (K.written self.old.inner) (K.written self.new.inner) result bytes.now }
+        ensures wrote { AddsBytes (K.wrote self.old.inner) (K.wrote self.new.inner) result bytes.now }
         ensures count { CountsFaults self.old.faults self.new.faults result }
 
         ensures next { self.new.sound ≡ sound_after self.old.sound }

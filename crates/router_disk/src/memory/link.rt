@@ -116,6 +116,8 @@ impl Link for MemLink {
 
     ghost answered = { λ l. Some (exchanges_in l) };
 
+    ghost exchanges = { λ l. exchanges_in l };
+
     ghost faults = { λ l. l.faults };
 
     fn faults(&self) -> u64 {
@@ -125,6 +127,7 @@ impl Link for MemLink {
     fn send(&mut self, to: &str, body: &str) -> Result<u16, LinkFault>
         ensures answers { Answered (Some (exchanges_in self.old)) (Some (exchanges_in self.new))
             (exchanges_of result to.now body.now) }
+        ensures exchanges { exchanges_in self.new ≡ exchanges_in self.old ++ exchanges_of result to.now body.now }
         ensures count { CountsFaults self.old.faults self.new.faults (link_outcome result) }
 
         ensures plan { KeepsToPlan self.old self.new result }

@@ -43,9 +43,11 @@ impl MemSink {
 impl Sink for MemSink {
     ghost use Rattle.std.specs.Prelude.{Some, OnErr, ◌≡◌};
     ghost use Rattle.router_disk.specs.Faults.{CountsFaults};
-    ghost use Rattle.router_disk.specs.Sink.{WritesAll};
+    ghost use Rattle.router_disk.specs.Sink.{AddsBytes, WritesAll};
 
     ghost written = { λ s. Some s.bytes };
+
+    ghost wrote = { λ s. s.bytes };
 
     ghost faults = { λ s. s.faults };
 
@@ -55,6 +57,7 @@ impl Sink for MemSink {
 
     fn write_all(&mut self, bytes: &[u8]) -> Result<(), Failed>
         ensures bytes { WritesAll (Some self.old.bytes) (Some self.new.bytes) result bytes.now }
+        ensures wrote { AddsBytes self.old.bytes self.new.bytes result bytes.now }
         ensures count { CountsFaults self.old.faults self.new.faults result }
         ensures none { OnErr result (self.new.bytes ≡ self.old.bytes) }
     {

@@ -18,7 +18,7 @@ returns-in-Some-clause-exchange g c = λ left.
     let asked : IsAsked c.args.message.now (moment_of c.now-reading.result) (request_of c.in-Ok.request) =
     subst (λ (m : ℕ). IsAsked c.args.message.now m (request_of c.in-Ok.request)) c.min.ensures c.in-Ok.ensures.asked in
     delivery_exchange (seat_of c.args.desk.connection c.args.pass.now.seat) c.args.message.now c.args.close _ _ _ c.answer_delivery.result c.now-reading.result (request_of c.in-Ok.request)
-    c.in-Some.budget (ap is_post c.in-Post.is) refl c.answer_delivery.ensures.book asked c.in-Some.ensures c.now-reading.ensures
+    c.in-Some.budget (ap is_post c.in-Post.is) refl c.answer_delivery.ensures.book asked c.in-Some.ensures c.now-reading.ensures.ahead
     (c.answer_delivery.ensures.delivered left)
 
 pub returns-in-Head-clause-exchange : goal.returns-in-Head-clause-exchange
@@ -27,7 +27,7 @@ returns-in-Head-clause-exchange g c = λ left.
     c.not_post_head.ensures ∙ ap (λ (m : Method). sent_text m not_post c.args.close) (sym c.in-Head.is) in
     other_exchange (seat_of c.args.desk.connection c.args.pass.now.seat) c.args.message.now c.args.close _ _ c.write_all.result c.now-reading.result
     (ap is_post c.in-Head.is)
-    (learned_none (number_of c.args.pass.now.seat) (book_seen c.args.pass.now.seat) (book_seen c.args.pass.now.seat) refl) c.now-reading.ensures (sent_none _ _) (subst (WritesAll _ _ c.write_all.result) text c.write_all.ensures.bytes)
+    (learned_none (number_of c.args.pass.now.seat) (book_seen c.args.pass.now.seat) (book_seen c.args.pass.now.seat) refl) c.now-reading.ensures.ahead (sent_none _ _) (subst (WritesAll _ _ c.write_all.result) text c.write_all.ensures.bytes)
 
 pub returns-in-Other-clause-exchange : goal.returns-in-Other-clause-exchange
 returns-in-Other-clause-exchange g c = λ left.
@@ -35,7 +35,7 @@ returns-in-Other-clause-exchange g c = λ left.
     c.not_post_reply.ensures ∙ ap (λ (m : Method). sent_text m not_post c.args.close) (sym c.in-Other.is) in
     other_exchange (seat_of c.args.desk.connection c.args.pass.now.seat) c.args.message.now c.args.close _ _ c.write_all-in-Other.result c.now-reading.result
     (ap is_post c.in-Other.is)
-    (learned_none (number_of c.args.pass.now.seat) (book_seen c.args.pass.now.seat) (book_seen c.args.pass.now.seat) refl) c.now-reading.ensures (sent_none _ _) (subst (WritesAll _ _ c.write_all-in-Other.result) text c.write_all-in-Other.ensures.bytes)
+    (learned_none (number_of c.args.pass.now.seat) (book_seen c.args.pass.now.seat) (book_seen c.args.pass.now.seat) refl) c.now-reading.ensures.ahead (sent_none _ _) (subst (WritesAll _ _ c.write_all-in-Other.result) text c.write_all-in-Other.ensures.bytes)
 
 pub returns-in-Ok-turn-clause-exchange : goal.returns-in-Ok-turn-clause-exchange
 returns-in-Ok-turn-clause-exchange g c = λ left.
@@ -44,7 +44,7 @@ returns-in-Ok-turn-clause-exchange g c = λ left.
     answered_exchange c.args.message.now c.args.close _ _ c.respond.result c.now-reading.result
     (seat_of c.args.desk.connection c.args.pass.now.seat) (request_of c.in-Ok.request)
     c.in-Ok-turn.reply c.turn_bytes-bytes.result (ap is_post c.in-Post.is) refl asked
-    c.in-Ok-turn.ensures.answered c.turn_bytes-bytes.ensures.ok c.turn_bytes-bytes.ensures.err c.now-reading.ensures (sent_none _ _) c.respond.ensures.writes
+    c.in-Ok-turn.ensures.answered c.turn_bytes-bytes.ensures.ok c.turn_bytes-bytes.ensures.err c.now-reading.ensures.ahead (sent_none _ _) c.respond.ensures.writes
 
 pub returns-in-Ok-turn-clause-closed : goal.returns-in-Ok-turn-clause-closed
 returns-in-Ok-turn-clause-closed g c =
@@ -53,7 +53,7 @@ returns-in-Ok-turn-clause-closed g c =
 pub returns-in-Err-turn-clause-exchange : goal.returns-in-Err-turn-clause-exchange
 returns-in-Err-turn-clause-exchange g c = λ left.
     refused_exchange (seat_of c.args.desk.connection c.args.pass.now.seat) c.args.message.now c.args.close _ _ c.respond-in-Err-turn.result
-    c.now-reading.result (ap is_post c.in-Post.is) c.in-Err-turn.ensures.unchanged c.now-reading.ensures (sent_none _ _) c.respond-in-Err-turn.ensures.writes
+    c.now-reading.result (ap is_post c.in-Post.is) c.in-Err-turn.ensures.unchanged c.now-reading.ensures.ahead (sent_none _ _) c.respond-in-Err-turn.ensures.writes
 
 pub returns-in-Err-turn-clause-closed : goal.returns-in-Err-turn-clause-closed
 returns-in-Err-turn-clause-closed g c =
@@ -63,4 +63,4 @@ pub returns-in-Err-clause-exchange : goal.returns-in-Err-clause-exchange
 returns-in-Err-clause-exchange g c = λ left.
     fault_exchange (seat_of c.args.desk.connection c.args.pass.now.seat) c.args.message.now c.args.close _ _ c.respond-in-Err.result c.now-reading.result c.in-Err.fault c.fault_bytes-bytes.result
     (ap is_post c.in-Post.is)
-    (learned_none (number_of c.args.pass.now.seat) (book_seen c.args.pass.now.seat) (book_seen c.args.pass.now.seat) refl) c.in-Err.ensures.refused c.fault_bytes-bytes.ensures c.now-reading.ensures (sent_none _ _) c.respond-in-Err.ensures.writes
+    (learned_none (number_of c.args.pass.now.seat) (book_seen c.args.pass.now.seat) (book_seen c.args.pass.now.seat) refl) c.in-Err.ensures.refused c.fault_bytes-bytes.ensures c.now-reading.ensures.ahead (sent_none _ _) c.respond-in-Err.ensures.writes

@@ -19,10 +19,13 @@ loop-preserved g c = elim c.match-write.branch [
     before.0 ++ take w.in-Ok.count c.loop.rest.now,
     moved c.args.bytes.now before.0 c.loop.rest.now c.match-write.rest.now w.in-Ok.count before.1 (ap (λ r. r.now) w.rest-is),
     Appends-append _ (g.W.Write.contents c.loop.writer) _ before.0 (take w.in-Ok.count c.loop.rest.now) before.2 w.in-Ok.ensures.bytes,
+    w.wrote-is ∙ w.hear.ensures ∙ ap (λ m. m ++ take w.in-Ok.count c.loop.rest.now) before.3
+        ∙ append_assoc c.args.wrote.now before.0 (take w.in-Ok.count c.loop.rest.now),
   )
   | in-Err w ↦ let before = c.loop.invariant in (
     before.0,
     before.1 ∙ ap (λ r. before.0 ++ r.now) (sym w.rest-is),
     Appends-Keeps _ (g.W.Write.contents c.loop.writer) _ before.0 before.2 w.in-Err.ensures.bytes,
+    w.wrote-is ∙ before.3,
   )
 ]
