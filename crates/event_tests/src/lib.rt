@@ -13,3 +13,5 @@ mod test_event_shape;
 mod test_event_time;
 #[cfg(test)]
 mod test_pattern_meaning;
+#[cfg(test)]
+mod test_value_index;
