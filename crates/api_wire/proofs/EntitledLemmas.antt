@@ -62,6 +62,7 @@ allowed_action _ caller ms reading a may p = inl may
 
 pub is_entitled : (m : Message) (reading : ℕ) (r : Request) → IsAsked m reading r → IsEntitled r
 is_entitled m reading r p = record {
+  account = rw p.caller p.is_account;
   allowed = rw p.caller (allowed_action p.operation (caller_of m.caller) p.members reading r.action p.entitled p.action);
   own = rw p.caller (own_action p.operation (caller_of m.caller) p.members reading r.action p.action);
 }

@@ -1,24 +1,23 @@
--- Replies to a request, for the answers of `decide` and of the calls below it: `first_and_rest`, `on_ok_more`, `if_ok_more`, `controlled_so`,
--- `rule_there`, `answered`, `decided`, `matched_now` and `bounded_value`.
-use Rattle.std.proofs.Common.{◌≡◌, ℕ, suc, ◌-◌, ◌≤◌, List, [], ◌∷◌, length, get_or, take, drop, sym, refl, ap, ◌∙◌, subst, arith}
-use Rattle.std.specs.Prelude.{Option, Some, Result, Ok, Err, IfOk, OnOk}
+-- What answers of several calls cite: `first_and_rest`, `on_ok_more` and `if_ok_more`. `answered` leads from a decision to the answer of
+-- `decide`, `matched_now` and `bounded_value` to what it asks for.
+use Rattle.std.proofs.Common.{◌≡◌, ℕ, suc, ◌-◌, ◌≤◌, List, [], ◌∷◌, length, get_or, take, drop, Option, None, sym, refl, ap, ◌∙◌, subst, arith}
+use Rattle.std.specs.Prelude.{Result, Ok, Err, IfOk, OnOk, IsTrue}
 use Rattle.std.proofs.Math.Seq.{take-length}
-use Rattle.rule_table.specs.Control.{Control}
-use Rattle.rule_table.specs.RuleSet.{Rule, RuleSet, rule_at}
+use Rattle.std.proofs.lemmas.List.Elements.{All-weaker}
+use Rattle.json_text.specs.Tree.{Tree}
+use Rattle.event_shape.specs.Names.{is_account}
+use Rattle.rule_table.specs.RuleSet.{RuleSet}
 use Rattle.rule_table.specs.Sound.{IsSound}
-use Rattle.api_replies.specs.Reply.{Reply}
-use Rattle.api_replies.specs.declared.reply.Reply.{Reply as CodeReply}
-use Rattle.router_core.specs.Request.{Action, Request, put_events, test_event_pattern}
+use Rattle.router_core.specs.Request.{Action, Request, put_events, put_statement, remove_statement, test_event_pattern, AreEntriesOf, IsEntryOf, IsEntitled, IsOneTurn}
 use Rattle.router_core.specs.Tables.{Tables, moment_at}
 use Rattle.router_core.specs.Matching.{HasValue, IsSeen}
-use Rattle.router_core.specs.declared.ready.Ready.{Ready}
 use Rattle.router_core.specs.declared.seen.Seen.{Seen}
-use Rattle.router_core.specs.Request.{IsEntitled}
-use Rattle.router_calls.specs.Answer.{Answer, IsAnswer, IsAnswerAt, IsControlled}
 use Rattle.router_core.specs.Bounds.{IsBounded}
-use Rattle.router_calls.specs.Decided.{answer_of}
+use Rattle.router_calls.specs.Accepted.{Given}
+use Rattle.router_calls.specs.Answer.{Answer, Decided, HasEvents, IsAnswer, answer_at, decided}
 use Rattle.router_calls.specs.Matched.{IsMatchedOn}
-use Rattle.router_calls.specs.Steps.{IsAnsweredBy, IsSeenOn}
+use Rattle.router_calls.specs.Permission.{IsPolicyNamed}
+use Rattle.router_calls.specs.Steps.{HasAccount, HaveAccounts, IsDecidedAs, IsSeenOn}
 
 -- what a slice pattern takes apart
 pub first_and_rest : {X : Type 0} (xs : List X) (x : X) → 1 ≤ length xs → x ≡ get_or xs 0 x → xs ≡ x ∷ take (length xs - 1) (drop 1 xs)
@@ -35,54 +34,47 @@ pub if_ok_more : {T E : Type 0} {P Q : T → Type 0} (r : Result T E) → ((x : 
 if_ok_more (Ok x) more h = more x h
 if_ok_more (Err e) more h = tt
 
--- the same change with the same reply
-pub controlled_so : {E : Type 0} (r : Result (Option Ready × CodeReply) E) (t : Tables) (moment : ℕ) {c d : Control} {reply other : Reply}
-    → c ≡ d → reply ≡ other
-    → IfOk r (λ p. IsControlled t moment c reply (answer_of p)) → IfOk r (λ p. IsControlled t moment d other (answer_of p))
-controlled_so (Ok p) t moment {c} {d} {reply} {other} same is h =
-    subst (λ (x : Control). IsControlled t moment x other (answer_of p)) same (subst (λ (x : Reply). IsControlled t moment c x (answer_of p)) is h)
-controlled_so (Err e) t moment same is h = tt
-
--- the rule of the tables that was found by copies of its names
-pub rule_there : (t : Tables) (set : RuleSet) (b n bus rule : List ℕ) (r : Rule) → set ≡ t.set → b ≡ bus → n ≡ rule → rule_at b n set ≡ Some r
-    → rule_at bus rule t.set ≡ Some r
-rule_there t set b n bus rule r set_is b_is n_is found =
-    ap (rule_at bus rule) (sym set_is) ∙ ap (λ x. rule_at x rule set) (sym b_is) ∙ ap (λ y. rule_at b y set) (sym n_is) ∙ found
-
--- what is answered to an action
-pub answered : {E : Type 0} (r : Result (Option Ready × CodeReply) E) (t : Tables) (seen : Seen) (moment : ℕ) {given action : Action} → given ≡ action
-    → IfOk r (λ p. IsAnsweredBy t seen moment action (answer_of p)) → IfOk r (λ p. IsAnsweredBy t seen moment given (answer_of p))
-answered (Ok p) t seen moment {given} {action} is h = subst (λ (a : Action). IsAnsweredBy t seen moment a (answer_of p)) (sym is) h
-answered (Err e) t seen moment is h = tt
-
--- ---- the answer of each result of matching
-
-answer_at : (t : Tables) (set : RuleSet) (caller : List ℕ) (seen : Seen) (moment : ℕ) (action : Action) (a : Answer)
-    → IsSeenOn t set caller action seen → IsAnsweredBy t seen moment action a → IsAnswerAt t set caller moment action a
-answer_at t set caller seen moment (put_events entries size) a is h = h set caller is
-answer_at t set caller seen moment (test_event_pattern pattern event) a is h = h set caller is
-answer_at t set caller seen moment _ a is h = h
-
 -- what was matched on a rule set was seen on it
 pub seen_on : (t : Tables) (request : Request) (set : RuleSet) (seen : Seen) → IsMatchedOn t request set seen
     → IsSeenOn t set request.caller request.action seen
 seen_on t request set seen m = record { sound = m.sound; version = m.is_seen.k; known = m.known; result = m.is_seen.result }
 
+-- the policy by which an action was decided
+policy_by : (t : Tables) (seen : Seen) (action : Action) (d : Decided) → IsDecidedAs t seen action d
+    → (policy : Option Tree) × IsPolicyNamed t.set action policy × (d ≡ decided t seen.k seen.result policy action)
+policy_by t seen (put_statement bus sid account) d is = is
+policy_by t seen (remove_statement bus sid) d is = is
+policy_by t seen action d is = (None, refl, is)
+
 -- what is decided is the answer on each rule set that the request was matched on
-pub decided : {E : Type 0} (r : Result (Option Ready × CodeReply) E) (t : Tables) (request : Request) (moment : ℕ) (seen : Seen)
-    → IsBounded request.action → IsEntitled request → moment ≡ moment_at t request.reading
-    → IfOk r (λ p. IsAnsweredBy t seen moment request.action (answer_of p))
-    → IfOk r (λ p. (set : RuleSet) → IsMatchedOn t request set seen → IsAnswer t request seen.k set (answer_of p))
-decided (Err e) t request moment seen bounded entitled at h = tt
-decided (Ok p) t request moment seen bounded entitled at h = λ set m. record {
-  bounded = bounded;
-  entitled = entitled;
-  version = sym m.is_seen.k;
-  known = omega (arith, m.is_seen.k, m.known);
-  latest = m.latest;
-  answers = subst (λ (n : ℕ). IsAnswerAt t set request.caller n request.action (answer_of p)) at
-      (answer_at t set request.caller seen moment request.action (answer_of p) (seen_on t request set seen m) h);
-}
+pub answered : (t : Tables) (request : Request) (seen : Seen) (d : Decided) (a : Answer) → IsBounded request.action → IsEntitled request
+    → IsOneTurn request.action → IsDecidedAs t seen request.action d → a ≡ answer_at t (moment_at t request.reading) d
+    → HasEvents t seen.k seen.result request.action → (set : RuleSet) → IsMatchedOn t request set seen → IsAnswer t request seen.k set a
+answered t request seen d a bounded entitled one_turn is so events set m =
+    let p = policy_by t seen request.action d is in
+    record {
+      bounded = bounded;
+      entitled = entitled;
+      one_turn = one_turn;
+      version = sym m.is_seen.k;
+      known = omega (arith, m.is_seen.k, m.known);
+      latest = m.latest;
+      seen = seen.result;
+      is_seen = m.is_seen.result;
+      policy = p.0;
+      is_policy = p.1;
+      answers = so ∙ ap (λ (x : Decided). answer_at t (moment_at t request.reading) x) p.2;
+      events = events;
+    }
+
+-- the events that a caller publishes have accounts of callers
+entry_account : (caller : List ℕ) → IsTrue (is_account caller) → (entry : Given) → IsEntryOf caller entry → HasAccount entry
+entry_account caller is (Ok event) of = subst (λ (a : List ℕ). IsTrue (is_account a)) (sym of) is
+entry_account caller is (Err fault) of = tt
+
+pub accounts : (caller : List ℕ) (action : Action) → IsTrue (is_account caller) → AreEntriesOf caller action → HaveAccounts action
+accounts caller (put_events entries size) is of = All-weaker (IsEntryOf caller) HasAccount (entry_account caller is) entries of
+accounts caller _ is of = tt
 
 -- what is seen of a request on the latest rule set is what `decide` asks for
 pub matched_now : (t : Tables) (request : Request) (set : RuleSet) (seen : Seen) → set ≡ t.set → IsSound t.set → IsSeen set request seen

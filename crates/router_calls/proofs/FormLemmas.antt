@@ -1,14 +1,15 @@
 -- The form of an answer: its reply has a status of those that are written from a value, and its batch, if there is one, has only operations
 -- that its action asks for. `request_form` says so of each request; `its_change` follows, which the law of src/laws.rt cites.
-use Rattle.std.proofs.Common.{◌≡◌, ℕ, inl, inr, Bool, true, false, ◌&&◌, List, [], ◌∷◌, map, Option, Some, None, sym, refl, subst, arith}
-use Rattle.std.specs.Prelude.{All, cond}
+use Rattle.std.proofs.Common.{◌≡◌, ℕ, inl, inr, Bool, true, false, List, [], ◌∷◌, map, Option, Some, None, sym, refl, subst}
+use Rattle.std.specs.Prelude.{All, cond, nat_lt, ◌&&◌}
 use Rattle.std.specs.List.{Contains}
-use Rattle.std.proofs.lemmas.List.Elements.{All-cons, All-contains}
+use Rattle.std.proofs.lemmas.List.Elements.{All-cons, All-nil, All-contains}
+use Rattle.json_text.specs.Limits.{most_together}
 use Rattle.json_text.specs.Tree.{Tree}
 use Rattle.name_rows.specs.Rows.{named}
-use Rattle.rule_targets.specs.declared.target.AskedTarget.{AskedTarget}
-use Rattle.rule_targets.specs.declared.target.Target.{Target}
-use Rattle.rule_table.specs.Control.{Control, targets_put, targets_removed}
+use Rattle.rule_table.specs.declared.control.ControlFault.{ControlFault}
+use Rattle.rule_table.specs.Control.{Control}
+use Rattle.rule_table.specs.Refusal as table
 use Rattle.rule_table.specs.RuleSet.{Rule, Bus, RuleSet, has_bus, has_queue, rule_at}
 use Rattle.delivery_duties.specs.Duties.{names_queue}
 use Rattle.delivery_duties.specs.declared.stored.StoredMessage.{StoredMessage}
@@ -17,234 +18,197 @@ use Rattle.api_replies.specs.declared.kind.Kind.TheVariants as kind
 use Rattle.api_replies.specs.declared.member.Member.TheVariants as member
 use Rattle.api_replies.specs.declared.cause.Cause.{Cause}
 use Rattle.api_replies.specs.declared.cause.Cause.TheVariants as cause
-use Rattle.api_replies.specs.Reply.{Reply, refused}
+use Rattle.api_replies.specs.Reply.{Reply}
 use Rattle.api_replies.specs.Written.{IsServedStatus}
 use Rattle.config_views.specs.Views as views
+use Rattle.call_replies.specs.Causes.{change_cause}
 use Rattle.router_core.specs.Batch as batch
 use Rattle.router_core.specs.Request.{Action, Request, create_event_bus, delete_event_bus, describe_event_bus, list_event_buses, put_rule, delete_rule}
 use Rattle.router_core.specs.Request.{put_rule_state, describe_rule, list_rules, put_targets, remove_targets, list_targets_by_rule}
 use Rattle.router_core.specs.Request.{list_rule_names_by_target, put_policy, put_statement, remove_policy, remove_statement, put_events}
 use Rattle.router_core.specs.Request.{test_event_pattern, create_queue, delete_queue, peek_messages, delete_messages, duty_counts, deliver_due}
 use Rattle.router_core.specs.Tables.{Tables, is_full, moment_at}
-use Rattle.router_core.specs.Verdict.{IsPolicyOf}
-use Rattle.router_calls.specs.Accepted.{Given, events_in}
-use Rattle.router_calls.specs.Answer.{Answer, IsAnswer, IsAnswerAt, IsControlled, IsPublished, for_rule, on_rule, targets_put_answer, targets_removed_answer}
-use Rattle.router_calls.specs.Answer.{IsRuleDeleted, IsQueueDeleted, IsOnBus, IsGranted, IsRevoked, IsStatementRemovedFrom, reply_alone, writes}
-use Rattle.router_calls.specs.Answer.{events_answer, targets_answer, removals_answer, deletion_answer, messages_deletion}
+use Rattle.router_core.specs.declared.seen.SeenResult.{SeenResult}
+use Rattle.router_calls.specs.Answer.{Answer, Decided, IsAnswer, decided, for_rule, lacks_rule, on_bus, on_rule, change_reply, controlled}
+use Rattle.router_calls.specs.Answer.{deletion_of, refusal, shown, unless_none, unless_refused, written, writes}
 use Rattle.router_calls.specs.Changes.{MayMake}
+use Rattle.router_calls.specs.Permission.{IsPolicyNamed, has_statement}
 use Rattle.router_calls.specs.Removals.{removed_ids}
 use Rattle.router_calls.specs.Targets.{accepted_targets}
 use Rattle.router_calls.proofs.TargetLemmas.{accepted_within}
 use Rattle.router_calls.proofs.RemovalLemmas.{removed_within}
-use Rattle.router_calls.proofs.QueueLemmas.{deleted_case}
 
--- an operation that the action asks for: of changes of the configuration its own, and no record of an attempt
-abbrev pub IsOf : Action → batch.Entry → Type 0
-IsOf action (batch.control c) = MayMake action c
-IsOf action (batch.accepted e) = Unit {0}
-IsOf action (batch.attempt duty outcome) = ⊥
-IsOf action (batch.messages_deleted queue through) = Unit {0}
+-- an operation that the action asks for on a rule set: of changes of the configuration its own, and no record of an attempt
+abbrev pub IsOf : RuleSet → Action → batch.Entry → Type 0
+IsOf set action (batch.control c) = MayMake set action c
+IsOf set action (batch.accepted e) = Unit {0}
+IsOf set action (batch.attempt duty outcome) = ⊥
+IsOf set action (batch.messages_deleted queue through) = Unit {0}
 
-abbrev pub AreOf : Action → List batch.Entry → Type 0
-AreOf action [] = Unit {0}
-AreOf action (e ∷ es) = IsOf action e × AreOf action es
+abbrev pub AreOf : RuleSet → Action → List batch.Entry → Type 0
+AreOf set action [] = Unit {0}
+AreOf set action (e ∷ es) = IsOf set action e × AreOf set action es
 
 -- the batch, if there is one, has only such operations
-abbrev pub WritesOf : Action → Option batch.Batch → Type 0
-WritesOf action None = Unit {0}
-WritesOf action (Some b) = AreOf action b.entries
+abbrev pub WritesOf : RuleSet → Action → Option batch.Batch → Type 0
+WritesOf set action None = Unit {0}
+WritesOf set action (Some b) = AreOf set action b.entries
 
-pub record HasForm (action : Action) (a : Answer) : Type 0 where
+pub record HasForm (set : RuleSet) (action : Action) (a : Answer) : Type 0 where
   pub status : IsServedStatus a.reply.status
-  pub writes : WritesOf action a.batch
+  pub writes : WritesOf set action a.batch
 
-so : (action : Action) (a b : Answer) → a ≡ b → HasForm action b → HasForm action a
-so action a b is h = subst (HasForm action) (sym is) h
+-- the same of what is decided
+record IsFormed (set : RuleSet) (action : Action) (d : Decided) : Type 0 where
+  status : IsServedStatus d.reply.status
+  writes : AreOf set action d.entries
 
-alone : (action : Action) (r : Reply) → IsServedStatus r.status → HasForm action (reply_alone r)
-alone action r is = record { status = is; writes = tt }
+alone : (set : RuleSet) (action : Action) (r : Reply) → IsServedStatus r.status → IsFormed set action (shown r)
+alone set action r is = record { status = is; writes = tt }
 
-refusal : (action : Action) (c : Cause) → HasForm action (reply_alone (refused c))
-refusal action c = alone action (refused c) (inr (inl refl))
+refused : (set : RuleSet) (action : Action) (c : Cause) → IsFormed set action (refusal c)
+refused set action c = alone set action _ (inr (inl refl))
 
-either : (action : Action) (b : Bool) (x y : Answer) → HasForm action x → HasForm action y → HasForm action (cond b x y)
-either action true x y p q = p
-either action false x y p q = q
+one : (set : RuleSet) (action : Action) (e : batch.Entry) (r : Reply) → IsServedStatus r.status → IsOf set action e → IsFormed set action (writes e r)
+one set action e r is of = record { status = is; writes = (of, tt) }
 
-written : (action : Action) (t : Tables) (moment : ℕ) (entries : List batch.Entry) (reply : Reply) → IsServedStatus reply.status → AreOf action entries
-    → HasForm action (writes t moment entries reply)
-written action t moment entries reply is all = either action (is_full t) _ _ (refusal action cause.NumberLimit) (record { status = is; writes = all })
+either : (set : RuleSet) (action : Action) (b : Bool) (x y : Decided) → IsFormed set action x → IsFormed set action y → IsFormed set action (cond b x y)
+either set action true x y p q = p
+either set action false x y p q = q
 
-controlled : (action : Action) (t : Tables) (moment : ℕ) (c : Control) (reply : Reply) (a : Answer) → IsServedStatus reply.status → MayMake action c
-    → IsControlled t moment c reply a → HasForm action a
-controlled action t moment c reply a is may (inl (allowed, e)) = so action a _ e (written action t moment (batch.control c ∷ []) reply is (may, tt))
-controlled action t moment c reply a is may (inr (fault, why, refused_so, cause_so, e)) = so action a _ e (refusal action why)
+change_status : (c : Option Cause) → IsServedStatus (change_reply c).status
+change_status (Some c) = inr (inl refl)
+change_status None = inr (inr refl)
 
--- ---- calls on a rule
+unrefused : (set : RuleSet) (action : Action) (o : Option ControlFault) (c : Control) (r : Reply) → IsServedStatus r.status → MayMake set action c
+    → IsFormed set action (unless_refused o c r)
+unrefused set action None c r is may = one set action (batch.control c) r is may
+unrefused set action (Some fault) c r is may = alone set action _ (change_status (change_cause c fault))
 
-found : (action : Action) (o : Option Rule) (name : List ℕ) (answer : Rule → Answer) → ((r : Rule) → HasForm action (answer r))
-    → HasForm action (for_rule o name answer)
-found action None name answer each = refusal action (cause.NotFound kind.Rule name)
-found action (Some r) name answer each = each r
+changes : (set : RuleSet) (action : Action) (c : Control) (r : Reply) → IsServedStatus r.status → MayMake set action c
+    → IsFormed set action (controlled set c r)
+changes set action c r is may = unrefused set action (table.refusal c set) c r is may
 
-at_rule : (action : Action) (t : Tables) (bus rule : List ℕ) (answer : Rule → Answer) → ((r : Rule) → HasForm action (answer r))
-    → HasForm action (on_rule t bus rule answer)
-at_rule action t bus rule answer each = either action (has_bus bus t.set) _ _ (found action (rule_at bus rule t.set) rule answer each)
-    (refusal action (cause.NotFound kind.EventBus bus))
+at_bus : (set : RuleSet) (action : Action) (bus : List ℕ) (d : Decided) → IsFormed set action d → IsFormed set action (on_bus set bus d)
+at_bus set action bus d is = either set action (has_bus bus set) d _ is (refused set action (cause.NotFound kind.EventBus bus))
 
-targets : (action : Action) (t : Tables) (moment : ℕ) (bus rule : List ℕ) (accepted : List Target) (failed : List (List ℕ × Cause))
-    → MayMake action (targets_put bus rule accepted) → HasForm action (targets_answer t moment bus rule accepted failed)
-targets action t moment bus rule [] failed may = alone action _ (inl refl)
-targets action t moment bus rule (x ∷ xs) failed may = written action t moment _ _ (inl refl) (may, tt)
+found : (set : RuleSet) (action : Action) (o : Option Rule) (name : List ℕ) (decide : Rule → Decided) → ((r : Rule) → IsFormed set action (decide r))
+    → IsFormed set action (for_rule o name decide)
+found set action None name decide each = refused set action (cause.NotFound kind.Rule name)
+found set action (Some r) name decide each = each r
 
-removals : (action : Action) (t : Tables) (moment : ℕ) (bus rule : List ℕ) (removed : List (List ℕ)) (failed : List (List ℕ × Cause))
-    → MayMake action (targets_removed bus rule removed) → HasForm action (removals_answer t moment bus rule removed failed)
-removals action t moment bus rule [] failed may = alone action _ (inl refl)
-removals action t moment bus rule (x ∷ xs) failed may = written action t moment _ _ (inl refl) (may, tt)
+at_rule : (set : RuleSet) (action : Action) (bus rule : List ℕ) (decide : Rule → Decided) → ((r : Rule) → IsFormed set action (decide r))
+    → IsFormed set action (on_rule set bus rule decide)
+at_rule set action bus rule decide each = at_bus set action bus _ (found set action (rule_at bus rule set) rule decide each)
 
-put : (t : Tables) (moment : ℕ) (bus rule : List ℕ) (all : List AskedTarget)
-    → HasForm (put_targets bus rule all) (targets_put_answer t moment bus rule all)
-put t moment bus rule all = at_rule (put_targets bus rule all) t bus rule _ (λ r.
-    targets (put_targets bus rule all) t moment bus rule (accepted_targets t.set r.targets all) _
-    (accepted_targets t.set r.targets all, refl, accepted_within t.set r.targets all))
+some_changed : {A : Type 0} (set : RuleSet) (action : Action) (xs : List A) (c : Control) (r : Reply) → IsServedStatus r.status → MayMake set action c
+    → IsFormed set action (unless_none xs c r)
+some_changed set action [] c r is may = alone set action r is
+some_changed set action (x ∷ xs) c r is may = one set action (batch.control c) r is may
 
-removed : (t : Tables) (moment : ℕ) (bus rule : List ℕ) (ids : List (List ℕ))
-    → HasForm (remove_targets bus rule ids) (targets_removed_answer t moment bus rule ids)
-removed t moment bus rule ids = at_rule (remove_targets bus rule ids) t bus rule _ (λ r.
-    removals (remove_targets bus rule ids) t moment bus rule (removed_ids ids r.targets) _
-    (removed_ids ids r.targets, refl, removed_within ids r.targets))
+-- ---- events and messages
 
-rule_gone : (t : Tables) (moment : ℕ) (bus name : List ℕ) (a : Answer) → IsRuleDeleted t moment bus name a → HasForm (delete_rule bus name) a
-rule_gone t moment bus name a (inl (lacks, e)) = so _ a _ e (alone _ _ (inl refl))
-rule_gone t moment bus name a (inr (has, is)) = controlled (delete_rule bus name) t moment _ _ a (inl refl) refl is
+all_of : (set : RuleSet) (action : Action) (es : List batch.Accepted) → AreOf set action (map batch.accepted es)
+all_of set action [] = tt
+all_of set action (e ∷ es) = (tt, all_of set action es)
 
--- ---- events, queues and messages
-
-all_of : (action : Action) (es : List batch.Accepted) → AreOf action (map batch.accepted es)
-all_of action [] = tt
-all_of action (e ∷ es) = (tt, all_of action es)
-
-events : (action : Action) (t : Tables) (moment : ℕ) (es : List batch.Accepted) (reply : Reply) → IsServedStatus reply.status
-    → HasForm action (events_answer t moment es reply)
-events action t moment [] reply is = alone action reply is
-events action t moment (e ∷ es) reply is = written action t moment _ reply is (all_of action (e ∷ es))
-
-published : (action : Action) (t : Tables) (set : RuleSet) (caller : List ℕ) (moment : ℕ) (entries : List Given) (size : ℕ) (a : Answer)
-    → IsPublished t set caller moment entries size a → HasForm action a
-published action t set caller moment entries size a (inl (large, e)) = so action a _ e (refusal action cause.TooLargeTogether)
-published action t set caller moment entries size a (inr (fits, (all, placed, e))) = so action a _ e (events action t moment (events_in all) _ (inl refl))
-
-queue_gone : (t : Tables) (moment : ℕ) (name : List ℕ) (a : Answer) → IsQueueDeleted t moment name a → HasForm (delete_queue name) a
-queue_gone t moment name a = deleted_case (has_queue name t.set && names_queue name t.duties) t moment name a
-    (λ e. so _ a _ e (refusal _ (cause.InUse kind.Queue name))) (λ is. controlled (delete_queue name) t moment _ _ a (inl refl) refl is)
-
-deletion : (action : Action) (t : Tables) (moment : ℕ) (queue : List ℕ) (through : ℕ) (messages : List StoredMessage)
-    → HasForm action (deletion_answer t moment queue through messages)
-deletion action t moment queue through [] = alone action _ (inl refl)
-deletion action t moment queue through (m ∷ ms) = written action t moment _ _ (inl refl) (tt, tt)
-
-messages_gone : (action : Action) (t : Tables) (moment : ℕ) (queue : List ℕ) (through : ℕ) → HasForm action (messages_deletion t moment queue through)
-messages_gone action t moment queue through = either action (has_queue queue t.set) _ _
-    (deletion action t moment queue through (messages_through through (messages_of queue t.duties.queues)))
-    (refusal action (cause.NotFound kind.Queue queue))
-
--- ---- policies
-
-at_bus : (action : Action) (t : Tables) (bus : List ℕ) (IsChanged : Bus → Answer → Type 0) (a : Answer)
-    → ((b : Bus) → IsChanged b a → HasForm action a) → IsOnBus t bus IsChanged a → HasForm action a
-at_bus action t bus IsChanged a each (inl (none, e)) = so action a _ e (refusal action (cause.NotFound kind.EventBus bus))
-at_bus action t bus IsChanged a each (inr (b, there, is)) = each b is
-
-granted : (t : Tables) (moment : ℕ) (bus sid : List ℕ) (account : Option (List ℕ)) (policy : Option Tree) (a : Answer)
-    → IsGranted t moment bus sid account policy a → HasForm (put_statement bus sid account) a
-granted t moment bus sid account policy a (inl (has, e)) = so _ a _ e (refusal _ (cause.StatementExists sid))
-granted t moment bus sid account policy a (inr (lacks, is)) = controlled (put_statement bus sid account) t moment _ _ a (inl refl) (_, refl) is
-
-statement : (t : Tables) (moment : ℕ) (bus sid : List ℕ) (account : Option (List ℕ)) (a : Answer) (b : Bus)
-    → ((policy : Option Tree) × IsPolicyOf b.policy policy × IsGranted t moment bus sid account policy a) → HasForm (put_statement bus sid account) a
-statement t moment bus sid account a b (policy, of, is) = granted t moment bus sid account policy a is
-
-revoked : (t : Tables) (moment : ℕ) (bus sid : List ℕ) (policy : Option Tree) (a : Answer) → IsRevoked t moment bus sid policy a
-    → HasForm (remove_statement bus (Some sid)) a
-revoked t moment bus sid None a e = so _ a _ e (refusal _ (cause.NoStatement sid))
-revoked t moment bus sid (Some policy) a (inl (has, is)) = controlled (remove_statement bus (Some sid)) t moment _ _ a (inl refl) (_, refl) is
-revoked t moment bus sid (Some policy) a (inr (lacks, e)) = so _ a _ e (refusal _ (cause.NoStatement sid))
-
-removed_from : (t : Tables) (moment : ℕ) (bus : List ℕ) (sid : Option (List ℕ)) (a : Answer) (b : Bus)
-    → IsStatementRemovedFrom t moment bus sid b a → HasForm (remove_statement bus sid) a
-removed_from t moment bus None a b e = so _ a _ e (refusal _ (cause.Required member.StatementId))
-removed_from t moment bus (Some sid) a b (policy, of, is) = revoked t moment bus sid policy a is
+deletion : (set : RuleSet) (action : Action) (queue : List ℕ) (through : ℕ) (messages : List StoredMessage)
+    → IsFormed set action (deletion_of queue through messages)
+deletion set action queue through [] = alone set action _ (inl refl)
+deletion set action queue through (m ∷ ms) = one set action _ _ (inl refl) tt
 
 -- ---- what is shown of the configuration
+
+bus_status : (name : List ℕ) (show : Bus → Reply) → ((bus : Bus) → IsServedStatus (show bus).status) → (bus : Option Bus)
+    → IsServedStatus (views.on_bus name show bus).status
+bus_status name show each None = inr (inl refl)
+bus_status name show each (Some bus) = each bus
+
+bus_shown : (set : RuleSet) (action : Action) (of : RuleSet) (name : List ℕ) (show : Bus → Reply) → ((bus : Bus) → IsServedStatus (show bus).status)
+    → IsFormed set action (shown (views.on_bus_of of name show))
+bus_shown set action of name show each = alone set action _ (bus_status name show each (named (λ b. b.name) name of.buses))
+
+rule_status : (name : List ℕ) (show : Rule → Reply) → ((rule : Rule) → IsServedStatus (show rule).status) → (rule : Option Rule)
+    → IsServedStatus (views.on_rule name show rule).status
+rule_status name show each None = inr (inl refl)
+rule_status name show each (Some rule) = each rule
+
+rule_shown : (name : List ℕ) (show : Rule → Reply) → ((rule : Rule) → IsServedStatus (show rule).status) → (bus : Bus)
+    → IsServedStatus (views.on_rule_of name show bus).status
+rule_shown name show each bus = rule_status name show each (named (λ r. r.name) name bus.rules)
 
 replied : (b : Bool) (x y : Reply) → IsServedStatus x.status → IsServedStatus y.status → IsServedStatus (cond b x y).status
 replied true x y p q = p
 replied false x y p q = q
 
-on_bus : (name : List ℕ) (show : Bus → Reply) → ((bus : Bus) → IsServedStatus (show bus).status) → (bus : Option Bus)
-    → IsServedStatus (views.on_bus name show bus).status
-on_bus name show each None = inr (inl refl)
-on_bus name show each (Some bus) = each bus
+-- ---- each action
 
-bus_shown : (action : Action) (set : RuleSet) (name : List ℕ) (show : Bus → Reply) → ((bus : Bus) → IsServedStatus (show bus).status)
-    → HasForm action (reply_alone (views.on_bus_of set name show))
-bus_shown action set name show each = alone action _ (on_bus name show each (named (λ b. b.name) name set.buses))
+formed : (t : Tables) (k : ℕ) (seen : SeenResult) (policy : Option Tree) (action : Action) → IsPolicyNamed t.set action policy
+    → IsFormed t.set action (decided t k seen policy action)
+formed t k seen policy (create_event_bus name) is = changes t.set _ _ _ (inl refl) refl
+formed t k seen policy (delete_event_bus name) is = changes t.set _ _ _ (inl refl) refl
+formed t k seen policy (describe_event_bus name) is = bus_shown t.set _ t.set name _ (λ bus. inl refl)
+formed t k seen policy (list_event_buses prefix) is = alone t.set _ _ (inl refl)
+formed t k seen policy (put_rule bus name pattern enabled) is = changes t.set _ _ _ (inl refl) refl
+formed t k seen policy (delete_rule bus name) is =
+    either t.set _ (lacks_rule bus name t.set) _ _ (alone t.set _ _ (inl refl)) (changes t.set (delete_rule bus name) _ _ (inl refl) refl)
+formed t k seen policy (put_rule_state bus name enabled) is = changes t.set _ _ _ (inl refl) refl
+formed t k seen policy (describe_rule bus name) is = bus_shown t.set _ t.set bus _ (λ b. rule_shown name _ (λ rule. inl refl) b)
+formed t k seen policy (list_rules bus prefix) is = bus_shown t.set _ t.set bus _ (λ b. inl refl)
+formed t k seen policy (put_targets bus rule targets) is = at_rule t.set (put_targets bus rule targets) bus rule _ (λ r.
+    some_changed t.set (put_targets bus rule targets) (accepted_targets t.set r.targets targets) _ _ (inl refl)
+    (accepted_targets t.set r.targets targets, refl, accepted_within t.set r.targets targets))
+formed t k seen policy (remove_targets bus rule ids) is = at_rule t.set (remove_targets bus rule ids) bus rule _ (λ r.
+    some_changed t.set (remove_targets bus rule ids) (removed_ids ids r.targets) _ _ (inl refl)
+    (removed_ids ids r.targets, refl, removed_within ids r.targets))
+formed t k seen policy (list_targets_by_rule bus rule) is = bus_shown t.set _ t.set bus _ (λ b. rule_shown rule _ (λ r. inl refl) b)
+formed t k seen policy (list_rule_names_by_target arn bus) is = bus_shown t.set _ t.set bus _ (λ b. inl refl)
+formed t k seen policy (put_policy bus given) is = changes t.set _ _ _ (inl refl) refl
+formed t k seen policy (put_statement bus sid account) is = at_bus t.set (put_statement bus sid account) bus _
+    (either t.set _ (has_statement sid policy) _ _ (refused t.set _ (cause.StatementExists sid))
+    (changes t.set (put_statement bus sid account) _ _ (inl refl) (policy, is, refl)))
+formed t k seen policy (remove_policy bus) is = changes t.set _ _ _ (inl refl) refl
+formed t k seen policy (remove_statement bus None) is = at_bus t.set _ bus _ (refused t.set _ (cause.Required member.StatementId))
+formed t k seen policy (remove_statement bus (Some sid)) is = at_bus t.set (remove_statement bus (Some sid)) bus _
+    (either t.set _ (has_statement sid policy) _ _ (changes t.set (remove_statement bus (Some sid)) _ _ (inl refl) (policy, is, refl))
+    (refused t.set _ (cause.NoStatement sid)))
+formed t k seen policy (put_events entries size) is = either t.set _ (nat_lt most_together size) _ _ (refused t.set _ cause.TooLargeTogether)
+    (record { status = inl refl; writes = all_of t.set (put_events entries size) _ })
+formed t k seen policy (test_event_pattern pattern event) is = alone t.set _ _ (inl refl)
+formed t k seen policy (create_queue name) is = changes t.set _ _ _ (inl refl) refl
+formed t k seen policy (delete_queue name) is = either t.set _ (has_queue name t.set && names_queue name t.duties) _ _
+    (refused t.set _ (cause.InUse kind.Queue name)) (changes t.set (delete_queue name) _ _ (inl refl) refl)
+formed t k seen policy (peek_messages queue limit) is = alone t.set _ _ (replied (has_queue queue t.set) _ _ (inl refl) (inr (inl refl)))
+formed t k seen policy (delete_messages queue through) is = either t.set _ (has_queue queue t.set) _ _
+    (deletion t.set _ queue through (messages_through through (messages_of queue t.duties.queues))) (refused t.set _ (cause.NotFound kind.Queue queue))
+formed t k seen policy duty_counts is = alone t.set _ _ (inl refl)
+formed t k seen policy (deliver_due budget) is = alone t.set _ _ (inl refl)
 
-on_rule_of : (name : List ℕ) (show : Rule → Reply) → ((rule : Rule) → IsServedStatus (show rule).status) → (rule : Option Rule)
-    → IsServedStatus (views.on_rule name show rule).status
-on_rule_of name show each None = inr (inl refl)
-on_rule_of name show each (Some rule) = each rule
+-- ---- the answer
 
-rule_shown : (name : List ℕ) (show : Rule → Reply) → ((rule : Rule) → IsServedStatus (show rule).status) → (bus : Bus)
-    → IsServedStatus (views.on_rule_of name show bus).status
-rule_shown name show each bus = on_rule_of name show each (named (λ r. r.name) name bus.rules)
+limited : (set : RuleSet) (action : Action) (b : Bool) (x y : Answer) → HasForm set action x → HasForm set action y → HasForm set action (cond b x y)
+limited set action true x y p q = p
+limited set action false x y p q = q
 
--- ---- each request
+batched : (t : Tables) (set : RuleSet) (action : Action) (moment : ℕ) (entries : List batch.Entry) (reply : Reply) → IsServedStatus reply.status
+    → AreOf set action entries → HasForm set action (written t moment entries reply)
+batched t set action moment [] reply is of = record { status = is; writes = tt }
+batched t set action moment (e ∷ es) reply is of =
+    limited set action (is_full t) _ _ (record { status = inr (inl refl); writes = tt }) (record { status = is; writes = of })
 
-answer_form : (t : Tables) (set : RuleSet) (caller : List ℕ) (moment : ℕ) (action : Action) (a : Answer) → IsAnswerAt t set caller moment action a
-    → HasForm action a
-answer_form t set caller moment (create_event_bus name) a h = controlled _ t moment _ _ a (inl refl) refl h
-answer_form t set caller moment (delete_event_bus name) a h = controlled _ t moment _ _ a (inl refl) refl h
-answer_form t set caller moment (describe_event_bus name) a h = so _ a _ h (bus_shown _ t.set name _ (λ bus. inl refl))
-answer_form t set caller moment (list_event_buses prefix) a h = so _ a _ h (alone _ _ (inl refl))
-answer_form t set caller moment (put_rule bus name pattern enabled) a h = controlled _ t moment _ _ a (inl refl) refl h
-answer_form t set caller moment (delete_rule bus name) a h = rule_gone t moment bus name a h
-answer_form t set caller moment (put_rule_state bus name enabled) a h = controlled _ t moment _ _ a (inl refl) refl h
-answer_form t set caller moment (describe_rule bus name) a h = so _ a _ h (bus_shown _ t.set bus _ (λ b. rule_shown name _ (λ rule. inl refl) b))
-answer_form t set caller moment (list_rules bus prefix) a h = so _ a _ h (bus_shown _ t.set bus _ (λ b. inl refl))
-answer_form t set caller moment (put_targets bus rule all) a h = so _ a _ h (put t moment bus rule all)
-answer_form t set caller moment (remove_targets bus rule ids) a h = so _ a _ h (removed t moment bus rule ids)
-answer_form t set caller moment (list_targets_by_rule bus rule) a h = so _ a _ h (bus_shown _ t.set bus _ (λ b. rule_shown rule _ (λ r. inl refl) b))
-answer_form t set caller moment (list_rule_names_by_target arn bus) a h = so _ a _ h (bus_shown _ t.set bus _ (λ b. inl refl))
-answer_form t set caller moment (put_policy bus policy) a h = controlled _ t moment _ _ a (inl refl) refl h
-answer_form t set caller moment (put_statement bus sid account) a h =
-    at_bus (put_statement bus sid account) t bus
-    (λ b answer. (policy : Option Tree) × IsPolicyOf b.policy policy × IsGranted t moment bus sid account policy answer) a
-    (statement t moment bus sid account a) h
-answer_form t set caller moment (remove_policy bus) a h = controlled _ t moment _ _ a (inl refl) refl h
-answer_form t set caller moment (remove_statement bus sid) a h =
-    at_bus (remove_statement bus sid) t bus (IsStatementRemovedFrom t moment bus sid) a (removed_from t moment bus sid a) h
-answer_form t set caller moment (put_events entries size) a h = published _ t set caller moment entries size a h
-answer_form t set caller moment (test_event_pattern pattern event) a (matches, is, e) = so _ a _ e (alone _ _ (inl refl))
-answer_form t set caller moment (create_queue name) a h = controlled _ t moment _ _ a (inl refl) refl h
-answer_form t set caller moment (delete_queue name) a h = queue_gone t moment name a h
-answer_form t set caller moment (peek_messages queue limit) a h =
-    so _ a _ h (alone _ _ (replied (has_queue queue t.set) _ _ (inl refl) (inr (inl refl))))
-answer_form t set caller moment (delete_messages queue through) a h = so _ a _ h (messages_gone _ t moment queue through)
-answer_form t set caller moment duty_counts a h = so _ a _ h (alone _ _ (inl refl))
-answer_form t set caller moment (deliver_due budget) a h = absurd h
-
-pub request_form : {t : Tables} {r : Request} {k : ℕ} {set : RuleSet} {a : Answer} → IsAnswer t r k set a → HasForm r.action a
-request_form {t} {r} {k} {set} {a} h = answer_form t set r.caller (moment_at t r.reading) r.action a h.answers
+pub request_form : {t : Tables} {r : Request} {k : ℕ} {set : RuleSet} {a : Answer} → IsAnswer t r k set a → HasForm t.set r.action a
+request_form {t} {r} {k} {set} {a} h =
+    let d = formed t k h.seen h.policy r.action h.is_policy in
+    subst (HasForm t.set r.action) (sym h.answers) (batched t t.set r.action (moment_at t r.reading) _ _ d.status d.writes)
 
 -- ---- a request writes no change of the configuration but its own
 
-all_are : (action : Action) (es : List batch.Entry) → AreOf action es → All (IsOf action) es
-all_are action [] h = λ k d low. absurd (omega (arith, low))
-all_are action (e ∷ es) (one, more) = All-cons (IsOf action) e es one (all_are action es more)
+all_are : (set : RuleSet) (action : Action) (es : List batch.Entry) → AreOf set action es → All (IsOf set action) es
+all_are set action [] h = All-nil (IsOf set action)
+all_are set action (e ∷ es) (one, more) = All-cons (IsOf set action) e es one (all_are set action es more)
 
 pub its_change : (t : Tables) (r : Request) (k : ℕ) (set : RuleSet) (a : Answer) (b : batch.Batch) (c : Control) → IsAnswer t r k set a
-    → a.batch ≡ Some b → Contains b.entries (batch.control c) → MayMake r.action c
+    → a.batch ≡ Some b → Contains b.entries (batch.control c) → MayMake t.set r.action c
 its_change t r k set a b c h is has =
-    let all = all_are r.action b.entries (subst (WritesOf r.action) is (request_form h).writes) in
-    All-contains (IsOf r.action) b.entries (batch.control c) all has
+    let all = all_are t.set r.action b.entries (subst (WritesOf t.set r.action) is (request_form h).writes) in
+    All-contains (IsOf t.set r.action) b.entries (batch.control c) all has

@@ -1,18 +1,15 @@
--- The ids of a RemoveTargets: `without_keep`, `without_drop`, `all_is`, `removed_within` (the removed ids are of those), `removed_form` (their change is
--- well formed), `removals_answered` (it is allowed), and `removals_unwritten` (there is none).
-use Rattle.std.proofs.Common.{◌≡◌, ℕ, suc, ◌≤◌, ◌<◌, inl, inr, Bool, true, false, ◌&&◌, ◌||◌, List, [], ◌∷◌, ◌++◌, length, map, Option, Some, is_some}
+-- The ids of a RemoveTargets: `without_keep`, `without_drop`, `all_is`, `removed_allowed` and `removed_formed` (the change of the
+-- removed ids), `removed_within` (they are of those of the request).
+use Rattle.std.proofs.Common.{◌≡◌, ℕ, suc, ◌≤◌, ◌<◌, Bool, true, false, ◌&&◌, ◌||◌, List, [], ◌∷◌, ◌++◌, length, Option, Some, is_some}
 use Rattle.std.proofs.Common.{sym, refl, ap, ◌∙◌, subst, arith, append-nil}
-use Rattle.std.specs.Prelude.{codes, cond, nat_le, None, Result, Ok, Err, IfOk, All}
+use Rattle.std.specs.Prelude.{cond, nat_le, All}
 use Rattle.std.specs.List.{list_all, list_any, Contains}
 use Rattle.std.proofs.lemmas.Bool.{leb-true}
 use Rattle.std.proofs.lemmas.List.Elements.{All-contains, All-weaker, All-head, All-tail}
 use Rattle.std.specs.Str.{bytes_eq}
-use Rattle.std.proofs.lemmas.List.{length-map}
-use Rattle.json_text.specs.View.{tree_of, trees_of}
-use Rattle.json_text.specs.declared.value.Json.{Json}
 use Rattle.name_rows.specs.Rows.{named}
 use Rattle.rule_targets.specs.declared.target.Target.{Target}
-use Rattle.rule_table.specs.Control.{targets_removed}
+use Rattle.rule_table.specs.Control.{Control, targets_removed}
 use Rattle.event_shape.specs.Names.{is_short_name, IsShortName}
 use Rattle.rule_table.specs.RuleSet.{Rule, RuleSet, rule_at}
 use Rattle.rule_table.specs.Refusal.{are_removable, are_some_removable, IsAllowed}
@@ -22,17 +19,8 @@ use Rattle.rule_table.specs.declared.control.ControlFault.TheVariants.{Validatio
 use Rattle.api_replies.specs.declared.member.Member.TheVariants as member
 use Rattle.rule_table.proofs.AllowedLemmas.{removal_fine}
 use Rattle.rule_table.proofs.ChangeLemmas.{after_rule}
-use Rattle.api_replies.specs.declared.cause.Cause.{Cause}
-use Rattle.api_replies.specs.Reply.{Reply}
-use Rattle.api_replies.specs.declared.reply.Reply.{Reply as CodeReply}
-use Rattle.router_core.specs.Batch as batch
-use Rattle.router_core.specs.Tables.{Tables}
-use Rattle.router_core.specs.declared.ready.Ready.{Ready}
-use Rattle.router_calls.specs.Decided.{answer_of}
-use Rattle.router_calls.proofs.TargetLemmas.{on_rule_found, within_more, within_both, both, some_of, few_is}
-use Rattle.router_calls.specs.Removals.{has_target, without_target, removed_ids, failed_ids}
-use Rattle.call_replies.specs.Replies.{target_report, targets_reply, items_reply}
-use Rattle.router_calls.specs.Answer.{Answer, IsControlled, targets_removed_answer, removals_answer, reply_alone, writes}
+use Rattle.router_calls.proofs.TargetLemmas.{within_more, within_both, both, some_of, few_is}
+use Rattle.router_calls.specs.Removals.{has_target, without_target, removed_ids}
 
 any_step : (b : Bool) (rest : Bool) (target : Target) (o : Option Target) → rest ≡ is_some o → (b || rest) ≡ is_some (cond b (Some target) o)
 any_step true rest target o is = refl
@@ -83,67 +71,12 @@ removable (id ∷ ids) targets =
     (removable ids (without_target id targets)) (removable ids targets)
 
 -- the change of the removed ids is allowed
-removal_allowed : (t : Tables) (bus rule : List ℕ) (r : Rule) (ids : List (List ℕ)) → rule_at bus rule t.set ≡ Some r
-    → 0 < length (removed_ids ids r.targets) → IsAllowed (targets_removed bus rule (removed_ids ids r.targets)) t.set
-removal_allowed t bus rule r ids found some =
+removal_allowed : (set : RuleSet) (bus rule : List ℕ) (r : Rule) (ids : List (List ℕ)) → rule_at bus rule set ≡ Some r
+    → 0 < length (removed_ids ids r.targets) → IsAllowed (targets_removed bus rule (removed_ids ids r.targets)) set
+removal_allowed set bus rule r ids found some =
     let removed = removed_ids ids r.targets in
-    after_rule bus rule t.set r (are_some_removable removed) (Validation member.Ids) true found
+    after_rule bus rule set r (are_some_removable removed) (Validation member.Ids) true found
     (both (nat_le 1 (length removed)) (are_removable removed r.targets) (some_of removed some) (removable ids r.targets))
-
--- the reply counts the reports
-reply_so : (failed : List (List ℕ × Cause)) (reports : List Json) (n : ℕ) (reply : Reply) → trees_of reports ≡ map target_report failed
-    → n ≡ length reports → reply ≡ items_reply n (codes "FailedEntries") (trees_of reports) → reply ≡ targets_reply failed
-reply_so failed reports n reply are count is =
-    let counted : n ≡ length failed = omega (arith, count, ap length are, length-map failed target_report, length-map reports tree_of) in
-    is ∙ ap (λ k. items_reply k (codes "FailedEntries") (trees_of reports)) counted
-    ∙ ap (items_reply (length failed) (codes "FailedEntries")) are
-
-some_answer : (t : Tables) (moment : ℕ) (bus rule : List ℕ) (removed : List (List ℕ)) (failed : List (List ℕ × Cause)) (reply : Reply) (a : Answer)
-    → 0 < length removed → reply ≡ targets_reply failed → IsAllowed (targets_removed bus rule removed) t.set
-    → IsControlled t moment (targets_removed bus rule removed) reply a → a ≡ removals_answer t moment bus rule removed failed
-some_answer t moment bus rule [] failed reply a some is allowed controlled = absurd (omega arith)
-some_answer t moment bus rule (x ∷ xs) failed reply a some is allowed (inl (_, writes_so)) =
-    writes_so ∙ ap (λ (r : Reply). writes t moment (batch.control (targets_removed bus rule (x ∷ xs)) ∷ []) r) is
-some_answer t moment bus rule (x ∷ xs) failed reply a some is allowed (inr (fault, c, refused, _, _)) =
-    let never : None ≡ Some fault = sym allowed ∙ refused in absurd cc
-
-answer_so : (t : Tables) (moment : ℕ) (bus rule : List ℕ) (r : Rule) (ids removed : List (List ℕ)) (reports : List Json) (n : ℕ) (reply : Reply) (a : Answer)
-    → rule_at bus rule t.set ≡ Some r → removed ≡ removed_ids ids r.targets → trees_of reports ≡ map target_report (failed_ids ids r.targets)
-    → n ≡ length reports → 0 < length removed → reply ≡ items_reply n (codes "FailedEntries") (trees_of reports)
-    → IsControlled t moment (targets_removed bus rule removed) reply a → a ≡ targets_removed_answer t moment bus rule ids
-answer_so t moment bus rule r ids removed reports n reply a found is are count some so controlled =
-    let all = removed_ids ids r.targets in
-    let replies = reply_so (failed_ids ids r.targets) reports n reply are count so in
-    let left : 0 < length all = omega (arith, some, ap length is) in
-    let there = subst (λ (xs : List (List ℕ)). IsControlled t moment (targets_removed bus rule xs) reply a) is controlled in
-    some_answer t moment bus rule all (failed_ids ids r.targets) reply a left replies (removal_allowed t bus rule r ids found left) there
-    ∙ sym (on_rule_found t bus rule r _ found)
-
--- what the change of the removed ids is answered
-pub removals_answered : {E : Type 0} (result : Result (Option Ready × CodeReply) E) (t : Tables) (moment : ℕ) (bus rule : List ℕ) (r : Rule)
-    (ids removed : List (List ℕ)) (reports : List Json) (n : ℕ) (reply : Reply) → rule_at bus rule t.set ≡ Some r → removed ≡ removed_ids ids r.targets
-    → trees_of reports ≡ map target_report (failed_ids ids r.targets) → n ≡ length reports → 0 < length removed
-    → reply ≡ items_reply n (codes "FailedEntries") (trees_of reports)
-    → IfOk result (λ p. IsControlled t moment (targets_removed bus rule removed) reply (answer_of p))
-    → IfOk result (λ p. answer_of p ≡ targets_removed_answer t moment bus rule ids)
-removals_answered (Ok p) t moment bus rule r ids removed reports n reply found is are count some so controlled =
-    answer_so t moment bus rule r ids removed reports n reply (answer_of p) found is are count some so controlled
-removals_answered (Err e) t moment bus rule r ids removed reports n reply found is are count some so controlled = tt
-
-none_answer : (t : Tables) (moment : ℕ) (bus rule : List ℕ) (removed : List (List ℕ)) (failed : List (List ℕ × Cause)) (reply : Reply)
-    → length removed ≡ 0 → reply ≡ targets_reply failed → reply_alone reply ≡ removals_answer t moment bus rule removed failed
-none_answer t moment bus rule [] failed reply none is = ap reply_alone is
-none_answer t moment bus rule (x ∷ xs) failed reply none is = absurd (omega arith)
-
-pub removals_unwritten : (t : Tables) (moment : ℕ) (bus rule : List ℕ) (r : Rule) (ids removed : List (List ℕ)) (reports : List Json) (n : ℕ) (reply : Reply)
-    → rule_at bus rule t.set ≡ Some r → removed ≡ removed_ids ids r.targets → trees_of reports ≡ map target_report (failed_ids ids r.targets)
-    → n ≡ length reports → length removed ≡ 0 → reply ≡ items_reply n (codes "FailedEntries") (trees_of reports)
-    → reply_alone reply ≡ targets_removed_answer t moment bus rule ids
-removals_unwritten t moment bus rule r ids removed reports n reply found is are count none so =
-    let none_left : length (removed_ids ids r.targets) ≡ 0 = omega (arith, none, ap length is) in
-    let replies = reply_so (failed_ids ids r.targets) reports n reply are count so in
-    none_answer t moment bus rule (removed_ids ids r.targets) (failed_ids ids r.targets) reply none_left replies
-    ∙ sym (on_rule_found t bus rule r _ found)
 
 -- ---- the removed ids are of those that the request has, and their change is well formed
 
@@ -176,12 +109,19 @@ pub all_is : (ids : List (List ℕ)) → All IsShortName ids → list_all is_sho
 all_is [] all = refl
 all_is (id ∷ ids) all = both (is_short_name id) (list_all is_short_name ids) (All-head IsShortName id ids all) (all_is ids (All-tail IsShortName id ids all))
 
-pub removed_form : (set : RuleSet) (b r bus rule : List ℕ) (ids kept : List (List ℕ)) (targets : List Target) → b ≡ bus → r ≡ rule
-    → NamesRule bus rule → length ids ≤ 100 → All IsShortName ids → kept ≡ removed_ids ids targets
-    → IsAllowed (targets_removed b r kept) set → IsWellFormed (targets_removed b r kept)
-removed_form set b r bus rule ids kept targets b_is r_is names few short is allowed =
-    let named = subst (λ (x : List ℕ). NamesRule x r) (sym b_is) (subst (NamesRule bus) (sym r_is) names) in
-    let of = All-weaker (Contains ids) IsShortName (λ x c. All-contains IsShortName ids x short c) (removed_ids ids targets) (removed_within ids targets) in
-    let some = removal_fine b r kept set allowed in
-    let counted = few_is (length kept) (leb-true 1 (length kept) some) (omega (arith, ap length is, removed_few ids targets, few)) in
-    (both (names_rule b r) _ named (both (are_few (length kept)) _ counted (all_is kept (subst (All IsShortName) (sym is) of))), tt)
+-- the change of the removed ids, if there are some
+pub removed_allowed : (set : RuleSet) (bus rule : List ℕ) (r : Rule) (ids kept : List (List ℕ)) (c : Control) → rule_at bus rule set ≡ Some r
+    → kept ≡ removed_ids ids r.targets → c ≡ targets_removed bus rule kept → 0 < length kept → IsAllowed c set
+removed_allowed set bus rule r ids kept c found is change some =
+    subst (λ (x : Control). IsAllowed x set) (sym (change ∙ ap (targets_removed bus rule) is))
+    (removal_allowed set bus rule r ids found (omega (arith, some, ap length is)))
+
+-- and is well formed
+pub removed_formed : (set : RuleSet) (bus rule : List ℕ) (r : Rule) (ids kept : List (List ℕ)) (c : Control) → NamesRule bus rule → length ids ≤ 100
+    → All IsShortName ids → kept ≡ removed_ids ids r.targets → c ≡ targets_removed bus rule kept → IsAllowed c set → IsWellFormed c
+removed_formed set bus rule r ids kept c names few short is change allowed =
+    let of = All-weaker (Contains ids) IsShortName (λ x h. All-contains IsShortName ids x short h) (removed_ids ids r.targets) (removed_within ids r.targets) in
+    let some = removal_fine bus rule kept set (subst (λ (x : Control). IsAllowed x set) change allowed) in
+    let counted = few_is (length kept) (leb-true 1 (length kept) some) (omega (arith, ap length is, removed_few ids r.targets, few)) in
+    subst IsWellFormed (sym change)
+    ((both (names_rule bus rule) _ names (both (are_few (length kept)) _ counted (all_is kept (subst (All IsShortName) (sym is) of))), tt))

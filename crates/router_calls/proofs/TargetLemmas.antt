@@ -1,15 +1,14 @@
--- A call on a rule: `on_rule_found`. The targets of a PutTargets: `adds_none`, `adds_target` (one target and those after it) and
--- `all_split`; `put_answered` (the accepted ones are an allowed change) and `targets_unwritten` (there is none); `accepted_within` (the
--- accepted ones are of those of the request) and `put_form` (their change is well formed).
-use Rattle.std.proofs.Common.{◌≡◌, ℕ, suc, ◌≤◌, ◌<◌, ◌&&◌, inl, inr, Bool, true, not, is_some, List, [], ◌∷◌, ◌++◌, length, map, Some, sym, refl, ap, ◌∙◌, subst, arith}
+-- The targets of a PutTargets: `adds_none`, `adds_target` (one target and those after it) and `all_split`; `accepted_so` and `failed_so`
+-- (what became of them), `put_allowed` and `put_formed_so` (the change of the accepted ones), `accepted_within` (they are of those of the
+-- request).
+use Rattle.std.proofs.Common.{◌≡◌, ℕ, suc, ◌≤◌, ◌<◌, ◌&&◌, Bool, true, not, is_some, List, [], ◌∷◌, ◌++◌, length, map, Some, sym, refl, ap, ◌∙◌, subst, arith}
 use Rattle.std.proofs.Common.{append_assoc, append-nil}
-use Rattle.std.specs.Prelude.{codes, nat_le, Option, None, Result, Ok, Err, IfOk, All}
+use Rattle.std.specs.Prelude.{nat_le, Option, None, All}
 use Rattle.std.specs.List.{Contains}
 use Rattle.std.proofs.lemmas.Bool.{le-leb, leb-true}
 use Rattle.std.proofs.lemmas.List.Elements.{All-cons, All-weaker}
-use Rattle.std.proofs.lemmas.List.{length-map}
 use Rattle.json_text.specs.Tree.{Tree}
-use Rattle.json_text.specs.View.{tree_of, trees_of}
+use Rattle.json_text.specs.View.{trees_of}
 use Rattle.rule_targets.specs.declared.target.AskedTarget.{AskedTarget}
 use Rattle.rule_targets.specs.declared.target.Target.{Target}
 use Rattle.rule_targets.specs.Target.{asked_of, put_as}
@@ -18,29 +17,18 @@ use Rattle.rule_targets.proofs.TargetLemmas.{asked_put}
 use Rattle.rule_table.specs.declared.control.TargetFault.{TargetFault}
 use Rattle.rule_table.specs.declared.control.ControlFault.TheVariants.{Validation}
 use Rattle.api_replies.specs.declared.member.Member.TheVariants as member
-use Rattle.rule_table.specs.Control.{targets_put}
+use Rattle.rule_table.specs.Control.{Control, targets_put}
 use Rattle.rule_table.specs.RuleSet.{Rule, RuleSet, put_target, rule_at, targets_of}
 use Rattle.rule_table.specs.Refusal.{target_fault, are_put, are_some_put, IsAllowed}
 use Rattle.rule_table.specs.WellFormed.{IsWellFormed}
 use Rattle.rule_table.proofs.AllowedLemmas.{no_member_fault, put_formed, targets_fine}
-use Rattle.rule_table.proofs.ChangeLemmas.{bus_of_rule, after_rule}
-use Rattle.name_rows.specs.Rows.{named}
+use Rattle.rule_table.proofs.ChangeLemmas.{after_rule}
 use Rattle.call_replies.specs.Causes.{target_cause}
 use Rattle.api_replies.specs.declared.cause.Cause.{Cause}
-use Rattle.api_replies.specs.Reply.{Reply, refused}
-use Rattle.api_replies.specs.declared.reply.Reply.{Reply as CodeReply}
-use Rattle.router_core.specs.declared.ready.Ready.{Ready}
-use Rattle.router_calls.specs.Decided.{answer_of}
-use Rattle.router_core.specs.Batch as batch
-use Rattle.router_core.specs.Tables.{Tables}
 use Rattle.router_calls.specs.Targets.{having, accepted_first, failed_first, accepted_targets, failed_targets}
-use Rattle.call_replies.specs.Replies.{target_report, targets_reply, items_reply}
-use Rattle.router_calls.specs.Answer.{Answer, IsControlled, on_rule, targets_put_answer, targets_answer, reply_alone, writes}
+use Rattle.call_replies.specs.Replies.{target_report}
 use Rattle.router_calls.specs.Steps.{AddsTargets, AreAllSplit, IsOneSplit}
 use Rattle.router_calls.specs.declared.put_targets.SplitTargets.{SplitTargets}
-
-pub on_rule_found : (t : Tables) (bus rule : List ℕ) (r : Rule) (answer : Rule → Answer) → rule_at bus rule t.set ≡ Some r → on_rule t bus rule answer ≡ answer r
-on_rule_found t bus rule r answer is = rw (bus_of_rule (named (λ b. b.name) bus t.set.buses) rule r is, is) refl
 
 pub adds_none : (set : RuleSet) (old : SplitTargets) → AddsTargets set [] old old
 adds_none set old = record { put = sym (append-nil old.accepted.items); reports = sym (append-nil (trees_of old.reports.items)) }
@@ -90,12 +78,12 @@ pub some_of : {A : Type 0} (xs : List A) → 0 < length xs → nat_le 1 (length 
 some_of xs some = le-leb 1 (length xs) (omega (arith, some))
 
 -- the change of the accepted targets is allowed
-split_allowed : (t : Tables) (bus rule : List ℕ) (r : Rule) (targets : List AskedTarget) → rule_at bus rule t.set ≡ Some r
-    → 0 < length (accepted_targets t.set r.targets targets) → IsAllowed (targets_put bus rule (accepted_targets t.set r.targets targets)) t.set
-split_allowed t bus rule r targets found some =
-    let accepted = accepted_targets t.set r.targets targets in
-    after_rule bus rule t.set r (are_some_put t.set accepted) (Validation member.Targets) true found
-    (both (nat_le 1 (length accepted)) (are_put t.set accepted r.targets) (some_of accepted some) (accepted_good t.set r.targets targets))
+pub split_allowed : (set : RuleSet) (bus rule : List ℕ) (r : Rule) (targets : List AskedTarget) → rule_at bus rule set ≡ Some r
+    → 0 < length (accepted_targets set r.targets targets) → IsAllowed (targets_put bus rule (accepted_targets set r.targets targets)) set
+split_allowed set bus rule r targets found some =
+    let accepted = accepted_targets set r.targets targets in
+    after_rule bus rule set r (are_some_put set accepted) (Validation member.Targets) true found
+    (both (nat_le 1 (length accepted)) (are_put set accepted r.targets) (some_of accepted some) (accepted_good set r.targets targets))
 
 -- all targets, one after the other, from none
 pub all_split : (set : RuleSet) (have : List Target) (targets : List AskedTarget) (old all : SplitTargets) → old.have.items ≡ have
@@ -106,61 +94,17 @@ all_split set have targets old all is none nothing adds = record {
       ∙ ap (λ h. map target_report (failed_targets set h targets)) is;
 }
 
--- the reply counts the reports
-reply_so : (failed : List (List ℕ × Cause)) (all : SplitTargets) (n : ℕ) (reply : Reply) → trees_of all.reports.items ≡ map target_report failed
-    → n ≡ length all.reports.items → reply ≡ items_reply n (codes "FailedEntries") (trees_of all.reports.items) → reply ≡ targets_reply failed
-reply_so failed all n reply are count is =
-    let counted : n ≡ length failed =
-    omega (arith, count, ap length are, length-map failed target_report, length-map all.reports.items tree_of) in
-    is ∙ ap (λ k. items_reply k (codes "FailedEntries") (trees_of all.reports.items)) counted
-    ∙ ap (items_reply (length failed) (codes "FailedEntries")) are
+-- the accepted targets, and those that failed
+pub accepted_so : (on set : RuleSet) (r : Rule) (targets : List AskedTarget) (have : List Target) (all : SplitTargets) → on ≡ set → have ≡ r.targets
+    → AreAllSplit on have targets all → all.accepted.items ≡ accepted_targets set r.targets targets
+accepted_so on set r targets have all same have_is split =
+    split.accepted ∙ ap (λ (s : RuleSet). accepted_targets s have targets) same ∙ ap (λ (ts : List Target). accepted_targets set ts targets) have_is
 
-some_answer : (t : Tables) (moment : ℕ) (bus rule : List ℕ) (accepted : List Target) (failed : List (List ℕ × Cause)) (reply : Reply) (a : Answer)
-    → 0 < length accepted → reply ≡ targets_reply failed → IsAllowed (targets_put bus rule accepted) t.set
-    → IsControlled t moment (targets_put bus rule accepted) reply a → a ≡ targets_answer t moment bus rule accepted failed
-some_answer t moment bus rule [] failed reply a some is allowed controlled = absurd (omega arith)
-some_answer t moment bus rule (x ∷ xs) failed reply a some is allowed (inl (_, writes_so)) =
-    writes_so ∙ ap (λ (r : Reply). writes t moment (batch.control (targets_put bus rule (x ∷ xs)) ∷ []) r) is
-some_answer t moment bus rule (x ∷ xs) failed reply a some is allowed (inr (fault, c, refused, _, _)) =
-    let never : None ≡ Some fault = sym allowed ∙ refused in absurd cc
-
-pub targets_answered : (t : Tables) (moment : ℕ) (bus rule : List ℕ) (r : Rule) (targets : List AskedTarget) (all : SplitTargets) (n : ℕ) (reply : Reply)
-    (a : Answer) → rule_at bus rule t.set ≡ Some r → AreAllSplit t.set r.targets targets all → n ≡ length all.reports.items
-    → 0 < length all.accepted.items → reply ≡ items_reply n (codes "FailedEntries") (trees_of all.reports.items)
-    → IsControlled t moment (targets_put bus rule all.accepted.items) reply a → a ≡ targets_put_answer t moment bus rule targets
-targets_answered t moment bus rule r targets all n reply a found split count some is controlled =
-    let accepted = accepted_targets t.set r.targets targets in
-    let failed = failed_targets t.set r.targets targets in
-    let replies = reply_so failed all n reply split.reports count is in
-    let left : 0 < length accepted = omega (arith, some, ap length split.accepted) in
-    let so = subst (λ (ts : List Target). IsControlled t moment (targets_put bus rule ts) reply a) split.accepted controlled in
-    some_answer t moment bus rule accepted failed reply a left replies (split_allowed t bus rule r targets found left) so
-    ∙ sym (on_rule_found t bus rule r _ found)
-
-none_answer : (t : Tables) (moment : ℕ) (bus rule : List ℕ) (accepted : List Target) (failed : List (List ℕ × Cause)) (reply : Reply)
-    → length accepted ≡ 0 → reply ≡ targets_reply failed → reply_alone reply ≡ targets_answer t moment bus rule accepted failed
-none_answer t moment bus rule [] failed reply none is = ap reply_alone is
-none_answer t moment bus rule (x ∷ xs) failed reply none is = absurd (omega arith)
-
-pub targets_unwritten : (t : Tables) (moment : ℕ) (bus rule : List ℕ) (r : Rule) (targets : List AskedTarget) (all : SplitTargets) (n : ℕ) (reply : Reply)
-    → rule_at bus rule t.set ≡ Some r → AreAllSplit t.set r.targets targets all → n ≡ length all.reports.items → length all.accepted.items ≡ 0
-    → reply ≡ items_reply n (codes "FailedEntries") (trees_of all.reports.items) → reply_alone reply ≡ targets_put_answer t moment bus rule targets
-targets_unwritten t moment bus rule r targets all n reply found split count none is =
-    let accepted = accepted_targets t.set r.targets targets in
-    let failed = failed_targets t.set r.targets targets in
-    let replies = reply_so failed all n reply split.reports count is in
-    let left : length accepted ≡ 0 = omega (arith, none, ap length split.accepted) in
-    none_answer t moment bus rule accepted failed reply left replies ∙ sym (on_rule_found t bus rule r _ found)
-
--- what the change of the accepted targets is answered
-pub put_answered : {E : Type 0} (result : Result (Option Ready × CodeReply) E) (t : Tables) (moment : ℕ) (bus rule : List ℕ) (r : Rule)
-    (targets : List AskedTarget) (all : SplitTargets) (n : ℕ) (reply : Reply) → rule_at bus rule t.set ≡ Some r → AreAllSplit t.set r.targets targets all
-    → n ≡ length all.reports.items → 0 < length all.accepted.items → reply ≡ items_reply n (codes "FailedEntries") (trees_of all.reports.items)
-    → IfOk result (λ p. IsControlled t moment (targets_put bus rule all.accepted.items) reply (answer_of p))
-    → IfOk result (λ p. answer_of p ≡ targets_put_answer t moment bus rule targets)
-put_answered (Ok p) t moment bus rule r targets all n reply found split count some is controlled =
-    targets_answered t moment bus rule r targets all n reply (answer_of p) found split count some is controlled
-put_answered (Err e) t moment bus rule r targets all n reply found split count some is controlled = tt
+pub failed_so : (on set : RuleSet) (r : Rule) (targets : List AskedTarget) (have : List Target) (all : SplitTargets) → on ≡ set → have ≡ r.targets
+    → AreAllSplit on have targets all → trees_of all.reports.items ≡ map target_report (failed_targets set r.targets targets)
+failed_so on set r targets have all same have_is split =
+    split.reports ∙ ap (λ (s : RuleSet). map target_report (failed_targets s have targets)) same
+    ∙ ap (λ (ts : List Target). map target_report (failed_targets set ts targets)) have_is
 
 -- ---- the accepted targets are of those that the request has, and their change is well formed
 
@@ -203,12 +147,22 @@ accepted_few set have (target ∷ targets) =
 pub few_is : (n : ℕ) → 1 ≤ n → n ≤ 100 → are_few n ≡ true
 few_is n some low = both (nat_le 1 n) (nat_le n 100) (le-leb 1 n some) (le-leb n 100 low)
 
-pub put_form : (on set : RuleSet) (b r bus rule : List ℕ) (have : List Target) (targets : List AskedTarget) (kept : List Target) (all : SplitTargets)
-    → b ≡ bus → r ≡ rule → NamesRule bus rule → length targets ≤ 100 → AreAllSplit on have targets all → kept ≡ all.accepted.items
-    → IsAllowed (targets_put b r kept) set → IsWellFormed (targets_put b r kept)
-put_form on set b r bus rule have targets kept all b_is r_is names few split is allowed =
-    let put = targets_fine b r kept set allowed in
+-- the change of the accepted targets, if there are some
+pub put_allowed : (on set : RuleSet) (bus rule : List ℕ) (r : Rule) (targets : List AskedTarget) (have : List Target) (all : SplitTargets)
+    (kept : List Target) (c : Control) → rule_at bus rule set ≡ Some r → on ≡ set → have ≡ r.targets → AreAllSplit on have targets all
+    → kept ≡ all.accepted.items → c ≡ targets_put bus rule kept → 0 < length kept → IsAllowed c set
+put_allowed on set bus rule r targets have all kept c found same have_is split is change some =
+    let kept_is : kept ≡ accepted_targets set r.targets targets = is ∙ accepted_so on set r targets have all same have_is split in
+    subst (λ (x : Control). IsAllowed x set) (sym (change ∙ ap (targets_put bus rule) kept_is))
+    (split_allowed set bus rule r targets found (omega (arith, some, ap length kept_is)))
+
+-- and is well formed
+pub put_formed_so : (on set : RuleSet) (bus rule : List ℕ) (targets : List AskedTarget) (have : List Target) (all : SplitTargets)
+    (kept : List Target) (c : Control) → NamesRule bus rule → length targets ≤ 100 → AreAllSplit on have targets all
+    → kept ≡ all.accepted.items → c ≡ targets_put bus rule kept → IsAllowed c set → IsWellFormed c
+put_formed_so on set bus rule targets have all kept c names few split is change allowed =
+    let put = targets_fine bus rule kept set (subst (λ (x : Control). IsAllowed x set) change allowed) in
     let count = accepted_few on have targets in
-    let named = subst (λ (x : List ℕ). NamesRule x r) (sym b_is) (subst (NamesRule bus) (sym r_is) names) in
     let counted = few_is (length kept) (leb-true 1 (length kept) put.0) (omega (arith, ap length is, ap length split.accepted, count, few)) in
-    (both (names_rule b r) _ named (both (are_few (length kept)) _ counted (put_formed set kept (targets_of b r set) put.1)), tt)
+    subst IsWellFormed (sym change)
+    ((both (names_rule bus rule) _ names (both (are_few (length kept)) _ counted (put_formed set kept (targets_of bus rule set) put.1)), tt))

@@ -1,22 +1,28 @@
 -- What a caller other than the owner may write: events that the policies of their buses allow.
-use Rattle.std.specs.Prelude.{ℕ, List, [], Option, Some, None, Ok, All}
+use Rattle.std.specs.Prelude.{◌≡◌, ℕ, List, [], Option, Some, None, Ok, All}
 use Rattle.std.specs.List.{Contains}
-use Rattle.event_shape.specs.Unnumbered.{Unnumbered}
+use Rattle.event_shape.specs.Event.{IsEventAt}
+use Rattle.event_shape.specs.Unnumbered.{Unnumbered, with_number}
 use Rattle.rule_table.specs.RuleSet.{RuleSet}
 use Rattle.router_core.specs.Batch as batch
 use Rattle.router_core.specs.Request.{Action, put_events}
+use Rattle.router_core.specs.Matching.{AreMatchedFor}
 use Rattle.router_core.specs.Verdict.{IsEntryVerdict}
+use Rattle.router_core.specs.declared.seen.SeenTarget.{SeenTarget}
 use Rattle.router_core.specs.declared.seen.SeenVerdict.TheVariants.{Allowed}
-use Rattle.router_calls.specs.Accepted.{Given, IsAcceptedAs}
+use Rattle.router_calls.specs.Accepted.{Given, accepted_as}
 
 -- The accepted event is one of these entries, its bus exists, and the verdict of the bus's policy on it, for this caller on a rule set, is
--- that it is allowed.
+-- that it is allowed. It is an event at the moment of its time, and has a duty for each target of the rules that match it there.
 -- Shown by: tables router_calls.rows: each_change_is_answered.
 pub record IsAllowedEvent (set : RuleSet) (caller : List ℕ) (entries : List Given) (e : batch.Accepted) : Type 0 where
   pub event : Unnumbered
   pub asked : Contains entries (Ok event)
   pub verdict : IsEntryVerdict set caller (Ok event) Allowed
-  pub accepted : IsAcceptedAs set e.number event e
+  pub targets : List SeenTarget
+  pub matched : AreMatchedFor set event targets
+  pub accepted : e ≡ accepted_as set.count e.number event targets
+  pub is_event : IsEventAt e.time (with_number e.number event.event)
 
 -- The entry of a batch is such an event, and no other operation.
 -- Shown by: tables router_calls.rows: each_change_is_answered.

@@ -1,5 +1,6 @@
--- The router machine: what a request writes and what its reply is, by cases on the request.
-use Rattle.std.specs.Prelude.{◌≡◌, ℕ, ◌+◌, ◌<◌, ◌≤◌, ◌⊎◌, is_some, not, ◌&&◌, Bool, true, false, if◌then◌else◌, List, [], ◌∷◌, length, map}
+-- The router machine: what a request changes and what its reply is, as a function of the request, the tables, what matching found, and the
+-- policy that it names.
+use Rattle.std.specs.Prelude.{◌≡◌, ℕ, ◌+◌, ◌≤◌, is_some, not, ◌&&◌, nat_lt, if◌then◌else◌, Bool, false, List, [], ◌∷◌, length, map}
 use Rattle.std.specs.Prelude.{Option, Some, None, Ok, Err, codes}
 use Rattle.json_text.specs.Compact.{compact_text}
 use Rattle.json_text.specs.Limits.{most_together}
@@ -12,9 +13,8 @@ use Rattle.rule_targets.specs.declared.target.Target.{Target}
 use Rattle.rule_table.specs.declared.control.ControlFault.{ControlFault}
 use Rattle.rule_table.specs.Control.{Control, bus_created, bus_deleted, rule_put, rule_deleted, state_put, targets_put}
 use Rattle.rule_table.specs.Control.{targets_removed, policy_put, queue_created, queue_deleted}
-use Rattle.name_rows.specs.Rows.{named}
-use Rattle.rule_table.specs.RuleSet.{Rule, Bus, RuleSet, has_bus, has_queue, rule_at}
-use Rattle.rule_table.specs.Refusal.{refusal, IsAllowed}
+use Rattle.rule_table.specs.RuleSet.{Rule, RuleSet, has_bus, has_queue, rule_at}
+use Rattle.rule_table.specs.Refusal as table
 use Rattle.delivery_duties.specs.declared.stored.StoredMessage.{StoredMessage}
 use Rattle.delivery_duties.specs.Queues.{messages_of, messages_through}
 use Rattle.delivery_duties.specs.Duties.{names_queue}
@@ -22,74 +22,119 @@ use Rattle.api_replies.specs.declared.kind.Kind.TheVariants as kind
 use Rattle.api_replies.specs.declared.cause.Cause.{Cause}
 use Rattle.api_replies.specs.declared.cause.Cause.TheVariants as cause
 use Rattle.api_replies.specs.Cause.{failed_members}
-use Rattle.api_replies.specs.Reply.{Reply, served, refused}
+use Rattle.api_replies.specs.Reply.{Reply, served, refused, no_memory}
 use Rattle.router_core.specs.Request.{Action, Request, create_event_bus, delete_event_bus, describe_event_bus, list_event_buses, put_rule, delete_rule}
 use Rattle.router_core.specs.Request.{put_rule_state, describe_rule, list_rules, put_targets, remove_targets, list_targets_by_rule}
 use Rattle.router_core.specs.Request.{list_rule_names_by_target, put_policy, put_statement, remove_policy, remove_statement, put_events}
 use Rattle.router_core.specs.Request.{test_event_pattern, create_queue, delete_queue, peek_messages, delete_messages, duty_counts, deliver_due}
+use Rattle.router_core.specs.Request.{IsEntitled, IsOneTurn, IsPublishing}
 use Rattle.router_core.specs.Batch as batch
-use Rattle.router_core.specs.Tables.{Tables, is_full, moment_at}
-use Rattle.router_core.specs.Matching.{IsTestedAs}
-use Rattle.router_core.specs.Verdict.{IsPolicyOf}
-use Rattle.config_views.specs.Views.{described_bus, listed_buses, described_rule, listed_rules, listed_targets, listed_rule_names}
-use Rattle.router_core.specs.Request.{IsEntitled, IsPublishing}
 use Rattle.router_core.specs.Bounds.{IsBounded}
+use Rattle.router_core.specs.Matching.{IsSeenResult}
+use Rattle.router_core.specs.Tables.{Tables, is_full, moment_at}
+use Rattle.router_core.specs.declared.seen.SeenResult.{SeenResult}
+use Rattle.config_views.specs.Views.{described_bus, listed_buses, described_rule, listed_rules, listed_targets, listed_rule_names}
 use Rattle.call_replies.specs.Causes.{change_cause}
 use Rattle.call_replies.specs.Replies.{empty_reply, items_reply, targets_reply, peeked, deletion_reply, duties_reply, tested_reply}
-use Rattle.router_calls.specs.Accepted.{Given, Placed, ArePlaced, events_in, failures_in}
+use Rattle.router_calls.specs.Accepted.{Given, Placed, AreEventsOf, all_placed, entries_seen, is_tested, events_in, failures_in}
 use Rattle.router_calls.specs.Targets.{accepted_targets, failed_targets}
 use Rattle.router_calls.specs.Removals.{removed_ids, failed_ids}
-use Rattle.router_calls.specs.Permission.{has_statement, granting, revoking}
+use Rattle.router_calls.specs.Permission.{IsPolicyNamed, has_statement, granting, revoking}
 
--- What a request's turn writes, a batch or none, and its reply.
+-- What is decided of a request: the operations that it writes, and its reply.
 -- Shown by: tables router_calls.rows: each_request_is_answered.
-pub record Answer : Type 0 where
-  pub batch : Option batch.Batch
+pub record Decided : Type 0 where
+  pub entries : List batch.Entry
   pub reply : Reply
 
--- A reply without a batch.
+-- A reply, and nothing to write.
 -- Shown by: tables router_calls.rows: each_request_is_answered.
-abbrev pub reply_alone : Reply → Answer
-reply_alone reply = record { batch = None; reply = reply }
+abbrev pub shown : Reply → Decided
+shown reply = record { entries = []; reply = reply }
 
--- A batch with its reply, or the refusal of the number limit without a batch.
+-- A refusal for a cause, and nothing to write.
 -- Shown by: tables router_calls.rows: each_request_is_answered.
-abbrev pub writes : Tables → ℕ → List batch.Entry → Reply → Answer
-writes t moment entries reply =
-    if is_full t then reply_alone (refused cause.NumberLimit)
-    else record { batch = Some (record { moment = moment; entries = entries }); reply = reply }
+abbrev pub refusal : Cause → Decided
+refusal c = shown (refused c)
+
+-- One operation with its reply.
+-- Shown by: tables router_calls.rows: each_request_is_answered.
+abbrev pub writes : batch.Entry → Reply → Decided
+writes entry reply = record { entries = entry ∷ []; reply = reply }
+
+-- the reply to a change that is refused for this cause; a change without one is out of memory
+abbrev pub change_reply : Option Cause → Reply
+change_reply (Some c) = refused c
+change_reply None = no_memory
+
+-- what is decided of a change: without a fault it is written with this reply, with one it is refused
+abbrev pub unless_refused : Option ControlFault → Control → Reply → Decided
+unless_refused None control reply = writes (batch.control control) reply
+unless_refused (Some fault) control reply = shown (change_reply (change_cause control fault))
 
 -- A configuration change is written with its reply if it is allowed, and else refused for its first fault.
 -- Shown by: a_refused_change_is_reported_as_done.edit.
-abbrev pub IsControlled : Tables → ℕ → Control → Reply → Answer → Type 0
-IsControlled t moment control reply a =
-    (IsAllowed control t.set × (a ≡ writes t moment (batch.control control ∷ []) reply))
-    ⊎ ((fault : ControlFault) × (c : Cause) × (refusal control t.set ≡ Some fault) × (change_cause control fault ≡ Some c)
-    × (a ≡ reply_alone (refused c)))
+abbrev pub controlled : RuleSet → Control → Reply → Decided
+controlled set control reply = unless_refused (table.refusal control set) control reply
 
--- The answer to a PutTargets on a rule: the accepted targets are one operation of a batch; without one nothing is written.
+-- What is decided of a call on a bus: a missing bus is refused.
+-- Shown by: tables router_calls.rows: each_change_is_answered.
+abbrev pub on_bus : RuleSet → List ℕ → Decided → Decided
+on_bus set bus decided = if has_bus bus set then decided else refusal (cause.NotFound kind.EventBus bus)
+
+-- what is decided for the rule that is there, or the refusal of a rule of this name
+abbrev pub for_rule : Option Rule → List ℕ → (Rule → Decided) → Decided
+for_rule None name decided = refusal (cause.NotFound kind.Rule name)
+for_rule (Some rule) name decided = decided rule
+
+-- What is decided of a call on a rule: a missing bus or rule is refused.
 -- Shown by: tables router_calls.rows: each_request_is_answered.
-abbrev pub targets_answer : Tables → ℕ → List ℕ → List ℕ → List Target → List (List ℕ × Cause) → Answer
-targets_answer t moment bus rule [] failed = reply_alone (targets_reply failed)
-targets_answer t moment bus rule (target ∷ targets) failed =
-    writes t moment (batch.control (targets_put bus rule (target ∷ targets)) ∷ []) (targets_reply failed)
+abbrev pub on_rule : RuleSet → List ℕ → List ℕ → (Rule → Decided) → Decided
+on_rule set bus rule decided = on_bus set bus (for_rule (rule_at bus rule set) rule decided)
 
--- the answer for the rule that is there, or the refusal of a rule of this name
-abbrev pub for_rule : Option Rule → List ℕ → (Rule → Answer) → Answer
-for_rule None name answer = reply_alone (refused (cause.NotFound kind.Rule name))
-for_rule (Some rule) name answer = answer rule
+-- The bus exists, and has no rule of this name.
+-- Shown by: a_missing_rule_writes.edit.
+abbrev pub lacks_rule : List ℕ → List ℕ → RuleSet → Bool
+lacks_rule bus name set = has_bus bus set && not (is_some (rule_at bus name set))
 
--- The answer to a call on a rule: a missing bus or rule is refused.
+-- DeleteRule. A rule that does not exist is no fault, and nothing is written; else it is a change like others.
+-- Shown by: a_missing_rule_writes.edit.
+abbrev pub rule_deletion : RuleSet → List ℕ → List ℕ → Decided
+rule_deletion set bus name = if lacks_rule bus name set then shown empty_reply else controlled set (rule_deleted bus name) empty_reply
+
+-- A change of the items that succeeded, with the failed ones in the reply; without an item nothing is written.
 -- Shown by: tables router_calls.rows: each_request_is_answered.
-abbrev pub on_rule : Tables → List ℕ → List ℕ → (Rule → Answer) → Answer
-on_rule t bus rule answer =
-    if has_bus bus t.set then for_rule (rule_at bus rule t.set) rule answer else reply_alone (refused (cause.NotFound kind.EventBus bus))
+abbrev pub unless_none : {A : Type 0} → List A → Control → Reply → Decided
+unless_none [] control reply = shown reply
+unless_none (item ∷ items) control reply = writes (batch.control control) reply
 
--- PutTargets. A missing bus or rule is refused; else each target is accepted or fails by itself.
--- Shown by: tables router_calls.rows: each_request_is_answered.
-abbrev pub targets_put_answer : Tables → ℕ → List ℕ → List ℕ → List AskedTarget → Answer
-targets_put_answer t moment bus rule targets = on_rule t bus rule (λ r.
-    targets_answer t moment bus rule (accepted_targets t.set r.targets targets) (failed_targets t.set r.targets targets))
+-- PutTargets on a rule with these targets: those that are accepted are put as one change, and the others fail one by one.
+-- Shown by: a_faulty_target_is_put.edit.
+abbrev pub targets_decided : RuleSet → List ℕ → List ℕ → List Target → List AskedTarget → Decided
+targets_decided set bus rule have targets = unless_none (accepted_targets set have targets)
+    (targets_put bus rule (accepted_targets set have targets)) (targets_reply (failed_targets set have targets))
+
+-- RemoveTargets on a rule with these targets: those ids that are targets' are removed as one change, and the others fail one by one.
+-- Shown by: a_removed_id_is_removed_twice.edit.
+abbrev pub removals_decided : List ℕ → List ℕ → List Target → List (List ℕ) → Decided
+removals_decided bus rule have ids =
+    unless_none (removed_ids ids have) (targets_removed bus rule (removed_ids ids have)) (targets_reply (failed_ids ids have))
+
+-- PutPermission of a statement, on a bus with this policy: refused if the policy has its StatementId already, else the policy with the
+-- statement is put.
+-- Shown by: a_statement_put_first.edit.
+abbrev pub statement_put : RuleSet → List ℕ → List ℕ → Option (List ℕ) → Option Tree → Decided
+statement_put set bus sid account policy =
+    if has_statement sid policy then refusal (cause.StatementExists sid)
+    else controlled set (policy_put bus (Some (compact_text (granting bus sid account policy)))) empty_reply
+
+-- RemovePermission of a statement, on a bus with this policy: refused without a StatementId, or if the policy has no such statement; else
+-- what is left of the policy is put.
+-- Shown by: tables router_calls.rows: each_change_is_answered.
+abbrev pub statement_removed : RuleSet → List ℕ → Option (List ℕ) → Option Tree → Decided
+statement_removed set bus None policy = refusal (cause.Required member.StatementId)
+statement_removed set bus (Some sid) policy =
+    if has_statement sid policy then controlled set (policy_put bus (revoking sid policy)) empty_reply else refusal (cause.NoStatement sid)
 
 -- The item of an entry: its event's id, or why it failed.
 -- Shown by: tables router_calls.rows: each_request_is_answered.
@@ -102,165 +147,115 @@ entry_report (Err c) = object (members_of (failed_members c))
 abbrev pub entries_reply : List Placed → Reply
 entries_reply all = items_reply (failures_in all) (codes "Entries") (map entry_report all)
 
--- The answer to a PutEvents: the accepted events as one batch, with this reply; without an event nothing is written.
+-- The accepted events of a PutEvents as one batch, with an item for each entry in the reply.
 -- Shown by: entries.
-abbrev pub events_answer : Tables → ℕ → List batch.Accepted → Reply → Answer
-events_answer t moment [] reply = reply_alone reply
-events_answer t moment (e ∷ es) reply = writes t moment (map batch.accepted (e ∷ es)) reply
+abbrev pub published : List Placed → Decided
+published all = record { entries = map batch.accepted (events_in all); reply = entries_reply all }
 
--- PutEvents of a caller, matched on a rule set. Entries of more than 262,144 bytes together are refused as a whole. Else each becomes an
--- event of this rule set, numbered after the last one, or fails by itself.
+-- PutEvents, matched on configuration version k. Entries of more than 262,144 bytes together are refused as a whole. Else each becomes an
+-- event, numbered after the last one, or fails by itself.
 -- Shown by: a_byte_too_many_is_accepted.edit.
-abbrev pub IsPublished : Tables → RuleSet → List ℕ → ℕ → List Given → ℕ → Answer → Type 0
-IsPublished t set caller moment entries size a =
-    ((most_together < size) × (a ≡ reply_alone (refused cause.TooLargeTogether)))
-    ⊎ ((size ≤ most_together) × ((all : List Placed) × ArePlaced set caller (t.events + 1) entries all
-    × (a ≡ events_answer t moment (events_in all) (entries_reply all))))
-
--- TestEventPattern: whether the pattern with this text matches the event. Nothing is written.
--- Shown by: a_tested_pattern_always_matches.edit.
-abbrev pub IsTested : List ℕ → Tree → Answer → Type 0
-IsTested pattern event a = (matches : Bool) × IsTestedAs pattern event matches × (a ≡ reply_alone (tested_reply matches))
-
--- the answer to a DeleteQueue, by whether the queue exists and is named
-abbrev pub IsDeletedUnless : Bool → Tables → ℕ → List ℕ → Answer → Type 0
-IsDeletedUnless true t moment name a = a ≡ reply_alone (refused (cause.InUse kind.Queue name))
-IsDeletedUnless false t moment name a = IsControlled t moment (queue_deleted name) empty_reply a
+abbrev pub publication : Tables → ℕ → SeenResult → List Given → ℕ → Decided
+publication t k seen entries size =
+    if nat_lt most_together size then refusal cause.TooLargeTogether
+    else published (all_placed k (t.events + 1) entries (entries_seen seen))
 
 -- DeleteQueue. An existing queue that a pending delivery or a message names is in use; else it is a change like others. A missing queue is
 -- refused as such, whatever names it.
 -- Shown by: a_queue_with_messages_is_deleted.edit.
-abbrev pub IsQueueDeleted : Tables → ℕ → List ℕ → Answer → Type 0
-IsQueueDeleted t moment name a = IsDeletedUnless (has_queue name t.set && names_queue name t.duties) t moment name a
+abbrev pub queue_deletion : Tables → List ℕ → Decided
+queue_deletion t name =
+    if has_queue name t.set && names_queue name t.duties then refusal (cause.InUse kind.Queue name)
+    else controlled t.set (queue_deleted name) empty_reply
 
--- The answer to a DeleteMessages that is to delete these messages, which have numbers up to `through`: the deletion is one operation of a
--- batch; without a message nothing is written.
+-- The deletion of these messages, which have numbers up to `through`, is one operation of a batch; without a message nothing is written.
 -- Shown by: empty-a-queue.
-abbrev pub deletion_answer : Tables → ℕ → List ℕ → ℕ → List StoredMessage → Answer
-deletion_answer t moment queue through [] = reply_alone (deletion_reply 0)
-deletion_answer t moment queue through (m ∷ ms) =
-    writes t moment (batch.messages_deleted queue through ∷ []) (deletion_reply (length (m ∷ ms)))
+abbrev pub deletion_of : List ℕ → ℕ → List StoredMessage → Decided
+deletion_of queue through [] = shown (deletion_reply 0)
+deletion_of queue through (m ∷ ms) = writes (batch.messages_deleted queue through) (deletion_reply (length (m ∷ ms)))
 
 -- DeleteMessages: the queue's messages with numbers up to `Through` are deleted; a missing queue is refused.
 -- Shown by: tables router_calls.rows: a_queue_is_deleted_once_nothing_names_it.
-abbrev pub messages_deletion : Tables → ℕ → List ℕ → ℕ → Answer
-messages_deletion t moment queue through =
-    if has_queue queue t.set then deletion_answer t moment queue through (messages_through through (messages_of queue t.duties.queues))
-    else reply_alone (refused (cause.NotFound kind.Queue queue))
+abbrev pub messages_deletion : Tables → List ℕ → ℕ → Decided
+messages_deletion t queue through =
+    if has_queue queue t.set then deletion_of queue through (messages_through through (messages_of queue t.duties.queues))
+    else refusal (cause.NotFound kind.Queue queue)
 
--- The bus exists, and has no rule of this name.
--- Shown by: a_missing_rule_writes.edit.
-abbrev pub lacks_rule : List ℕ → List ℕ → RuleSet → Bool
-lacks_rule bus name set = has_bus bus set && not (is_some (rule_at bus name set))
-
--- DeleteRule. A rule that does not exist is no fault, and nothing is written; else it is a change like others.
--- Shown by: a_missing_rule_writes.edit.
-abbrev pub IsRuleDeleted : Tables → ℕ → List ℕ → List ℕ → Answer → Type 0
-IsRuleDeleted t moment bus name a =
-    ((lacks_rule bus name t.set ≡ true) × (a ≡ reply_alone empty_reply))
-    ⊎ ((lacks_rule bus name t.set ≡ false) × IsControlled t moment (rule_deleted bus name) empty_reply a)
-
--- The answer to a RemoveTargets on a rule: the removed ids are one operation of a batch; without one nothing is written.
--- Shown by: tables router_calls.rows: each_change_is_answered.
-abbrev pub removals_answer : Tables → ℕ → List ℕ → List ℕ → List (List ℕ) → List (List ℕ × Cause) → Answer
-removals_answer t moment bus rule [] failed = reply_alone (targets_reply failed)
-removals_answer t moment bus rule (id ∷ ids) failed =
-    writes t moment (batch.control (targets_removed bus rule (id ∷ ids)) ∷ []) (targets_reply failed)
-
--- RemoveTargets. A missing bus or rule is refused; else each id is removed or fails by itself.
--- Shown by: tables router_calls.rows: each_change_is_answered.
-abbrev pub targets_removed_answer : Tables → ℕ → List ℕ → List ℕ → List (List ℕ) → Answer
-targets_removed_answer t moment bus rule ids = on_rule t bus rule (λ r.
-    removals_answer t moment bus rule (removed_ids ids r.targets) (failed_ids ids r.targets))
-
--- A change of the policy of a bus. A missing bus is refused.
--- Shown by: tables router_calls.rows: each_change_is_answered.
-abbrev pub IsOnBus : Tables → List ℕ → (Bus → Answer → Type 0) → Answer → Type 0
-IsOnBus t bus IsChanged a =
-    ((has_bus bus t.set ≡ false) × (a ≡ reply_alone (refused (cause.NotFound kind.EventBus bus))))
-    ⊎ ((b : Bus) × (named (λ other. other.name) bus t.set.buses ≡ Some b) × IsChanged b a)
-
--- PutPermission with a `Policy`: the bus gets this policy, by its text as it is stored. The change is made or refused like others.
--- Shown by: permissions.
-abbrev pub IsPolicyPut : Tables → ℕ → List ℕ → List ℕ → Answer → Type 0
-IsPolicyPut t moment bus policy a = IsControlled t moment (policy_put bus (Some policy)) empty_reply a
-
--- A statement is put to a policy: refused if the policy has its StatementId already, else the policy with the statement is put.
--- Shown by: tables router_calls.rows: each_change_is_answered.
-abbrev pub IsGranted : Tables → ℕ → List ℕ → List ℕ → Option (List ℕ) → Option Tree → Answer → Type 0
-IsGranted t moment bus sid account policy a =
-    ((has_statement sid policy ≡ true) × (a ≡ reply_alone (refused (cause.StatementExists sid))))
-    ⊎ ((has_statement sid policy ≡ false)
-    × IsControlled t moment (policy_put bus (Some (compact_text (granting bus sid account policy)))) empty_reply a)
-
--- PutPermission of a statement, by the policy that the text of the bus is (router_core `IsPolicyOf`).
--- Shown by: a_statement_put_first.edit.
-abbrev pub IsStatementPut : Tables → ℕ → List ℕ → List ℕ → Option (List ℕ) → Answer → Type 0
-IsStatementPut t moment bus sid account a =
-    IsOnBus t bus (λ b answer. (policy : Option Tree) × IsPolicyOf b.policy policy × IsGranted t moment bus sid account policy answer) a
-
--- A statement is removed from a policy: refused if the policy has none of this StatementId, else what is left is put.
--- Shown by: tables router_calls.rows: each_change_is_answered.
-abbrev pub IsRevoked : Tables → ℕ → List ℕ → List ℕ → Option Tree → Answer → Type 0
-IsRevoked t moment bus sid None a = a ≡ reply_alone (refused (cause.NoStatement sid))
-IsRevoked t moment bus sid (Some policy) a =
-    ((has_statement sid (Some policy) ≡ true) × IsControlled t moment (policy_put bus (revoking sid policy)) empty_reply a)
-    ⊎ ((has_statement sid (Some policy) ≡ false) × (a ≡ reply_alone (refused (cause.NoStatement sid))))
-
--- RemovePermission on a bus: without a StatementId it is refused.
--- Shown by: tables router_calls.rows: each_change_is_answered.
-abbrev pub IsStatementRemovedFrom : Tables → ℕ → List ℕ → Option (List ℕ) → Bus → Answer → Type 0
-IsStatementRemovedFrom t moment bus None b a = a ≡ reply_alone (refused (cause.Required member.StatementId))
-IsStatementRemovedFrom t moment bus (Some sid) b a =
-    (policy : Option Tree) × IsPolicyOf b.policy policy × IsRevoked t moment bus sid policy a
-
--- RemovePermission of a statement: a missing bus is refused; else by `IsStatementRemovedFrom`.
--- Shown by: tables router_calls.rows: each_change_is_answered.
-abbrev pub IsStatementRemoved : Tables → ℕ → List ℕ → Option (List ℕ) → Answer → Type 0
-IsStatementRemoved t moment bus sid a = IsOnBus t bus (IsStatementRemovedFrom t moment bus sid) a
-
--- The answer to a request of a caller by cases on its action, at the moment of its turn, from the tables before it. Events are matched on
--- the given rule set; everything else goes by that of the tables. A DeliverDue has no answer here: it is answered by its steps
--- (router_sessions `IsDelivery`).
+-- What is decided of an action, from the tables before its turn. Arguments are what matching found of it, on configuration version k, and
+-- the policy of the bus that it names (`IsPolicyNamed`). Events are matched on that version; everything else goes by the tables' own rule
+-- set. What is said of a DeliverDue has no use: it is answered by its steps (router_sessions `IsDelivery`).
 -- Shown by: tables router_calls.rows: each_request_is_answered.
-abbrev pub IsAnswerAt : Tables → RuleSet → List ℕ → ℕ → Action → Answer → Type 0
-IsAnswerAt t set caller moment (create_event_bus name) a =
-    IsControlled t moment (bus_created name) (served ((codes "EventBusArn", text (bus_arn name)) ∷ [])) a
-IsAnswerAt t set caller moment (delete_event_bus name) a = IsControlled t moment (bus_deleted name) empty_reply a
-IsAnswerAt t set caller moment (describe_event_bus name) a = a ≡ reply_alone (described_bus name t.set)
-IsAnswerAt t set caller moment (list_event_buses prefix) a = a ≡ reply_alone (listed_buses prefix t.set)
-IsAnswerAt t set caller moment (put_rule bus name pattern enabled) a =
-    IsControlled t moment (rule_put bus name pattern enabled) (served ((codes "RuleArn", text (rule_arn bus name)) ∷ [])) a
-IsAnswerAt t set caller moment (delete_rule bus name) a = IsRuleDeleted t moment bus name a
-IsAnswerAt t set caller moment (put_rule_state bus name enabled) a = IsControlled t moment (state_put bus name enabled) empty_reply a
-IsAnswerAt t set caller moment (describe_rule bus name) a = a ≡ reply_alone (described_rule bus name t.set)
-IsAnswerAt t set caller moment (list_rules bus prefix) a = a ≡ reply_alone (listed_rules bus prefix t.set)
-IsAnswerAt t set caller moment (put_targets bus rule targets) a = a ≡ targets_put_answer t moment bus rule targets
-IsAnswerAt t set caller moment (remove_targets bus rule ids) a = a ≡ targets_removed_answer t moment bus rule ids
-IsAnswerAt t set caller moment (list_targets_by_rule bus rule) a = a ≡ reply_alone (listed_targets bus rule t.set)
-IsAnswerAt t set caller moment (list_rule_names_by_target arn bus) a = a ≡ reply_alone (listed_rule_names arn bus t.set)
-IsAnswerAt t set caller moment (put_policy bus policy) a = IsPolicyPut t moment bus policy a
-IsAnswerAt t set caller moment (put_statement bus sid account) a = IsStatementPut t moment bus sid account a
-IsAnswerAt t set caller moment (remove_policy bus) a = IsControlled t moment (policy_put bus None) empty_reply a
-IsAnswerAt t set caller moment (remove_statement bus sid) a = IsStatementRemoved t moment bus sid a
-IsAnswerAt t set caller moment (put_events entries size) a = IsPublished t set caller moment entries size a
-IsAnswerAt t set caller moment (test_event_pattern pattern event) a = IsTested pattern event a
-IsAnswerAt t set caller moment (create_queue name) a =
-    IsControlled t moment (queue_created name) (served ((codes "QueueArn", text (queue_arn name)) ∷ [])) a
-IsAnswerAt t set caller moment (delete_queue name) a = IsQueueDeleted t moment name a
-IsAnswerAt t set caller moment (peek_messages queue limit) a = a ≡ reply_alone (peeked queue limit t.set t.duties)
-IsAnswerAt t set caller moment (delete_messages queue through) a = a ≡ messages_deletion t moment queue through
-IsAnswerAt t set caller moment duty_counts a = a ≡ reply_alone (duties_reply t.duties)
-IsAnswerAt t set caller moment (deliver_due budget) a = ⊥
+abbrev pub decided : Tables → ℕ → SeenResult → Option Tree → Action → Decided
+decided t k seen policy (create_event_bus name) =
+    controlled t.set (bus_created name) (served ((codes "EventBusArn", text (bus_arn name)) ∷ []))
+decided t k seen policy (delete_event_bus name) = controlled t.set (bus_deleted name) empty_reply
+decided t k seen policy (describe_event_bus name) = shown (described_bus name t.set)
+decided t k seen policy (list_event_buses prefix) = shown (listed_buses prefix t.set)
+decided t k seen policy (put_rule bus name pattern enabled) =
+    controlled t.set (rule_put bus name pattern enabled) (served ((codes "RuleArn", text (rule_arn bus name)) ∷ []))
+decided t k seen policy (delete_rule bus name) = rule_deletion t.set bus name
+decided t k seen policy (put_rule_state bus name enabled) = controlled t.set (state_put bus name enabled) empty_reply
+decided t k seen policy (describe_rule bus name) = shown (described_rule bus name t.set)
+decided t k seen policy (list_rules bus prefix) = shown (listed_rules bus prefix t.set)
+decided t k seen policy (put_targets bus rule targets) = on_rule t.set bus rule (λ r. targets_decided t.set bus rule r.targets targets)
+decided t k seen policy (remove_targets bus rule ids) = on_rule t.set bus rule (λ r. removals_decided bus rule r.targets ids)
+decided t k seen policy (list_targets_by_rule bus rule) = shown (listed_targets bus rule t.set)
+decided t k seen policy (list_rule_names_by_target arn bus) = shown (listed_rule_names arn bus t.set)
+decided t k seen policy (put_policy bus given) = controlled t.set (policy_put bus (Some given)) empty_reply
+decided t k seen policy (put_statement bus sid account) = on_bus t.set bus (statement_put t.set bus sid account policy)
+decided t k seen policy (remove_policy bus) = controlled t.set (policy_put bus None) empty_reply
+decided t k seen policy (remove_statement bus sid) = on_bus t.set bus (statement_removed t.set bus sid policy)
+decided t k seen policy (put_events entries size) = publication t k seen entries size
+decided t k seen policy (test_event_pattern pattern event) = shown (tested_reply (is_tested seen))
+decided t k seen policy (create_queue name) =
+    controlled t.set (queue_created name) (served ((codes "QueueArn", text (queue_arn name)) ∷ []))
+decided t k seen policy (delete_queue name) = queue_deletion t name
+decided t k seen policy (peek_messages queue limit) = shown (peeked queue limit t.set t.duties)
+decided t k seen policy (delete_messages queue through) = messages_deletion t queue through
+decided t k seen policy duty_counts = shown (duties_reply t.duties)
+decided t k seen policy (deliver_due budget) = shown empty_reply
 
--- `IsAnswerAt` at the moment of the turn, on a configuration version that the tables have had. Only a PutEvents may be matched on an
--- earlier version than the latest. A request outside `IsBounded` has no answer, and neither has one that its caller may not make
--- (router_core `IsEntitled`).
+-- What a request's turn writes, a batch or none, and its reply.
+-- Shown by: tables router_calls.rows: each_request_is_answered.
+pub record Answer : Type 0 where
+  pub batch : Option batch.Batch
+  pub reply : Reply
+
+-- These operations as one batch of a moment, with the reply. Without an operation nothing is written. At the number limit nothing is written
+-- either, and the request is refused.
+-- Shown by: tables router_calls.rows: each_request_is_answered.
+abbrev pub written : Tables → ℕ → List batch.Entry → Reply → Answer
+written t moment [] reply = record { batch = None; reply = reply }
+written t moment (entry ∷ entries) reply =
+    if is_full t then record { batch = None; reply = refused cause.NumberLimit }
+    else record { batch = Some (record { moment = moment; entries = entry ∷ entries }); reply = reply }
+
+-- The answer that follows from a decision, at the moment of the turn.
+-- Shown by: tables router_calls.rows: each_request_is_answered.
+abbrev pub answer_at : Tables → ℕ → Decided → Answer
+answer_at t moment d = written t moment d.entries d.reply
+
+-- The accepted events of a PutEvents are events. Another action has none, and neither has a PutEvents that is refused as a whole.
+-- Shown by: event_tests test_event_shape.rt: an_event_has_its_exact_text.
+abbrev pub HasEvents : Tables → ℕ → SeenResult → Action → Type 0
+HasEvents t k seen (put_events entries size) =
+    nat_lt most_together size ≡ false → AreEventsOf k (t.events + 1) entries (entries_seen seen)
+HasEvents t k seen action = Unit {0}
+
+-- The answer to a request that one turn answers: `decided` at the moment of the turn, on a configuration version that the tables have had.
+-- Only a PutEvents may be matched on an earlier version than the latest. Each entry that is accepted is an event at the moment of its time.
+-- A request outside `IsBounded` has no answer, and neither has one that its caller may not make (router_core `IsEntitled`).
 -- Shown by: tables router_calls.rows: each_request_is_answered.
 pub record IsAnswer (t : Tables) (request : Request) (k : ℕ) (set : RuleSet) (a : Answer) : Type 0 where
   pub bounded : IsBounded request.action
   pub entitled : IsEntitled request
+  pub one_turn : IsOneTurn request.action
   pub version : set.count ≡ k
   pub known : k ≤ t.set.count
   pub latest : (IsPublishing request.action → ⊥) → set ≡ t.set
-  pub answers : IsAnswerAt t set request.caller (moment_at t request.reading) request.action a
+  pub seen : SeenResult
+  pub is_seen : IsSeenResult set request.caller request.action seen
+  pub policy : Option Tree
+  pub is_policy : IsPolicyNamed t.set request.action policy
+  pub answers : a ≡ answer_at t (moment_at t request.reading) (decided t k seen policy request.action)
+  pub events : HasEvents t k seen request.action

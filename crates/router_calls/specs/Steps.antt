@@ -1,17 +1,18 @@
--- For private clauses: what was seen of an action, and what one entry or target, or several, add to what was read before them.
-use Rattle.std.specs.Prelude.{◌≡◌, ℕ, ◌+◌, ◌≤◌, List, [], ◌∷◌, ◌++◌, length, map, Result, Ok, Err, All, codes}
-use Rattle.json_text.specs.Moment.{IsMoment}
+-- For private clauses: what was seen of an action, what is decided of it, and what one entry or target, or several, add to what was read
+-- before them.
+use Rattle.std.specs.Prelude.{◌≡◌, ℕ, ◌+◌, ◌≤◌, List, [], ◌∷◌, ◌++◌, length, map, Option, None, Result, Ok, Err, All, IsTrue, codes}
+use Rattle.json_text.specs.Tree.{Tree}
 use Rattle.json_text.specs.View.{trees_of}
-use Rattle.event_shape.specs.Names.{owner}
+use Rattle.event_shape.specs.Names.{is_account}
+use Rattle.name_rows.specs.Rows.{named}
 use Rattle.rule_targets.specs.declared.target.AskedTarget.{AskedTarget}
 use Rattle.rule_targets.specs.declared.target.Target.{Target}
 use Rattle.rule_table.specs.RuleSet.{RuleSet}
 use Rattle.rule_table.specs.Sound.{IsSound}
 use Rattle.rule_table.specs.Refusal.{target_fault}
 use Rattle.api_replies.specs.declared.cause.Cause.{Cause}
-use Rattle.api_replies.specs.Reply.{Reply}
 use Rattle.router_core.specs.Batch as batch
-use Rattle.router_core.specs.Request.{Action, put_events, test_event_pattern}
+use Rattle.router_core.specs.Request.{Action, put_events, put_statement, remove_statement}
 use Rattle.router_core.specs.Tables.{Tables}
 use Rattle.router_core.specs.Admitted.{AreAdmitted, IsAnEvent}
 use Rattle.router_core.specs.View.{accepted_of, entry_of}
@@ -22,10 +23,11 @@ use Rattle.router_core.specs.declared.batch.Entry.TheVariants as entry
 use Rattle.router_core.specs.declared.ready.Part.{Part}
 use Rattle.router_core.specs.declared.seen.Seen.{Seen}
 use Rattle.router_core.specs.declared.seen.SeenEntry.{SeenEntry}
-use Rattle.router_calls.specs.Accepted.{Given, Placed, ArePlaced, events_in, failures_in}
+use Rattle.router_calls.specs.Accepted.{Given, Found, Placed, AreEventsOf, all_placed, events_in, failures_in}
+use Rattle.router_calls.specs.Permission.{IsPolicyThere}
 use Rattle.router_calls.specs.Targets.{having, accepted_first, failed_first, accepted_targets, failed_targets}
 use Rattle.call_replies.specs.Replies.{target_report, items_reply}
-use Rattle.router_calls.specs.Answer.{Answer, IsAnswerAt, IsPublished, IsTested, entry_report, reply_alone, writes}
+use Rattle.router_calls.specs.Answer.{Decided, decided, entry_report, on_bus, statement_put, statement_removed}
 use Rattle.router_calls.specs.declared.put_events.PlacedEntries.{PlacedEntries}
 use Rattle.router_calls.specs.declared.put_targets.SplitTargets.{SplitTargets}
 
@@ -36,13 +38,16 @@ pub record IsSeenOn (t : Tables) (set : RuleSet) (caller : List ℕ) (action : A
   pub known : set.count ≤ t.set.count
   pub result : IsSeenResult set caller action seen.result
 
--- the answer to an action, whatever the result of matching is one of
-abbrev pub IsAnsweredBy : Tables → Seen → ℕ → Action → Answer → Type 0
-IsAnsweredBy t seen moment (put_events entries size) a =
-    (set : RuleSet) (caller : List ℕ) → IsSeenOn t set caller (put_events entries size) seen → IsPublished t set caller moment entries size a
-IsAnsweredBy t seen moment (test_event_pattern pattern event) a =
-    (set : RuleSet) (caller : List ℕ) → IsSeenOn t set caller (test_event_pattern pattern event) seen → IsTested pattern event a
-IsAnsweredBy t seen moment action a = IsAnswerAt t t.set owner moment action a
+-- what is decided by the policy of the bus of this name, if the bus is there
+abbrev pub IsByPolicy : RuleSet → List ℕ → (Option Tree → Decided) → Decided → Type 0
+IsByPolicy set bus decide d =
+    (policy : Option Tree) × IsPolicyThere (named (λ b. b.name) bus set.buses) policy × (d ≡ on_bus set bus (decide policy))
+
+-- what is decided of an action by what was seen of it
+abbrev pub IsDecidedAs : Tables → Seen → Action → Decided → Type 0
+IsDecidedAs t seen (put_statement bus sid account) d = IsByPolicy t.set bus (statement_put t.set bus sid account) d
+IsDecidedAs t seen (remove_statement bus sid) d = IsByPolicy t.set bus (statement_removed t.set bus sid) d
+IsDecidedAs t seen action d = d ≡ decided t seen.k seen.result None action
 
 -- the results of matching entries of this caller, on configuration version k, which the tables have had
 pub record AreSeenOn (t : Tables) (set : RuleSet) (caller : List ℕ) (entries : List Given) (k : ℕ) (all : List SeenEntry) : Type 0 where
@@ -56,32 +61,41 @@ abbrev pub placed_of : Result AcceptedEvent Cause → Placed
 placed_of (Ok e) = Ok (accepted_of e)
 placed_of (Err c) = Err c
 
--- the entries, of which the first event gets this number, add these events with their parts, and reports
-pub record AddsEntries (set : RuleSet) (caller : List ℕ) (n : ℕ) (entries : List Given) (old new : PlacedEntries) : Type 0 where
-  pub all : List Placed
-  pub are : ArePlaced set caller n entries all
-  pub timed : All (λ (e : batch.Accepted). IsMoment e.time) (events_in all)
+-- the event of the entry, if it is one, has the account of a caller
+abbrev pub HasAccount : Given → Type 0
+HasAccount (Ok event) = IsTrue (is_account event.event.account)
+HasAccount (Err fault) = Unit {0}
+
+-- the events of a PutEvents have accounts of callers
+abbrev pub HaveAccounts : Action → Type 0
+HaveAccounts (put_events entries size) = All HasAccount entries
+HaveAccounts action = Unit {0}
+
+-- entries that became this add events with their parts, and reports
+pub record Adds (all : List Placed) (old new : PlacedEntries) : Type 0 where
   pub events : map entry_of new.entries.items ≡ map entry_of old.entries.items ++ map batch.accepted (events_in all)
   pub parts : (s : RuleSet) → ArePartsOf s (map entry_of old.entries.items) old.parts.items
       → ArePartsOf s (map entry_of new.entries.items) new.parts.items
   pub reports : trees_of new.reports.items ≡ trees_of old.reports.items ++ map entry_report all
   pub failed : new.failed ≡ old.failed + failures_in all
 
--- the entries as one batch, with this reply; without an entry nothing is written
-abbrev pub entries_answer : Tables → ℕ → List batch.Entry → Reply → Answer
-entries_answer t moment [] reply = reply_alone reply
-entries_answer t moment (e ∷ es) reply = writes t moment (e ∷ es) reply
+-- the entries, of which the first event gets the number n, add what they became, and the accepted ones are events
+pub record Places (k n : ℕ) (entries : List Given) (found : List Found) (old new : PlacedEntries) : Type 0 where
+  pub adds : Adds (all_placed k n entries found) old new
+  pub events : AreEventsOf k n entries found
 
--- the answer for the entries that were placed
-abbrev pub placed_answer : Tables → ℕ → PlacedEntries → Answer
-placed_answer t moment all =
-    entries_answer t moment (map entry_of all.entries.items) (items_reply all.failed (codes "Entries") (trees_of all.reports.items))
+-- what is decided for the entries that were placed
+abbrev pub placed_decided : PlacedEntries → Decided
+placed_decided all = record {
+  entries = map entry_of all.entries.items;
+  reply = items_reply all.failed (codes "Entries") (trees_of all.reports.items);
+}
 
 -- the events that were placed are those of one turn, are admitted, and have their parts
-pub record AreReady (t : Tables) (moment : ℕ) (all : PlacedEntries) : Type 0 where
+pub record AreReady (t : Tables) (all : PlacedEntries) : Type 0 where
   pub few : length (map entry_of all.entries.items) ≤ 10
-  pub events : All IsAnEvent (map entry_of all.entries.items)
-  pub admitted : AreAdmitted moment (map entry_of all.entries.items) t
+  pub are_events : All IsAnEvent (map entry_of all.entries.items)
+  pub admitted : (moment : ℕ) → AreAdmitted moment (map entry_of all.entries.items) t
   pub parts : ArePartsOf t.set (map entry_of all.entries.items) all.parts.items
 
 -- the targets add those that are accepted, and reports of the others

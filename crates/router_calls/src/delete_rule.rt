@@ -1,18 +1,16 @@
 //! DeleteRule.
-ghost use Rattle.std.specs.Prelude.{◌≡◌, ◌≤◌, IfOk, IfSome};
-ghost use Rattle.json_text.specs.Moment.{IsMoment};
+ghost use Rattle.std.specs.Prelude.{◌≡◌, IfOk};
 ghost use Rattle.rule_table.specs.Control.{rule_deleted};
 ghost use Rattle.rule_targets.specs.WellFormed.{NamesRule};
-ghost use Rattle.router_core.specs.Ready.{IsReadyFor};
 ghost use Rattle.call_replies.specs.Replies.{empty_reply};
-ghost use Rattle.router_calls.specs.Answer.{IsControlled, IsRuleDeleted, lacks_rule};
-ghost use Rattle.router_calls.specs.Decided.{answer_of};
+ghost use Rattle.router_calls.specs.Answer.{controlled, lacks_rule, rule_deletion};
+ghost use Rattle.router_calls.specs.Decided.{decided_of, CanBeMade};
 
 use crate::configure::configure;
-use crate::reply::shown;
+use crate::decided::{Decided, shown};
 use call_replies::empty_reply;
 use json_text::{NoMemory, Text};
-use router_core::{Ready, Reply, Tables};
+use router_core::Tables;
 use rule_table::{Control, RuleSet};
 use std::alloc::Global;
 
@@ -20,20 +18,17 @@ use std::alloc::Global;
 pub(crate) fn delete_rule(
     alloc: Global,
     tables: &Tables,
-    moment: u64,
     bus: &Text,
     name: &Text,
-) -> Result<(Option<Ready>, Reply), NoMemory>
-    requires moment { IsMoment moment }
-    requires later { tables.now.moment ≤ moment }
+) -> Result<Decided, NoMemory>
     requires names { NamesRule bus.now name.now }
-    ensures answer { IfOk result (λ p. IsRuleDeleted tables.now moment bus.now name.now (answer_of p)) }
-    ensures ready { IfOk result (λ p. IfSome p.0 (λ r. IsReadyFor tables.now r)) }
+    ensures answer { IfOk result (λ d. decided_of d ≡ rule_deletion tables.now.set bus.now name.now) }
+    ensures made { IfOk result (λ d. CanBeMade tables.now d) }
 {
     if lacks_rule(tables.set(), bus.as_str(), name.as_str()) {
-        Ok(shown(empty_reply(alloc)))
+        Ok(shown(alloc, empty_reply(alloc)))
     } else {
-        delete(alloc, tables, moment, bus, name)
+        delete(alloc, tables, bus, name)
     }
 }
 
@@ -45,22 +40,14 @@ fn lacks_rule(set: &RuleSet, bus: &str, name: &str) -> bool
 }
 
 /// Deletes the rule, or refuses the change.
-fn delete(
-    alloc: Global,
-    tables: &Tables,
-    moment: u64,
-    bus: &Text,
-    name: &Text,
-) -> Result<(Option<Ready>, Reply), NoMemory>
-    requires moment { IsMoment moment }
-    requires later { tables.now.moment ≤ moment }
+fn delete(alloc: Global, tables: &Tables, bus: &Text, name: &Text) -> Result<Decided, NoMemory>
     requires names { NamesRule bus.now name.now }
-    ensures answer { IfOk result (λ p. IsControlled tables.now moment (rule_deleted bus.now name.now) empty_reply (answer_of p)) }
-    ensures ready { IfOk result (λ p. IfSome p.0 (λ r. IsReadyFor tables.now r)) }
+    ensures answer { IfOk result (λ d. decided_of d ≡ controlled tables.now.set (rule_deleted bus.now name.now) empty_reply) }
+    ensures made { IfOk result (λ d. CanBeMade tables.now d) }
 {
     let control = Control::RuleDeleted {
         bus: bus.copy(alloc)?,
         name: name.copy(alloc)?,
     };
-    configure(alloc, tables, moment, control, empty_reply(alloc))
+    configure(alloc, tables, control, empty_reply(alloc))
 }

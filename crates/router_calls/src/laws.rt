@@ -25,5 +25,5 @@ pub fn a_stranger_only_publishes()
 /// A request writes no change of the configuration but the one that it asks for.
 pub fn only_its_request()
     ensures { (t : Tables) (r : Request) (k : ℕ) (set : RuleSet) (a : Answer) (b : Batch) (c : Control) → IsAnswer t r k set a → a.batch ≡ Some b
-        → Contains b.entries (control c) → MayMake r.action c }
+        → Contains b.entries (control c) → MayMake t.set r.action c }
 {}

@@ -4,11 +4,13 @@
 mod configure;
 mod create_event_bus;
 mod create_queue;
+mod decided;
 mod delete_event_bus;
 mod delete_messages;
 mod delete_queue;
 mod delete_rule;
 mod laws;
+mod on_rule;
 mod policy_change;
 mod put_events;
 mod put_permission;
@@ -17,7 +19,6 @@ mod put_rule_state;
 mod put_targets;
 mod remove_permission;
 mod remove_targets;
-mod reply;
 mod requests;
 mod test_event_pattern;
 

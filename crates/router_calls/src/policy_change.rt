@@ -1,46 +1,42 @@
 //! Changes of the policy of a bus.
-ghost use Rattle.std.specs.Prelude.{◌≡◌, ◌≤◌, true, None, IfOk, IfSome};
-ghost use Rattle.json_text.specs.Moment.{IsMoment};
+ghost use Rattle.std.specs.Prelude.{◌≡◌, true, IfOk};
+ghost use Rattle.std.specs.Option.{option_copied};
 ghost use Rattle.event_shape.specs.Names.{IsBusName};
 ghost use Rattle.rule_table.specs.Control.{policy_put};
 ghost use Rattle.rule_table.specs.Refusal.{is_short};
 ghost use Rattle.rule_table.specs.WellFormed.{IsNoneOrStored};
-ghost use Rattle.api_replies.specs.declared.kind.Kind.TheVariants as kind_is;
-ghost use Rattle.api_replies.specs.declared.cause.Cause.TheVariants as cause_is;
-ghost use Rattle.api_replies.specs.Reply as replies;
-ghost use Rattle.router_core.specs.Ready.{IsReadyFor};
+ghost use Rattle.router_core.specs.Verdict.{IsPolicyOf};
 ghost use Rattle.call_replies.specs.Replies.{empty_reply};
-ghost use Rattle.router_calls.specs.Answer.{IsControlled, reply_alone};
-ghost use Rattle.router_calls.specs.Decided.{answer_of};
+ghost use Rattle.router_calls.specs.Answer.{controlled};
+ghost use Rattle.router_calls.specs.Decided.{decided_of, CanBeMade};
+ghost use Rattle.router_calls.specs.Permission.{has_statement};
 
 use crate::configure::configure;
-use crate::reply::refused;
+use crate::decided::Decided;
+use bus_policy::Policy;
 use call_replies::empty_reply;
 use json_text::{NoMemory, Text};
-use router_core::{Cause, Kind, Ready, Reply, Tables};
-use rule_table::{Control, StoredPolicy};
+use router_core::Tables;
+use rule_table::{Bus, Control, StoredPolicy};
 use std::alloc::Global;
 
 /// Gives the bus this policy, or takes its policy away.
 pub(crate) fn change_policy(
     alloc: Global,
     tables: &Tables,
-    moment: u64,
     bus: &Text,
     policy: Option<StoredPolicy>,
-) -> Result<(Option<Ready>, Reply), NoMemory>
-    requires moment { IsMoment moment }
-    requires later { tables.now.moment ≤ moment }
+) -> Result<Decided, NoMemory>
     requires bus { IsBusName bus.now }
-    ensures answer { IfOk result (λ p. IsControlled tables.now moment (policy_put bus.now policy) empty_reply (answer_of p)) }
-    ensures ready { IfOk result (λ p. IfSome p.0 (λ r. IsReadyFor tables.now r)) }
+    ensures answer { IfOk result (λ d. decided_of d ≡ controlled tables.now.set (policy_put bus.now policy) empty_reply) }
+    ensures made { IfOk result (λ d. CanBeMade tables.now d) }
 {
     read_policy(&policy);
     let control = Control::PolicyPut {
         bus: bus.copy(alloc)?,
         policy,
     };
-    configure(alloc, tables, moment, control, empty_reply(alloc))
+    configure(alloc, tables, control, empty_reply(alloc))
 }
 
 /// Reads the policy for its contract alone: a policy that is not too long has a text that is read back as itself.
@@ -52,12 +48,22 @@ fn read_policy(policy: &Option<StoredPolicy>)
     }
 }
 
-/// The refusal that the bus does not exist.
-pub(crate) fn no_bus(alloc: Global, bus: &Text) -> Result<(Option<Ready>, Reply), NoMemory>
-    ensures answer { IfOk result (λ p. answer_of p ≡ reply_alone (replies.refused (cause_is.NotFound kind_is.EventBus bus.now))) }
-    ensures ready { IfOk result (λ p. p.0 ≡ None) }
+/// The policy of the bus, if it has one.
+pub(crate) fn policy_in(bus: &Bus) -> Option<&Policy>
+    ensures { IsPolicyOf bus.now.policy (option_copied result) }
 {
-    let name = bus.copy(alloc)?;
-    let kind = Kind::EventBus;
-    refused(alloc, &Cause::NotFound { kind, name })
+    match bus.policy() {
+        Some(policy) => Some(policy.policy()),
+        None => None,
+    }
+}
+
+/// Whether a statement of the policy, if there is one, has this StatementId.
+pub(crate) fn has_statement(policy: Option<&Policy>, sid: &str) -> bool
+    ensures { result ≡ has_statement sid.now (option_copied policy.entry) }
+{
+    match policy {
+        Some(policy) => policy.has_sid(sid),
+        None => false,
+    }
 }

@@ -1,26 +1,28 @@
 //! PutEvents.
-ghost use Rattle.std.specs.Prelude.{◌≡◌, ◌≤◌, ◌<◌, ◌+◌, ◌^◌, ℕ, List, length, Ok, IfOk, IfSome, OnOk};
-ghost use Rattle.json_text.specs.Moment.{IsMoment};
+ghost use Rattle.std.specs.Prelude.{◌≡◌, ◌<◌, ◌+◌, ◌^◌, ℕ, List, length, map, nat_lt, if◌then◌else◌, false, Ok, IfOk, OnOk, All};
+ghost use Rattle.json_text.specs.Limits.{most_together};
 ghost use Rattle.json_text.specs.View.{tree_of};
+ghost use Rattle.event_shape.specs.Event.{IsEventAt};
+ghost use Rattle.event_shape.specs.Unnumbered.{with_number};
 ghost use Rattle.rule_table.specs.RuleSet.{RuleSet};
+ghost use Rattle.api_replies.specs.declared.cause.Cause.TheVariants as cause_is;
 ghost use Rattle.router_core.specs.Request.{put_events};
 ghost use Rattle.router_core.specs.View.{accepted_of};
-ghost use Rattle.router_core.specs.Matching.{AreMatchedFor, AreSeenEntries, IsSeenEntry};
-ghost use Rattle.router_core.specs.Ready.{IsReadyFor};
-ghost use Rattle.router_calls.specs.Accepted.{IsAcceptedAs, IsPlaced};
+ghost use Rattle.router_core.specs.Matching.{AreSeenEntries, IsSeenEntry};
 ghost use Rattle.router_core.specs.Bounds.{IsBounded};
-ghost use Rattle.router_calls.specs.Answer.{IsPublished, entry_report};
-ghost use Rattle.router_calls.specs.Decided.{answer_of};
-ghost use Rattle.router_calls.specs.Steps.{placed_of, placed_answer, AddsEntries, AreReady, AreSeenOn, IsEventAdded, IsRefusalAdded, IsSeenOn};
+ghost use Rattle.router_calls.specs.Accepted.{accepted_as, all_placed, found_of, placed, AreEventsOf, IsEventOf};
+ghost use Rattle.router_calls.specs.Answer.{entry_report, publication, published, refusal, HasEvents};
+ghost use Rattle.router_calls.specs.Decided.{decided_of, CanBeMade};
+ghost use Rattle.router_calls.specs.Steps.{placed_of, placed_decided, Places, AreReady, AreSeenOn, HasAccount, IsEventAdded, IsRefusalAdded, IsSeenOn};
 
-use crate::reply::refused;
+use crate::decided::{Decided, refused};
 use crate::requests::read_tables;
 use call_replies::{entry_cause, items_reply};
 use event_shape::{EntryFault, Unnumbered, event_id};
 use json_text::{Items, Json, Members, NoMemory, Text, push_member};
 use router_core::{
-    AcceptedEvent, Batch, Cause, Entry, Member, Part, Ready, Reply, Seen, SeenEntries, SeenEntry,
-    SeenResult, SeenTargets, SeenVerdict, Tables, duties_of, push_failure,
+    AcceptedEvent, Cause, Entry, Member, Part, Seen, SeenEntries, SeenEntry, SeenResult,
+    SeenTargets, SeenVerdict, Tables, duties_of, push_failure,
 };
 use shared_text::SharedText;
 use std::alloc::Global;
@@ -33,23 +35,19 @@ const SIZE_LIMIT: u64 = 262_144;
 pub(crate) fn put_events(
     alloc: Global,
     tables: &Tables,
-    moment: u64,
     entries: &[Result<Unnumbered, EntryFault>],
     size: u64,
     seen: &mut Seen,
-) -> Result<(Option<Ready>, Reply), NoMemory>
-    requires moment { IsMoment moment }
-    requires later { tables.now.moment ≤ moment }
+) -> Result<Decided, NoMemory>
     requires bounded { IsBounded (put_events entries.now size) }
+    requires accounts { All HasAccount entries.now }
     requires seen { (set : RuleSet) × (caller : List ℕ) × IsSeenOn tables.now set caller (put_events entries.now size) seen.old }
-    ensures answer { IfOk result (λ p. (set : RuleSet) (caller : List ℕ) → IsSeenOn tables.now set caller (put_events entries.now size) seen.old
-        → IsPublished tables.now set caller moment entries.now size (answer_of p)) }
-    ensures ready { IfOk result (λ p. IfSome p.0 (λ r. IsReadyFor tables.now r)) }
+    ensures answer { IfOk result (λ d. decided_of d ≡ publication tables.now seen.old.k seen.old.result entries.now size) }
+    ensures events { OnOk result (HasEvents tables.now seen.old.k seen.old.result (put_events entries.now size)) }
+    ensures made { IfOk result (λ d. CanBeMade tables.now d) }
 {
     match &mut seen.result {
-        SeenResult::Entries(found) => {
-            publish(alloc, tables, moment, entries, size, seen.k, found)
-        }
+        SeenResult::Entries(found) => publish(alloc, tables, entries, size, seen.k, found),
         SeenResult::Tested(_) | SeenResult::Nothing => unreachable!(),
     }
 }
@@ -58,19 +56,19 @@ pub(crate) fn put_events(
 fn publish(
     alloc: Global,
     tables: &Tables,
-    moment: u64,
     entries: &[Result<Unnumbered, EntryFault>],
     size: u64,
     k: u64,
     found: &mut SeenEntries,
-) -> Result<(Option<Ready>, Reply), NoMemory>
-    requires moment { IsMoment moment }
-    requires later { tables.now.moment ≤ moment }
+) -> Result<Decided, NoMemory>
     requires bounded { IsBounded (put_events entries.now size) }
+    requires accounts { All HasAccount entries.now }
     requires seen { (set : RuleSet) × (caller : List ℕ) × AreSeenOn tables.now set caller entries.now k found.old.items }
-    ensures answer { IfOk result (λ p. (set : RuleSet) (caller : List ℕ) → AreSeenOn tables.now set caller entries.now k found.old.items
-        → IsPublished tables.now set caller moment entries.now size (answer_of p)) }
-    ensures ready { IfOk result (λ p. IfSome p.0 (λ r. IsReadyFor tables.now r)) }
+    ensures answer { IfOk result (λ d. decided_of d ≡ (if nat_lt most_together size then refusal cause_is.TooLargeTogether
+        else published (all_placed k (tables.now.events + 1) entries.now (map found_of found.old.items)))) }
+    ensures events { OnOk result (nat_lt most_together size ≡ false
+        → AreEventsOf k (tables.now.events + 1) entries.now (map found_of found.old.items)) }
+    ensures made { IfOk result (λ d. CanBeMade tables.now d) }
 {
     if size > SIZE_LIMIT {
         return refused(alloc, &Cause::TooLargeTogether);
@@ -83,21 +81,14 @@ fn publish(
         failed: 0,
     };
     place_all(alloc, entries, k, found, tables.events() + 1, &mut all)?;
-    written(alloc, tables, moment, all)
+    reported(alloc, tables, all)
 }
 
-/// The batch of the events, and the reply. Without an event nothing is written.
-fn written(
-    alloc: Global,
-    tables: &Tables,
-    moment: u64,
-    all: PlacedEntries,
-) -> Result<(Option<Ready>, Reply), NoMemory>
-    requires moment { IsMoment moment }
-    requires later { tables.now.moment ≤ moment }
-    requires admitted { AreReady tables.now moment all }
-    ensures answer { IfOk result (λ p. answer_of p ≡ placed_answer tables.now moment all) }
-    ensures ready { IfOk result (λ p. IfSome p.0 (λ r. IsReadyFor tables.now r)) }
+/// The events with their parts, and the reply.
+fn reported(alloc: Global, tables: &Tables, all: PlacedEntries) -> Result<Decided, NoMemory>
+    requires ready { AreReady tables.now all }
+    ensures answer { IfOk result (λ d. decided_of d ≡ placed_decided all) }
+    ensures made { IfOk result (λ d. CanBeMade tables.now d) }
 {
     let PlacedEntries {
         entries,
@@ -106,14 +97,11 @@ fn written(
         failed,
     } = all;
     let reply = items_reply(alloc, failed, "Entries", reports)?;
-    if entries.is_empty() {
-        return Ok((None, reply));
-    }
-    if tables.full() {
-        return refused(alloc, &Cause::NumberLimit);
-    }
-    let ready = Ready::new(Batch { moment, entries }, parts);
-    Ok((Some(ready), reply))
+    Ok(Decided {
+        entries,
+        parts,
+        reply,
+    })
 }
 
 /// What entries became.
@@ -141,8 +129,7 @@ fn place_all(
     requires seen { (set : RuleSet) × (caller : List ℕ) × AreSeenEntries set caller entries.now found.old.items }
     requires number { number + length entries.now < 2 ^ 63 }
     requires failed { all.old.failed + length entries.now < 2 ^ 63 }
-    ensures { OnOk result ((set : RuleSet) (caller : List ℕ) → k ≡ set.count → AreSeenEntries set caller entries.now found.old.items
-        → AddsEntries set caller number entries.now all.old all.new) }
+    ensures { OnOk result (Places k number entries.now (map found_of found.old.items) all.old all.new) }
 {
     match entries {
         [entry, rest @ ..] => match found.pop_front() {
@@ -193,9 +180,8 @@ fn place(
     number: u64,
 ) -> Result<Result<AcceptedEvent, Cause>, NoMemory>
     requires { (set : RuleSet) × (caller : List ℕ) × IsSeenEntry set caller entry.now seen }
-    ensures placed { IfOk result (λ p. (set : RuleSet) (caller : List ℕ) → k ≡ set.count → IsSeenEntry set caller entry.now seen
-        → IsPlaced set caller number entry.now (placed_of p)) }
-    ensures timed { IfOk result (λ p. IfOk p (λ e. IsMoment e.time)) }
+    ensures placed { IfOk result (λ p. placed_of p ≡ placed k number entry.now (found_of seen)) }
+    ensures event { IfOk result (λ p. IsEventOf entry.now (placed_of p)) }
 {
     let SeenEntry { verdict, targets } = seen;
     match verdict {
@@ -218,9 +204,8 @@ fn accept(
     targets: SeenTargets,
     number: u64,
 ) -> Result<AcceptedEvent, NoMemory>
-    ensures accepted { IfOk result (λ e. (set : RuleSet) → k ≡ set.count → AreMatchedFor set event.now targets.items
-        → IsAcceptedAs set number event.now (accepted_of e)) }
-    ensures timed { IfOk result (λ e. IsMoment e.time) }
+    ensures accepted { IfOk result (λ e. accepted_of e ≡ accepted_as k number event.now targets.items) }
+    ensures event { IfOk result (λ e. IsEventAt e.time (with_number e.number event.now.event)) }
 {
     let text = SharedText::new(alloc, event.numbered(alloc, number)?)?;
     let duties = duties_of(alloc, targets, &text)?;

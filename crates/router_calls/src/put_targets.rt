@@ -1,19 +1,20 @@
 //! PutTargets.
-ghost use Rattle.std.specs.Prelude.{◌≡◌, ◌≤◌, length, map, IfOk, IfSome, OnOk};
-ghost use Rattle.json_text.specs.Moment.{IsMoment};
-ghost use Rattle.rule_table.specs.Target.{target_of};
+ghost use Rattle.std.specs.Prelude.{◌≡◌, ◌≤◌, length, map, Some, IfOk, OnOk};
 ghost use Rattle.rule_targets.specs.WellFormed.{NamesRule};
-ghost use Rattle.router_core.specs.Ready.{IsReadyFor};
-ghost use Rattle.router_calls.specs.Answer.{targets_put_answer};
-ghost use Rattle.router_calls.specs.Decided.{answer_of};
+ghost use Rattle.rule_table.specs.Control.{targets_put};
+ghost use Rattle.rule_table.specs.RuleSet.{rule_at};
+ghost use Rattle.rule_table.specs.Target.{target_of};
+ghost use Rattle.rule_table.specs.View.{control_of};
+ghost use Rattle.router_calls.specs.Answer.{on_rule, targets_decided};
+ghost use Rattle.router_calls.specs.Decided.{decided_of, CanBeMade};
 ghost use Rattle.router_calls.specs.Steps.{AddsTargets, AreAllSplit, IsOneSplit};
 
-use crate::configure::configure;
-use crate::reply::refused;
-use call_replies::{items_reply, target_cause, target_json};
+use crate::decided::Decided;
+use crate::on_rule::{are_some, change_with_reports, no_rule};
+use call_replies::{target_cause, target_json};
 use json_text::{Items, NoMemory, Text};
-use router_core::{Cause, Kind, Ready, Reply, Tables};
-use rule_table::{Control, RuleSet, RuleTarget, put_target};
+use router_core::Tables;
+use rule_table::{Control, Rule, RuleSet, RuleTarget, put_target};
 use rule_targets::{AskedTarget, Target};
 use std::alloc::Global;
 
@@ -21,44 +22,61 @@ use std::alloc::Global;
 pub(crate) fn put_targets(
     alloc: Global,
     tables: &Tables,
-    moment: u64,
     bus: &Text,
     rule: &Text,
     targets: &[AskedTarget],
-) -> Result<(Option<Ready>, Reply), NoMemory>
-    requires moment { IsMoment moment }
-    requires later { tables.now.moment ≤ moment }
+) -> Result<Decided, NoMemory>
     requires names { NamesRule bus.now rule.now }
     requires few { length targets.now ≤ 100 }
-    ensures answer { IfOk result (λ p. answer_of p ≡ targets_put_answer tables.now moment bus.now rule.now targets.now) }
-    ensures ready { IfOk result (λ p. IfSome p.0 (λ r. IsReadyFor tables.now r)) }
+    ensures answer { IfOk result (λ d. decided_of d ≡ on_rule tables.now.set bus.now rule.now (λ r.
+        targets_decided tables.now.set bus.now rule.now r.targets targets.now)) }
+    ensures made { IfOk result (λ d. CanBeMade tables.now d) }
 {
-    let set = tables.set();
-    if set.bus(bus.as_str()).is_none() {
-        let name = bus.copy(alloc)?;
-        let kind = Kind::EventBus;
-        return refused(alloc, &Cause::NotFound { kind, name });
+    match tables.set().rule(bus.as_str(), rule.as_str()) {
+        Some(old) => put_to(alloc, tables, bus, rule, old, targets),
+        None => no_rule(alloc, tables.set(), bus, rule),
     }
-    let Some(old) = set.rule(bus.as_str(), rule.as_str()) else {
-        let name = rule.copy(alloc)?;
-        let kind = Kind::Rule;
-        return refused(alloc, &Cause::NotFound { kind, name });
-    };
+}
+
+/// Puts the targets to the rule, which is there.
+fn put_to(
+    alloc: Global,
+    tables: &Tables,
+    bus: &Text,
+    rule: &Text,
+    old: &Rule,
+    targets: &[AskedTarget],
+) -> Result<Decided, NoMemory>
+    requires there { rule_at bus.now rule.now tables.now.set ≡ Some old.now }
+    requires names { NamesRule bus.now rule.now }
+    requires few { length targets.now ≤ 100 }
+    ensures answer { IfOk result (λ d. decided_of d ≡ targets_decided tables.now.set bus.now rule.now old.now.targets targets.now) }
+    ensures made { IfOk result (λ d. CanBeMade tables.now d) }
+{
     let SplitTargets {
         have: _,
         accepted,
         reports,
-    } = split_all(alloc, set, old.targets(), targets)?;
-    let reply = items_reply(alloc, reports.len() as u64, "FailedEntries", reports)?;
-    if accepted.is_empty() {
-        return Ok((None, reply));
-    }
-    let control = Control::TargetsPut {
+    } = split_all(alloc, tables.set(), old.targets(), targets)?;
+    let some = are_some(accepted.as_slice());
+    let control = targets_put(alloc, bus, rule, accepted)?;
+    change_with_reports(alloc, tables, some, control, reports)
+}
+
+/// The change that puts the targets.
+fn targets_put(
+    alloc: Global,
+    bus: &Text,
+    rule: &Text,
+    targets: Vec<Target>,
+) -> Result<Control, NoMemory>
+    ensures { IfOk result (λ control. control_of control ≡ targets_put bus.now rule.now targets.items) }
+{
+    Ok(Control::TargetsPut {
         bus: bus.copy(alloc)?,
         rule: rule.copy(alloc)?,
-        targets: accepted,
-    };
-    configure(alloc, tables, moment, control, reply)
+        targets,
+    })
 }
 
 /// Targets that were put one after the other.

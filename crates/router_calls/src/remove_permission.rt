@@ -1,98 +1,113 @@
 //! RemovePermission.
-ghost use Rattle.std.specs.Prelude.{◌≡◌, ◌≤◌, None, Some, IfOk, IfSome};
-ghost use Rattle.json_text.specs.Moment.{IsMoment};
-ghost use Rattle.json_text.specs.Tree.{Tree};
+ghost use Rattle.std.specs.Prelude.{◌≡◌, None, Some, true, IfOk};
+ghost use Rattle.std.specs.Option.{option_copied};
 ghost use Rattle.event_shape.specs.Names.{IsBusName};
-ghost use Rattle.bus_policy.specs.Text.{IsPolicyText};
 ghost use Rattle.rule_table.specs.Control.{policy_put};
 ghost use Rattle.api_replies.specs.declared.cause.Cause.TheVariants as cause_is;
-ghost use Rattle.api_replies.specs.Reply as replies;
-ghost use Rattle.router_core.specs.Ready.{IsReadyFor};
+ghost use Rattle.router_core.specs.Tables.{Tables as TablesView};
 ghost use Rattle.call_replies.specs.Replies.{empty_reply};
-ghost use Rattle.router_calls.specs.Answer.{IsControlled, IsRevoked, IsStatementRemoved, reply_alone};
-ghost use Rattle.router_calls.specs.Decided.{answer_of};
+ghost use Rattle.router_calls.specs.Answer.{controlled, refusal, statement_removed};
+ghost use Rattle.router_calls.specs.Decided.{decided_of, CanBeMade};
+ghost use Rattle.router_calls.specs.Permission.{has_statement, revoking};
+ghost use Rattle.router_calls.specs.Steps.{IsByPolicy};
 
-use crate::policy_change::{change_policy, no_bus};
-use crate::reply::refused;
-use bus_policy::Removed;
+use crate::decided::{Decided, refused};
+use crate::on_rule::no_bus;
+use crate::policy_change::{change_policy, has_statement, policy_in};
+use bus_policy::{Policy, Removed};
 use json_text::{NoMemory, Text};
-use router_core::{Cause, Member, Ready, Reply, Tables};
-use rule_table::{SharedPolicy, StoredPolicy};
+use router_core::{Cause, Member, Tables};
+use rule_table::StoredPolicy;
 use std::alloc::Global;
 
 /// Takes the bus's policy away.
-pub(crate) fn remove_policy(
-    alloc: Global,
-    tables: &Tables,
-    moment: u64,
-    bus: &Text,
-) -> Result<(Option<Ready>, Reply), NoMemory>
-    requires moment { IsMoment moment }
-    requires later { tables.now.moment ≤ moment }
+pub(crate) fn remove_policy(alloc: Global, tables: &Tables, bus: &Text) -> Result<Decided, NoMemory>
     requires bus { IsBusName bus.now }
-    ensures answer { IfOk result (λ p. IsControlled tables.now moment (policy_put bus.now None) empty_reply (answer_of p)) }
-    ensures ready { IfOk result (λ p. IfSome p.0 (λ r. IsReadyFor tables.now r)) }
+    ensures answer { IfOk result (λ d. decided_of d ≡ controlled tables.now.set (policy_put bus.now None) empty_reply) }
+    ensures made { IfOk result (λ d. CanBeMade tables.now d) }
 {
-    change_policy(alloc, tables, moment, bus, None)
+    change_policy(alloc, tables, bus, None)
 }
 
 /// Removes the statement of this StatementId from the bus's policy.
 pub(crate) fn remove_statement(
     alloc: Global,
     tables: &Tables,
-    moment: u64,
     bus: &Text,
     sid: &Option<Text>,
-) -> Result<(Option<Ready>, Reply), NoMemory>
-    requires moment { IsMoment moment }
-    requires later { tables.now.moment ≤ moment }
+) -> Result<Decided, NoMemory>
     requires bus { IsBusName bus.now }
-    ensures answer { IfOk result (λ p. IsStatementRemoved tables.now moment bus.now sid.now (answer_of p)) }
-    ensures ready { IfOk result (λ p. IfSome p.0 (λ r. IsReadyFor tables.now r)) }
+    ensures answer { IfOk result (λ d. IsByPolicy tables.now.set bus.now (statement_removed tables.now.set bus.now sid.now) (decided_of d)) }
+    ensures made { IfOk result (λ d. CanBeMade tables.now d) }
 {
     match tables.set().bus(bus.as_str()) {
-        Some(found) => match sid {
-            Some(sid) => match found.policy() {
-                Some(policy) => remove(alloc, tables, moment, bus, sid, policy),
-                None => no_statement(alloc, sid),
-            },
-            None => refused(alloc, &Cause::Required(Member::StatementId)),
-        },
+        Some(found) => remove_from(alloc, tables, bus, sid, policy_in(found)),
         None => no_bus(alloc, bus),
     }
 }
 
-/// Removes the statement from the policy that the bus has.
-fn remove(
+/// Removes the statement from the policy that the bus has, if it has one.
+fn remove_from(
     alloc: Global,
     tables: &Tables,
-    moment: u64,
     bus: &Text,
-    sid: &Text,
-    policy: &SharedPolicy,
-) -> Result<(Option<Ready>, Reply), NoMemory>
-    requires moment { IsMoment moment }
-    requires later { tables.now.moment ≤ moment }
+    sid: &Option<Text>,
+    policy: Option<&Policy>,
+) -> Result<Decided, NoMemory>
     requires bus { IsBusName bus.now }
-    ensures answer { IfOk result (λ p. (value : Tree) × IsPolicyText policy.now value
-        × IsRevoked tables.now moment bus.now sid.now (Some value) (answer_of p)) }
-    ensures ready { IfOk result (λ p. IfSome p.0 (λ r. IsReadyFor tables.now r)) }
+    ensures answer { IfOk result (λ d. decided_of d ≡ statement_removed tables.now.set bus.now sid.now (option_copied policy.entry)) }
+    ensures made { IfOk result (λ d. CanBeMade tables.now d) }
 {
-    match policy.policy().without_statement(alloc, sid.as_str())? {
-        Removed::NotThere => no_statement(alloc, sid),
-        Removed::Last => change_policy(alloc, tables, moment, bus, None),
-        Removed::Rest(rest) => {
-            let left = StoredPolicy::new(alloc, rest)?;
-            change_policy(alloc, tables, moment, bus, Some(left))
-        }
+    match sid {
+        Some(sid) => remove(alloc, tables, bus, sid, policy),
+        None => refused(alloc, &Cause::Required(Member::StatementId)),
     }
 }
 
-/// The refusal that the policy has no such statement.
-fn no_statement(alloc: Global, sid: &Text) -> Result<(Option<Ready>, Reply), NoMemory>
-    ensures answer { IfOk result (λ p. answer_of p ≡ reply_alone (replies.refused (cause_is.NoStatement sid.now))) }
-    ensures ready { IfOk result (λ p. p.0 ≡ None) }
+/// Removes the statement of this StatementId.
+fn remove(
+    alloc: Global,
+    tables: &Tables,
+    bus: &Text,
+    sid: &Text,
+    policy: Option<&Policy>,
+) -> Result<Decided, NoMemory>
+    requires bus { IsBusName bus.now }
+    ensures answer { IfOk result (λ d. decided_of d ≡ statement_removed tables.now.set bus.now (Some sid.now) (option_copied policy.entry)) }
+    ensures made { IfOk result (λ d. CanBeMade tables.now d) }
 {
-    let sid = sid.copy(alloc)?;
-    refused(alloc, &Cause::NoStatement { sid })
+    if has_statement(policy, sid.as_str()) {
+        let left = revoked(alloc, sid.as_str(), policy)?;
+        change_policy(alloc, tables, bus, left)
+    } else {
+        let sid = sid.copy(alloc)?;
+        refused(alloc, &Cause::NoStatement { sid })
+    }
+}
+
+/// What is left of the policy without the statement; none if it was the last.
+fn revoked(
+    alloc: Global,
+    sid: &str,
+    policy: Option<&Policy>,
+) -> Result<Option<StoredPolicy>, NoMemory>
+    requires has { has_statement sid.now (option_copied policy) ≡ true }
+    ensures { IfOk result (λ left. left ≡ revoking sid.now (option_copied policy.entry)) }
+{
+    match policy {
+        Some(policy) => left_of(alloc, sid, policy),
+        None => Ok(None),
+    }
+}
+
+/// What is left of the policy without the statement; none if it was the last.
+fn left_of(alloc: Global, sid: &str, policy: &Policy) -> Result<Option<StoredPolicy>, NoMemory>
+    requires has { has_statement sid.now (Some policy.now) ≡ true }
+    ensures { IfOk result (λ left. left ≡ revoking sid.now (Some policy.now)) }
+{
+    match policy.without_statement(alloc, sid)? {
+        Removed::NotThere => unreachable!(),
+        Removed::Last => Ok(None),
+        Removed::Rest(rest) => Ok(Some(StoredPolicy::new(alloc, rest)?)),
+    }
 }

@@ -1,25 +1,26 @@
 //! RemoveTargets.
-ghost use Rattle.std.specs.Prelude.{◌≡◌, ◌≤◌, length, map, IfOk, IfSome, All};
-ghost use Rattle.json_text.specs.Moment.{IsMoment};
+ghost use Rattle.std.specs.Prelude.{◌≡◌, ◌≤◌, length, map, Some, IfOk, All};
 ghost use Rattle.json_text.specs.View.{tree_of, trees_of};
 ghost use Rattle.event_shape.specs.Names.{IsShortName};
+ghost use Rattle.rule_table.specs.Control.{targets_removed};
+ghost use Rattle.rule_table.specs.RuleSet.{rule_at};
 ghost use Rattle.rule_table.specs.Target.{target_of};
+ghost use Rattle.rule_table.specs.View.{control_of};
 ghost use Rattle.rule_targets.specs.WellFormed.{NamesRule};
 ghost use Rattle.api_replies.specs.declared.kind.Kind.TheVariants as kind_is;
 ghost use Rattle.api_replies.specs.declared.cause.Cause.TheVariants as cause_is;
-ghost use Rattle.router_core.specs.Ready.{IsReadyFor};
 ghost use Rattle.router_calls.specs.Removals.{failed_ids, has_target, removed_ids, without_target};
 ghost use Rattle.call_replies.specs.Replies.{target_report};
-ghost use Rattle.router_calls.specs.Answer.{targets_removed_answer};
-ghost use Rattle.router_calls.specs.Decided.{answer_of};
+ghost use Rattle.router_calls.specs.Answer.{on_rule, removals_decided};
+ghost use Rattle.router_calls.specs.Decided.{decided_of, CanBeMade};
 
-use crate::configure::configure;
+use crate::decided::Decided;
+use crate::on_rule::{are_some, change_with_reports, no_rule};
 use crate::put_targets::copies;
-use crate::reply::refused;
-use call_replies::{items_reply, target_json};
+use call_replies::target_json;
 use json_text::{Items, Json, NoMemory, Text};
-use router_core::{Cause, Kind, Ready, Reply, Tables};
-use rule_table::{Control, RuleTarget};
+use router_core::{Cause, Kind, Tables};
+use rule_table::{Control, Rule, RuleTarget};
 use rule_targets::Target;
 use std::alloc::Global;
 
@@ -27,41 +28,59 @@ use std::alloc::Global;
 pub(crate) fn remove_targets(
     alloc: Global,
     tables: &Tables,
-    moment: u64,
     bus: &Text,
     rule: &Text,
     ids: &[Text],
-) -> Result<(Option<Ready>, Reply), NoMemory>
-    requires moment { IsMoment moment }
-    requires later { tables.now.moment ≤ moment }
+) -> Result<Decided, NoMemory>
     requires names { NamesRule bus.now rule.now }
     requires few { length ids.now ≤ 100 }
     requires ids { All IsShortName ids.now }
-    ensures answer { IfOk result (λ p. answer_of p ≡ targets_removed_answer tables.now moment bus.now rule.now ids.now) }
-    ensures ready { IfOk result (λ p. IfSome p.0 (λ r. IsReadyFor tables.now r)) }
+    ensures answer { IfOk result (λ d. decided_of d ≡ on_rule tables.now.set bus.now rule.now (λ r.
+        removals_decided bus.now rule.now r.targets ids.now)) }
+    ensures made { IfOk result (λ d. CanBeMade tables.now d) }
 {
-    let set = tables.set();
-    if set.bus(bus.as_str()).is_none() {
-        let name = bus.copy(alloc)?;
-        let kind = Kind::EventBus;
-        return refused(alloc, &Cause::NotFound { kind, name });
+    match tables.set().rule(bus.as_str(), rule.as_str()) {
+        Some(old) => remove_from(alloc, tables, bus, rule, old, ids),
+        None => no_rule(alloc, tables.set(), bus, rule),
     }
-    let Some(old) = set.rule(bus.as_str(), rule.as_str()) else {
-        let name = rule.copy(alloc)?;
-        let kind = Kind::Rule;
-        return refused(alloc, &Cause::NotFound { kind, name });
-    };
+}
+
+/// Removes the targets of these ids from the rule, which is there.
+fn remove_from(
+    alloc: Global,
+    tables: &Tables,
+    bus: &Text,
+    rule: &Text,
+    old: &Rule,
+    ids: &[Text],
+) -> Result<Decided, NoMemory>
+    requires there { rule_at bus.now rule.now tables.now.set ≡ Some old.now }
+    requires names { NamesRule bus.now rule.now }
+    requires few { length ids.now ≤ 100 }
+    requires ids { All IsShortName ids.now }
+    ensures answer { IfOk result (λ d. decided_of d ≡ removals_decided bus.now rule.now old.now.targets ids.now) }
+    ensures made { IfOk result (λ d. CanBeMade tables.now d) }
+{
     let Removals { removed, reports } = remove_all(alloc, old.targets(), ids)?;
-    let reply = items_reply(alloc, reports.len() as u64, "FailedEntries", reports)?;
-    if removed.is_empty() {
-        return Ok((None, reply));
-    }
-    let control = Control::TargetsRemoved {
+    let some = are_some(removed.as_slice());
+    let control = targets_removed(alloc, bus, rule, removed)?;
+    change_with_reports(alloc, tables, some, control, reports)
+}
+
+/// The change that removes the targets of these ids.
+fn targets_removed(
+    alloc: Global,
+    bus: &Text,
+    rule: &Text,
+    ids: Vec<Text>,
+) -> Result<Control, NoMemory>
+    ensures { IfOk result (λ control. control_of control ≡ targets_removed bus.now rule.now ids.items) }
+{
+    Ok(Control::TargetsRemoved {
         bus: bus.copy(alloc)?,
         rule: rule.copy(alloc)?,
-        ids: removed,
-    };
-    configure(alloc, tables, moment, control, reply)
+        ids,
+    })
 }
 
 /// What ids became.

@@ -1,5 +1,5 @@
 //! What each request changes, and its reply.
-ghost use Rattle.std.specs.Prelude.{◌≡◌, ◌≤◌, ℕ, List, IfOk, IfSome};
+ghost use Rattle.std.specs.Prelude.{◌≡◌, ℕ, List, IfOk, IfSome, OnOk};
 ghost use Rattle.std.specs.Option.{option_copied};
 ghost use Rattle.json_text.specs.Moment.{IsMoment};
 ghost use Rattle.rule_table.specs.RuleSet.{RuleSet};
@@ -8,14 +8,15 @@ ghost use Rattle.router_core.specs.Request.{IsOneTurn, IsEntitled};
 ghost use Rattle.router_core.specs.View.{action_of, request_of};
 ghost use Rattle.router_core.specs.Tables.{IsConsistent, moment_at};
 ghost use Rattle.router_core.specs.Ready.{IsReadyFor};
-ghost use Rattle.router_calls.specs.Answer.{IsAnswer};
 ghost use Rattle.router_core.specs.Bounds.{IsBounded};
-ghost use Rattle.router_calls.specs.Decided.{answer_of};
+ghost use Rattle.router_calls.specs.Answer.{IsAnswer, HasEvents};
+ghost use Rattle.router_calls.specs.Decided.{answer_of, decided_of, CanBeMade};
 ghost use Rattle.router_calls.specs.Matched.{IsMatchedOn};
-ghost use Rattle.router_calls.specs.Steps.{IsAnsweredBy, IsSeenOn};
+ghost use Rattle.router_calls.specs.Steps.{HaveAccounts, IsDecidedAs, IsSeenOn};
 
 use crate::create_event_bus::create_event_bus;
 use crate::create_queue::create_queue;
+use crate::decided::{Decided, batched, shown};
 use crate::delete_event_bus::delete_event_bus;
 use crate::delete_messages::delete_messages;
 use crate::delete_queue::delete_queue;
@@ -27,7 +28,6 @@ use crate::put_rule_state::put_rule_state;
 use crate::put_targets::put_targets;
 use crate::remove_permission::{remove_policy, remove_statement};
 use crate::remove_targets::remove_targets;
-use crate::reply::shown;
 use crate::test_event_pattern::test_event_pattern;
 use call_replies::{duty_counts, peek_messages};
 use config_views::{
@@ -59,98 +59,91 @@ pub fn decide(
     ensures ready { IfOk result (λ p. IfSome p.0 (λ r. IsReadyFor tables.now r)) }
 {
     read_tables(tables);
-    answer(alloc, tables, moment, &request.action, &mut seen)
+    let decided = answer(alloc, tables, &request.action, &mut seen)?;
+    batched(alloc, tables, moment, decided)
 }
 
-/// The change that the action makes, if any, and the reply. What was found of the entries of a PutEvents is taken out of `seen`.
+/// The operations that the action writes, if any, and the reply. What was found of the entries of a PutEvents is taken out of `seen`.
 fn answer(
     alloc: Global,
     tables: &Tables,
-    moment: u64,
     action: &Action,
     seen: &mut Seen,
-) -> Result<(Option<Ready>, Reply), NoMemory>
-    requires moment { IsMoment moment }
-    requires later { tables.now.moment ≤ moment }
+) -> Result<Decided, NoMemory>
     requires bounded { IsBounded (action_of action.now) }
+    requires accounts { HaveAccounts (action_of action.now) }
     requires one_turn { IsOneTurn (action_of action.now) }
     requires seen { (set : RuleSet) × (caller : List ℕ) × IsSeenOn tables.now set caller (action_of action.now) seen.old }
-    ensures answer { IfOk result (λ p. IsAnsweredBy tables.now seen.old moment (action_of action.now) (answer_of p)) }
-    ensures ready { IfOk result (λ p. IfSome p.0 (λ r. IsReadyFor tables.now r)) }
+    ensures answer { IfOk result (λ d. IsDecidedAs tables.now seen.old (action_of action.now) (decided_of d)) }
+    ensures events { OnOk result (HasEvents tables.now seen.old.k seen.old.result (action_of action.now)) }
+    ensures made { IfOk result (λ d. CanBeMade tables.now d) }
 {
     match action {
-        Action::CreateEventBus { name } => create_event_bus(alloc, tables, moment, name),
-        Action::DeleteEventBus { name } => delete_event_bus(alloc, tables, moment, name),
+        Action::CreateEventBus { name } => create_event_bus(alloc, tables, name),
+        Action::DeleteEventBus { name } => delete_event_bus(alloc, tables, name),
         Action::PutRule {
             bus,
             name,
             pattern,
             enabled,
-        } => put_rule(alloc, tables, moment, bus, name, pattern, *enabled),
-        Action::DeleteRule { bus, name } => delete_rule(alloc, tables, moment, bus, name),
+        } => put_rule(alloc, tables, bus, name, pattern, *enabled),
+        Action::DeleteRule { bus, name } => delete_rule(alloc, tables, bus, name),
         Action::PutRuleState { bus, name, enabled } => {
-            put_rule_state(alloc, tables, moment, bus, name, *enabled)
+            put_rule_state(alloc, tables, bus, name, *enabled)
         }
         Action::PutTargets { bus, rule, targets } => {
-            put_targets(alloc, tables, moment, bus, rule, targets)
+            put_targets(alloc, tables, bus, rule, targets)
         }
         Action::RemoveTargets { bus, rule, ids } => {
-            remove_targets(alloc, tables, moment, bus, rule, ids)
+            remove_targets(alloc, tables, bus, rule, ids)
         }
-        Action::PutPolicy { bus, policy } => put_policy(alloc, tables, moment, bus, policy),
+        Action::PutPolicy { bus, policy } => put_policy(alloc, tables, bus, policy),
         Action::PutStatement { bus, sid, account } => {
-            put_statement(alloc, tables, moment, bus, sid, account)
+            put_statement(alloc, tables, bus, sid, account)
         }
-        Action::RemovePolicy { bus } => remove_policy(alloc, tables, moment, bus),
-        Action::RemoveStatement { bus, sid } => remove_statement(alloc, tables, moment, bus, sid),
-        Action::PutEvents { entries, size } => {
-            put_events(alloc, tables, moment, entries, *size, seen)
-        }
-        Action::CreateQueue { name } => create_queue(alloc, tables, moment, name),
-        Action::DeleteQueue { name } => delete_queue(alloc, tables, moment, name),
-        Action::PeekMessages { queue, limit } => Ok(shown(peek_messages(
+        Action::RemovePolicy { bus } => remove_policy(alloc, tables, bus),
+        Action::RemoveStatement { bus, sid } => remove_statement(alloc, tables, bus, sid),
+        Action::PutEvents { entries, size } => { put_events(alloc, tables, entries, *size, seen) }
+        Action::CreateQueue { name } => create_queue(alloc, tables, name),
+        Action::DeleteQueue { name } => delete_queue(alloc, tables, name),
+        Action::PeekMessages { queue, limit } => Ok(shown(
             alloc,
-            tables.set(),
-            tables.duties(),
-            queue.as_str(),
-            *limit,
-        )?)),
+            peek_messages(alloc, tables.set(), tables.duties(), queue.as_str(), *limit)?,
+        )),
         Action::DeleteMessages { queue, through } => {
-            delete_messages(alloc, tables, moment, queue, *through)
+            delete_messages(alloc, tables, queue, *through)
         }
-        Action::DutyCounts => Ok(shown(duty_counts(alloc, tables.duties())?)),
+        Action::DutyCounts => Ok(shown(alloc, duty_counts(alloc, tables.duties())?)),
         Action::TestEventPattern { .. } => test_event_pattern(alloc, &seen.result),
         Action::DeliverDue { .. } => unreachable!(),
         Action::DescribeEventBus { name } => {
-            Ok(shown(describe_event_bus(alloc, tables.set(), name.as_str())?))
+            Ok(shown(
+                alloc,
+                describe_event_bus(alloc, tables.set(), name.as_str())?,
+            ))
         }
         Action::ListEventBuses { prefix } => {
-            Ok(shown(list_event_buses(alloc, tables.set(), text_in(prefix))?))
+            Ok(shown(
+                alloc,
+                list_event_buses(alloc, tables.set(), text_in(prefix))?,
+            ))
         }
-        Action::DescribeRule { bus, name } => Ok(shown(describe_rule(
+        Action::DescribeRule { bus, name } => Ok(shown(
             alloc,
-            tables.set(),
-            bus.as_str(),
-            name.as_str(),
-        )?)),
-        Action::ListRules { bus, prefix } => Ok(shown(list_rules(
+            describe_rule(alloc, tables.set(), bus.as_str(), name.as_str())?,
+        )),
+        Action::ListRules { bus, prefix } => Ok(shown(
             alloc,
-            tables.set(),
-            bus.as_str(),
-            text_in(prefix),
-        )?)),
-        Action::ListTargetsByRule { bus, rule } => Ok(shown(list_targets_by_rule(
+            list_rules(alloc, tables.set(), bus.as_str(), text_in(prefix))?,
+        )),
+        Action::ListTargetsByRule { bus, rule } => Ok(shown(
             alloc,
-            tables.set(),
-            bus.as_str(),
-            rule.as_str(),
-        )?)),
-        Action::ListRuleNamesByTarget { arn, bus } => Ok(shown(list_rule_names_by_target(
+            list_targets_by_rule(alloc, tables.set(), bus.as_str(), rule.as_str())?,
+        )),
+        Action::ListRuleNamesByTarget { arn, bus } => Ok(shown(
             alloc,
-            tables.set(),
-            arn.as_str(),
-            bus.as_str(),
-        )?)),
+            list_rule_names_by_target(alloc, tables.set(), arn.as_str(), bus.as_str())?,
+        )),
     }
 }
 

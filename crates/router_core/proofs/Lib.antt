@@ -14,5 +14,6 @@ mod TablesLemmas
 mod BatchLemmas
 mod ClaimLemmas
 pub mod MatchingLemmas
+pub mod OnceLemmas
 pub mod CrossingLemmas
 pub mod MovingLemmas

@@ -1,13 +1,15 @@
 -- Which batches the tables admit, whoever made them: nothing here depends on why an entry was written. A journal may hold any admitted
 -- batch, and no other.
-use Rattle.std.specs.Prelude.{◌≡◌, ◌<◌, ◌≤◌, ◌+◌, ◌^◌, ◌⊎◌, ℕ, true, false, List, [], ◌∷◌, length, Some, All}
+use Rattle.std.specs.Prelude.{◌≡◌, ◌<◌, ◌≤◌, ◌+◌, ◌^◌, ◌⊎◌, ℕ, true, false, List, [], ◌∷◌, length, Some, All, IsTrue}
+use Rattle.json_text.specs.Limits.{most_text}
 use Rattle.json_text.specs.Moment.{IsMoment}
-use Rattle.event_shape.specs.Names.{IsBusName, IsQueueArn}
+use Rattle.event_shape.specs.Names.{IsBusName, IsQueueArn, is_account}
 use Rattle.event_shape.specs.Event.{Event, IsEventText}
 use Rattle.rule_table.specs.Control.{Control, queue_deleted}
 use Rattle.rule_table.specs.Refusal.{IsAllowed}
 use Rattle.rule_table.specs.WellFormed.{IsWellFormed}
 use Rattle.delivery_duties.specs.declared.duty.DutyRow.{DutyRow}
+use Rattle.delivery_duties.specs.declared.duty.NewDuty.{NewDuty}
 use Rattle.delivery_duties.specs.declared.outcome.Outcome.{Outcome}
 use Rattle.delivery_duties.specs.declared.outcome.Outcome.TheVariants.{Accepted}
 use Rattle.delivery_duties.specs.Queues.{has_queue, messages_of, messages_through}
@@ -15,16 +17,26 @@ use Rattle.delivery_duties.specs.Duties.{Duties, names_queue, pending_row}
 use Rattle.router_core.specs.Batch.{Accepted as AcceptedEvent, Entry, control, accepted, attempt, messages_deleted, Batch}
 use Rattle.router_core.specs.Tables.{Tables, after_entry, is_full}
 
--- The next event: its number follows, its bus has a bus's name, its configuration version is known, its text is an event's, and it has at
--- most 1,500 duties (five targets of each of 300 rules).
+-- The bytes are the text of an event that has a number, from 1 on, and the account of a caller, which has 12 digits. The number and the
+-- time need not be those of an operation that has the text.
+-- Shown by: proofs alone.
+pub record IsTextAdmitted (bytes : List ℕ) : Type 0 where
+  pub event : Event
+  pub text : IsEventText bytes event
+  pub number : 1 ≤ event.number
+  pub account : IsTrue (is_account event.account)
+
+-- The next event: its number follows, its bus has a bus's name, its configuration version is known, its text is an event's
+-- (`IsTextAdmitted`), and it has at most 1,500 duties (five targets of each of 300 rules), each with a text of at most 1,048,576 bytes.
 -- Shown by: proofs alone.
 pub record IsEventAdmitted (t : Tables) (e : AcceptedEvent) : Type 0 where
   pub number : e.number ≡ t.events + 1
   pub bus : IsBusName e.bus
   pub known : e.k ≤ t.set.count
   pub time : IsMoment e.time
-  pub text : (event : Event) × IsEventText e.text event
+  pub text : IsTextAdmitted e.text
   pub few : length e.duties ≤ 1500
+  pub short : All (λ (duty : NewDuty). length duty.text ≤ most_text) e.duties
 
 -- An attempt of a pending duty that is due by the moment. If a queue accepted the text, that queue exists.
 -- Shown by: a_missing_queue_accepts.edit.

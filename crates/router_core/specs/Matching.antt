@@ -121,8 +121,3 @@ duty_of text seen = record {
   text = (if is_too_long text then codes "{}" else text);
   too_long = is_too_long text;
 }
-
--- One duty for each target of each rule that matches, in their order.
--- Shown by: tables router_core.rows: each_target_is_owed_one_duty.
-abbrev pub AreDuties : List Rule → Tree → List ℕ → List NewDuty → Type 0
-AreDuties rules event text duties = (targets : List SeenTarget) × AreMatched rules event targets × (duties ≡ map (duty_of text) targets)

@@ -1,7 +1,7 @@
 -- The view of a request in contracts.
-use Rattle.std.specs.Prelude.{◌≡◌, ℕ, ◌⊎◌, Bool, List, Option, Result, Ok, Err, All}
+use Rattle.std.specs.Prelude.{◌≡◌, ℕ, ◌⊎◌, Bool, List, Option, Result, Ok, Err, All, IsTrue}
 use Rattle.json_text.specs.Tree.{Tree}
-use Rattle.event_shape.specs.Names.{owner}
+use Rattle.event_shape.specs.Names.{owner, is_account}
 use Rattle.event_shape.specs.Unnumbered.{Unnumbered}
 use Rattle.event_shape.specs.declared.entry.EntryFault.{EntryFault}
 use Rattle.rule_targets.specs.declared.target.AskedTarget.{AskedTarget}
@@ -65,8 +65,9 @@ pub record Request : Type 0 where
   pub caller : List ℕ
   pub reading : ℕ
 
--- The caller may make the request: it is the owner, or it publishes events; and the events have the caller's account.
+-- The caller may make the request: it is an account, which is the owner or publishes events; and the events have the caller's account.
 -- Shown by: tables api_wire.rows: a_message_has_its_first_refusal.
 pub record IsEntitled (request : Request) : Type 0 where
+  pub account : IsTrue (is_account request.caller)
   pub allowed : (request.caller ≡ owner) ⊎ IsPublishing request.action
   pub own : AreEntriesOf request.caller request.action

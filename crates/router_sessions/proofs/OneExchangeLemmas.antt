@@ -6,10 +6,10 @@ use Rattle.std.proofs.lemmas.List.{map-append, length-map}
 use Rattle.std.proofs.lemmas.List.Elements.{All-nil, All-cons, All-head, All-tail, Contains-append_left, Contains-append_right}
 use Rattle.rule_table.specs.Control.{Control}
 use Rattle.rule_table.specs.RuleSet.{RuleSet, rule_set_at}
-use Rattle.router_core.specs.Request.{Request, Action, deliver_due}
+use Rattle.router_core.specs.Request.{Request, Action, deliver_due, IsOneTurn as IsByOneTurn}
 use Rattle.router_core.specs.Batch.{Batch}
 use Rattle.router_core.specs.Tables.{Tables, after_batch, moment_at}
-use Rattle.router_calls.specs.Answer.{Answer, IsAnswer, IsAnswerAt}
+use Rattle.router_calls.specs.Answer.{Answer, IsAnswer}
 use Rattle.api_replies.specs.declared.cause.Cause.{Cause}
 use Rattle.api_replies.specs.Reply.{Reply, counted, limit_reply, no_memory, refused as refusal_of}
 use Rattle.api_messages.specs.declared.message.Message.{Message}
@@ -210,9 +210,7 @@ same_budget is = cc
 -- one turn does not answer a DeliverDue
 no_answer : (r : Request) (budget : ℕ) (t : Tables) (controls : List Control) (batch : Option Batch) (reply : Reply) → r.action ≡ deliver_due budget
     → ¬ IsAnswerFrom t controls r batch reply
-no_answer r budget t controls batch reply due is =
-    subst (λ (a : Action). IsAnswerAt t (rule_set_at (length controls) controls) r.caller (moment_at t r.reading) a (record { batch = batch; reply = reply }))
-    due is.answers
+no_answer r budget t controls batch reply due is = subst IsByOneTurn due is.one_turn
 
 -- two POSTs of one message at one reading
 both_posted : (s t : State) (e d : Exchange) → OneAnswer → SameState s t → d.message ≡ e.message → d.reading ≡ e.reading → Agree e.steps d.steps

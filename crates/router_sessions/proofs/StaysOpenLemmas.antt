@@ -18,6 +18,7 @@ use Rattle.delivery_duties.specs.Duties.{settled_by, settled_row, attempt_of, Is
 use Rattle.router_core.specs.Batch.{Batch, Entry, control, accepted, attempt, messages_deleted}
 use Rattle.router_core.specs.Tables.{Tables, first_tables, duties_after, after_entry, after_entries, moment_at}
 use Rattle.router_core.specs.Request.{Action}
+use Rattle.rule_table.specs.RuleSet.{RuleSet}
 use Rattle.router_calls.proofs.FormLemmas.{IsOf, AreOf, WritesOf, request_form}
 use Rattle.courier_run.specs.Claim.{Claim}
 use Rattle.router_sessions.specs.History.{Ask, asked, claims, records, puts_back, Turn, State, OpenClaim, open_claim, closed_claims}
@@ -101,26 +102,26 @@ changed : (c : Control) (key : ℕ) (d : Duties) → key ≤ d.created → Keeps
 changed (bus_created name) key d known = (refl, known)
 changed _ key d known = (refl, known)
 
-entry_keeps : (action : Action) (moment : ℕ) (e : Entry) (key : ℕ) (t : Tables) → IsOf action e → key ≤ t.duties.created
+entry_keeps : (set : RuleSet) (action : Action) (moment : ℕ) (e : Entry) (key : ℕ) (t : Tables) → IsOf set action e → key ≤ t.duties.created
     → Keeps key t.duties (after_entry moment e t).duties
-entry_keeps action moment (control c) key t is known = changed c key t.duties known
-entry_keeps action moment (accepted e) key t is known = all_added e.duties moment key t.duties known
-entry_keeps action moment (attempt duty outcome) key t is known = absurd is
-entry_keeps action moment (messages_deleted queue through) key t is known = (refl, known)
+entry_keeps set action moment (control c) key t is known = changed c key t.duties known
+entry_keeps set action moment (accepted e) key t is known = all_added e.duties moment key t.duties known
+entry_keeps set action moment (attempt duty outcome) key t is known = absurd is
+entry_keeps set action moment (messages_deleted queue through) key t is known = (refl, known)
 
-entries_keep : (action : Action) (moment : ℕ) (es : List Entry) (key : ℕ) (t : Tables) → AreOf action es → key ≤ t.duties.created
+entries_keep : (set : RuleSet) (action : Action) (moment : ℕ) (es : List Entry) (key : ℕ) (t : Tables) → AreOf set action es → key ≤ t.duties.created
     → Keeps key t.duties (after_entries moment es t).duties
-entries_keep action moment [] key t are known = (refl, known)
-entries_keep action moment (e ∷ es) key t are known =
-    let first = entry_keeps action moment e key t are.0 known in
-    let rest = entries_keep action moment es key (after_entry moment e t) are.1 first.1 in
+entries_keep set action moment [] key t are known = (refl, known)
+entries_keep set action moment (e ∷ es) key t are known =
+    let first = entry_keeps set action moment e key t are.0 known in
+    let rest = entries_keep set action moment es key (after_entry moment e t) are.1 first.1 in
     (rest.0 ∙ first.0, rest.1)
 
 -- the row of a duty after a batch of a request, which records no attempt
-written_keeps : (action : Action) (b : Option Batch) (key : ℕ) (s : State) → WritesOf action b → key ≤ s.tables.duties.created
+written_keeps : (set : RuleSet) (action : Action) (b : Option Batch) (key : ℕ) (s : State) → WritesOf set action b → key ≤ s.tables.duties.created
     → pending_row key (after_written b s).tables.duties ≡ pending_row key s.tables.duties
-written_keeps action None key s of known = refl
-written_keeps action (Some b) key s of known = (entries_keep action b.moment b.entries key s.tables of known).0
+written_keeps set action None key s of known = refl
+written_keeps set action (Some b) key s of known = (entries_keep set action b.moment b.entries key s.tables of known).0
 
 -- the open claim of a duty, once another duty's claim was made or ended
 claimed_other : (key : ℕ) (c : OpenClaim) (cs : List OpenClaim) → c.duty ≢ key → open_claim key (c ∷ cs) ≡ open_claim key cs
@@ -171,7 +172,7 @@ open_asked n s turn (asked request) c h (named, (reply, is)) other o =
     let known : c.number ≤ s.tables.duties.created =
     key_has (λ k. k ≤ s.tables.duties.created) c.number o.row s.tables.duties.pending h.numbered.known o.pending in
     still_open n s (after_written turn.batch s) c (ap (open_claim c.number) (open_written turn.batch s))
-    (written_keeps request.action turn.batch c.number s (request_form is.answer).writes known) o
+    (written_keeps s.tables.set request.action turn.batch c.number s (request_form is.answer).writes known) o
 open_asked n s turn (claims duty reading) c h is other o =
     let now : ℕ = moment_at s.tables reading in
     let ne : duty ≢ c.number = next_other n s c now duty is.next o in

@@ -1,8 +1,13 @@
-use Rattle.router_calls.proofs.PolicyLemmas.{statement_removed}
+use Rattle.std.specs.Option.{option_copied}
+use Rattle.router_calls.specs.Answer.{statement_removed}
+use Rattle.router_calls.specs.Decided.{decided_of}
+use Rattle.router_calls.proofs.CallLemmas.{if_ok_more}
+use Rattle.router_calls.proofs.PolicyLemmas.{by_policy}
 use Rattle.router_calls.proofs.remove_permission.remove_statement.Goals as goal
 
-pub returns-in-Some-policy-clause-answer : goal.returns-in-Some-policy-clause-answer
-returns-in-Some-policy-clause-answer c =
-    statement_removed c.remove.result c.args.tables.now c.args.moment c.set.result.now c.args.bus.now c.as_str.result.now c.in-Some-sid.sid
-    c.in-Some-policy.policy.now c.args.sid.now c.in-Some.found.now c.set.ensures c.as_str.ensures c.in-Some.ensures c.in-Some-policy.ensures
-    c.in-Some-sid.is c.remove.ensures.answer
+pub returns-in-Some-clause-answer : goal.returns-in-Some-clause-answer
+returns-in-Some-clause-answer c =
+    let set = c.args.tables.now.set in
+    if_ok_more c.remove_from.result (λ d h. by_policy c.set.result.now set c.as_str.result.now c.args.bus.now c.in-Some.found.now
+    (option_copied c.policy_in.result) (statement_removed set c.args.bus.now c.args.sid.now) (decided_of d) c.set.ensures c.as_str.ensures
+    c.in-Some.ensures c.policy_in.ensures h) c.remove_from.ensures.answer

@@ -1,0 +1,105 @@
+-- What is decided of a change, and what it needs to be made: `none_made`, `one_made` and `one_written` (no operation, or one), `allowed_so`,
+-- `refused_so` and `controlled_so` (a change that is allowed, or refused), `on_rule_found` (a call on a rule), `items_decided` (items that succeed or
+-- fail one by one).
+use Rattle.std.proofs.Common.{◌≡◌, ℕ, ◌<◌, inl, Bool, true, false, List, [], ◌∷◌, length, map, Some, sym, refl, ap, ◌∙◌, subst, arith}
+use Rattle.std.specs.Prelude.{cond, codes, Result, Ok, Err, IfOk}
+use Rattle.std.proofs.lemmas.List.{length-map}
+use Rattle.json_text.specs.View.{tree_of, trees_of}
+use Rattle.json_text.specs.declared.value.Json.{Json}
+use Rattle.rule_table.specs.declared.control.ControlFault.{ControlFault}
+use Rattle.rule_table.specs.Control.{Control}
+use Rattle.rule_table.specs.Refusal as table
+use Rattle.rule_table.specs.Refusal.{IsAllowed}
+use Rattle.rule_table.specs.RuleSet.{Rule, RuleSet, rule_at}
+use Rattle.rule_table.proofs.ChangeLemmas.{bus_of_rule}
+use Rattle.name_rows.specs.Rows.{named}
+use Rattle.api_replies.specs.declared.cause.Cause.{Cause}
+use Rattle.api_replies.specs.Reply.{Reply, refused}
+use Rattle.call_replies.specs.Causes.{change_cause}
+use Rattle.call_replies.specs.Replies.{items_reply, target_report, targets_reply}
+use Rattle.router_core.specs.Admitted.{AreAdmitted, IsEntryAdmitted}
+use Rattle.router_core.specs.Batch as batch
+use Rattle.router_core.specs.Ready.{IsPartOf, ArePartsOf}
+use Rattle.router_core.specs.Tables.{Tables}
+use Rattle.router_core.specs.View.{entry_of}
+use Rattle.router_core.specs.declared.ready.Part.{Part}
+use Rattle.router_calls.specs.Answer as answer
+use Rattle.router_calls.specs.Answer.{change_reply, controlled, for_rule, on_rule, shown, unless_none, writes}
+use Rattle.router_core.specs.declared.batch.Entry.{Entry}
+use Rattle.router_calls.specs.Decided.{decided_of, CanBeMade}
+use Rattle.router_calls.specs.declared.decided.Decided.{Decided}
+
+-- nothing is written
+pub none_made : (t : Tables) (d : Decided) → d.entries.items ≡ [] → d.parts.items ≡ [] → CanBeMade t d
+none_made t d none no_parts =
+    let entries : map entry_of d.entries.items ≡ [] = ap (map entry_of) none in
+    record {
+      one_turn = λ some. absurd (omega (arith, some, ap length entries));
+      admitted = λ moment. subst (λ (es : List batch.Entry). AreAdmitted moment es t) (sym entries) tt;
+      parts = subst (λ (es : List batch.Entry). ArePartsOf t.set es d.parts.items) (sym entries) no_parts;
+    }
+
+-- one operation is written
+pub one_made : (t : Tables) (d : Decided) (e : batch.Entry) (part : Part) → map entry_of d.entries.items ≡ e ∷ [] → d.parts.items ≡ part ∷ []
+    → ((moment : ℕ) → IsEntryAdmitted moment e t) → IsPartOf t.set e part → CanBeMade t d
+one_made t d e part entries parts admitted fits = record {
+  one_turn = λ some. inl (e, entries);
+  admitted = λ moment. subst (λ (es : List batch.Entry). AreAdmitted moment es t) (sym entries) (admitted moment, tt);
+  parts = subst (λ (es : List batch.Entry). ArePartsOf t.set es d.parts.items) (sym entries)
+      (subst (λ (ps : List Part). ArePartsOf t.set (e ∷ []) ps) (sym parts) (fits, refl));
+}
+
+-- one operation was written
+pub one_written : {E : Type 0} (r : Result Decided E) (t : Tables) (e : Entry) (part : Part) → IfOk r (λ d. d.entries.items ≡ e ∷ [])
+    → IfOk r (λ d. d.parts.items ≡ part ∷ []) → ((moment : ℕ) → IsEntryAdmitted moment (entry_of e) t) → IsPartOf t.set (entry_of e) part
+    → IfOk r (λ d. CanBeMade t d)
+one_written (Ok d) t e part entries parts admitted fits = one_made t d (entry_of e) part (ap (map entry_of) entries) parts admitted fits
+one_written (Err x) t e part entries parts admitted fits = tt
+
+-- the same change with the same reply
+pub controlled_so : {E : Type 0} (r : Result Decided E) (set : RuleSet) {c d : Control} {reply other : Reply} → c ≡ d → reply ≡ other
+    → IfOk r (λ x. decided_of x ≡ controlled set c reply) → IfOk r (λ x. decided_of x ≡ controlled set d other)
+controlled_so (Ok x) set {c} {d} {reply} {other} same is h = h ∙ ap (λ (y : Control). controlled set y reply) same ∙ ap (controlled set d) is
+controlled_so (Err e) set same is h = tt
+
+-- a change that is allowed is written
+pub allowed_so : (set : RuleSet) (c : Control) (reply : Reply) → IsAllowed c set → writes (batch.control c) reply ≡ controlled set c reply
+allowed_so set c reply allowed = rw allowed refl
+
+-- a change with a fault is refused for its cause
+pub refused_so : (set : RuleSet) (c : Control) (reply : Reply) (fault : ControlFault) (why : Cause) → table.refusal c set ≡ Some fault
+    → change_cause c fault ≡ Some why → shown (refused why) ≡ controlled set c reply
+refused_so set c reply fault why is cause = rw (is, cause) refl
+
+-- a rule that is there has its bus
+pub on_rule_found : (set : RuleSet) (bus rule : List ℕ) (r : Rule) (decide : Rule → answer.Decided) → rule_at bus rule set ≡ Some r
+    → decide r ≡ on_rule set bus rule decide
+on_rule_found set bus rule r decide is = rw (bus_of_rule (named (λ b. b.name) bus set.buses) rule r is, is) refl
+
+-- the reply counts the items that failed
+reply_so : (failed : List (List ℕ × Cause)) (reports : List Json) → trees_of reports ≡ map target_report failed
+    → items_reply (length reports) (codes "FailedEntries") (trees_of reports) ≡ targets_reply failed
+reply_so failed reports are =
+    let counted : length reports ≡ length failed =
+    omega (arith, ap length are, length-map failed target_report, length-map reports tree_of) in
+    ap (λ k. items_reply k (codes "FailedEntries") (trees_of reports)) counted ∙ ap (items_reply (length failed) (codes "FailedEntries")) are
+
+-- the change of the items that succeeded, or their reply alone
+some_so : {A : Type 0} (xs : List A) (c : Control) (reply : Reply) (some : Bool) → (some ≡ true → 0 < length xs) → (some ≡ false → length xs ≡ 0)
+    → cond some (writes (batch.control c) reply) (shown reply) ≡ unless_none xs c reply
+some_so [] c reply true there none = absurd (omega (arith, there refl))
+some_so [] c reply false there none = refl
+some_so (x ∷ xs) c reply true there none = refl
+some_so (x ∷ xs) c reply false there none = absurd (omega (arith, none refl))
+
+-- the same, with the items that failed as the reply
+pub items_decided : {A : Type 0} (xs ys : List A) (c d : Control) (reports : List Json) (failed : List (List ℕ × Cause)) (some : Bool)
+    (x : answer.Decided) → xs ≡ ys → c ≡ d → trees_of reports ≡ map target_report failed → (some ≡ true → 0 < length xs)
+    → (some ≡ false → length xs ≡ 0)
+    → x ≡ cond some (writes (batch.control c) (items_reply (length reports) (codes "FailedEntries") (trees_of reports)))
+    (shown (items_reply (length reports) (codes "FailedEntries") (trees_of reports)))
+    → x ≡ unless_none ys d (targets_reply failed)
+items_decided xs ys c d reports failed some x items change are there none is =
+    let reply = items_reply (length reports) (codes "FailedEntries") (trees_of reports) in
+    is ∙ some_so xs c reply some there none ∙ ap (λ zs. unless_none zs c reply) items ∙ ap (λ (e : Control). unless_none ys e reply) change
+    ∙ ap (unless_none ys d) (reply_so failed reports are)
