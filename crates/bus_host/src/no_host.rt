@@ -5,11 +5,12 @@ ghost use Rattle.bus_host.specs.HostFault.{host_outcome};
 
 use crate::{Door, Ended, Host, HostFault, Knock, raise};
 use http_server::Log;
-use router_disk::{Disk, Failed, Link, LinkFault, MemSink, MemSource};
+use router_disk::{Disk, DiskCalls, Failed, Link, LinkFault, MemSink, MemSource};
 
 /// A disk whose every call fails.
-#[derive(Debug, Default, Drop)]
+#[derive(Drop)]
 pub struct NoDisk {
+    calls: DiskCalls,
     faults: u64,
 }
 
@@ -55,6 +56,19 @@ impl NoHost {
     }
 }
 
+impl NoDisk {
+    /// A disk with no call and no fault yet.
+    pub fn new() -> Self
+        ensures calls { ⟦<NoDisk as Disk>⟧.calls result ≡ [] }
+        ensures faults { ⟦<NoDisk as Disk>⟧.faults result ≡ 0 }
+    {
+        NoDisk {
+            calls: DiskCalls::new(),
+            faults: 0,
+        }
+    }
+}
+
 impl NoDoor {
     /// A door with no fault yet.
     pub fn new() -> Self
@@ -72,6 +86,9 @@ impl NoDoor {
 
 impl Disk for NoDisk {
     ghost use Rattle.std.specs.Prelude.{IsErr};
+    ghost use Rattle.router_disk.specs.declared.disk_call.DiskCall.TheVariants as calls;
+
+    ghost calls = { λ d. d.calls };
 
     ghost faults = { λ d. d.faults };
 
@@ -80,41 +97,51 @@ impl Disk for NoDisk {
     }
 
     fn size(&mut self) -> Result<u64, Failed>
+        ensures call { self.new.calls ≡ self.old.calls ++ calls.Size result ∷ [] }
         ensures count { CountsFaults self.old.faults self.new.faults result }
         ensures fails { IsErr result }
     {
+        self.calls.size(Err(Failed));
         raise(&mut self.faults);
         Err(Failed)
     }
 
-    fn read(&mut self, _at: u64, _into: &mut [u8]) -> Result<(), Failed>
+    fn read(&mut self, at: u64, into: &mut [u8]) -> Result<(), Failed>
+        ensures call { self.new.calls ≡ self.old.calls ++ calls.Read at into.new result ∷ [] }
         ensures count { CountsFaults self.old.faults self.new.faults result }
         ensures fails { IsErr result }
     {
+        self.calls.read(at, into, Err(Failed));
         raise(&mut self.faults);
         Err(Failed)
     }
 
-    fn write_at(&mut self, _at: u64, _bytes: &[u8]) -> Result<(), Failed>
+    fn write_at(&mut self, at: u64, bytes: &[u8]) -> Result<(), Failed>
+        ensures call { self.new.calls ≡ self.old.calls ++ calls.Write at bytes.now result ∷ [] }
         ensures count { CountsFaults self.old.faults self.new.faults result }
         ensures fails { IsErr result }
     {
+        self.calls.write_at(at, bytes, Err(Failed));
         raise(&mut self.faults);
         Err(Failed)
     }
 
-    fn cut(&mut self, _len: u64) -> Result<(), Failed>
+    fn cut(&mut self, len: u64) -> Result<(), Failed>
+        ensures call { self.new.calls ≡ self.old.calls ++ calls.Cut len result ∷ [] }
         ensures count { CountsFaults self.old.faults self.new.faults result }
         ensures fails { IsErr result }
     {
+        self.calls.cut(len, Err(Failed));
         raise(&mut self.faults);
         Err(Failed)
     }
 
     fn sync(&mut self) -> Result<(), Failed>
+        ensures call { self.new.calls ≡ self.old.calls ++ calls.Sync result ∷ [] }
         ensures count { CountsFaults self.old.faults self.new.faults result }
         ensures fails { IsErr result }
     {
+        self.calls.sync(Err(Failed));
         raise(&mut self.faults);
         Err(Failed)
     }

@@ -17,7 +17,7 @@ fn each_call_of_no_host_fails_and_is_counted_apart(rt: HostRuntime) {
 
 #[test]
 fn its_disk_door_and_link_fail_too(rt: HostRuntime) {
-    let mut disk = NoDisk::default();
+    let mut disk = NoDisk::new();
     assert_eq!(rt; disk.size(), Err(Failed));
     assert_eq!(rt; disk.sync(), Err(Failed));
     assert_eq!(rt; disk.faults(), 2, "disk");

@@ -5,4 +5,5 @@
 -- reverse it.
 pub mod ClockLemmas
 pub mod StreamLemmas
+pub mod DiskLemmas
 mod SourceLemmas

@@ -4,6 +4,7 @@
 mod adapter;
 mod clock;
 mod disk;
+mod disk_call;
 mod fault;
 mod heard;
 mod link;
@@ -11,9 +12,10 @@ mod memory;
 mod sink;
 mod source;
 
-pub use adapter::{ReaderSource, SystemClock, WriterSink};
+pub use adapter::{FileDisk, ReaderSource, SystemClock, WriterSink};
 pub use clock::Clock;
 pub use disk::Disk;
+pub use disk_call::{DiskCall, DiskCalls};
 pub use fault::Failed;
 pub use heard::{Heard, Pieces};
 pub use link::{Link, LinkFault};
