@@ -8,8 +8,8 @@ use std::io;
 use std::io::ErrorKind;
 use std::os::unix::fs::FileExt;
 
-/// An open file as a disk. It makes one system call a method, and as many as the system needs for all bytes of a read or a write; a cut asks
-/// for the length first. A call that was interrupted is made again, and every other short end is `Failed`.
+/// An open file as a disk. It makes one system call a method, and as many as the system needs for all bytes of a read or a write; a cut
+/// asks for the length first. A call that was interrupted is made again, and every other short end is `Failed`.
 #[derive(Drop)]
 pub struct FileDisk<F> {
     file: F,

@@ -1,0 +1,13 @@
+pub mod RecordLemmas
+mod AppendedLemmas
+mod MomentLemmas
+mod CrashLemmas
+mod KeptLemmas
+pub mod LookLemmas
+mod HeadLemmas
+mod FindLemmas
+mod ScanLemmas
+mod StartLemmas
+mod StateLemmas
+mod KindLemmas
+mod TextLemmas

@@ -1,0 +1,68 @@
+use Rattle.std.proofs.Common.{◌≡◌, ◌+◌, ◌++◌, length, Ok, Err, arith}
+use Rattle.record_file.specs.State.{payloads_of}
+use Rattle.record_file.proofs.CrashLemmas.{append_rests}
+use Rattle.record_file.proofs.KeptLemmas.{appended_front, both, stays}
+use Rattle.record_file.proofs.StateLemmas.{moved, shown_push}
+use Rattle.record_file.proofs.record_file.RecordFile.append.Goals as goal
+
+pub returns-then-self-clause-any_moment : goal.returns-then-self-clause-any_moment
+returns-then-self-clause-any_moment g c = λ whole. absurd (cc (whole, c.if-self.true))
+
+pub returns-then-self-clause-kept : goal.returns-then-self-clause-kept
+returns-then-self-clause-kept g c = λ whole. absurd (cc (whole, c.if-self.true))
+
+-- the file is at rest again, with all payloads
+pub returns-in-Ok-clause-sound : goal.returns-in-Ok-clause-sound
+returns-in-Ok-clause-sound g c = λ whole first answers.
+    let old = g.D.Disk.calls c.args.self.now.disk in
+    let new = g.D.Disk.calls c.append_text.new.disk in
+    let before = payloads_of c.args.self.now in
+    let more = c.args.payloads.now in
+    let place = c.args.self.now.gate in
+    let text = c.args.text.now in
+    let calls = c.in-Ok.ensures.calls in
+    let rests = c.requires.sound c.if-self.false first (appended_front first old new place text (Ok tt) calls answers) in
+    let done = append_rests first old before more place text rests c.requires.text new calls answers in
+    let grown : place + length text ≡ c.saturating_add-gate.result = omega (arith, c.saturating_add-gate.ensures, done.low) in
+    moved first new (before ++ more) _ (place + length text) c.saturating_add-gate.result
+    (shown_push c.args.self.now.appended.items c.and-appended.result.items more c.and-appended.ensures) grown done
+
+pub returns-in-Ok-clause-any_moment : goal.returns-in-Ok-clause-any_moment
+returns-in-Ok-clause-any_moment g c = λ whole first answers image left.
+    let old = g.D.Disk.calls c.args.self.now.disk in
+    let new = g.D.Disk.calls c.append_text.new.disk in
+    let place = c.args.self.now.gate in
+    let text = c.args.text.now in
+    let calls = c.in-Ok.ensures.calls in
+    let rests = c.requires.sound c.if-self.false first (appended_front first old new place text (Ok tt) calls answers) in
+    both first old new (payloads_of c.args.self.now) c.args.payloads.now place text rests c.requires.text (Ok tt) calls image left
+
+pub returns-in-Ok-clause-kept : goal.returns-in-Ok-clause-kept
+returns-in-Ok-clause-kept g c = λ whole first found since answers kept.
+    let old = g.D.Disk.calls c.args.self.now.disk in
+    let new = g.D.Disk.calls c.append_text.new.disk in
+    let place = c.args.self.now.gate in
+    let text = c.args.text.now in
+    let calls = c.in-Ok.ensures.calls in
+    let rests = c.requires.sound c.if-self.false first (appended_front first old new place text (Ok tt) calls answers) in
+    stays first old new (payloads_of c.args.self.now) c.args.payloads.now place text rests c.requires.text (Ok tt) calls answers found since kept
+
+pub returns-in-Err-clause-any_moment : goal.returns-in-Err-clause-any_moment
+returns-in-Err-clause-any_moment g c = λ whole first answers image left.
+    let old = g.D.Disk.calls c.args.self.now.disk in
+    let new = g.D.Disk.calls c.append_text.new.disk in
+    let place = c.args.self.now.gate in
+    let text = c.args.text.now in
+    let calls = c.in-Err.ensures.calls in
+    let rests = c.requires.sound c.if-self.false first (appended_front first old new place text (Err c.in-Err.field-0) calls answers) in
+    both first old new (payloads_of c.args.self.now) c.args.payloads.now place text rests c.requires.text (Err c.in-Err.field-0) calls image left
+
+pub returns-in-Err-clause-kept : goal.returns-in-Err-clause-kept
+returns-in-Err-clause-kept g c = λ whole first found since answers kept.
+    let old = g.D.Disk.calls c.args.self.now.disk in
+    let new = g.D.Disk.calls c.append_text.new.disk in
+    let place = c.args.self.now.gate in
+    let text = c.args.text.now in
+    let calls = c.in-Err.ensures.calls in
+    let rests = c.requires.sound c.if-self.false first (appended_front first old new place text (Err c.in-Err.field-0) calls answers) in
+    stays first old new (payloads_of c.args.self.now) c.args.payloads.now place text rests c.requires.text (Err c.in-Err.field-0) calls answers found since kept

@@ -1,0 +1,22 @@
+use Rattle.std.proofs.Common.{refl, sym}
+use Rattle.record_file.proofs.StateLemmas.{moved, resumed, resumed_kept, shown_one}
+use Rattle.record_file.proofs.record_file.RecordFile.resume.Goals as goal
+
+pub returns-clause-made : goal.returns-clause-made
+returns-clause-made g c = (refl, sym (shown_one c.new-log.result.items c.and-appended.result.items c.args.scan.found c.new-log.ensures c.and-appended.ensures), refl)
+
+pub returns-clause-sound : goal.returns-clause-sound
+returns-clause-sound g c = λ since opened whole first answers.
+    let calls = g.D.Disk.calls c.args.disk in
+    let o = opened first answers in
+    let s = c.requires.scan first first answers o.known in
+    moved first calls c.args.scan.found _ c.args.scan.place c.args.scan.place
+    (shown_one c.new-log.result.items c.and-appended.result.items c.args.scan.found c.new-log.ensures c.and-appended.ensures) refl
+    (resumed first calls since c.args.scan.found c.args.scan.place o s.short s.begins s.place (c.requires.closed first first answers o.known))
+
+pub returns-clause-kept : goal.returns-clause-kept
+returns-clause-kept g c = λ since opened first answers.
+    let calls = g.D.Disk.calls c.args.disk in
+    let o = opened first answers in
+    let s = c.requires.scan first first answers o.known in
+    resumed_kept first calls since c.args.scan.found o s.begins (c.requires.closed first first answers o.known)

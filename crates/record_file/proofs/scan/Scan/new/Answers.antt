@@ -1,0 +1,21 @@
+use Rattle.std.proofs.Common.{ℕ, List, ◌+◌, ◌<◌, length, get_or, drop, sym, ap, subst, arith}
+use Rattle.std.proofs.lemmas.List.{drop_more}
+use Rattle.record_file.specs.Records.{records, HasRecords}
+use Rattle.record_file.proofs.FindLemmas.{empty_window}
+use Rattle.record_file.proofs.scan.Scan.new.Goals as goal
+
+pub returns-clause-scan : goal.returns-clause-scan
+returns-clause-scan c = λ file size short begins.
+    let long : 9 < length file = omega (arith, c.requires, size) in record {
+      long = long;
+      short = short;
+      begins = begins;
+      size = size;
+      window = empty_window file c.new-window.result c.new-window.ensures.empty;
+      gate = get_or file 8 0;
+      rest = drop 9 file;
+      has = subst (λ ps. HasRecords 8 file ps (get_or file 8 0) (drop 9 file)) (sym c.new-found.ensures)
+          (record { is = drop_more file 8 0 (omega (arith, long)); fit = tt });
+      place = ap (λ (ps : List (List ℕ)). 8 + length (records ps)) (sym c.new-found.ensures);
+      count = ap (λ (ps : List (List ℕ)). length ps) (sym c.new-found.ensures);
+    }

@@ -1,0 +1,13 @@
+use Rattle.std.proofs.Common.{◌≡◌, ◌+◌, ◌∷◌, ap, length, arith, length-append, length-drop}
+use Rattle.record_file.specs.Records.{records}
+use Rattle.record_file.proofs.ScanLemmas.{damaged, records_long}
+use Rattle.record_file.proofs.scan.Scan.place.Goals as goal
+
+pub returns : goal.returns
+returns c = λ file scan next.
+    let s = c.args.self.now in
+    let low = records_long s.found in
+    let end = ap (λ m. length m) next.1.is in
+    let counted : c.saturating_add-record.result ≡ length s.found + 1 =
+    omega (arith, c.saturating_add-record.ensures, scan.count, low, end, scan.short, length-drop 8 file, length-append (records s.found) (1 ∷ next.0)) in
+    damaged file s.found c.saturating_add-record.result s.place scan.long scan.begins counted scan.place next
