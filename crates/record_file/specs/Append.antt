@@ -8,7 +8,7 @@ use Rattle.record_file.specs.Records.{IsFileOf}
 use Rattle.record_file.specs.Kept.{IsKept}
 
 -- The calls of a write and a sync after it. If the write failed, no sync follows.
--- Shown by: proofs alone.
+-- Shown by: acknowledged_before_second_sync.edit.
 abbrev pub IsWritten : List DiskCall → ℕ → List ℕ → Result (Unit {0}) Failed → List DiskCall → Type 0
 IsWritten old at bytes (Ok done) new = new ≡ old ++ Write at bytes (Ok tt) ∷ Sync (Ok tt) ∷ []
 IsWritten old at bytes (Err fault) new =
@@ -19,7 +19,7 @@ abbrev pub last : ℕ
 last = 2 ^ 64 - 1
 
 -- The calls of an append at a closed gate: the text is laid after the gate, and then the gate is opened, each by a write and a sync.
--- Shown by: proofs alone.
+-- Shown by: record_over_the_gate.edit.
 abbrev pub AreAppended : List DiskCall → ℕ → List ℕ → Result (Unit {0}) Failed → List DiskCall → Type 0
 AreAppended old gate text (Ok done) new =
     (mid : List DiskCall) × IsWritten old (min (gate + 1) last) text (Ok tt) mid × IsWritten mid gate (1 ∷ []) (Ok tt) new
@@ -29,7 +29,7 @@ AreAppended old gate text (Err fault) new =
 
 -- A crash at any moment of an append, or between it and the next call, leaves a file of the payloads before it, or of these and all of
 -- its own.
--- Shown by: proofs alone.
+-- Shown by: acknowledged_before_second_sync.edit; record_over_the_gate.edit.
 abbrev pub LeavesBoth : List DiskCall → List DiskCall → List (List ℕ) → List (List ℕ) → Type 0
 LeavesBoth old new before more = (first : List ℕ) → AreAnswers first new → (image : List ℕ) → IsImageSince first new (length old) image →
     IsFileOf image before ⊎ IsFileOf image (before ++ more)

@@ -47,7 +47,7 @@ abbrev pub IsFileOf : List ℕ → List (List ℕ) → Type 0
 IsFileOf file payloads = ((length file ≤ 9) × (payloads ≡ [])) ⊎ ((take 8 file ≡ header) × AreFrom 8 file payloads)
 
 -- What follows an open gate begins with no payload, its length before it and a gate after it.
--- Shown by: proofs alone.
+-- Shown by: a_record_without_a_gate_after_it.edit.
 abbrev pub HasNoRecord : List ℕ → Type 0
 HasNoRecord rest =
     (payload more : List ℕ) (gate : ℕ) → Fits payload → rest ≡ length_bytes (length payload) ++ (payload ++ (gate ∷ more)) → ⊥
@@ -65,7 +65,7 @@ pub record IsDamagedAt (file : List ℕ) (payloads : List (List ℕ)) (place byt
   pub is_byte : byte ≡ 8 + length (records payloads)
 
 -- What an append writes after the closed gate: the records without their first gate, and a closed gate.
--- Shown by: proofs alone.
+-- Shown by: no_gate_after_the_record.edit.
 abbrev pub laid : List (List ℕ) → List ℕ
 laid payloads = drop 1 (records payloads ++ 0 ∷ [])
 

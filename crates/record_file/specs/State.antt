@@ -30,7 +30,7 @@ pub record IsAtRest (first : List ℕ) (calls : List DiskCall) (payloads : List 
   pub low : place < 2 ^ 63
 
 -- A file of records is at rest between its calls, up to the first call that failed.
--- Shown by: proofs alone.
+-- Shown by: written_after_a_fault.edit.
 abbrev pub IsSound : {D : Type 0} → (D → List DiskCall) → RecordFile D → Type 0
 IsSound calls f =
     f.broken ≡ false → (first : List ℕ) → AreAnswers first (calls f.disk) → IsAtRest first (calls f.disk) (payloads_of f) f.gate
