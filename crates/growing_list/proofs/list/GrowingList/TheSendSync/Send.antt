@@ -1,0 +1,7 @@
+use denote.RattleType.{RattleType}
+use denote.Param.Send.{IsSend}
+use Rattle.growing_list.specs.contracts.list.GrowingList.{the_row}
+use Rattle.growing_list.proofs.Steps.{list_keyless}
+
+pub send : (T : RattleType) → IsSend (the_row T)
+send T = record { owned = λ d vs. ((λ vss. (tt, ((λ uss. (tt, tt)), tt))), list_keyless T.coded.code d.name d.items); leaving = λ k f vs. tt }
