@@ -17,7 +17,7 @@ use Rattle.router_core.specs.Tables.{Tables, first_tables}
 use Rattle.door_workers.specs.declared.door.DoorEnd.{DoorEnd}
 use Rattle.door_workers.specs.declared.door.DoorEnd.TheVariants as ends
 use Rattle.door_workers.specs.Serving.{HasServed}
-use Rattle.door_workers.proofs.ServingLemmas.{has_served}
+use Rattle.door_workers.proofs.ServingLemmas.{served_later}
 use Rattle.router_sessions.specs.declared.book.Book.{Book}
 use Rattle.router_sessions.specs.declared.history.Turn.{Turn}
 use Rattle.router_sessions.specs.History.{begun}
@@ -35,12 +35,12 @@ appends_kept (Some x) None c bs p q = absurd p
 appends_kept (Some x) (Some y) None bs p q = absurd q
 appends_kept (Some x) (Some y) (Some z) bs p q = q ∙ p
 
-module _ {D I O : Type 0} (show : D → Shown I O) (fits : ℕ → I × O → I × O → Bool → List Turn → Type 0)
-    (lasts : (n : ℕ) (came went : I × O) (cut : Bool) (turns more : List Turn) → fits n came went cut turns → fits n came went cut (turns ++ more)) where
+module _ {D I O : Type 0} (show : D → Shown I O) (fits : ℕ → I × O → I × O → Bool → List Turn → List Turn → Type 0)
+    (lasts : (n : ℕ) (came went : I × O) (cut : Bool) (before turns more : List Turn) → fits n came went cut before turns → fits n came went cut before (turns ++ more)) where
   later : (connections : Option ℕ) (start now : Shown I O) (turns turns' : List Turn) (end : DoorEnd) → IsPrefix turns turns'
       → HasServed connections start now fits turns end → HasServed connections start now fits turns' end
   later connections start now turns turns' end pre s =
-      has_served fits lasts connections start now s.standing end turns turns' s.given s.visits s.over_is s.gave s.visited pre
+      served_later fits lasts connections start now turns turns' end s pre
 
   opened : (connections : Option ℕ) (lent returned : D) (seen : List Turn) (b : Book) (end : DoorEnd) (old new : Option (List ℕ)) (status : Status)
       → HasServed connections (show lent) (show returned) fits seen end → IsPrefix seen (recorded_in b.history) → IsBook (book_of b)
@@ -69,7 +69,7 @@ module _ {D I O : Type 0} (show : D → Shown I O) (fits : ℕ → I × O → I 
   opens {L} {Count} connections lent returned links links_back seen b ends.NoMemory old new status served same count pre is ended none =
       inr (record { same_door = (same refl).0; same_links = (same refl).1; no_memory = (none refl).0; unwritten = (none refl).1 })
 
-module _ {D L I O : Type 0} (show : D → Shown I O) (fits : ℕ → I × O → I × O → Bool → List Turn → Type 0) where
+module _ {D L I O : Type 0} (show : D → Shown I O) (fits : ℕ → I × O → I × O → Bool → List Turn → List Turn → Type 0) where
   -- the port was printed, and the door opened
   pub announced : {Count : Type 0} (port : ℕ) (connections : Option ℕ) (lent returned : D) (links links_back : List L) (old printed new : Option (List ℕ))
       (status : Status) → Appends old printed (listening_text port)

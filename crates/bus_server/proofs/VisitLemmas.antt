@@ -19,10 +19,9 @@ module _ {I O : Type 0} (left : I → Option (List ℕ)) (written : O → Option
       (world (book_seen new) (left went.0) (written went.1) ahead_new answered_new faults_new) end
       → (end ≡ ReadFault → Rose (reads came.0) (reads went.0)) → (end ≢ ReadFault → reads went.0 ≡ reads came.0)
       → (end ≡ WriteFault → Rose (writes came.1) (writes went.1)) → (end ≢ WriteFault → writes went.1 ≡ writes came.1)
-      → IsVisit left written reads writes n came went (is_cut end) (seen_by new)
+      → IsVisit left written reads writes n came went (is_cut end) (seen_by old) (seen_by new)
   visit_of n came went old new end ahead ahead_new answered answered_new faults faults_new (more, is) session read unread write unwritten = record {
     pass = number_of old;
-    before = seen_by old;
     during = more;
     after = [];
     turns_are = is ∙ ap (λ (ts : List Turn). seen_by old ++ ts) (sym (append-nil more));

@@ -27,7 +27,7 @@ module _ {S M L I O : Type 0} {s : story.Ghosts Book Turn} where
         (output output' : MutBor O) (cut : Bool) → pass.now.seat.table_id ≡ hall.now.table.shared.table_id → IsFree pass.now.seat
         → f.post serve (link, (hall, (pass, (n, (input, (output, tt)))))) (cut, (link', (pass', (input', (output', tt)))))
         → IsSamePass pass.now.seat pass'.now.seat × IsFree pass'.now.seat
-        × IsVisit left written reads writes n (input.now, output.now) (input'.now, output'.now) cut (seen_by pass'.now.seat)
+        × IsVisit left written reads writes n (input.now, output.now) (input'.now, output'.now) cut (seen_by pass.now.seat) (seen_by pass'.now.seat)
     pub may_wait : (link : MutBor L) (hall : Bor (Hall Book Turn)) (pass : MutBor (Pass Book Turn s))
         → pass.now.seat.table_id ≡ hall.now.table.shared.table_id → IsFree pass.now.seat → g.pre meanwhile (link, (hall, (pass, tt)))
     pub waits : (link link' : MutBor L) (hall : Bor (Hall Book Turn)) (pass pass' : MutBor (Pass Book Turn s))

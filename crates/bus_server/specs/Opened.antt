@@ -31,7 +31,7 @@ pub record IsUnopened {D L : Type 0} (lent returned : D) (links links_back : Lis
   pub unwritten : Keeps old new
 
 -- the port was printed, and the door served, with a link for each worker
-pub record IsAnnounced {D L I O : Type 0} (show : D → Shown I O) (fits : ℕ → I × O → I × O → Bool → List Turn → Type 0) (port : ℕ)
+pub record IsAnnounced {D L I O : Type 0} (show : D → Shown I O) (fits : ℕ → I × O → I × O → Bool → List Turn → List Turn → Type 0) (port : ℕ)
     (connections : Option ℕ) (lent returned : D) (links links_back : List L) (old new : Option (List ℕ)) (status : Status) : Type 0 where
   pub all_back : length links_back ≡ length links
   pub printed : Option (List ℕ)
@@ -47,7 +47,7 @@ pub record IsUnannounced {D L : Type 0} (port : ℕ) (lent returned : D) (links 
       ⊎ ((status ≡ statuses.NoMemory) × Appends old new (listening_text port))
 
 -- `Serves`, by links that the host had given
-pub record ServesBy {D L I O : Type 0} (show : D → Shown I O) (fits : ℕ → I × O → I × O → Bool → List Turn → Type 0) (port : ℕ)
+pub record ServesBy {D L I O : Type 0} (show : D → Shown I O) (fits : ℕ → I × O → I × O → Bool → List Turn → List Turn → Type 0) (port : ℕ)
     (connections : Option ℕ) (links : List L) (old new : AroundDoor D L) (status : Status) : Type 0 where
   pub lent : D
   pub returned : D

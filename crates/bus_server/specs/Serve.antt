@@ -79,7 +79,7 @@ EndsServing ends.NoMemory t old new status = ⊥
 -- door_workers), and the program ends by `EndsServing` with the tables after it. `show` is what a door shows, and `fits` what an ended
 -- connection owes.
 -- Shown by: session_tests serve.rt: sixteen_workers_serve_more_connections_than_they_are.
-pub record IsOpened {D I O : Type 0} (show : D → Shown I O) (fits : ℕ → I × O → I × O → Bool → List Turn → Type 0) (connections : Option ℕ)
+pub record IsOpened {D I O : Type 0} (show : D → Shown I O) (fits : ℕ → I × O → I × O → Bool → List Turn → List Turn → Type 0) (connections : Option ℕ)
     (lent returned : D) (old new : Option (List ℕ)) (status : Status) : Type 0 where
   pub turns : List Turn
   pub book : IsBook (seen_book turns)
@@ -90,7 +90,7 @@ pub record IsOpened {D I O : Type 0} (show : D → Shown I O) (fits : ℕ → I 
 -- The host gave one door, at the port, and one link for each worker, and took back one door and as many links, with no fault. `listening`
 -- and the port were written, and then the workers served the door (`IsOpened`).
 -- Shown by: session_tests serve.rt: two_workers_serve_the_first_run; serve_counts_one_link_too_few.edit.
-pub record Serves {D L I O : Type 0} (show : D → Shown I O) (fits : ℕ → I × O → I × O → Bool → List Turn → Type 0) (port workers : ℕ)
+pub record Serves {D L I O : Type 0} (show : D → Shown I O) (fits : ℕ → I × O → I × O → Bool → List Turn → List Turn → Type 0) (port workers : ℕ)
     (connections : Option ℕ) (old new : AroundDoor D L) (status : Status) : Type 0 where
   -- the door as it was given, and as it was taken back
   pub lent : D
@@ -141,7 +141,7 @@ pub record IsUnserved {D L : Type 0} (port workers : ℕ) (old new : AroundDoor 
 
 -- The run of a program that serves: `Serves` or `IsUnserved`.
 -- Shown by: session_tests serve.rt: two_workers_serve_the_first_run; serve_is_refused.edit.
-abbrev pub IsServe : {D L I O : Type 0} → (D → Shown I O) → (ℕ → I × O → I × O → Bool → List Turn → Type 0) → ℕ → ℕ → Option ℕ
+abbrev pub IsServe : {D L I O : Type 0} → (D → Shown I O) → (ℕ → I × O → I × O → Bool → List Turn → List Turn → Type 0) → ℕ → ℕ → Option ℕ
     → AroundDoor D L → AroundDoor D L → Status → Type 0
 IsServe show fits port workers connections old new status =
     Serves show fits port workers connections old new status ⊎ IsUnserved port workers old new status

@@ -69,7 +69,7 @@ pub(crate) fn converse<I: Source, O: Sink, Rt: Wait + Sync, L: Link, C: Clock, G
     requires here { pass.old.seat.table_id ≡ hall.now.table.shared.table_id }
     requires free { IsFree pass.old.seat }
     ensures pass { IsSamePass pass.old.seat pass.new.seat × IsFree pass.new.seat }
-    ensures visit { IsVisit I.left O.written I.faults O.faults number (input.old, output.old) (input.new, output.new) result (seen_by pass.new.seat) }
+    ensures visit { IsVisit I.left O.written I.faults O.faults number (input.old, output.old) (input.new, output.new) result (seen_by pass.old.seat) (seen_by pass.new.seat) }
 {
     let mut clock = Reader {
         rt,

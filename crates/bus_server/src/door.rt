@@ -41,8 +41,8 @@ pub fn serve_door<Rt: Wait + Threads + Sync, D: Door, L: Link, C: Clock, G: Gate
     ensures made { (view pass.new.seat).made ≡ (view pass.old.seat).made + vec_len result.passes }
     ensures passes { All (λ p. IsIdlePass hall.now.table.shared.table_id p.seat) result.passes.items }
     ensures links { vec_len result.owns ≡ vec_len links }
-    ensures served { result.end ≢ DoorEnd.NoMemory → HasServed connections (shown_by D.faults D.ahead D.given D.ended door)
-        (shown_by D.faults D.ahead D.given D.ended result.door)
+    ensures served { result.end ≢ DoorEnd.NoMemory → HasServed connections (shown_by D.faults D.ahead D.given D.ended D.gave D.took_back D.closed door)
+        (shown_by D.faults D.ahead D.given D.ended D.gave D.took_back D.closed result.door)
         (IsVisit ⟦<D::In as Source>⟧.left ⟦<D::Out as Sink>⟧.written ⟦<D::In as Source>⟧.faults ⟦<D::Out as Sink>⟧.faults) (seen_by pass.new.seat) result.end }
     ensures book { result.end ≢ DoorEnd.NoMemory → IsBook (book_seen pass.new.seat) }
     ensures door_fault { result.end ≡ DoorEnd.DoorFault → Rose (D.faults door) (D.faults result.door) }
@@ -57,7 +57,7 @@ pub fn serve_door<Rt: Wait + Threads + Sync, D: Door, L: Link, C: Clock, G: Gate
             requires here { pass.old.seat.table_id ≡ hall.now.table.shared.table_id }
             requires free { IsFree pass.old.seat }
             ensures pass { IsSamePass pass.old.seat pass.new.seat × IsFree pass.new.seat }
-            ensures visit { IsVisit D.In.left D.Out.written D.In.faults D.Out.faults number (input.old, output.old) (input.new, output.new) result (seen_by pass.new.seat) }
+            ensures visit { IsVisit D.In.left D.Out.written D.In.faults D.Out.faults number (input.old, output.old) (input.new, output.new) result (seen_by pass.old.seat) (seen_by pass.new.seat) }
         {
             converse(
                 rt, alloc, &clock, gate, link, hall, pass, number, input, output,

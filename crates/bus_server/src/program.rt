@@ -48,7 +48,7 @@ pub fn run<Rt: Wait + Threads + Sync, S: Source, K: Sink, E: Sink, H: Host, C: C
         (around (S.left input.old) (K.written output.old) (C.ahead clock.old) (H.links_given host.old) (H.links_back host.old))
         (around (S.left input.new) (K.written output.new) (C.ahead clock.new) (H.links_given host.new) (H.links_back host.new)) result }
     ensures serve { (port workers : ℕ) (connections : Option ℕ) → IsCommand (map string_bytes words.now) (commands.Serve port workers connections)
-        → Keeps (S.left input.old) (S.left input.new) × IsServe (shown_by H.Door.faults H.Door.ahead H.Door.given H.Door.ended)
+        → Keeps (S.left input.old) (S.left input.new) × IsServe (shown_by H.Door.faults H.Door.ahead H.Door.given H.Door.ended H.Door.gave H.Door.took_back H.Door.closed)
         (IsVisit H.Door.In.left H.Door.Out.written H.Door.In.faults H.Door.Out.faults) port workers connections
         (around_door (K.written output.old) (H.doors_given host.old) (H.doors_back host.old) (H.links_given host.old) (H.links_back host.old)
         (H.door_faults host.old) (H.link_faults host.old))

@@ -1,18 +1,20 @@
 //! A door served by workers side by side.
-ghost use Rattle.std.specs.Prelude.{◌≡◌, ◌≢◌, ◌+◌, ◌<◌, ◌≤◌, List, All, [], length, vec_len, vec_capacity};
+ghost use Rattle.std.specs.Prelude.{◌≡◌, ◌≢◌, ◌+◌, ◌<◌, ◌≤◌, All, None, [], length, vec_len, vec_capacity};
 ghost use Rattle.router_disk.specs.Faults.{Rose};
 ghost use Rattle.turn_book.specs.Rule.{Learns};
 ghost use Rattle.turn_book.specs.Passes.{view};
 ghost use Rattle.shared_door.specs.Shown.{shown_by};
-ghost use Rattle.shared_door.specs.Visits.{Gave, Visited, visits_of};
-ghost use Rattle.door_workers.specs.Serving.{over_of, IsIdlePass, HasServed};
+ghost use Rattle.shared_door.specs.Acts.{IsOver};
+ghost use Rattle.shared_door.specs.Visits.{Gave, Visited};
+ghost use Rattle.door_workers.specs.Serving.{over_of, IsIdlePass, IsHired, HasServed};
 
 use crate::counts::Counts;
 use crate::site::{Site, attend};
 use crate::staff::{Room, gather, hire, room_for};
 use crate::worker::{Work, Worker};
 use bus_host::Door;
-use shared_door::{Naming, Over, Parts, Porch, Served, Tickets};
+use growing_list::GrowingList;
+use shared_door::{Act, Arrival, Naming, Over, Parts, Porch, Served, Tickets};
 use std::alloc::Global;
 use std::marker::Brand;
 use std::sync::{Mutex, Wait};
@@ -71,13 +73,16 @@ pub fn serve_door<
     ensures made { (view pass.new.seat).made ≡ (view pass.old.seat).made + vec_len result.passes }
     ensures passes { All (λ p. IsIdlePass hall.now.table.shared.table_id p.seat) result.passes.items }
     ensures owns { vec_len result.owns ≡ vec_len owns }
-    ensures served { result.end ≢ DoorEnd.NoMemory → HasServed connections (shown_by D.faults D.ahead D.given D.ended door)
-        (shown_by D.faults D.ahead D.given D.ended result.door) V.fits (view pass.new.seat).seen result.end }
+    ensures served { result.end ≢ DoorEnd.NoMemory → HasServed connections (shown_by D.faults D.ahead D.given D.ended D.gave D.took_back D.closed door)
+        (shown_by D.faults D.ahead D.given D.ended D.gave D.took_back D.closed result.door) V.fits (view pass.new.seat).seen result.end }
     ensures door_fault { result.end ≡ DoorEnd.DoorFault → Rose (D.faults door) (D.faults result.door) }
     ensures no_memory { result.end ≡ DoorEnd.NoMemory → (result.door ≡ door) × (result.owns.items ≡ owns.items)
         × (result.passes.items ≡ []) × (pass.new ≡ pass.old) }
 {
-    match room_for::<V, (D::In, D::Out), Own>(alloc, owns.len()) {
+    match room_for::<V, Arrival<D::In, D::Out, V::Turn>, Own, Act<D::In, D::Out, V::Turn>>(
+        alloc,
+        owns.len(),
+    ) {
         Ok(room) => serve_in(rt, hall, pass, owns, door, connections, work, room),
         Err(NoMemory) => Serving {
             door,
@@ -103,7 +108,7 @@ fn serve_in<
     door: D,
     connections: Option<u64>,
     work: &W,
-    room: Room<V, (D::In, D::Out), Own>,
+    room: Room<V, Arrival<D::In, D::Out, V::Turn>, Own, Act<D::In, D::Out, V::Turn>>,
 ) -> Serving<V, D, Own>
     requires works { W.works work.now }
     requires here { IsIdlePass hall.now.table.shared.table_id pass.old.seat }
@@ -118,8 +123,8 @@ fn serve_in<
     ensures made { (view pass.new.seat).made ≡ (view pass.old.seat).made + vec_len result.passes }
     ensures passes { All (λ p. IsIdlePass hall.now.table.shared.table_id p.seat) result.passes.items }
     ensures owns { vec_len result.owns ≡ vec_len owns }
-    ensures served { HasServed connections (shown_by D.faults D.ahead D.given D.ended door)
-        (shown_by D.faults D.ahead D.given D.ended result.door) V.fits (view pass.new.seat).seen result.end }
+    ensures served { HasServed connections (shown_by D.faults D.ahead D.given D.ended D.gave D.took_back D.closed door)
+        (shown_by D.faults D.ahead D.given D.ended D.gave D.took_back D.closed result.door) V.fits (view pass.new.seat).seen result.end }
     ensures door_fault { result.end ≡ DoorEnd.DoorFault → Rose (D.faults door) (D.faults result.door) }
     ensures memory { result.end ≢ DoorEnd.NoMemory }
 {
@@ -129,13 +134,15 @@ fn serve_in<
         mut passes,
     } = room;
     let mut owns = owns;
+    let acts = GrowingList::new();
     let last = hall.another(pass);
-    let mut workers = hire(hall, pass, &mut owns, workers);
+    let mut workers = hire(hall, pass, &mut owns, workers, &acts);
     let parts = open_by::<Brand, V, Rt, D, Own, W>(
         rt,
         hall,
         last,
         tickets,
+        acts,
         door,
         connections,
         work,
@@ -145,29 +152,27 @@ fn serve_in<
         door,
         pass: last,
         standing,
-        visits: _,
+        acts: _,
     } = parts;
     gather(hall, pass, workers, last, &mut owns, &mut passes);
     Serving {
         door,
         owns,
         passes,
-        end: end_of(rt, standing.over),
+        end: end_of(standing.over),
     }
 }
 
-/// Why the porch gives no more. A worker stops only if it does not, so one of the two is always there.
-fn end_of<Rt: Wait>(rt: &Rt, over: Option<Over>) -> DoorEnd
+/// Why the porch gives no more.
+fn end_of(over: Option<Over>) -> DoorEnd
+    requires { over ≢ None }
     ensures over { over ≡ over_of result }
     ensures served { result ≢ DoorEnd.NoMemory }
 {
     match over {
         Some(Over::Closed) => DoorEnd::Done,
         Some(Over::Failed) => DoorEnd::DoorFault,
-        None => {
-            for _ in rt.forever() {}
-            unreachable!()
-        }
+        None => unreachable!(),
     }
 }
 
@@ -183,33 +188,36 @@ fn open_by<
     rt: &Rt,
     hall: &Hall<V>,
     last: Pass<V>,
-    tickets: Tickets<(D::In, D::Out)>,
+    tickets: Tickets<Arrival<D::In, D::Out, V::Turn>>,
+    acts: GrowingList<Act<D::In, D::Out, V::Turn>>,
     door: D,
     connections: Option<u64>,
     work: &W,
-    workers: &mut [Worker<V, Own>],
+    workers: &mut [Worker<V, Own, Act<D::In, D::Out, V::Turn>>],
 ) -> Parts<V, D>
     requires works { W.works work.now }
     requires hall { hall.now.table.shared.table_id ≡ N.hall }
     requires last { IsIdlePass N.hall last.seat }
     requires tickets { (tickets.seat.table_id ≡ N.tickets) × (tickets.given ≡ 0) × (tickets.seat.me.0.back ≡ []) }
-    requires door { shown_by D.faults D.ahead D.given D.ended door ≡ N.start }
+    requires acts { (acts.name ≡ N.acts) × (acts.items ≡ []) }
+    requires door { shown_by D.faults D.ahead D.given D.ended D.gave D.took_back D.closed door ≡ N.start }
     requires most { connections ≡ N.most }
     requires some { 0 < length workers.old }
-    requires workers { All (λ w. IsIdlePass N.hall w.pass.seat) workers.old }
+    requires workers { All (λ w. IsHired N.hall N.acts w.pass.seat w.front) workers.old }
     ensures workers { All (λ w. IsIdlePass N.hall w.pass.seat) workers.new }
     ensures count { length workers.new ≡ length workers.old }
     ensures pass { IsIdlePass N.hall result.pass.seat }
-    ensures door { (given : List _)
-        × Gave N.most N.start (shown_by D.faults D.ahead D.given D.ended result.door) result.standing given
-        × Visited N.start (shown_by D.faults D.ahead D.given D.ended result.door)
-        V.fits (view result.pass.seat).seen given (visits_of result.visits.items) }
+    ensures over { result.standing.over ≢ None }
+    ensures gave { Gave N.most N.start (shown_by D.faults D.ahead D.given D.ended D.gave D.took_back D.closed result.door) result.standing result.acts.items }
+    ensures visited { Visited N.start (shown_by D.faults D.ahead D.given D.ended D.gave D.took_back D.closed result.door)
+        V.fits (view result.pass.seat).seen result.acts.items }
 {
     let counts = Counts::new(workers.len());
-    let porch: Porch<'_, V, D, N> = Porch::open(door, hall, last, tickets, connections);
+    let porch: Porch<'_, V, D, N> = Porch::open(door, hall, last, tickets, acts, connections);
     let porch = Mutex::new(porch);
     work_all(rt, hall, &porch, &counts, work, workers);
-    porch.into_inner().into_parts()
+    let over = workers[0].front.again();
+    porch.into_inner().into_parts(over)
 }
 
 /// Lets all workers work, each in a thread of its own. The caller is one.
@@ -226,13 +234,14 @@ fn work_all<
     porch: &Mutex<Porch<'_, V, D, N>>,
     counts: &Counts,
     work: &W,
-    workers: &mut [Worker<V, Own>],
+    workers: &mut [Worker<V, Own, Act<D::In, D::Out, V::Turn>>],
 )
     requires works { W.works work.now }
     requires hall { hall.now.table.shared.table_id ≡ N.hall }
     requires some { 0 < length workers.old }
-    requires workers { All (λ w. IsIdlePass N.hall w.pass.seat) workers.old }
+    requires workers { All (λ w. IsHired N.hall N.acts w.pass.seat w.front) workers.old }
     ensures workers { All (λ w. IsIdlePass N.hall w.pass.seat) workers.new }
+    ensures over { All (λ w. (w.front.name ≡ N.acts) × IsOver w.front.items) workers.new }
     ensures count { length workers.new ≡ length workers.old }
 {
     let threads = workers.len();
@@ -240,11 +249,12 @@ fn work_all<
         rt,
         workers,
         threads,
-        &|_, worker: &mut Worker<V, Own>|
+        &|_, worker: &mut Worker<V, Own, Act<D::In, D::Out, V::Turn>>|
             requires works { W.works work.now }
             requires hall { hall.now.table.shared.table_id ≡ N.hall }
             requires idle { IsIdlePass N.hall worker.old.pass.seat }
-            ensures { IsIdlePass N.hall worker.new.pass.seat }
+            ensures idle { IsIdlePass N.hall worker.new.pass.seat }
+            ensures over { (worker.new.front.name ≡ N.acts) × IsOver worker.new.front.items }
         {
             let site = Site {
                 rt,

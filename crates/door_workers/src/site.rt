@@ -1,12 +1,14 @@
 //! What the workers of one door share, and what one of them does at it.
 ghost use Rattle.std.specs.Prelude.{◌≡◌};
-ghost use Rattle.turn_book.specs.Passes.{IsFree, IsSamePass};
-ghost use Rattle.shared_door.specs.Knocks.{tickets_of, came_of};
+ghost use mathlib.Core.List.{IsPrefix};
+ghost use Rattle.turn_book.specs.Passes.{view, IsFree, IsSamePass};
+ghost use Rattle.shared_door.specs.Acts.{IsOver};
+ghost use Rattle.shared_door.specs.Knocks.{tickets_of, came_of, seen_of};
 
 use crate::counts::{Counts, may_leave};
 use crate::worker::{Work, Worker};
 use bus_host::Door;
-use shared_door::{Connection, Knocked, Naming, Porch, Served};
+use shared_door::{Act, Connection, Knocked, Naming, Porch, Served, turns_seen};
 use std::alloc::AllocError;
 use std::sync::atomic::Ordering;
 use std::sync::{Mutex, Wait};
@@ -32,7 +34,7 @@ impl<Rt, V: Served<D::In, D::Out>, D: Door, N: Naming<D::In, D::Out>, W> Copy
     for Site<'_, '_, Rt, V, D, N, W> {}
 
 /// Knocks until the door gives no more connections. Serves each connection that comes, and does the rest of its work while none
-/// comes.
+/// comes. The worker's front then has the act by which the porch is over.
 pub(crate) fn attend<
     Rt: Wait + Sync,
     V: Served<D::In, D::Out>,
@@ -40,25 +42,33 @@ pub(crate) fn attend<
     N: Naming<D::In, D::Out>,
     Own,
     W: Work<V, D::In, D::Out, Own>,
->(site: Site<'_, '_, Rt, V, D, N, W>, worker: &mut Worker<V, Own>)
+>(site: Site<'_, '_, Rt, V, D, N, W>, worker: &mut Worker<V, Own, Act<D::In, D::Out, V::Turn>>)
     requires works { W.works site.work.now }
     requires hall { site.hall.now.table.shared.table_id ≡ N.hall }
     requires pass { (worker.old.pass.seat.table_id ≡ N.hall) × IsFree worker.old.pass.seat }
     ensures pass { IsSamePass worker.old.pass.seat worker.new.pass.seat × IsFree worker.new.pass.seat }
+    ensures over { (worker.new.front.name ≡ N.acts) × IsOver worker.new.front.items }
 {
     site.counts.begun.fetch_add(1, Ordering::SeqCst);
     for _ in site.rt.forever() {
         let knocking = site.counts.knocking.lock(site.rt);
-        let knocked = site.porch.lock(site.rt).knock();
+        let knocked = site.porch.lock(site.rt).knock(&mut worker.pass);
         drop(knocking);
         match knocked {
             Knocked::Conn(connection) => serve(site, worker, connection),
             Knocked::Quiet => be_quiet(site, worker),
             Knocked::NoMemory => be_quiet(site, worker),
-            Knocked::Closed => return,
-            Knocked::Failed => return,
+            Knocked::Closed(front) => {
+                worker.front = front;
+                return;
+            }
+            Knocked::Failed(front) => {
+                worker.front = front;
+                return;
+            }
         }
     }
+    unreachable!()
 }
 
 /// Serves a connection, and takes it back to the porch.
@@ -69,12 +79,17 @@ fn serve<
     N: Naming<D::In, D::Out>,
     Own,
     W: Work<V, D::In, D::Out, Own>,
->(site: Site<'_, '_, Rt, V, D, N, W>, worker: &mut Worker<V, Own>, connection: Connection<D>)
+>(
+    site: Site<'_, '_, Rt, V, D, N, W>,
+    worker: &mut Worker<V, Own, Act<D::In, D::Out, V::Turn>>,
+    connection: Connection<D, V::Turn>,
+)
     requires works { W.works site.work.now }
     requires hall { site.hall.now.table.shared.table_id ≡ N.hall }
     requires pass { (worker.old.pass.seat.table_id ≡ N.hall) × IsFree worker.old.pass.seat }
     requires own { tickets_of connection ≡ N.tickets }
     requires came { came_of connection ≡ (connection.input, connection.output) }
+    requires after { IsPrefix (seen_of connection) (view worker.old.pass.seat).seen }
     ensures pass { IsSamePass worker.old.pass.seat worker.new.pass.seat × IsFree worker.new.pass.seat }
 {
     site.counts.out.fetch_add(1, Ordering::SeqCst);
@@ -91,16 +106,22 @@ fn converse<
     N: Naming<D::In, D::Out>,
     Own,
     W: Work<V, D::In, D::Out, Own>,
->(site: Site<'_, '_, Rt, V, D, N, W>, worker: &mut Worker<V, Own>, connection: Connection<D>)
+>(
+    site: Site<'_, '_, Rt, V, D, N, W>,
+    worker: &mut Worker<V, Own, Act<D::In, D::Out, V::Turn>>,
+    connection: Connection<D, V::Turn>,
+)
     requires works { W.works site.work.now }
     requires hall { site.hall.now.table.shared.table_id ≡ N.hall }
     requires pass { (worker.old.pass.seat.table_id ≡ N.hall) × IsFree worker.old.pass.seat }
     requires own { tickets_of connection ≡ N.tickets }
     requires came { came_of connection ≡ (connection.input, connection.output) }
+    requires after { IsPrefix (seen_of connection) (view worker.old.pass.seat).seen }
     ensures pass { IsSamePass worker.old.pass.seat worker.new.pass.seat × IsFree worker.new.pass.seat }
 {
     let mut connection = connection;
     let number = connection.number();
+    let before = turns_seen(&worker.pass);
     let cut = site.work.serve(
         &mut worker.own,
         site.hall,
@@ -109,9 +130,10 @@ fn converse<
         &mut connection.input,
         &mut connection.output,
     );
-    site.porch
+    let _front = site
+        .porch
         .lock(site.rt)
-        .back(connection, cut, &mut worker.pass);
+        .back(connection, before, cut, &mut worker.pass);
 }
 
 /// Does for a while what there is to do without a connection, if this worker may.
@@ -122,7 +144,7 @@ fn be_quiet<
     N: Naming<D::In, D::Out>,
     Own,
     W: Work<V, D::In, D::Out, Own>,
->(site: Site<'_, '_, Rt, V, D, N, W>, worker: &mut Worker<V, Own>)
+>(site: Site<'_, '_, Rt, V, D, N, W>, worker: &mut Worker<V, Own, Act<D::In, D::Out, V::Turn>>)
     requires works { W.works site.work.now }
     requires hall { site.hall.now.table.shared.table_id ≡ N.hall }
     requires pass { (worker.old.pass.seat.table_id ≡ N.hall) × IsFree worker.old.pass.seat }

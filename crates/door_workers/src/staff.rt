@@ -3,25 +3,26 @@ ghost use Rattle.std.specs.Prelude.{◌≡◌, ◌+◌, ◌<◌, ◌≤◌, All,
 ghost use mathlib.Core.List.{IsPrefix};
 ghost use Rattle.turn_book.specs.Rule.{Learns};
 ghost use Rattle.turn_book.specs.Passes.{view, IsFree, IsSamePass, HasSameTurn};
-ghost use Rattle.door_workers.specs.Serving.{IsIdlePass};
+ghost use Rattle.door_workers.specs.Serving.{IsIdlePass, IsHired};
 
 use crate::worker::Worker;
+use growing_list::GrowingList;
 use shared_door::Tickets;
 use std::alloc::Global;
 use turn_book::{Hall, NoMemory, Pass, Story};
 
 /// What serving a door needs memory for.
-pub(crate) struct Room<V: Story, C, Own> {
+pub(crate) struct Room<V: Story, C, Own, A> {
     pub(crate) tickets: Tickets<C>,
-    pub(crate) workers: Vec<Worker<V, Own>>,
+    pub(crate) workers: Vec<Worker<V, Own, A>>,
     pub(crate) passes: Vec<Pass<V>>,
 }
 
 /// Takes that memory, for this many workers.
-pub(crate) fn room_for<V: Story, C, Own>(
+pub(crate) fn room_for<V: Story, C, Own, A>(
     alloc: Global,
     count: usize,
-) -> Result<Room<V, C, Own>, NoMemory>
+) -> Result<Room<V, C, Own, A>, NoMemory>
     requires { count ≤ 16 }
     ensures tickets { IfOk result (λ r. (r.tickets.given ≡ 0) × (r.tickets.seat.me.0.back ≡ [])) }
     ensures workers { IfOk result (λ r. (vec_len r.workers ≡ 0) × (count ≤ vec_capacity r.workers)) }
@@ -48,13 +49,14 @@ pub(crate) fn room_for<V: Story, C, Own>(
     })
 }
 
-/// A worker for each of `owns`, with a pass of its own.
-pub(crate) fn hire<V: Story, Own>(
+/// A worker for each of `owns`, with a pass of its own and a front of the porch's acts.
+pub(crate) fn hire<V: Story, Own, A>(
     hall: &Hall<V>,
     pass: &mut Pass<V>,
     owns: &mut Vec<Own>,
-    workers: Vec<Worker<V, Own>>,
-) -> Vec<Worker<V, Own>>
+    workers: Vec<Worker<V, Own, A>>,
+    acts: &GrowingList<A>,
+) -> Vec<Worker<V, Own, A>>
     requires here { pass.old.seat.table_id ≡ hall.now.table.shared.table_id }
     requires maker { 0 < (view pass.old.seat).made }
     requires seats { (view pass.old.seat).made + vec_len owns.old ≤ hall.now.seats }
@@ -64,22 +66,26 @@ pub(crate) fn hire<V: Story, Own>(
     ensures more { Learns V.made_by (view pass.old.seat) (view pass.new.seat).seen }
     ensures made { (view pass.new.seat).made ≡ (view pass.old.seat).made + vec_len owns.old }
     ensures owns { (vec_len owns.new ≡ 0) × (vec_capacity owns.new ≡ vec_capacity owns.old) }
-    ensures workers { All (λ w. IsIdlePass hall.now.table.shared.table_id w.pass.seat) result.items }
+    ensures workers { All (λ w. IsHired hall.now.table.shared.table_id acts.now.name w.pass.seat w.front) result.items }
     ensures count { vec_len result ≡ vec_len owns.old }
 {
     let mut workers = workers;
     while let Some(own) = owns.pop() {
         let fresh = hall.another(pass);
-        workers.push_reserved(Worker { own, pass: fresh });
+        workers.push_reserved(Worker {
+            own,
+            pass: fresh,
+            front: acts.front(),
+        });
     }
     workers
 }
 
 /// Takes what the workers had and their passes, and the pass of the door. The caller's pass has then seen what they saw.
-pub(crate) fn gather<V: Story, Own>(
+pub(crate) fn gather<V: Story, Own, A>(
     hall: &Hall<V>,
     pass: &mut Pass<V>,
-    workers: Vec<Worker<V, Own>>,
+    workers: Vec<Worker<V, Own, A>>,
     last: Pass<V>,
     owns: &mut Vec<Own>,
     passes: &mut Vec<Pass<V>>,
@@ -104,10 +110,10 @@ pub(crate) fn gather<V: Story, Own>(
 }
 
 /// Takes what the workers had and their passes. The caller's pass has then seen what they saw.
-fn dismiss<V: Story, Own>(
+fn dismiss<V: Story, Own, A>(
     hall: &Hall<V>,
     pass: &mut Pass<V>,
-    workers: Vec<Worker<V, Own>>,
+    workers: Vec<Worker<V, Own, A>>,
     owns: &mut Vec<Own>,
     passes: &mut Vec<Pass<V>>,
 )
@@ -128,6 +134,7 @@ fn dismiss<V: Story, Own>(
         let Worker {
             own,
             pass: mut fresh,
+            front: _,
         } = worker;
         hall.meet(pass, &mut fresh);
         owns.push_reserved(own);

@@ -2,6 +2,7 @@
 ghost use Rattle.std.specs.Prelude.{◌≡◌};
 ghost use Rattle.turn_book.specs.Passes.{view, IsFree, IsSamePass};
 
+use growing_list::Front;
 use shared_door::Served;
 use turn_book::{Hall, Pass, Story};
 
@@ -25,7 +26,7 @@ pub trait Work<V: Served<I, O>, I, O, Own> {
         requires here { pass.old.seat.table_id ≡ hall.now.table.shared.table_id }
         requires free { IsFree pass.old.seat }
         ensures pass { IsSamePass pass.old.seat pass.new.seat × IsFree pass.new.seat }
-        ensures fits { V.fits number (input.old, output.old) (input.new, output.new) result (view pass.new.seat).seen };
+        ensures fits { V.fits number (input.old, output.old) (input.new, output.new) result (view pass.old.seat).seen (view pass.new.seat).seen };
 
     /// Does for a while what there is to do without a connection.
     fn meanwhile(&self, own: &mut Own, hall: &Hall<V>, pass: &mut Pass<V>)
@@ -35,8 +36,9 @@ pub trait Work<V: Served<I, O>, I, O, Own> {
         ensures pass { IsSamePass pass.old.seat pass.new.seat × IsFree pass.new.seat };
 }
 
-/// What a worker has: what is its own, and its pass.
-pub(crate) struct Worker<V: Story, Own> {
+/// What a worker has: what is its own, its pass, and what it knows of the porch's acts.
+pub(crate) struct Worker<V: Story, Own, A> {
     pub(crate) own: Own,
     pub(crate) pass: Pass<V>,
+    pub(crate) front: Front<A>,
 }

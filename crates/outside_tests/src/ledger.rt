@@ -36,9 +36,9 @@ impl<I, O> Served<I, O> for Ledger {
     ghost use Rattle.std.proofs.lemmas.List.Folds.{list_any-append};
 
     // A turn served the connection, unless out of memory ended it.
-    ghost fits = { λ n _ _ cut turns. (cut ≡ true) ⊎ (list_any (λ t. t.1 == n) turns ≡ true) };
+    ghost fits = { λ n _ _ cut _ turns. (cut ≡ true) ⊎ (list_any (λ t. t.1 == n) turns ≡ true) };
 
-    ghost lasts = { λ n _ _ cut turns more h.
+    ghost lasts = { λ n _ _ cut _ turns more h.
         ⊎_elim (λ e. inl e) (λ e. inr (list_any-append (λ t. t.1 == n) turns more ∙ ap (λ b. b || list_any (λ t. t.1 == n) more) e)) h };
 }
 

@@ -1,11 +1,13 @@
 //! A porch that threads share, over a door in memory.
-ghost use Rattle.std.specs.Prelude.{◌≡◌, All, []};
+ghost use Rattle.std.specs.Prelude.{◌≡◌, ◌<◌, All, [], length};
 ghost use Rattle.turn_book.specs.Passes.{IsFree};
 ghost use Rattle.shared_door.specs.Shown.{shown_by};
+ghost use Rattle.shared_door.specs.Acts.{IsOver};
 
 use crate::ledger::{Ledger, add, door, make_hall, turns_of};
 use bus_host::Door;
-use shared_door::{Knocked, Naming, Over, Parts, Porch, Tickets};
+use growing_list::{Front, GrowingList};
+use shared_door::{Act, Arrival, Knocked, Naming, Over, Parts, Porch, Tickets, turns_seen};
 use std::alloc::Global;
 use std::marker::Brand;
 use std::process::Abort;
@@ -32,18 +34,19 @@ fn knock<R: Wait, D: Door, N: Naming<D::In, D::Out>>(
     requires pass { (pass.old.seat.table_id ≡ N.hall) × IsFree pass.old.seat }
     ensures pass { (pass.new.seat.table_id ≡ N.hall) × IsFree pass.new.seat }
 {
-    let knocked = porch.lock(rt).knock();
+    let knocked = porch.lock(rt).knock(pass);
     match knocked {
         Knocked::Conn(connection) => {
+            let before = turns_seen(pass);
             let ledger = hall.take(rt, pass);
             let (ledger, cut) = add(ledger, pass.number(), connection.number());
             hall.give(pass, ledger);
-            porch.lock(rt).back(connection, cut, pass);
+            let _front = porch.lock(rt).back(connection, before, cut, pass);
             b'C'
         }
         Knocked::Quiet => b'q',
-        Knocked::Closed => b'c',
-        Knocked::Failed => b'f',
+        Knocked::Closed(_) => b'c',
+        Knocked::Failed(_) => b'f',
         Knocked::NoMemory => b'm',
     }
 }
@@ -77,6 +80,8 @@ fn serve_all<D: Door, R: Threads + Wait + Sync, N: Naming<D::In, D::Out> + Send>
 )
     requires hall { hall.now.table.shared.table_id ≡ N.hall }
     requires workers { All (λ w. (w.pass.seat.table_id ≡ N.hall) × IsFree w.pass.seat) workers.old }
+    ensures workers { All (λ w. (w.pass.seat.table_id ≡ N.hall) × IsFree w.pass.seat) workers.new }
+    ensures count { length workers.new ≡ length workers.old }
 {
     thread::for_each_mut(
         rt,
@@ -89,11 +94,30 @@ fn serve_all<D: Door, R: Threads + Wait + Sync, N: Naming<D::In, D::Out> + Send>
     );
 }
 
-fn served_by<D: Door, R: Threads + Wait + Sync, N: Naming<D::In, D::Out> + Send>(
+// Knocks at a porch that is over.
+fn over<D: Door, R: Abort, N: Naming<D::In, D::Out>>(
+    rt: &R,
+    porch: &mut Porch<'_, Ledger, D, N>,
+    pass: &mut Pass<Ledger>,
+) -> Front<Act<D::In, D::Out, (u64, u64)>>
+    requires pass { (pass.old.seat.table_id ≡ N.hall) × IsFree pass.old.seat }
+    ensures { (result.name ≡ N.acts) × IsOver result.items }
+{
+    match porch.knock(pass) {
+        Knocked::Closed(front) => front,
+        Knocked::Failed(front) => front,
+        Knocked::Conn(_connection) => panic!(rt; "a connection"),
+        Knocked::Quiet => panic!(rt; "no connection"),
+        Knocked::NoMemory => panic!(rt; "out of memory"),
+    }
+}
+
+fn served_by<D: Door, R: Threads + Wait + Sync + Abort, N: Naming<D::In, D::Out> + Send>(
     rt: &R,
     hall: &Hall<Ledger>,
     own: Pass<Ledger>,
-    tickets: Tickets<(D::In, D::Out)>,
+    tickets: Tickets<Arrival<D::In, D::Out, (u64, u64)>>,
+    acts: GrowingList<Act<D::In, D::Out, (u64, u64)>>,
     door: D,
     most: Option<u64>,
     workers: &mut [Worker],
@@ -101,30 +125,44 @@ fn served_by<D: Door, R: Threads + Wait + Sync, N: Naming<D::In, D::Out> + Send>
     requires hall { hall.now.table.shared.table_id ≡ N.hall }
     requires own { (own.seat.table_id ≡ N.hall) × IsFree own.seat }
     requires tickets { (tickets.seat.table_id ≡ N.tickets) × (tickets.given ≡ 0) × (tickets.seat.me.0.back ≡ []) }
-    requires door { shown_by D.faults D.ahead D.given D.ended door ≡ N.start }
+    requires acts { (acts.name ≡ N.acts) × (acts.items ≡ []) }
+    requires some { 0 < length workers.old }
+    requires door { shown_by D.faults D.ahead D.given D.ended D.gave D.took_back D.closed door ≡ N.start }
     requires most { most ≡ N.most }
     requires workers { All (λ w. (w.pass.seat.table_id ≡ N.hall) × IsFree w.pass.seat) workers.old }
 {
-    let porch: Porch<'_, Ledger, D, N> = Porch::open(door, hall, own, tickets, most);
+    let porch: Porch<'_, Ledger, D, N> = Porch::open(door, hall, own, tickets, acts, most);
     let porch = Mutex::new(porch);
     serve_all(rt, hall, &porch, workers);
-    porch.into_inner().into_parts()
+    let mut porch = porch.into_inner();
+    let front = over(rt, &mut porch, &mut workers[0].pass);
+    porch.into_parts(front)
 }
 
-fn served<D: Door, R: Threads + Wait + Sync>(
+fn served<D: Door, R: Threads + Wait + Sync + Abort>(
     rt: &R,
     hall: &Hall<Ledger>,
     own: Pass<Ledger>,
-    tickets: Tickets<(D::In, D::Out)>,
+    tickets: Tickets<Arrival<D::In, D::Out, (u64, u64)>>,
     door: D,
     most: Option<u64>,
     workers: &mut [Worker],
 ) -> Parts<Ledger, D>
     requires own { (own.seat.table_id ≡ hall.now.table.shared.table_id) × IsFree own.seat }
     requires tickets { (tickets.given ≡ 0) × (tickets.seat.me.0.back ≡ []) }
+    requires some { 0 < length workers.old }
     requires workers { All (λ w. (w.pass.seat.table_id ≡ hall.now.table.shared.table_id) × IsFree w.pass.seat) workers.old }
 {
-    served_by::<D, R, Brand>(rt, hall, own, tickets, door, most, workers)
+    served_by::<D, R, Brand>(
+        rt,
+        hall,
+        own,
+        tickets,
+        GrowingList::new(),
+        door,
+        most,
+        workers,
+    )
 }
 
 #[test]
@@ -148,7 +186,7 @@ fn two_threads_serve_four_connections(rt: HostRuntime) {
         door,
         pass: _,
         standing,
-        visits: _,
+        acts: _,
     } = served(&rt, &hall, own, tickets, door, None, &mut workers);
     assert_eq!(rt; standing.gave, 4);
     assert!(rt; standing.over == Some(Over::Closed));
@@ -178,7 +216,7 @@ fn returns<R: Threads + Wait + Sync + Abort>(
         door,
         pass: _,
         standing: _,
-        visits: _,
+        acts: _,
     } = served(rt, &hall, own, tickets, door, most, &mut workers);
     workers[0].letters == letters && door.back.len() == back
 }

@@ -22,14 +22,14 @@ is_cut WriteFault = false
 is_cut NoMemory = true
 
 module _ {I O : Type 0} (left : I → Option (List ℕ)) (written : O → Option (List ℕ)) (reads : I → ℕ) (writes : O → ℕ) where
-  -- A connection with this number came with these streams and ended with those. Somewhere in these turns is its session (`IsSession`), by
-  -- one pass whose turns name the connection, beside turns of other passes. `cut` says whether out of memory ended it. `reads` and `writes`
+  -- A connection with this number came with these streams and ended with those. Its session (`IsSession`) began after the turns `before`
+  -- and is in these turns, by one pass whose turns name the connection, beside turns of other passes. `cut` says whether out of memory
+  -- ended it. `reads` and `writes`
   -- are the counts of faults of the streams: a fault ends a session only if it was counted. The clock's readings and the link's answers are
   -- any that the session allows.
   -- Shown by: session_tests serve.rt: two_workers_serve_the_first_run, a_held_reply_holds_no_other_connection.
-  pub record IsVisit (n : ℕ) (came went : I × O) (cut : Bool) (turns : List Turn) : Type 0 where
+  pub record IsVisit (n : ℕ) (came went : I × O) (cut : Bool) (before turns : List Turn) : Type 0 where
     pub pass : ℕ
-    pub before : List Turn
     pub during : List Turn
     pub after : List Turn
     pub turns_are : turns ≡ before ++ (during ++ after)
@@ -50,15 +50,14 @@ module _ {I O : Type 0} (left : I → Option (List ℕ)) (written : O → Option
     pub output_faultless : end ≢ WriteFault → writes went.1 ≡ writes came.1
 
   -- a longer history has the same turns of the connection
-  pub visit_lasts : (n : ℕ) (came went : I × O) (cut : Bool) (turns more : List Turn) → IsVisit n came went cut turns
-      → IsVisit n came went cut (turns ++ more)
-  visit_lasts n came went cut turns more v = record {
+  pub visit_lasts : (n : ℕ) (came went : I × O) (cut : Bool) (before turns more : List Turn) → IsVisit n came went cut before turns
+      → IsVisit n came went cut before (turns ++ more)
+  visit_lasts n came went cut before turns more v = record {
     pass = v.pass;
-    before = v.before;
     during = v.during;
     after = v.after ++ more;
-    turns_are = ap (λ (ts : List Turn). ts ++ more) v.turns_are ∙ (append_assoc v.before (v.during ++ v.after) more
-        ∙ ap (λ (ts : List Turn). v.before ++ ts) (append_assoc v.during v.after more));
+    turns_are = ap (λ (ts : List Turn). ts ++ more) v.turns_are ∙ (append_assoc before (v.during ++ v.after) more
+        ∙ ap (λ (ts : List Turn). before ++ ts) (append_assoc v.during v.after more));
     end = v.end;
     cut_is = v.cut_is;
     ahead = v.ahead;

@@ -1,9 +1,7 @@
 -- A porch may go to another thread, so that threads may share it behind a lock: `porch_send`.
 use denote.RattleType.{RattleType}
 use denote.Ref.{NamedLft, ShrRef}
-use denote.Builtin as builtin
 use denote.Param.Send.{IsSend, IsSync, AllSend, sendable, view_send, recorded_send, struct_send, shr_send}
-use denote.Struct.Tuple as tuple
 use denote.Struct.Declared as declared
 use Rattle.shared_door.specs.contracts.porch.Porch.TheInside as inside
 use Rattle.std.specs.Prelude.{[], ◌∷◌}
@@ -13,8 +11,8 @@ use Rattle.std.specs.contracts.marker.PhantomData as phantom
 use Rattle.atomic_table.proofs.shared.Seat.TheSendSync as seat
 use Rattle.atomic_table.proofs.shared.Shared.TheSendSync as shared
 use Rattle.atomic_table.proofs.send_lease.SendLease.TheSendSync as lease
-use Rattle.http_server.proofs.log.Log.TheSendSync as log
-use Rattle.http_server.specs.contracts.log.Log as log_row
+use Rattle.growing_list.proofs.list.GrowingList.TheSendSync as list_sends
+use Rattle.growing_list.specs.contracts.list.GrowingList as list_row
 use Rattle.router_disk.specs.declared.source.Source as source
 use Rattle.router_disk.specs.declared.sink.Sink as sink
 use Rattle.turn_book.specs.declared.story.Story as story
@@ -24,7 +22,8 @@ use Rattle.bus_host.specs.declared.door.Door as door
 use Rattle.shared_door.specs.declared.served.Served as served
 use Rattle.shared_door.specs.declared.naming.Naming as naming
 use Rattle.shared_door.specs.contracts.connection.Standing as standing
-use Rattle.shared_door.specs.contracts.connection.Visit as visit
+use Rattle.shared_door.specs.contracts.acts.Arrival as arrival
+use Rattle.shared_door.specs.contracts.acts.Act as act
 use Rattle.shared_door.specs.contracts.tickets.Tickets as tickets
 use Rattle.shared_door.specs.contracts.porch.Porch as porch
 
@@ -34,14 +33,8 @@ snapshot_send C = search (sendable, crosses) depth 20
 pub tickets_send : (C : RattleType) → IsSend (tickets.the_field C).row
 tickets_send C = search (sendable, crosses, seat.the_send, shared.the_send, lease.the_send, snapshot_send) depth 20
 
-pub visit_send : (I O : RattleType) → IsSend (visit.the_row I O)
-visit_send I O = search (sendable, crosses, snapshot_send) depth 20
-
-unit_send : IsSend builtin.unit
-unit_send = search (sendable, crosses) depth 20
-
-pub log_send : (I O : RattleType) → IsSend (log_row.the_field (visit.the_row I O) builtin.unit).row
-log_send I O = log.the_send (visit.the_row I O) builtin.unit (visit_send I O) unit_send
+pub list_send : (A : RattleType) → IsSend (list_row.the_field A).row
+list_send A = search (sendable, crosses, list_sends.the_send) depth 20
 
 pub hall_sync : (V T : RattleType) (s : story.Ghosts V.Denot T.Denot) → IsSend V → IsSync (hall.the_row V T s)
 hall_sync V T s h = search (sendable, crosses, shared.the_sync, lease.the_sync) depth 20
@@ -59,7 +52,7 @@ pub porch_send : (n : NamedLft) (V D N T I O : RattleType) (s : story.Ghosts V.D
     (d : door.Ghosts D.Denot I.Denot O.Denot) (i : source.Ghosts I.Denot) (o : sink.Ghosts O.Denot) (k : naming.Ghosts N.Denot I.Denot O.Denot)
     → IsSend V → IsSend D → IsSend N → IsSend (porch.the_row n V D N T I O s v d i o k)
 porch_send n V D N T I O s v d i o k a b c =
-    let parts : AllSend (D ∷ ShrRef n.mir n.lft (hall.the_row V T s) ∷ (pass.the_field V T s).row ∷ (tickets.the_field (tuple.Tuple (I ∷ O ∷ []))).row ∷ (standing.the_field).row
-    ∷ (log_row.the_field (visit.the_row I O) builtin.unit).row ∷ (phantom.the_field N).row ∷ []) =
-    (b, (shr_send _ _ _ (hall_sync V T s a), (pass_send V T s a, (tickets_send (tuple.Tuple (I ∷ O ∷ [])), (standing_send, (log_send I O, (phantom_send N c, tt))))))) in
+    let parts : AllSend (D ∷ ShrRef n.mir n.lft (hall.the_row V T s) ∷ (pass.the_field V T s).row ∷ (tickets.the_field (arrival.the_row I O T)).row ∷ (standing.the_field).row
+    ∷ (list_row.the_field (act.the_row I O T)).row ∷ (phantom.the_field N).row ∷ []) =
+    (b, (shr_send _ _ _ (hall_sync V T s a), (pass_send V T s a, (tickets_send (arrival.the_row I O T), (standing_send, (list_send (act.the_row I O T), (phantom_send N c, tt))))))) in
     let t = inside.the_type n V D N T I O s v d i o k in view_send _ _ _ _ _ (recorded_send _ t.D t.to t.to_one (struct_send (declared.shape t) parts))

@@ -10,7 +10,8 @@ use Rattle.shared_door.specs.declared.known.Known.{Known}
 abbrev pub IsPlace : {C : Type 0} → List C → ℕ × C → Type 0
 IsPlace given t = (0 < t.0) × (slice_get given (t.0 - 1) ≡ Some t.1)
 
--- no ticket of the list has this number
+-- No ticket of the list has this number.
+-- Shown by: two_connections_share_a_number.edit.
 abbrev pub IsNew : {C : Type 0} → List (ℕ × C) → ℕ → Type 0
 IsNew back n = All (λ t. t.0 ≢ n) back
 

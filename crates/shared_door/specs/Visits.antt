@@ -1,13 +1,14 @@
 -- The connections that a porch gave, and those that ended.
-use Rattle.std.specs.Prelude.{◌≡◌, ◌⊎◌, ℕ, ◌+◌, ◌≤◌, Bool, List, map, length, All, Option, Some, None}
+use Rattle.std.specs.Prelude.{◌≡◌, ◌⊎◌, ℕ, ◌+◌, ◌≤◌, ◌++◌, Bool, true, List, map, length, All, Option, Some, None}
 use Rattle.std.specs.List.{AllPairs}
+use mathlib.Core.List.{IsPrefix}
 use Rattle.router_disk.specs.Faults.{Rose}
-use Rattle.bus_host.specs.declared.door.Ended.{Ended}
 use Rattle.bus_host.specs.Doors.{Lengthened, Shortened}
-use Rattle.shared_door.specs.declared.connection.Visit.{Visit}
+use Rattle.shared_door.specs.declared.acts.Act.{Act}
 use Rattle.shared_door.specs.declared.connection.Standing.{Standing}
 use Rattle.shared_door.specs.declared.connection.Over.TheVariants.{Closed, Failed}
 use Rattle.shared_door.specs.Tickets.{IsPlace, HasOtherNumber}
+use Rattle.shared_door.specs.Acts.{arrivals_of, visits_of, given_of, over_in, numbered_of, ended_of, IsFit, AreActs}
 use Rattle.shared_door.specs.Shown.{Shown, HasGiven}
 
 -- How many more connections may be given, once `gave` of at most `most` were given; none if there is no limit.
@@ -24,52 +25,36 @@ IsOneFewer (Some n) None = ⊥
 IsOneFewer (Some n) (Some m) = n ≡ m + 1
 
 module _ {I O : Type 0} where
-  -- The number of a connection that ended, and its streams as they came.
-  -- Shown by: outside_tests test_shared_door.rt: two_threads_serve_four_connections.
-  abbrev pub numbered_of : Visit I O → ℕ × (I × O)
-  numbered_of v = (v.number, v.came.value)
+  -- A door that showed `start` said that no connection will come, and gave those that were to come; or it gave all that it may.
+  -- Shown by: done_at_once.edit.
+  abbrev pub IsDone : Option ℕ → Shown I O → Shown I O → ℕ → List (I × O) → Type 0
+  IsDone most start now gave given = ((now.closed ≡ true) × HasGiven start.ahead given) ⊎ (most ≡ Some gave)
 
-  -- What the door shows of a connection that ended.
-  -- Shown by: outside_tests test_shared_door.rt: two_threads_serve_four_connections.
-  abbrev pub ended_of : Visit I O → Ended I O
-  ended_of v = record { input = v.went.value.0; output = v.went.value.1; cut = v.cut }
-
-  -- The connections that ended, in order.
-  -- Shown by: outside_tests test_shared_door.rt: two_threads_serve_four_connections.
-  abbrev pub visits_of : List (Visit I O × Unit {0}) → List (Visit I O)
-  visits_of items = map (λ p. p.0) items
-
-  -- A connection that ended fits a history with these turns.
-  -- Shown by: outside_tests test_shared_door.rt: two_threads_serve_four_connections.
-  abbrev pub IsFit : {T : Type 0} → (ℕ → I × O → I × O → Bool → List T → Type 0) → List T → Visit I O → Type 0
-  IsFit fits turns v = fits v.number v.came.value v.went.value v.cut turns
-
-  -- What a door that showed `start` shows after a porch, which may give `most` connections, gave these; how many are left, and why the
-  -- porch is over.
+module _ {I O T : Type 0} where
+  -- What a door that showed `start` shows after these acts of a porch, which may give `most` connections; how many it gave, how many are
+  -- left, and why it is over.
   -- Shown by: outside_tests test_shared_door.rt: a_porch_gives_no_more_than_it_may.
-  pub record Gave (most : Option ℕ) (start now : Shown I O) (standing : Standing) (given : List (I × O)) : Type 0 where
-    pub count : length given ≡ standing.gave
+  pub record Gave (most : Option ℕ) (start now : Shown I O) (standing : Standing) (acts : List (Act I O T)) : Type 0 where
+    pub count : length (arrivals_of acts) ≡ standing.gave
     pub left : IsLeft most standing.gave standing.left
-    pub given_is : Lengthened start.given now.given given
-    pub ahead_is : Shortened start.ahead now.ahead given
+    pub over_is : standing.over ≡ over_in acts
+    pub given_is : Lengthened start.given now.given (given_of acts)
+    pub ahead_is : Shortened start.ahead now.ahead (given_of acts)
+    pub gave_is : now.gave ≡ start.gave ++ given_of acts
     pub later : start.faults ≤ now.faults
     pub failed : standing.over ≡ Some Failed → Rose start.faults now.faults
-    pub closed : standing.over ≡ Some Closed → HasGiven start.ahead given ⊎ (most ≡ Some standing.gave)
+    pub closed : standing.over ≡ Some Closed → IsDone most start now standing.gave (given_of acts)
 
-  -- Of the connections given, these ended. Each fits a history with these turns, each has its own number, and the door shows them in order.
+  -- Of the connections that came, these ended. Each fits a history with these turns, each has its own number, and the door shows them in
+  -- order. The order of all acts is `AreActs`, by turns that the history has.
   -- Shown by: outside_tests test_shared_door.rt: two_threads_serve_four_connections.
-  pub record Visited {T : Type 0} (start now : Shown I O) (fits : ℕ → I × O → I × O → Bool → List T → Type 0) (turns : List T) (given : List (I × O))
-      (visits : List (Visit I O)) : Type 0 where
-    pub fit : All (IsFit fits turns) visits
-    pub places : All (IsPlace given) (map numbered_of visits)
-    pub numbers : AllPairs HasOtherNumber (map numbered_of visits)
-    pub ended_is : Lengthened start.ended now.ended (map ended_of visits)
-
-  -- What a porch keeps: `Gave`, that each connection that ended fits, and that the tickets that came back are those of these connections.
-  -- Shown by: outside_tests test_shared_door.rt: two_threads_serve_four_connections.
-  pub record Keeps {T : Type 0} (most : Option ℕ) (start now : Shown I O) (fits : ℕ → I × O → I × O → Bool → List T → Type 0) (turns : List T)
-      (standing : Standing) (given : List (I × O)) (back : List (ℕ × (I × O))) (visits : List (Visit I O)) : Type 0 where
-    pub gave : Gave most start now standing given
-    pub fit : All (IsFit fits turns) visits
-    pub back_is : back ≡ map numbered_of visits
-    pub ended_is : Lengthened start.ended now.ended (map ended_of visits)
+  pub record Visited (start now : Shown I O) (fits : ℕ → I × O → I × O → Bool → List T → List T → Type 0) (turns : List T)
+      (acts : List (Act I O T)) : Type 0 where
+    pub fit : All (IsFit fits turns) (visits_of acts)
+    pub places : All (IsPlace (arrivals_of acts)) (map numbered_of (visits_of acts))
+    pub numbers : AllPairs HasOtherNumber (map numbered_of (visits_of acts))
+    pub ended_is : Lengthened start.ended now.ended (map ended_of (visits_of acts))
+    pub back_is : now.took_back ≡ start.took_back ++ map ended_of (visits_of acts)
+    pub seen : List T
+    pub order : AreActs fits acts seen
+    pub reached : IsPrefix seen turns

@@ -2,19 +2,20 @@
 ghost use Rattle.std.specs.Prelude.{◌≡◌};
 ghost use Rattle.shared_door.specs.Knocks.{number_of};
 
+use crate::acts::{Act, Arrival};
 use crate::tickets::Ticket;
 use bus_host::Door;
-use std::snapshot::Snapshot;
+use growing_list::Front;
 
 /// A connection. It is not `Drop`: give it back to its porch. Contracts read its number as `number_of`, its streams as they
-/// came as `came_of`, and which porch gave it as `tickets_of`.
-pub struct Connection<D: Door> {
+/// came as `came_of`, what the porch's pass had seen then as `seen_of`, and which porch gave it as `tickets_of`.
+pub struct Connection<D: Door, T> {
     pub input: D::In,
     pub output: D::Out,
-    pub(crate) ticket: Ticket<(D::In, D::Out)>,
+    pub(crate) ticket: Ticket<Arrival<D::In, D::Out, T>>,
 }
 
-impl<D: Door> Connection<D> {
+impl<D: Door, T> Connection<D, T> {
     /// Its place, from 1, among the connections that the porch gave.
     pub fn number(&self) -> u64
         ensures { result ≡ number_of self.now }
@@ -24,14 +25,14 @@ impl<D: Door> Connection<D> {
 }
 
 /// What a knock returns.
-pub enum Knocked<D: Door> {
-    Conn(Connection<D>),
+pub enum Knocked<D: Door, T> {
+    Conn(Connection<D, T>),
     /// No connection came for a while.
     Quiet,
-    /// No further connection will come.
-    Closed,
-    /// The door failed, now or at an earlier knock.
-    Failed,
+    /// No further connection will come. The front has the act that says so.
+    Closed(Front<Act<D::In, D::Out, T>>),
+    /// The door failed, now or at an earlier knock. The front has the act that says so.
+    Failed(Front<Act<D::In, D::Out, T>>),
     /// Out of memory.
     NoMemory,
 }
@@ -53,24 +54,4 @@ pub struct Standing {
     /// How many it may still give; `None` is no limit.
     pub left: Option<u64>,
     pub over: Option<Over>,
-}
-
-/// A connection that ended: its number, the streams as they came and as they were then, and whether out of memory ended
-/// it. Contracts alone read it.
-pub struct Visit<I, O> {
-    pub number: u64,
-    pub came: Snapshot<(I, O)>,
-    pub went: Snapshot<(I, O)>,
-    pub cut: bool,
-}
-
-impl<I, O> Drop for Visit<I, O> {
-    fn drop(self) {
-        let Visit {
-            number: _,
-            came: _,
-            went: _,
-            cut: _,
-        } = self;
-    }
 }

@@ -1,6 +1,8 @@
-//! A door that threads share. Each connection that ended fits the history that the threads share, and none has the number of another.
+//! A door that threads share, as the list of what it did. Each connection that ended fits the history that the threads share, and none has
+//! the number of another.
 #![tactic(auto)]
 
+mod acts;
 mod connection;
 mod known;
 mod naming;
@@ -8,7 +10,8 @@ mod porch;
 mod served;
 mod tickets;
 
-pub use connection::{Connection, Knocked, Over, Standing, Visit};
+pub use acts::{Act, Arrival, SeenTurns, Visit, turns_seen};
+pub use connection::{Connection, Knocked, Over, Standing};
 pub use known::{Known, Numbers};
 pub use naming::Naming;
 pub use porch::{Parts, Porch};

@@ -14,6 +14,9 @@ pub trait Naming<I, O> {
     // The tickets.
     ghost tickets: { TableId };
 
+    // The porch's list of acts.
+    ghost acts: { ℕ };
+
     // How many connections the porch may give; `None` is no limit.
     ghost most: { Option ℕ };
 
@@ -28,6 +31,8 @@ impl<I, O> Naming<I, O> for Brand {
     ghost hall = { no_table };
 
     ghost tickets = { no_table };
+
+    ghost acts = { 0 };
 
     ghost most = { None };
 

@@ -1,49 +1,52 @@
 //! The porch: what the door's lock has.
-ghost use Rattle.std.specs.Prelude.{◌≡◌, ◌≢◌, ◌+◌, ◌-◌, ◌^◌, ◌<◌, Some, None, [], ◌∷◌, ◌++◌, List};
+ghost use Rattle.std.specs.Prelude.{◌≡◌, ◌≢◌, ◌+◌, ◌-◌, ◌^◌, ◌<◌, Some, None, [], ◌∷◌, ◌++◌, MatchBool};
+ghost use mathlib.Core.List.{IsPrefix};
 ghost use Rattle.turn_book.specs.Rule.{Learns};
 ghost use Rattle.turn_book.specs.Passes.{view, IsFree, IsSamePass};
+ghost use Rattle.shared_door.specs.declared.acts.Act.TheVariants as act;
 ghost use Rattle.shared_door.specs.Shown.{shown_by};
-ghost use Rattle.shared_door.specs.Visits.{Gave, Visited, IsOneFewer, visits_of};
-ghost use Rattle.shared_door.specs.Knocks.{Knocks, tickets_of, number_of, came_of};
+ghost use Rattle.shared_door.specs.Acts.{over_in, IsOver};
+ghost use Rattle.shared_door.specs.Visits.{Gave, Visited, IsOneFewer};
+ghost use Rattle.shared_door.specs.Knocks.{Knocks, CameBack, tickets_of, number_of, arrival_of, came_of, seen_of};
 
-use crate::connection::{Connection, Knocked, Over, Standing, Visit};
+use crate::acts::{Act, Arrival, Visit, turns_seen};
+use crate::connection::{Connection, Knocked, Over, Standing};
 use crate::naming::Naming;
 use crate::served::Served;
 use crate::tickets::Tickets;
 use bus_host::{Door, Knock};
-use http_server::Log;
+use growing_list::{Front, GrowingList, Listed};
 use std::marker::{Model, PhantomData};
 use std::snapshot::Snapshot;
-use turn_book::{Hall, Pass};
+use turn_book::{Hall, Pass, Story};
 
 /// A door that workers share, beside what it needs to tie each connection that ended to the history of a hall. Contracts
-/// see it as its `Standing`.
+/// see it as its `PorchState`.
 pub struct Porch<'a, V: Served<D::In, D::Out>, D: Door, N: Naming<D::In, D::Out>> {
     door: D,
     hall: &'a Hall<V>,
     pass: Pass<V>,
-    tickets: Tickets<(D::In, D::Out)>,
+    tickets: Tickets<Arrival<D::In, D::Out, V::Turn>>,
     standing: Standing,
-    visits: Log<Visit<D::In, D::Out>, ()>,
+    acts: GrowingList<Act<D::In, D::Out, V::Turn>>,
     of: PhantomData<N>,
 }
 
 impl<'a, V: Served<D::In, D::Out>, D: Door, N: Naming<D::In, D::Out>> Model for Porch<'a, V, D, N> {
     ghost use Rattle.std.specs.Prelude.{◌≡◌};
     ghost use Rattle.turn_book.specs.Passes.{IsFree};
-    ghost use Rattle.shared_door.specs.declared.connection.Standing.{Standing};
     ghost use Rattle.shared_door.specs.Shown.{shown_by};
-    ghost use Rattle.shared_door.specs.Visits.{Keeps, visits_of};
+    ghost use Rattle.shared_door.specs.Porches.{PorchState, Keeps};
 
-    ghost Value = { Standing };
+    ghost Value = { PorchState D.In D.Out V.Turn };
 
-    ghost view = { λ p. p.standing };
+    ghost view = { λ p. record { standing = p.standing; acts = p.acts.items; seen = p.pass.seat.me.0.seen } };
 
     ghost invariant = { λ p.
         ((p.hall.now.table.shared.table_id ≡ N.hall) × (p.pass.seat.table_id ≡ N.hall) × IsFree p.pass.seat)
-        × ((p.tickets.seat.table_id ≡ N.tickets) × (p.tickets.given ≡ p.standing.gave))
-        × Keeps N.most N.start (shown_by D.faults D.ahead D.given D.ended p.door)
-        V.fits p.pass.seat.me.0.seen p.standing p.tickets.seat.me.0.given p.tickets.seat.me.0.back (visits_of p.visits.items) };
+        × ((p.tickets.seat.table_id ≡ N.tickets) × (p.tickets.given ≡ p.standing.gave) × (p.acts.name ≡ N.acts))
+        × Keeps N.most N.start (shown_by D.faults D.ahead D.given D.ended D.gave D.took_back D.closed p.door)
+        V.fits (record { standing = p.standing; acts = p.acts.items; seen = p.pass.seat.me.0.seen }) p.tickets.seat.me.0.given p.tickets.seat.me.0.back };
 }
 
 impl<'a, V: Served<D::In, D::Out>, D: Door, N: Naming<D::In, D::Out>> Porch<'a, V, D, N> {
@@ -52,14 +55,16 @@ impl<'a, V: Served<D::In, D::Out>, D: Door, N: Naming<D::In, D::Out>> Porch<'a, 
         door: D,
         hall: &'a Hall<V>,
         pass: Pass<V>,
-        tickets: Tickets<(D::In, D::Out)>,
+        tickets: Tickets<Arrival<D::In, D::Out, V::Turn>>,
+        acts: GrowingList<Act<D::In, D::Out, V::Turn>>,
         connections: Option<u64>,
     ) -> Porch<'a, V, D, N>
         requires here { (hall.now.table.shared.table_id ≡ N.hall) × (pass.seat.table_id ≡ N.hall) × IsFree pass.seat }
         requires tickets { (tickets.seat.table_id ≡ N.tickets) × (tickets.given ≡ 0) × (tickets.seat.me.0.back ≡ []) }
+        requires acts { (acts.name ≡ N.acts) × (acts.items ≡ []) }
         requires most { connections ≡ N.most }
-        requires door { shown_by D.faults D.ahead D.given D.ended door ≡ N.start }
-        ensures { result ≡ record { gave = 0; left = connections; over = None } }
+        requires door { shown_by D.faults D.ahead D.given D.ended D.gave D.took_back D.closed door ≡ N.start }
+        ensures { result ≡ record { standing = record { gave = 0; left = connections; over = None }; acts = []; seen = (view pass.seat).seen } }
     {
         let standing = Standing {
             gave: 0,
@@ -72,31 +77,54 @@ impl<'a, V: Served<D::In, D::Out>, D: Door, N: Naming<D::In, D::Out>> Porch<'a, 
             pass,
             tickets,
             standing,
-            visits: Log::new(),
+            acts,
             of: PhantomData,
         }
     }
 
     /// Where the porch is.
     pub fn standing(&self) -> Standing
-        ensures { result ≡ self.now }
+        ensures { result ≡ self.now.standing }
     {
         self.standing
     }
 
     /// The next connection, or why there is none. Once the porch is over, each call returns the same, without asking the
-    /// door. From 2^64 - 1 connections on it returns `Quiet`.
-    pub fn knock(&mut self) -> Knocked<D>
-        ensures { Knocks N.tickets self.old self.new result }
+    /// door. From 2^64 - 1 connections on it returns `Quiet`. The pass has then seen what the porch's pass had seen.
+    pub fn knock(&mut self, pass: &mut Pass<V>) -> Knocked<D, V::Turn>
+        requires here { (pass.old.seat.table_id ≡ N.hall) × IsFree pass.old.seat }
+        ensures knocks { Knocks N.tickets N.acts self.old self.new result }
+        ensures pass { IsSamePass pass.old.seat pass.new.seat × IsFree pass.new.seat × Learns V.made_by (view pass.old.seat) (view pass.new.seat).seen }
+        ensures seen { IsPrefix self.old.seen self.new.seen × IsPrefix self.new.seen (view pass.new.seat).seen }
     {
+        self.meet(pass);
         match self.standing.over {
-            Some(Over::Closed) => return Knocked::Closed,
-            Some(Over::Failed) => return Knocked::Failed,
-            None => (),
+            Some(Over::Closed) => Knocked::Closed(self.acts.front()),
+            Some(Over::Failed) => Knocked::Failed(self.acts.front()),
+            None => self.ask(),
         }
-        if self.standing.left == Some(0) {
-            self.standing.over = Some(Over::Closed);
-            return Knocked::Closed;
+    }
+
+    // Each of the two passes has then seen what the other had.
+    fn meet(&mut self, pass: &mut Pass<V>)
+        requires here { (pass.old.seat.table_id ≡ N.hall) × IsFree pass.old.seat }
+        ensures same { (self.new.standing ≡ self.old.standing) × (self.new.acts ≡ self.old.acts) }
+        ensures pass { IsSamePass pass.old.seat pass.new.seat × IsFree pass.new.seat × Learns V.made_by (view pass.old.seat) (view pass.new.seat).seen }
+        ensures seen { IsPrefix self.old.seen self.new.seen × IsPrefix self.new.seen (view pass.new.seat).seen }
+        ensures both { IsPrefix (view pass.old.seat).seen self.new.seen }
+    {
+        self.hall.meet(&mut self.pass, pass);
+    }
+
+    // Asks the door for a connection, unless it gave all that it may.
+    fn ask(&mut self) -> Knocked<D, V::Turn>
+        requires going { self.old.standing.over ≡ None }
+        ensures knocks { Knocks N.tickets N.acts self.old self.new result }
+        ensures seen { self.new.seen ≡ self.old.seen }
+    {
+        if gave_all(self.standing.left) {
+            let front = end(&mut self.standing, &mut self.acts, Over::Closed);
+            return Knocked::Closed(front);
         }
         if self.standing.gave == u64::MAX {
             return Knocked::Quiet;
@@ -105,56 +133,98 @@ impl<'a, V: Served<D::In, D::Out>, D: Door, N: Naming<D::In, D::Out>> Porch<'a, 
             Knock::Conn(input, output) => {
                 self.standing.gave += 1;
                 self.standing.left = one_fewer(self.standing.left);
-                Knocked::Conn(enter(&mut self.tickets, input, output))
+                let number = self.standing.gave;
+                let came = enter(
+                    &mut self.tickets,
+                    &mut self.acts,
+                    &self.pass,
+                    number,
+                    input,
+                    output,
+                );
+                Knocked::Conn(came)
             }
             Knock::Quiet => Knocked::Quiet,
             Knock::NoMemory => Knocked::NoMemory,
             Knock::Closed => {
-                self.standing.over = Some(Over::Closed);
-                Knocked::Closed
+                let front = end(&mut self.standing, &mut self.acts, Over::Closed);
+                Knocked::Closed(front)
             }
             Knock::Failed => {
-                self.standing.over = Some(Over::Failed);
-                Knocked::Failed
+                let front = end(&mut self.standing, &mut self.acts, Over::Failed);
+                Knocked::Failed(front)
             }
         }
     }
 
-    /// Takes a connection back, after a session with this pass. `cut` is true if out of memory ended it.
-    pub fn back(&mut self, connection: Connection<D>, cut: bool, pass: &mut Pass<V>)
-        requires here { (pass.old.seat.table_id ≡ N.hall) × IsFree pass.old.seat }
+    /// Takes a connection back, after a session. The session's pass had seen `before` when it began. `cut` is true if out of
+    /// memory ended it. The front has the act by which it ended.
+    pub fn back(
+        &mut self,
+        connection: Connection<D, V::Turn>,
+        before: Listed<V::Turn>,
+        cut: bool,
+        session: &mut Pass<V>,
+    ) -> Front<Act<D::In, D::Out, V::Turn>>
+        requires here { (session.old.seat.table_id ≡ N.hall) × IsFree session.old.seat }
         requires own { tickets_of connection ≡ N.tickets }
-        requires fits { V.fits (number_of connection) (came_of connection) (connection.input, connection.output) cut (view pass.old.seat).seen }
-        ensures same { self.new ≡ self.old }
-        ensures pass { IsSamePass pass.old.seat pass.new.seat × IsFree pass.new.seat × Learns V.made_by (view pass.old.seat) (view pass.new.seat).seen }
+        requires after { IsPrefix (seen_of connection) before.items }
+        requires fits { V.fits (number_of connection) (came_of connection) (connection.input, connection.output) cut before.items (view session.old.seat).seen }
+        ensures same { self.new.standing ≡ self.old.standing }
+        ensures acts { CameBack self.old self.new connection before.items cut }
+        ensures front { (result.name ≡ N.acts) × (result.items ≡ self.new.acts) }
+        ensures pass { IsSamePass session.old.seat session.new.seat × IsFree session.new.seat × Learns V.made_by (view session.old.seat) (view session.new.seat).seen }
+        ensures seen { IsPrefix self.old.seen self.new.seen × IsPrefix self.new.seen (view session.new.seat).seen }
     {
-        self.hall.meet(&mut self.pass, pass);
+        self.meet(session);
+        self.leave(connection, before, cut)
+    }
+
+    // Takes back a connection that fits what the porch's pass has seen.
+    fn leave(
+        &mut self,
+        connection: Connection<D, V::Turn>,
+        before: Listed<V::Turn>,
+        cut: bool,
+    ) -> Front<Act<D::In, D::Out, V::Turn>>
+        requires own { tickets_of connection ≡ N.tickets }
+        requires after { IsPrefix (seen_of connection) before.items }
+        requires fits { V.fits (number_of connection) (came_of connection) (connection.input, connection.output) cut before.items self.old.seen }
+        ensures same { (self.new.standing ≡ self.old.standing) × (self.new.seen ≡ self.old.seen) }
+        ensures acts { CameBack self.old self.new connection before.items cut }
+        ensures front { (result.name ≡ N.acts) × (result.items ≡ self.new.acts) }
+    {
         let Connection {
             input,
             output,
             ticket,
         } = connection;
         let went = (input, output);
-        let (number, came) = self.tickets.take(ticket);
+        let (number, arrival) = self.tickets.take(ticket);
         let visit = Visit {
             number,
-            came,
+            arrival,
+            before,
             went: Snapshot::of(&went),
             cut,
+            seen: turns_seen(&self.pass),
         };
-        self.visits = self.visits.and(&visit, &());
+        self.acts.push(&Act::Ended(visit));
         let (input, output) = went;
         self.door.done(input, output, cut);
+        self.acts.front()
     }
 
-    /// The door, the porch's pass, and what is known of the connections that ended.
-    pub fn into_parts(self) -> Parts<V, D>
-        ensures standing { result.standing ≡ self.entry }
+    /// The door, the porch's pass, and what the porch did, once a front of its acts shows that it is over.
+    pub fn into_parts(self, over: Front<Act<D::In, D::Out, V::Turn>>) -> Parts<V, D>
+        requires over { (over.name ≡ N.acts) × IsOver over.items }
+        ensures standing { result.standing ≡ self.entry.standing }
+        ensures acts { (result.acts.items ≡ self.entry.acts) × IsPrefix over.items result.acts.items }
+        ensures over { result.standing.over ≢ None }
         ensures pass { (result.pass.seat.table_id ≡ N.hall) × IsFree result.pass.seat }
-        ensures door { (given : List _)
-            × Gave N.most N.start (shown_by D.faults D.ahead D.given D.ended result.door) self.entry given
-            × Visited N.start (shown_by D.faults D.ahead D.given D.ended result.door)
-            V.fits (view result.pass.seat).seen given (visits_of result.visits.items) }
+        ensures gave { Gave N.most N.start (shown_by D.faults D.ahead D.given D.ended D.gave D.took_back D.closed result.door) result.standing result.acts.items }
+        ensures visited { Visited N.start (shown_by D.faults D.ahead D.given D.ended D.gave D.took_back D.closed result.door)
+            V.fits (view result.pass.seat).seen result.acts.items }
     {
         let Porch {
             door,
@@ -162,24 +232,32 @@ impl<'a, V: Served<D::In, D::Out>, D: Door, N: Naming<D::In, D::Out>> Porch<'a, 
             pass,
             tickets: _,
             standing,
-            visits,
+            acts,
             of: _,
         } = self;
+        let mut acts = acts;
+        acts.covers(&over);
         Parts {
             door,
             pass,
             standing,
-            visits,
+            acts,
         }
     }
 }
 
-/// What a porch was made of. `visits` has the connections that ended, for contracts alone.
+/// What a porch was made of. `acts` has what it did, for contracts alone.
 pub struct Parts<V: Served<D::In, D::Out>, D: Door> {
     pub door: D,
     pub pass: Pass<V>,
     pub standing: Standing,
-    pub visits: Log<Visit<D::In, D::Out>, ()>,
+    pub acts: GrowingList<Act<D::In, D::Out, V::Turn>>,
+}
+
+fn gave_all(left: Option<u64>) -> bool
+    ensures { MatchBool result (left ≡ Some 0) (left ≢ Some 0) }
+{
+    left == Some(0)
 }
 
 fn one_fewer(left: Option<u64>) -> Option<u64>
@@ -192,22 +270,48 @@ fn one_fewer(left: Option<u64>) -> Option<u64>
     }
 }
 
+// The porch gives no more connections, for this reason. The front has the act that says so.
+fn end<I, O, T>(
+    standing: &mut Standing,
+    acts: &mut GrowingList<Act<I, O, T>>,
+    over: Over,
+) -> Front<Act<I, O, T>>
+    ensures standing { standing.new ≡ record standing.old { over = Some over } }
+    ensures acts { (acts.new.name ≡ acts.old.name) × (acts.new.items ≡ acts.old.items ++ act.Over over ∷ []) }
+    ensures front { (result.name ≡ acts.new.name) × (result.items ≡ acts.new.items) }
+{
+    standing.over = Some(over);
+    acts.push(&Act::Over(over));
+    acts.front()
+}
+
 // The connection with the next number.
-fn enter<D: Door>(
-    tickets: &mut Tickets<(D::In, D::Out)>,
+fn enter<V: Story, D: Door>(
+    tickets: &mut Tickets<Arrival<D::In, D::Out, V::Turn>>,
+    acts: &mut GrowingList<Act<D::In, D::Out, V::Turn>>,
+    pass: &Pass<V>,
+    number: u64,
     input: D::In,
     output: D::Out,
-) -> Connection<D>
+) -> Connection<D, V::Turn>
     requires { tickets.old.given < 2 ^ 64 - 1 }
     ensures same { tickets.new.seat.table_id ≡ tickets.old.seat.table_id }
     ensures count { tickets.new.given ≡ tickets.old.given + 1 }
-    ensures given { tickets.new.seat.me.0.given ≡ tickets.old.seat.me.0.given ++ (input, output) ∷ [] }
+    ensures given { tickets.new.seat.me.0.given ≡ tickets.old.seat.me.0.given ++ arrival_of result ∷ [] }
     ensures back { tickets.new.seat.me.0.back ≡ tickets.old.seat.me.0.back }
     ensures streams { (result.input ≡ input) × (result.output ≡ output) }
-    ensures ticket { (tickets_of result ≡ tickets.old.seat.table_id) × (number_of result ≡ tickets.new.given) × (came_of result ≡ (input, output)) }
+    ensures ticket { (tickets_of result ≡ tickets.old.seat.table_id) × (number_of result ≡ tickets.new.given) }
+    ensures arrival { ((arrival_of result).number ≡ number) × (came_of result ≡ (input, output)) × (seen_of result ≡ (view pass.now.seat).seen) }
+    ensures acts { (acts.new.name ≡ acts.old.name) × (acts.new.items ≡ acts.old.items ++ act.Gave (arrival_of result) ∷ []) }
 {
     let came = (input, output);
-    let ticket = tickets.give(&came);
+    let arrival = Arrival {
+        number,
+        came: Snapshot::of(&came),
+        seen: turns_seen(pass),
+    };
+    let ticket = tickets.give(&arrival);
+    acts.push(&Act::Gave(arrival));
     let (input, output) = came;
     Connection {
         input,

@@ -1,7 +1,7 @@
 //! Tickets with numbers from 1, each given for one thing. Each comes back once.
 ghost use Rattle.std.specs.Prelude.{◌≡◌, ◌+◌, ◌-◌, ◌^◌, ◌<◌, [], ◌∷◌, ◌++◌, length, All, IfOk};
 ghost use Rattle.std.specs.List.{AllPairs};
-ghost use Rattle.shared_door.specs.Tickets.{IsPlace, HasOtherNumber, keeper, ticket};
+ghost use Rattle.shared_door.specs.Tickets.{IsPlace, IsNew, HasOtherNumber, keeper, ticket};
 
 use crate::known::{Cut, End, Known, Number, Numbers, Put};
 use atomic_table::{Seat, Table};
@@ -94,6 +94,7 @@ impl<C> Tickets<C> {
         ensures given { self.new.seat.me.0.given ≡ self.old.seat.me.0.given }
         ensures back { self.new.seat.me.0.back ≡ self.old.seat.me.0.back ++ (ticket.number, ticket.came.value) ∷ [] }
         ensures ticket { (result.0 ≡ ticket.number) × (result.1.value ≡ ticket.came.value) }
+        ensures once { IsPlace self.old.seat.me.0.given (ticket.number, ticket.came.value) × IsNew self.old.seat.me.0.back ticket.number }
     {
         let Ticket { seat, number, came } = ticket;
         let table = &self.table;

@@ -30,7 +30,7 @@ returns-in-Some-Serve-clause-serve g c = λ port workers connections line.
     let same_port : c.in-Some-Serve.port ≡ port = cc in
     let same_workers : c.in-Some-Serve.workers ≡ workers = cc in
     let same_connections : c.in-Some-Serve.connections ≡ connections = cc in
-    let Is : ℕ → ℕ → Option ℕ → Type 0 = λ p w k. IsServe (shown_by g.H.Door.Door.faults g.H.Door.Door.ahead g.H.Door.Door.given g.H.Door.Door.ended)
+    let Is : ℕ → ℕ → Option ℕ → Type 0 = λ p w k. IsServe (shown_by g.H.Door.Door.faults g.H.Door.Door.ahead g.H.Door.Door.given g.H.Door.Door.ended g.H.Door.Door.gave g.H.Door.Door.took_back g.H.Door.Door.closed)
     (IsVisit g.H.Door.In.Source.left g.H.Door.Out.Sink.written g.H.Door.In.Source.faults g.H.Door.Out.Sink.faults) p w k
     (around_door (g.K.Sink.written c.args.output.now) (h.doors_given old) (h.doors_back old) (h.links_given old) (h.links_back old) (h.door_faults old) (h.link_faults old))
     (around_door (g.K.Sink.written c.serve-status.new.output) (h.doors_given new) (h.doors_back new) (h.links_given new) (h.links_back new) (h.door_faults new)

@@ -14,7 +14,7 @@ returns-in-Ok-take_links-clause-serve g c =
     let t = c.take_links.ensures in
     let old = c.args.host.now in let mid = c.take_links.new.host in let new = c.at_port.new.host in
     let links = c.take_links.new.links in
-    serves (shown_by g.H.Door.Door.faults g.H.Door.Door.ahead g.H.Door.Door.given g.H.Door.Door.ended) (IsVisit g.H.Door.In.Source.left g.H.Door.Out.Sink.written g.H.Door.In.Source.faults g.H.Door.Out.Sink.faults)
+    serves (shown_by g.H.Door.Door.faults g.H.Door.Door.ahead g.H.Door.Door.given g.H.Door.Door.ended g.H.Door.Door.gave g.H.Door.Door.took_back g.H.Door.Door.closed) (IsVisit g.H.Door.In.Source.left g.H.Door.Out.Sink.written g.H.Door.In.Source.faults g.H.Door.Out.Sink.faults)
     c.args.port c.args.workers c.args.connections links.items
     (around_door (g.K.Sink.written c.args.output.now) (h.doors_given old) (h.doors_back old) (h.links_given old) (h.links_back old) (h.door_faults old) (h.link_faults old))
     (around_door (g.K.Sink.written c.args.output.now) (h.doors_given mid) (h.doors_back mid) (h.links_given mid) (h.links_back mid) (h.door_faults mid) (h.link_faults mid))

@@ -8,11 +8,15 @@ use denote.Struct.Tuple as tuple
 use denote.Struct.Field as field
 use denote.Struct.Declared as declared
 use Rattle.std.specs.Prelude.{[], ◌∷◌}
+use Rattle.std.proofs.Common.{◌≡◌, length, subst, arith, rules}
 use Rattle.std.proofs.Crossing.{crosses}
 use Rattle.std.specs.contracts.sync.Mutex as mutex
 use Rattle.turn_book.specs.contracts.hall.Hall as hall
 use Rattle.shared_door.specs.contracts.porch.Porch as porch
 use Rattle.shared_door.proofs.CrossingLemmas.{hall_sync, porch_send}
+use Rattle.shared_door.specs.Acts.{IsOver}
+use Rattle.shared_door.specs.declared.acts.Act.{Act}
+use Rattle.door_workers.specs.declared.worker.Worker.{Worker}
 use Rattle.door_workers.specs.contracts.counts.Counts as counts
 use Rattle.door_workers.proofs.door.work_all.Goals as goal
 
@@ -46,3 +50,10 @@ for_each_mut-requires-sync-F g c κs lives =
     let f : IsSync (field.shr_ref_field record { mir = named 11; lft = k.1.1.1.1.1.0 } W tt).row = shr_sync _ _ _ w in
     param_sync 2 _ (arg_sync (ty_struct [] (tcons ty_ptr (tcons ty_ptr (tcons ty_ptr (tcons ty_ptr (tcons ty_ptr tnil)))))) exit.no _
     (five_sync _ _ _ _ _ _ a b d e f))
+
+pub returns-clause-over : goal.returns-clause-over
+returns-clause-over g c = λ k d below.
+    let W : Type 0 = Worker g.row.V.Denot g.row.Own.Denot (Act g.row.D-In.Denot g.row.D-Out.Denot g.row.V-Turn.Denot) g.row.V-Turn.Denot g.V.Story in
+    let Q : W → Type 0 = λ w. (w.front.name ≡ g.N.Naming.acts) × IsOver w.front.items in
+    let same : length c.for_each_mut.new.s ≡ length c.args.workers.now = search rules in
+    let at = (c.for_each_mut.ensures k d (omega (arith, below, same))).1 in subst Q at.left at.call.1

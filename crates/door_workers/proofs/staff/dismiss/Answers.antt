@@ -11,7 +11,7 @@ loop-worker-preserved g c =
     let i = c.loop-worker.invariant in let m = c.meet.ensures in let o = c.in-Some.ensures in
     let first = c.push_reserved.ensures in let second = c.push_reserved-in-Some.ensures in
     let hall = c.args.hall.now.table.shared.table_id in
-    let W : Type 0 = Worker g.row.V.Denot g.row.Own.Denot g.row.V-Turn.Denot g.V.Story in
+    let W : Type 0 = Worker g.row.V.Denot g.row.Own.Denot g.row.A.Denot g.row.V-Turn.Denot g.V.Story in
     let R : Type 0 = Pass g.row.V.Denot g.row.V-Turn.Denot g.V.Story in
     let P : W → Type 0 = λ w. IsIdlePass hall w.pass.seat in
     let Q : R → Type 0 = λ p. IsIdlePass hall p.seat in

@@ -2,7 +2,7 @@ use Rattle.std.proofs.Common.{◌≡◌, ◌+◌, All}
 use Rattle.std.specs.Prelude.{vec_len, vec_capacity}
 use Rattle.turn_book.specs.Rule.{Learns}
 use Rattle.turn_book.specs.Passes.{view, HasSameTurn}
-use Rattle.door_workers.specs.Serving.{IsIdlePass}
+use Rattle.door_workers.specs.Serving.{IsHired}
 use Rattle.door_workers.proofs.staff.hire.Given as goal
 
 abbrev pub invariant-loop-own : goal.invariant-loop-own
@@ -15,7 +15,7 @@ invariant-loop-own g l = record {
   count : vec_len l.workers + vec_len l.owns ≡ vec_len l.initial.owns;
   room : vec_capacity l.workers ≡ vec_capacity l.initial.workers;
   owns_room : vec_capacity l.owns ≡ vec_capacity l.initial.owns;
-  idle : All (λ w. IsIdlePass l.initial.hall.table.shared.table_id w.pass.seat) l.workers.items;
+  hired : All (λ w. IsHired l.initial.hall.table.shared.table_id l.initial.acts.name w.pass.seat w.front) l.workers.items;
 }
 
 abbrev pub decreases-loop-own : goal.decreases-loop-own
