@@ -87,13 +87,28 @@ fn changes_are_well_formed(rt: HostRuntime) -> Result<(), Fail> {
     all_met(rt.alloc(), FORMS, 36, is_form_met)
 }
 
-/// Whether the fault has this text: a member that is not valid, or `no` and a kind of things of which one is missing.
-fn is_fault(fault: &ControlFault, text: &str) -> bool {
+/// What a row has of the fault, in two parts: nothing and a member that is not valid, or `no ` and a kind of things of which one is
+/// missing. No row has another fault.
+fn parts_of(fault: &ControlFault) -> (&'static str, &'static str) {
     match fault {
-        ControlFault::ResourceNotFound(kind) => text.strip_prefix("no ") == Some(kind.word()),
-        ControlFault::Validation(member) => text == member.name(),
-        _ => false,
+        ControlFault::ResourceNotFound(kind) => ("no ", kind.word()),
+        ControlFault::Validation(member) => ("", member.name()),
+        _ => ("another fault", "that no row has"),
     }
+}
+
+/// Whether the text has these parts.
+fn is_made_of(text: &str, front: &str, rest: &str) -> bool {
+    match text.strip_prefix(front) {
+        Some(found) => found == rest,
+        None => false,
+    }
+}
+
+/// Whether the fault has this text.
+fn is_fault(fault: &ControlFault, text: &str) -> bool {
+    let (front, rest) = parts_of(fault);
+    is_made_of(text, front, rest)
 }
 
 /// Whether the change is made if there is no refusal, and else has this refusal. The set goes on from there.
