@@ -9,7 +9,7 @@ pub record SameFaults {H : Type 0} (disk door link : H → ℕ) (old new : H) : 
   pub same_link : link new ≡ link old
 
 -- Of one kind, doors or links, the host gave nothing and took nothing back.
--- Shown by: session_tests program.rt: a_run_gives_its_link_back.
+-- Shown by: program_tests program.rt: a_run_gives_its_link_back.
 pub record SameGiven {H G B : Type 0} (given : H → List G) (back : H → List B) (old new : H) : Type 0 where
   pub same_given : given new ≡ given old
   pub same_back : back new ≡ back old

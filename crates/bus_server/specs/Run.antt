@@ -69,7 +69,7 @@ pub record RunsOnce (old new : World) (status : Status) : Type 0 where
 
 -- What is known around a run: the bytes left to read, the bytes written and the readings to come, each if it is known; the links that the
 -- host gave, and those that it took back.
--- Shown by: session_tests program.rt: a_run_gives_its_link_back.
+-- Shown by: program_tests program.rt: a_run_gives_its_link_back.
 pub record Around (L : Type 0) : Type 0 where
   pub left : Option (List ℕ)
   pub written : Option (List ℕ)
@@ -78,7 +78,7 @@ pub record Around (L : Type 0) : Type 0 where
   pub back : List L
 
 -- The `Around` with these parts.
--- Shown by: session_tests program.rt: a_run_gives_its_link_back.
+-- Shown by: program_tests program.rt: a_run_gives_its_link_back.
 abbrev pub around : {L : Type 0} → Option (List ℕ) → Option (List ℕ) → Option (ℕ → ℕ) → List L → List L → Around L
 around left written ahead given back = record { left = left; written = written; ahead = ahead; given = given; back = back }
 
@@ -99,7 +99,7 @@ RunsBy (Some moment) old new status = (later : Option (ℕ → ℕ))
     × RunsOnce (record old { ahead = Some (repeating moment []) }) (record new { ahead = later }) status × Gives old.ahead new.ahead []
 
 -- The host gave one link, a session had it (`RunsBy`), and the host took it back. `answered` and `faults` are what a link shows.
--- Shown by: session_tests program.rt: a_run_gives_its_link_back.
+-- Shown by: program_tests program.rt: a_run_gives_its_link_back.
 pub record RunsLinked {L : Type 0} (answered : L → Option (List Exchange)) (faults : L → ℕ) (now : Option ℕ) (old new : Around L) (status : Status)
     : Type 0 where
   -- the link as it was given, and as it was taken back
@@ -119,7 +119,7 @@ IsRun answered faults now old new status =
 
 -- The host's count of faults of links rose, or was at its last value, if the status is `DoorFault`, and is unchanged at every other status;
 -- the other two counts are unchanged.
--- Shown by: session_tests program.rt: a_host_that_fails_ends_a_run.
+-- Shown by: program_tests program.rt: a_host_that_fails_ends_a_run.
 pub record HostMatches {H : Type 0} (disk door link : H → ℕ) (status : Status) (old new : H) : Type 0 where
   pub same_disk : disk new ≡ disk old
   pub same_door : door new ≡ door old

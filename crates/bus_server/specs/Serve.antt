@@ -19,7 +19,7 @@ use Rattle.router_sessions.specs.Book.{IsBook, seen_book}
 
 -- What is known around a program that serves: the bytes written, if they are known; the doors, each after its port, and the links that the
 -- host gave, and those that it took back; and the host's counts of faults of doors and of links.
--- Shown by: session_tests serve.rt: a_port_that_is_not_open_serves_nothing.
+-- Shown by: program_tests serve.rt: a_port_that_is_not_open_serves_nothing.
 pub record AroundDoor (D L : Type 0) : Type 0 where
   pub written : Option (List ℕ)
   pub doors : List (ℕ × D)
@@ -30,7 +30,7 @@ pub record AroundDoor (D L : Type 0) : Type 0 where
   pub link_faults : ℕ
 
 -- The `AroundDoor` with these parts.
--- Shown by: session_tests serve.rt: a_port_that_is_not_open_serves_nothing.
+-- Shown by: program_tests serve.rt: a_port_that_is_not_open_serves_nothing.
 abbrev pub around_door : {D L : Type 0} → Option (List ℕ) → List (ℕ × D) → List D → List L → List L → ℕ → ℕ → AroundDoor D L
 around_door written doors doors_back links links_back door_faults link_faults = record {
   written = written;
@@ -44,7 +44,7 @@ around_door written doors doors_back links links_back door_faults link_faults = 
 
 -- What the tables count: batches, their operations and configuration changes, events, deliveries by their states, and messages in queues.
 -- Archived events and replays are 0.
--- Shown by: session_tests serve.rt: two_workers_serve_the_first_run; the_summary_counts_all_duties_as_pending.edit.
+-- Shown by: program_tests serve.rt: two_workers_serve_the_first_run; the_summary_counts_all_duties_as_pending.edit.
 abbrev pub summary_of : Tables → Summary
 summary_of t = record {
   records = t.batches;
@@ -62,14 +62,14 @@ summary_of t = record {
 }
 
 -- The summary was written, with `Done`; a first part of it, with `WriteFault`; or nothing, with `NoMemory`.
--- Shown by: session_tests serve.rt: a_rule_of_one_connection_holds_for_the_next; nothing_is_summed_up.edit.
+-- Shown by: program_tests serve.rt: a_rule_of_one_connection_holds_for_the_next; nothing_is_summed_up.edit.
 abbrev pub IsSummed : Tables → Option (List ℕ) → Option (List ℕ) → Status → Type 0
 IsSummed t old new status =
     ((status ≡ statuses.Done) × Appends old new (summary_lines (summary_of t)))
     ⊎ (((status ≡ statuses.WriteFault) × AppendsPart old new (summary_lines (summary_of t))) ⊎ ((status ≡ statuses.NoMemory) × Keeps old new))
 
 -- The status, and what was written after the workers had ended: `IsSummed` if the door is done; `DoorFault` and nothing if it failed.
--- Shown by: session_tests serve.rt: a_door_that_fails_ends_the_run; a_failed_door_is_done.edit.
+-- Shown by: program_tests serve.rt: a_door_that_fails_ends_the_run; a_failed_door_is_done.edit.
 abbrev pub EndsServing : DoorEnd → Tables → Option (List ℕ) → Option (List ℕ) → Status → Type 0
 EndsServing ends.Done t old new status = IsSummed t old new status
 EndsServing ends.DoorFault t old new status = (status ≡ statuses.DoorFault) × Keeps old new
@@ -78,7 +78,7 @@ EndsServing ends.NoMemory t old new status = ⊥
 -- The workers served the door: their turns are one legal history from the first tables, each connection that ended fits it (`HasServed` of
 -- door_workers), and the program ends by `EndsServing` with the tables after it. `show` is what a door shows, and `fits` what an ended
 -- connection owes.
--- Shown by: session_tests serve.rt: sixteen_workers_serve_more_connections_than_they_are.
+-- Shown by: program_tests serve.rt: sixteen_workers_serve_more_connections_than_they_are.
 pub record IsOpened {D I O : Type 0} (show : D → Shown I O) (fits : ℕ → I × O → I × O → Bool → List Turn → List Turn → Type 0) (connections : Option ℕ)
     (lent returned : D) (old new : Option (List ℕ)) (status : Status) : Type 0 where
   pub turns : List Turn
@@ -89,7 +89,7 @@ pub record IsOpened {D I O : Type 0} (show : D → Shown I O) (fits : ℕ → I 
 
 -- The host gave one door, at the port, and one link for each worker, and took back one door and as many links, with no fault. `listening`
 -- and the port were written, and then the workers served the door (`IsOpened`).
--- Shown by: session_tests serve.rt: two_workers_serve_the_first_run; serve_counts_one_link_too_few.edit.
+-- Shown by: program_tests serve.rt: two_workers_serve_the_first_run; serve_counts_one_link_too_few.edit.
 pub record Serves {D L I O : Type 0} (show : D → Shown I O) (fits : ℕ → I × O → I × O → Bool → List Turn → List Turn → Type 0) (port workers : ℕ)
     (connections : Option ℕ) (old new : AroundDoor D L) (status : Status) : Type 0 where
   -- the door as it was given, and as it was taken back
@@ -117,7 +117,7 @@ OneRose old new =
 
 -- Why nothing was served, and what was written: `DoorFault` after one fault of the host, in giving a link or the door (`OneRose`), and
 -- nothing; `WriteFault` and a first part of the line `listening`; `NoMemory`, and nothing or the line.
--- Shown by: session_tests serve.rt: without_its_first_line_nothing_is_served.
+-- Shown by: program_tests serve.rt: without_its_first_line_nothing_is_served.
 abbrev pub EndsUnserved : {D L : Type 0} → ℕ → AroundDoor D L → AroundDoor D L → Status → Type 0
 EndsUnserved port old new status =
     ((status ≡ statuses.DoorFault) × Keeps old.written new.written × OneRose old new)
@@ -125,7 +125,7 @@ EndsUnserved port old new status =
     ⊎ ((status ≡ statuses.NoMemory) × (Keeps old.written new.written ⊎ Appends old.written new.written (listening_text port))))
 
 -- Nothing was served, by `EndsUnserved`. The host took back the door, if it gave one, and the links, each as it gave it.
--- Shown by: session_tests serve.rt: a_port_that_is_not_open_serves_nothing, without_its_first_line_nothing_is_served.
+-- Shown by: program_tests serve.rt: a_port_that_is_not_open_serves_nothing, without_its_first_line_nothing_is_served.
 pub record IsUnserved {D L : Type 0} (port workers : ℕ) (old new : AroundDoor D L) (status : Status) : Type 0 where
   pub cause : EndsUnserved port old new status
   pub lent : List D
@@ -140,7 +140,7 @@ pub record IsUnserved {D L : Type 0} (port workers : ℕ) (old new : AroundDoor 
   pub faultless : status ≢ statuses.DoorFault → (new.door_faults ≡ old.door_faults) × (new.link_faults ≡ old.link_faults)
 
 -- The run of a program that serves: `Serves` or `IsUnserved`.
--- Shown by: session_tests serve.rt: two_workers_serve_the_first_run; serve_is_refused.edit.
+-- Shown by: program_tests serve.rt: two_workers_serve_the_first_run; serve_is_refused.edit.
 abbrev pub IsServe : {D L I O : Type 0} → (D → Shown I O) → (ℕ → I × O → I × O → Bool → List Turn → List Turn → Type 0) → ℕ → ℕ → Option ℕ
     → AroundDoor D L → AroundDoor D L → Status → Type 0
 IsServe show fits port workers connections old new status =

@@ -97,6 +97,6 @@ abbrev pub deleted_through : List ℕ → ℕ → List Queue → List Queue
 deleted_through queue through queues = changed_first (is_named queue) (without_through through) queues
 
 -- The number of messages of all queues.
--- Shown by: session_tests serve.rt: two_workers_serve_the_first_run.
+-- Shown by: program_tests serve.rt: two_workers_serve_the_first_run.
 abbrev pub message_count : List Queue → ℕ
 message_count queues = sum_by (λ (m : Queue). length m.messages) queues

@@ -23,7 +23,7 @@ abbrev pub putting_back : ℕ → Tables → Tables
 putting_back duty t = record t { duties = unclaimed duty t.duties }
 
 -- The errand is that of a claimed duty of these tables, which was due when it was claimed.
--- Shown by: session_tests program.rt: an_endpoint_is_sent_the_event_once.
+-- Shown by: program_tests program.rt: an_endpoint_is_sent_the_event_once.
 pub record IsErrandOf (t : Tables) (e : Errand) : Type 0 where
   pub row : DutyRow
   pub pending : pending_row e.claim.number t.duties ≡ Some row
@@ -32,7 +32,7 @@ pub record IsErrandOf (t : Tables) (e : Errand) : Type 0 where
   pub endpoint : e.target.endpoint ≡ row.duty.target.endpoint
 
 -- The duty that is due first was claimed, and its errand has its target, its text and the moment at which it was made.
--- Shown by: session_tests program.rt: an_endpoint_is_sent_the_event_once.
+-- Shown by: program_tests program.rt: an_endpoint_is_sent_the_event_once.
 pub record IsClaimed (old : Tables) (moment : ℕ) (e : Errand) (new : Tables) : Type 0 where
   pub next : IsNext old.duties moment e.claim.number
   pub at : e.moment ≡ moment

@@ -22,7 +22,7 @@ use Rattle.router_sessions.specs.Book.{BookState, state_of}
 use Rattle.router_sessions.specs.Sent.{AreSent, tries_with}
 
 -- The claim of the duty of a row, made at this reading, in a turn with this moment.
--- Shown by: session_tests program.rt: an_endpoint_is_sent_the_event_once.
+-- Shown by: program_tests program.rt: an_endpoint_is_sent_the_event_once.
 abbrev pub claim_of : ℕ → ℕ → DutyRow → Claim
 claim_of reading moment row = record {
   number = row.number;
@@ -96,7 +96,7 @@ pub record IsOpen (s : State) (pass : ℕ) (c : Claim) : Type 0 where
   pub claim : claim_of c.reading c.moment row ≡ c
 
 -- No unclaimed duty is due at a reading.
--- Shown by: session_tests serve.rt: a_quiet_door_lets_its_worker_deliver.
+-- Shown by: program_tests serve.rt: a_quiet_door_lets_its_worker_deliver.
 abbrev pub IsIdle : State → ℕ → Type 0
 IsIdle s reading = NoneDue s.tables.duties (moment_at s.tables reading)
 

@@ -42,7 +42,7 @@ AreTried before (t ∷ more) answers now = (between : ℕ) × (first rest : List
 
 -- What tries did to the link: one exchange more for each try that had an answer, in order, with its endpoint, its text and its code, and no
 -- other; the count of faults rose at least once for each try without an answer.
--- Shown by: recorded_without_a_send.edit; session_tests program.rt: an_endpoint_is_sent_the_event_once.
+-- Shown by: recorded_without_a_send.edit; program_tests program.rt: an_endpoint_is_sent_the_event_once.
 pub record AreSent (answered answered_new : Option (List Exchange)) (faults faults_new : ℕ) (tries : List Try) : Type 0 where
   pub answers : List Exchange
   pub in_order : Answered answered answered_new answers

@@ -27,7 +27,7 @@ module _ {I O : Type 0} (left : I → Option (List ℕ)) (written : O → Option
   -- ended it. `reads` and `writes`
   -- are the counts of faults of the streams: a fault ends a session only if it was counted. The clock's readings and the link's answers are
   -- any that the session allows.
-  -- Shown by: session_tests serve.rt: two_workers_serve_the_first_run, a_held_reply_holds_no_other_connection.
+  -- Shown by: program_tests serve.rt: two_workers_serve_the_first_run, a_held_reply_holds_no_other_connection.
   pub record IsVisit (n : ℕ) (came went : I × O) (cut : Bool) (before turns : List Turn) : Type 0 where
     pub pass : ℕ
     pub during : List Turn

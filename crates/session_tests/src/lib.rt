@@ -1,14 +1,6 @@
-//! Tests of whole sessions and of the program over streams, a clock and a host in memory.
+//! Tests of sessions over streams and a clock in memory.
 #![tactic(auto)]
 
-#[cfg(test)]
-mod exchanges;
-#[cfg(test)]
-mod program;
-#[cfg(test)]
-mod runs;
-#[cfg(test)]
-mod serve;
 #[cfg(test)]
 mod tables;
 #[cfg(test)]

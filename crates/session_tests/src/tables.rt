@@ -1,17 +1,16 @@
 //! What no request shows of the tables after a session: which targets a replay has, the moment, and which values threads share or pass
 //! on. What requests show is in router_core.rows.
-use crate::exchanges::messages;
-use crate::runs::NOW;
 use bus_host::NoGate;
-use bus_server::{Book, serve_session};
 use event_shape::{DEFAULT_BUS, Event};
 use router_core::{Errand, SeenTargets, Tables, see_plain_event};
 use router_disk::{LinkFault, MemClock, MemLink, MemSink, MemSource};
+use router_sessions::{Book, serve_session};
 use rule_table::RuleSet;
 use shared_text::{SharedRow, SharedText};
 use std::alloc::Global;
 use std::sync::Wait;
 use std::test::Fail;
+use test_exchanges::{NOW, messages};
 use turn_book::Hall;
 
 /// The book after a session of these messages.
@@ -143,7 +142,9 @@ fn moment_after<Rt: Wait>(rt: &Rt, alloc: Global, messages: Vec<u8>) -> Result<u
 fn the_moment_is_that_of_the_last_change(rt: HostRuntime) -> Result<(), Fail> {
     let tested = messages_of(rt.alloc(), TESTED)?;
     assert_eq!(rt; moment_after(&rt, rt.alloc(), tested)?, 0);
-    let changes = messages(&rt, rt.alloc(), "queue rule target event delivered peek");
+    let changes = messages(rt.alloc(), "queue rule target event delivered peek").expect(
+        &rt, "messages",
+    );
     assert_eq!(rt; moment_after(&rt, rt.alloc(), changes.into_bytes())?, NOW);
     Ok(())
 }

@@ -3,19 +3,18 @@ ghost use Rattle.std.specs.Prelude.{◌≡◌, []};
 ghost use Rattle.turn_book.specs.Rule.{opener};
 ghost use Rattle.turn_book.specs.Passes.{view, IsFree, IsSamePass};
 
-use crate::exchanges::{messages, wanted};
-use crate::runs::NOW;
 use bus_host::NoGate;
-use bus_server::{Book, SessionEnd, serve_session};
 use router_disk::{Clock, Failing, LinkFault, MemClock, MemLink, MemSink, MemSource, Sink, Source};
+use router_sessions::{Book, SessionEnd, serve_session};
 use std::alloc::Global;
 use std::process::Abort;
 use std::sync::Wait;
-use test_rows::{four, two};
+use test_exchanges::{NOW, messages, wanted};
+use test_rows::four;
 use turn_book::{Hall, Pass};
 
 /// A hall for so many passes, with the first book and the first pass.
-pub(crate) fn first_hall<R: Abort>(rt: &R, alloc: Global, seats: u32) -> (Hall<Book>, Pass<Book>)
+fn first_hall<R: Abort>(rt: &R, alloc: Global, seats: u32) -> (Hall<Book>, Pass<Book>)
     ensures here { result.1.seat.table_id ≡ result.0.table.shared.table_id }
     ensures free { IsFree result.1.seat }
     ensures seats { result.0.seats ≡ seats }
@@ -65,7 +64,8 @@ fn first_session<R: Wait + Abort, S: Source, K: Sink, C: Clock>(
 
 /// The messages of exchanges without their last `missing` bytes. A read gives `most` bytes at most.
 fn source<R: Abort>(rt: &R, alloc: Global, sent: &str, missing: &str, most: &str) -> MemSource {
-    let mut bytes = messages(rt, alloc, sent).into_bytes();
+    let messages = messages(alloc, sent).expect(rt, "messages");
+    let mut bytes = messages.into_bytes();
     let missing = missing.parse::<usize>().unwrap_or(0);
     bytes.truncate(bytes.len().saturating_sub(missing));
     MemSource::new(bytes).in_pieces(most.parse::<usize>().unwrap_or(usize::MAX).max(1))
@@ -104,7 +104,7 @@ fn meet<R: Wait + Abort>(rt: &R, alloc: Global, row: &str) {
     let (reads, writes) = (input.faults, output.faults);
     let text = str::from_utf8(output.inner.bytes()).expect(rt, "text");
     let got = format!(in alloc; "|{end:?} {reads} {writes}|{text}").expect(rt, "a session");
-    let want = wanted(rt, alloc, want);
+    let want = wanted(alloc, want).expect(rt, "a row");
     assert_eq!(*rt; got.as_str(), want.as_str(), "{row}");
 }
 
@@ -186,7 +186,8 @@ fn send<R: Wait + Abort>(
     requires free { IsFree pass.old.seat }
     ensures pass { IsSamePass pass.old.seat pass.new.seat × IsFree pass.new.seat }
 {
-    let mut input = MemSource::new(messages(rt, alloc, names).into_bytes());
+    let messages = messages(alloc, names).expect(rt, "messages");
+    let mut input = MemSource::new(messages.into_bytes());
     let mut clock = MemClock::always(alloc, NOW);
     session(
         rt, alloc, hall, pass, connection, &mut input, output, &mut clock,
@@ -210,6 +211,6 @@ fn two_passes_go_on_from_what_the_other_did(rt: HostRuntime) {
     assert_eq!(rt; book.tables().events(), 1);
     let text = str::from_utf8(output.bytes()).expect(&rt, "text");
     let got = format!(in alloc; "|{text}").expect(&rt, "replies");
-    let want = wanted(&rt, alloc, "=queue rule target event delivered peek");
+    let want = wanted(alloc, "=queue rule target event delivered peek").expect(&rt, "replies");
     assert_eq!(rt; got.as_str(), want.as_str());
 }

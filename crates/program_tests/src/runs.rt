@@ -1,5 +1,4 @@
 //! Runs of the program over streams, a clock and a host in memory, and what each leaves.
-use crate::exchanges::{messages, wanted};
 use bus_host::{Door, Host, HostFault, MemDoor, MemHost, Plan};
 use bus_server::run;
 use program_lines::Status;
@@ -10,10 +9,8 @@ use std::fmt::Write;
 use std::process::Abort;
 use std::sync::Wait;
 use std::thread::Threads;
+use test_exchanges::{NOW, messages, wanted};
 use test_rows::{four, two};
-
-/// Each reading of the clock, in seconds: 2023-11-14T22:13:20Z.
-pub(crate) const NOW: u64 = 1_700_000_000;
 
 /// A host over connections in memory.
 pub(crate) type Served = MemHost<MemSource, MemSink>;
@@ -29,8 +26,8 @@ fn plan<R: Abort>(rt: &R, alloc: Global, field: &str) -> Plan<MemSource, MemSink
     if field == "failed" {
         return Plan::Failed;
     }
-    let bytes = messages(rt, alloc, field).into_bytes();
-    Plan::Conn(MemSource::new(bytes), MemSink::new(alloc))
+    let messages = messages(alloc, field).expect(rt, "messages");
+    Plan::Conn(MemSource::new(messages.into_bytes()), MemSink::new(alloc))
 }
 
 /// A door with these plans, apart by `;`.
@@ -139,8 +136,9 @@ pub(crate) fn left<R: Wait + Threads + Sync + Abort>(
     writes: &str,
     host: &mut Served,
 ) -> String {
+    let messages = messages(alloc, sent).expect(rt, "messages");
     let mut input = Failing {
-        inner: MemSource::new(messages(rt, alloc, sent).into_bytes()),
+        inner: MemSource::new(messages.into_bytes()),
         sound: if sent.is_empty() { Some(0) } else { None },
         faults: 0,
     };
@@ -191,6 +189,6 @@ pub(crate) fn left_by<R: Wait + Threads + Sync + Abort>(
 /// Fails unless a run by the row leaves what it wants.
 pub(crate) fn meet<R: Wait + Threads + Sync + Abort>(rt: &R, alloc: Global, row: &str, want: &str) {
     let got = left_by(rt, alloc, row);
-    let want = wanted(rt, alloc, want);
+    let want = wanted(alloc, want).expect(rt, "a row");
     assert_eq!(*rt; got.as_str(), want.as_str(), "{row}");
 }

@@ -1,8 +1,7 @@
 //! Tests of the program while it serves connections, over a host in memory. The form of a row is that of `left_by` in runs.rt.
-use crate::runs::{NOW, door, host, left, left_by, meet};
-use crate::tests::first_hall;
+use crate::runs::{door, host, left, left_by, meet};
 use bus_host::{Door, Gate, Point};
-use bus_server::{DoorEnd, Serving, serve_door};
+use bus_server::{Book, DoorEnd, Serving, serve_door};
 use router_disk::{LinkFault, MemClock, MemLink};
 use std::alloc::Global;
 use std::hint::spin_loop;
@@ -10,6 +9,8 @@ use std::process::Abort;
 use std::sync::Wait;
 use std::sync::atomic::{AtomicU64, Ordering};
 use std::thread::Threads;
+use test_exchanges::NOW;
+use turn_book::Hall;
 
 #[test]
 fn two_workers_serve_the_first_run(rt: HostRuntime) {
@@ -180,19 +181,24 @@ fn gated<R: Wait + Threads + Sync + Abort, D: Door, G: Gate + Sync>(
     ];
     let links = Vec::from_array(alloc, links).expect(rt, "links");
     let mut clock = MemClock::always(alloc, NOW);
-    let (hall, mut pass) = first_hall(rt, alloc, 4);
-    let serving = serve_door(
-        rt, alloc, &hall, &mut pass, links, door, &mut clock, None, gate,
-    );
-    let Serving {
-        door,
-        owns: _,
-        passes,
-        end,
-    } = serving;
-    let _book = hall.close(pass, passes);
-    assert_eq!(*rt; end, DoorEnd::Done);
-    door
+    let book = Book::first(alloc).expect(rt, "a book");
+    match Hall::make(alloc, book, 4) {
+        Ok((hall, mut pass)) => {
+            let serving = serve_door(
+                rt, alloc, &hall, &mut pass, links, door, &mut clock, None, gate,
+            );
+            let Serving {
+                door,
+                owns: _,
+                passes,
+                end,
+            } = serving;
+            let _book = hall.close(pass, passes);
+            assert_eq!(*rt; end, DoorEnd::Done);
+            door
+        }
+        Err(_) => panic!(rt; "a hall"),
+    }
 }
 
 #[test]

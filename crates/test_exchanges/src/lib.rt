@@ -1,8 +1,12 @@
-//! Exchanges by their names: what each one sends, and the reply that it gets.
+//! Exchanges by their names, for the crates of tests: what each one sends, and the reply that it gets.
+#![tactic(auto)]
+
 use std::alloc::Global;
 use std::fmt::Write;
-use std::process::Abort;
 use test_rows::four;
+
+/// Each reading of the clock, in seconds: 2023-11-14T22:13:20Z. The replies have it.
+pub const NOW: u64 = 1_700_000_000;
 
 /// The name of an exchange, the action that it asks for, the body of its message, and the body of its reply.
 const EXCHANGES: &str =
@@ -21,53 +25,67 @@ peek-none|RouterLocal.PeekMessages|{"QueueName":"q"}|{"Messages":[]}
 "#;
 
 /// The action, the body and the reply's body of the exchange with this name.
-fn exchange<R: Abort>(rt: &R, name: &str) -> (&'static str, &'static str, &'static str) {
+fn exchange(name: &str) -> Option<(&'static str, &'static str, &'static str)> {
     for row in EXCHANGES.lines() {
         let (known, action, body, reply) = four(row);
         if known == name {
-            return (action, body, reply);
+            return Some((action, body, reply));
         }
     }
-    panic!(rt; "there is no exchange {name}")
+    None
 }
 
-/// The messages of the exchanges with these names, which spaces part.
-pub(crate) fn messages<R: Abort>(rt: &R, alloc: Global, names: &str) -> String {
+fn add_message(text: &mut String, name: &str) -> Option<()> {
+    let (action, body, _) = exchange(name)?;
+    let size = body.len();
+    write!(
+        text,
+        "POST / HTTP/1.1\r\nHost: 127.0.0.1\r\nX-Amz-Target: {action}\r\nContent-Length: {size}\r\n\r\n{body}"
+    )
+    .ok()
+}
+
+/// The messages of the exchanges with these names, which spaces part. `None` if there is no such exchange, or out of memory.
+pub fn messages(alloc: Global, names: &str) -> Option<String> {
     let mut text = String::new(alloc);
     for name in names.split_whitespace() {
-        let (action, body, _) = exchange(rt, name);
-        let size = body.len();
-        write!(
-            text,
-            "POST / HTTP/1.1\r\nHost: 127.0.0.1\r\nX-Amz-Target: {action}\r\nContent-Length: {size}\r\n\r\n{body}"
-        )
-        .expect(rt, "messages");
+        add_message(&mut text, name)?;
     }
-    text
+    Some(text)
 }
 
-/// The replies that they get.
-fn replies<R: Abort>(rt: &R, text: &mut String, names: &str) {
+fn add_reply(text: &mut String, name: &str) -> Option<()> {
+    let (_, _, body) = exchange(name)?;
+    let size = body.len();
+    write!(
+        text,
+        "HTTP/1.1 200 OK\r\nContent-Type: application/x-amz-json-1.1\r\nContent-Length: {size}\r\n\r\n{body}"
+    )
+    .ok()
+}
+
+/// Adds the replies that they get.
+fn add_replies(text: &mut String, names: &str) -> Option<()> {
     for name in names.split_whitespace() {
-        let (_, _, body) = exchange(rt, name);
-        let size = body.len();
-        write!(
-            text,
-            "HTTP/1.1 200 OK\r\nContent-Type: application/x-amz-json-1.1\r\nContent-Length: {size}\r\n\r\n{body}"
-        )
-        .expect(rt, "replies");
+        add_reply(text, name)?;
+    }
+    Some(())
+}
+
+fn add_field(text: &mut String, field: &str) -> Option<()> {
+    text.push('|').ok()?;
+    match field.strip_prefix('=') {
+        Some(names) => add_replies(text, names),
+        None => text.push_str(field).ok(),
     }
 }
 
-/// What a row wants: each field after a `|`, and in place of a field that begins with `=` the replies of its exchanges.
-pub(crate) fn wanted<R: Abort>(rt: &R, alloc: Global, fields: &str) -> String {
+/// What a row wants: each field after a `|`, and in place of a field that begins with `=` the replies of its exchanges. `None` if there
+/// is no such exchange, or out of memory.
+pub fn wanted(alloc: Global, fields: &str) -> Option<String> {
     let mut text = String::new(alloc);
     for field in fields.split('|') {
-        text.push('|').expect(rt, "a row");
-        match field.strip_prefix('=') {
-            Some(names) => replies(rt, &mut text, names),
-            None => text.push_str(field).expect(rt, "a row"),
-        }
+        add_field(&mut text, field)?;
     }
-    text
+    Some(text)
 }

@@ -1,0 +1,9 @@
+//! Tests of the program over streams, a clock and a host in memory.
+#![tactic(auto)]
+
+#[cfg(test)]
+mod program;
+#[cfg(test)]
+mod runs;
+#[cfg(test)]
+mod serve;
