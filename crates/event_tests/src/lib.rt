@@ -14,4 +14,6 @@ mod test_event_time;
 #[cfg(test)]
 mod test_pattern_meaning;
 #[cfg(test)]
+mod test_rule_automaton;
+#[cfg(test)]
 mod test_value_index;
