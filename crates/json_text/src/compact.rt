@@ -94,7 +94,7 @@ fn plain_len(bytes: &[u8]) -> usize
 fn needs_escape(byte: u8) -> bool
     ensures { result ≡ false → escape byte ≡ byte ∷ [] }
 {
-    byte < b' ' || byte == b'"' || byte == b'\\'
+    (byte < b' ') | (byte == b'"') | (byte == b'\\')
 }
 
 fn push_escape(byte: u8, out: &mut Bytes) -> Result<(), NoMemory>

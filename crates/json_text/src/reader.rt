@@ -386,5 +386,5 @@ fn space_len(bytes: &[u8]) -> usize
 fn is_white(byte: u8) -> bool
     ensures { result ≡ is_space byte }
 {
-    matches!(byte, b' ' | b'\t' | b'\n' | b'\r')
+    (byte == b' ') | ((byte == b'\t') | ((byte == b'\n') | (byte == b'\r')))
 }

@@ -69,7 +69,7 @@ fn plain_len(bytes: &[u8]) -> usize
 fn is_plain(byte: u8) -> bool
     ensures { result ≡ (is_within 32 127 byte && (not (byte == 34) && not (byte == 92))) }
 {
-    byte >= b' ' && byte <= 0x7F && byte != b'"' && byte != b'\\'
+    ((byte >= b' ') & (byte <= 0x7F)) & ((byte != b'"') & (byte != b'\\'))
 }
 
 /// Adds the character after a backslash, and returns the number of its bytes.
