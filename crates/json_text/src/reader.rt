@@ -78,7 +78,10 @@ impl<'a> Place<'a> {
     fn starts_with(self, byte: u8) -> bool
         ensures { MatchBool result (StartsWith byte self.entry.rest.now) (¬ (StartsWith byte self.entry.rest.now)) }
     {
-        self.first() == Some(byte)
+        match self.first() {
+            Some(first) => first == byte,
+            None => false,
+        }
     }
 
     fn after(self, len: usize) -> Place<'a>
