@@ -106,7 +106,7 @@ impl TextTest for PutEvents {
     ghost wanted = { λ _. spec.IsPutEvents };
 
     fn passes(&self, text: &str) -> bool {
-        text == EVERYONE || text == "events:*" || text == "events:PutEvents"
+        (text == EVERYONE) | (text == "events:*") | (text == "events:PutEvents")
     }
 }
 

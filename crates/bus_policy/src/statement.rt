@@ -165,10 +165,10 @@ fn are_known(members: &[(Text, Json)]) -> bool
 fn is_statement_key(key: &str) -> bool
     ensures { result ≡ spec.is_statement_key key.now }
 {
-    key == "Sid"
-        || key == "Effect"
-        || key == "Principal"
-        || key == "Action"
-        || key == "Resource"
-        || key == "Condition"
+    (key == "Sid")
+        | (key == "Effect")
+        | (key == "Principal")
+        | (key == "Action")
+        | (key == "Resource")
+        | (key == "Condition")
 }

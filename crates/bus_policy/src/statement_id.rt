@@ -20,5 +20,5 @@ fn are_id_bytes(sid: &str) -> bool
 fn is_id_byte(byte: u8) -> bool
     ensures { result ≡ passes byte }
 {
-    byte.is_ascii_alphanumeric() || byte == b'-' || byte == b'_'
+    byte.is_ascii_alphanumeric() | (byte == b'-') | (byte == b'_')
 }
