@@ -1,4 +1,4 @@
--- From an event's tree to its parts and back: `values_are`, `parts_are`, `parts_valid`.
+-- From an event's tree to its parts and back: `members_once`, `values_are`, `parts_are`, `parts_valid`.
 -- What `Event::read` returns: `read_as`, `found_as`, `only_as`, `none_as`.
 use Rattle.std.proofs.Common.{◌≡◌, ◌≢◌, ℕ, ◌≤◌, Option, Some, None, Result, Ok, Err, IfOk, MatchOption, MatchResult, All, List, [], ◌∷◌}
 use Rattle.std.proofs.Common.{false, ◌++◌, map, sym, ap, ◌∙◌, subst, refl, arith}
@@ -20,7 +20,7 @@ use Rattle.event_shape.specs.Parts.{values_in, BeginsWith, ArePartsOf, AreValid}
 use Rattle.event_shape.proofs.SpelledLemmas.{event_spelled}
 use Rattle.event_shape.proofs.OnceLemmas.{event_from, same_event, event_once}
 
-members_once : (ms ns : List (List ℕ × Tree)) → members_of ms ≡ members_of ns → ms ≡ ns
+pub members_once : (ms ns : List (List ℕ × Tree)) → members_of ms ≡ members_of ns → ms ≡ ns
 members_once [] [] e = refl
 members_once [] (n ∷ ns) e = absurd cc
 members_once (m ∷ ms) [] e = absurd cc

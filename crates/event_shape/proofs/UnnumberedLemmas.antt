@@ -1,20 +1,29 @@
 -- The text of an event before and after its id: `text_opens` (number 0), `text_numbered` (any number). The event with another
--- number, and the event at its moment: `event_numbered`, `event_at_moment`, `opens_at`.
+-- number, and the event at its moment: `event_numbered`, `event_at_moment`, `opens_at`. The event's members with another id: `members_are`,
+-- `id_put`.
 use Rattle.std.proofs.Common.{◌≡◌, ◌≢◌, ℕ, zero, suc, ◌+◌, ◌<◌, ◌≤◌, ◌^◌, Bool, true, false, if◌then◌else◌, None, List, [], ◌∷◌, ◌++◌, drop, flat_map}
-use Rattle.std.proofs.Common.{sym, ap, ◌∙◌, subst, refl, arith, codes, append_assoc}
+use Rattle.std.proofs.Common.{sym, ap, ◌∙◌, refl, arith, codes, append_assoc, length, get_or}
 use Rattle.std.proofs.lemmas.Bool.Decides.{nat_tests}
-use Rattle.std.proofs.lemmas.List.{append-nil}
+use Rattle.std.proofs.lemmas.List.{append-nil, length-map}
 use Rattle.std.proofs.lemmas.Grind.{flat_map-append}
 use Rattle.std.specs.Int.{w128, to_be_bytes}
 use Rattle.uuid.specs.Text.{by_index, hex_digit, nibble, lower, is_hyphen_place, digit_place}
 use Rattle.uuid.proofs.TextLemmas.{nibble_small}
 use Rattle.json_text.specs.Moment.{IsMoment}
-use Rattle.json_text.specs.Tree.{members_of}
+use Rattle.std.proofs.Math.ListN.{set}
+use Rattle.json_text.specs.Tree.{Tree, text, object, members_of}
+use Rattle.json_text.specs.View.{tree_of, pairs_of}
+use Rattle.json_text.specs.Objects.{with_value}
+use Rattle.json_text.specs.declared.value.Json.{Json}
+use Rattle.json_text.specs.declared.value.Json.TheVariants.{Str, Obj}
+use Rattle.json_text.proofs.KeptLemmas.{with_value-set}
+use Rattle.json_text.proofs.ViewLemmas.{tree_of_text, tree_of_object}
 use Rattle.json_text.specs.Compact.{compact_text, escape, more_members_text}
 use Rattle.event_time.specs.Time.{IsIso}
 use Rattle.event_shape.specs.Id.{event_id, id_base}
 use Rattle.event_shape.specs.Event.{Event, event_members, event_tree, IsEventAt, IsEvent}
 use Rattle.event_shape.specs.Unnumbered.{with_number, zero_front, text_after_id}
+use Rattle.event_shape.proofs.PartLemmas.{members_once}
 
 -- ---- an id is written as it is
 
@@ -76,3 +85,23 @@ event_at_moment e m (other, at) fits shown = record { number = at.number; accoun
 pub event_numbered : (e : Event) (m n : ℕ) → n < 2 ^ 64 → IsEventAt m e → IsEvent (with_number n e)
 event_numbered e m n fits at =
     (m, record { number = fits; account = at.account; is_moment = at.is_moment; time = at.time; content = at.content })
+
+-- ---- the members
+
+pub members_are : (v : _) (tree : Json) (e : Event) → tree ≡ Obj v → tree_of tree ≡ event_tree e None → pairs_of v.items ≡ event_members e
+members_are v tree e is trees =
+    let same : object (members_of (pairs_of v.items)) ≡ event_tree e None = sym (tree_of_object v) ∙ sym (ap tree_of is) ∙ trees in
+    let inside : members_of (pairs_of v.items) ≡ members_of (event_members e) = cc in
+    members_once (pairs_of v.items) (event_members e) inside
+
+pub two_members : (ms : List (List ℕ × Json)) (e : Event) → pairs_of ms ≡ event_members e → 1 < length ms
+two_members ms e are =
+    let counted : length (pairs_of ms) ≡ length (event_members e) = ap length are in
+    omega (arith, counted, length-map {B = List ℕ × Tree} ms (λ m. (m.0, tree_of m.1)))
+
+-- the second member gets the id of another number
+pub id_put : (ms : List (List ℕ × Json)) (d : List ℕ × Json) (t : List ℕ) (e : Event) (n : ℕ) → pairs_of ms ≡ event_members e → 1 < length ms
+    → d ≡ get_or ms 1 d → t ≡ event_id n → pairs_of (set ms 1 (d.0, Str t)) ≡ event_members (with_number n e)
+id_put ms d t e n are some at is =
+    with_value-set (Str t) 1 ms d some at ∙ ap (with_value 1 (tree_of (Str t))) are
+    ∙ ap (λ v. with_value 1 v (event_members e)) (tree_of_text t ∙ ap text is)

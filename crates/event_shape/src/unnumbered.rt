@@ -6,15 +6,16 @@ ghost use Rattle.json_text.specs.View.{tree_of};
 ghost use Rattle.json_text.specs.Access.{member_of};
 ghost use Rattle.json_text.specs.Compact.{compact_text, IsValue};
 ghost use Rattle.event_time.specs.Time.{IsIso};
-ghost use Rattle.event_shape.specs.Event.{event_tree, IsMade, IsEvent};
+ghost use Rattle.event_shape.specs.Event.{Event as Members, event_tree, IsMade, IsEvent};
+ghost use Rattle.event_shape.specs.Id as ids;
 ghost use Rattle.event_shape.specs.Unnumbered.{with_number, zero_front, text_after_id};
 
 use crate::checking::Checked;
 use crate::event::Event;
-use crate::id::push_id;
+use crate::id::{event_id, push_id};
 use crate::names::after_prefix;
 use crate::writing::text_of_value;
-use json_text::{Json, NoMemory, Text};
+use json_text::{Json, NoMemory, Text, copy};
 use std::alloc::Global;
 use std::marker::Model;
 use std::snapshot::Snapshot;
@@ -99,6 +100,16 @@ impl Unnumbered {
         Ok(Text::from(text))
     }
 
+    /// The event as a JSON object, with the id of this number. Copies the tree.
+    pub fn numbered_tree(&self, alloc: Global, number: u64) -> Result<Json, NoMemory>
+        ensures tree { IfOk result (λ json. tree_of json ≡ event_tree (with_number number self.now.event) None) }
+        ensures value { IfOk result (λ json. IsValue (tree_of json)) }
+    {
+        let id = event_id(alloc, number)?;
+        let tree = copy(alloc, &self.tree)?;
+        Ok(with_id(tree, id))
+    }
+
     /// The text after the id.
     fn after_id(&self) -> &str
         ensures text { result.now ≡ text_after_id self.now.event }
@@ -133,6 +144,21 @@ impl Unnumbered {
         ensures { result.now ≡ self.now.event.detail_type }
     {
         text_member(&self.tree, "detail-type")
+    }
+}
+
+/// The tree of an event, with this id in the place of its own.
+fn with_id(tree: Json, id: Text) -> Json
+    requires { (e : Members) × (tree_of tree ≡ event_tree e None) }
+    ensures { (e : Members) (n : ℕ) → tree_of tree ≡ event_tree e None → id ≡ ids.event_id n
+        → tree_of result ≡ event_tree (with_number n e) None }
+{
+    match tree {
+        Json::Obj(mut members) => {
+            members[1].1 = Json::Str(id);
+            Json::Obj(members)
+        }
+        Json::Null | Json::Truth(_) | Json::Num(_) | Json::Str(_) | Json::List(_) => unreachable!(),
     }
 }
 

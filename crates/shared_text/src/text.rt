@@ -33,6 +33,13 @@ impl SharedText {
         })
     }
 
+    /// The pointer as it is. Allocates nothing.
+    pub fn from_arc(text: Arc<Text>) -> SharedText
+        ensures { result ≡ arc_value text }
+    {
+        SharedText { text }
+    }
+
     /// Another pointer to the same text. Allocates nothing. An `Err` means that no more pointers can be counted.
     pub fn share(&self) -> Result<SharedText, NoMemory>
         ensures { IfOk result (λ shared. shared ≡ self.now) }
