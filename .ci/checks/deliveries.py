@@ -14,15 +14,17 @@ BY_RETRIES, BY_AGE = "MaximumRetryAttempts", "MaximumEventAgeInSeconds"
 
 
 class Target:
-    """A target of a rule: its ARN as given, its retry policy, a pair of numbers or None, and its dead-letter queue's ARN or None."""
+    """A target of a rule: its ARN as given; what makes its text, or None for the event's, and the inputs as lists show them; its retry
+    policy, a pair of numbers or None; and its dead-letter queue's ARN or None."""
 
-    def __init__(self, name, arn, retry, dead_letter):
-        self.name, self.arn, self.retry, self.dead_letter = name, arn, retry, dead_letter
+    def __init__(self, name, arn, make_text, inputs, retry, dead_letter):
+        self.name, self.arn, self.make_text, self.inputs = name, arn, make_text, inputs
+        self.retry, self.dead_letter = retry, dead_letter
 
     def shown(self):
         retry = {} if self.retry is None else {"RetryPolicy": dict(zip((BY_RETRIES, BY_AGE), self.retry))}
         dead_letter = {} if self.dead_letter is None else {"DeadLetterConfig": {"Arn": self.dead_letter}}
-        return {"Id": self.name, "Arn": self.arn, **retry, **dead_letter}
+        return {"Id": self.name, "Arn": self.arn, **self.inputs, **retry, **dead_letter}
 
 
 class Delivery:
@@ -75,9 +77,9 @@ class Deliveries:
         self.order = []  # of each that is pending when it is due and its number
         self.ended = {"Delivered": 0, "DeadLettered": 0, "Dropped": 0}
 
-    def add(self, delivery, is_too_long):
+    def add(self, delivery):
         self.created += 1
-        if is_too_long:
+        if len(delivery.text.encode()) > LONGEST_TEXT:
             delivery.text, delivery.error = "{}", ("TEXT_TOO_LONG", "The text is over 1048576 bytes.")
             self.fail(delivery, "")
         else:

@@ -2,9 +2,10 @@
 """Makes long runs of mixed requests, one for each clock reading of READINGS, and compares each reply with a model.
 
 A run has one request for each length of a body from 2 to 20,000 bytes, and some up to the limit of 1,048,576, in an order
-that a fixed seed shuffles; then each fault of a member, a pattern and a policy alone, and requests that reach the limits. The
-requests (`mixed_requests.py`) are all actions that the program serves, accepted and refused, by the owner and by others, and messages
-that it does not serve. The model (`router.py`) knows only the requests. It is checked by rows worked by hand (`rows.py`) first.
+that a fixed seed shuffles; then each fault of a member, a pattern and a policy alone, each input of a target, and requests that
+reach the limits. The requests (`mixed_requests.py`) are all actions that the program serves, accepted and refused, by the owner and
+by others, and messages that it does not serve. The model (`router.py`) knows only the requests. It is checked by rows worked by hand
+(`rows.py`) first, and by those of examples/tables in `model.sh`.
 Required are the status and the body of each reply, no reply more or less, nothing on standard error, and the exit status 0. A
 503 is never right here: memory is available. Each refusal of REFUSALS has to come in some run. Nobody listens at the endpoints, so
 each attempt to one has no answer, and as all readings of a run are one no retry is ever due.
@@ -23,8 +24,8 @@ import time
 from concurrent.futures import ProcessPoolExecutor
 
 import rows
-from mixed_requests import ACTIONS, a_request, all_that_is_due, conditions, faults_of_targets, in_order_of_names, most_bytes
-from mixed_requests import one_by_one, request_of, to_the_limits, uses_of_queues
+from mixed_requests import ACTIONS, a_request, all_that_is_due, conditions, faults_of_targets, in_order_of_names, inputs_of_targets
+from mixed_requests import most_bytes, one_by_one, request_of, to_the_limits, uses_of_queues
 from router import A_CALL, CALLS, PEEKED_MOST, TARGET_MEMBERS, Router
 
 PROGRAM = "crates/ebusd/out/ebusd"
@@ -57,6 +58,7 @@ REFUSALS = {
     "AWSEvents.DescribeRule": [NO_BUS, NO_RULE],
     "AWSEvents.ListRules": [NO_BUS],
     "AWSEvents.PutTargets": [NO_BUS, NO_RULE, NO_QUEUE, "A dead-letter queue does not exist.", "Target limit 5 reached."]
+    + ["More than one input."]
     + [f"A target's {it} is not valid." for it in TARGET_MEMBERS],
     "AWSEvents.RemoveTargets": [NO_BUS, NO_RULE, "Target {} does not exist."],
     "AWSEvents.ListTargetsByRule": [NO_BUS, NO_RULE],
@@ -101,14 +103,14 @@ def requests_of(router, chance):
     for action in ("RouterLocal.CreateQueue", "AWSEvents.CreateEventBus", "AWSEvents.PutRule", "AWSEvents.PutTargets"):
         for _ in range(8):
             make, _ = ACTIONS[action]
-            yield request_of(action, make(router, chance), chance, 30_000)
+            yield request_of(action, make(router, chance), chance, 60_000)
     lengths = [*LENGTHS, *LONG_LENGTHS]
     chance.shuffle(lengths)
     for length in lengths:
         yield a_request(router, chance, length)
     for over in (0, 1):
         yield request_of("AWSEvents.PutEvents", most_bytes(over), chance, 300_000)
-    for make in (one_by_one, conditions, faults_of_targets, uses_of_queues, in_order_of_names, to_the_limits, all_that_is_due):
+    for make in (one_by_one, conditions, faults_of_targets, inputs_of_targets, uses_of_queues, in_order_of_names, to_the_limits, all_that_is_due):
         yield from make(router, chance)
     yield request_of("RouterLocal.DeliverDue", {"Budget": A_CALL}, chance, 20)
     yield request_of("RouterLocal.DutyCounts", {}, chance, 20)

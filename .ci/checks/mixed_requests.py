@@ -5,6 +5,7 @@ is answered is the matter of the model, `router.py`, alone.
 import re
 
 from endpoint_texts import ENDPOINTS, NO_ENDPOINTS
+from input_texts import BAD_INPUTS, BAD_PATHS, BAD_TRANSFORMERS, DETAIL, INPUTS, MOST, TWO_INPUTS, an_input
 from pattern_texts import a_pattern_text, an_event, no_event, spell
 from patterns import Number, spelled
 from policy_texts import BAD_MEMBERS, a_policy_text
@@ -191,12 +192,15 @@ BAD_AGES = [0, 59, 86_401, 65_596, 2**32 + 60, 2**64 + 60, Number("60.0"), Numbe
 TARGET_FAULTS = {
     "Id": ["", "a b", "t" * 65, "t/1"],
     "Arn": [*BAD_ARNS, QUEUE_ARN + "none"],
-    "Input": ["{}"],
-    "InputPath": ["$.detail"],
-    "InputTransformer": [{"InputTemplate": "1", "InputPathsMap": {"a": "$.a"}}],
+    "Input": BAD_INPUTS,
+    "InputPath": ["", "$." + "a" * 255, *BAD_PATHS],
+    "InputTransformer": BAD_TRANSFORMERS,
     "RetryPolicy": [{"MaximumRetryAttempts": it} for it in BAD_RETRIES] + [{"MaximumEventAgeInSeconds": it} for it in BAD_AGES],
     "DeadLetterConfig": [{"Arn": it} for it in [*BAD_ARNS, *ENDPOINTS[:3], QUEUE_ARN + "none"]],
 }
+
+# The same without long values, for targets that have others beside them.
+SHORT_FAULTS = {member: [it for it in values if len(spelled(it)) < 2_000] for member, values in TARGET_FAULTS.items()}
 
 
 def a_retry_policy(chance):
@@ -212,9 +216,11 @@ def a_target(router, chance):
         target["RetryPolicy"] = chance.choice([a_retry_policy(chance)] * 9 + [None])
     if chance.random() < (0.8 if is_endpoint else 0.3):
         target["DeadLetterConfig"] = chance.choice([{"Arn": QUEUE_ARN + some_queue(router, chance)}] * 8 + [{}, {"Arn": None}, None])
+    if chance.random() < 0.35:
+        target.update(an_input(chance))
     for _ in range(chance.choice([0, 0, 0, 0, 0, 0, 0, 0, 1, 2])):
-        member = chance.choice(list(TARGET_FAULTS))
-        target[member] = chance.choice(TARGET_FAULTS[member])
+        member = chance.choice(list(SHORT_FAULTS))
+        target[member] = chance.choice(SHORT_FAULTS[member])
         if member not in ("Id", "Arn") and chance.random() < 0.3:
             target[member] = None
     return dict(chance.sample(list(target.items()), len(target))) if chance.random() < 0.3 else target
@@ -578,7 +584,7 @@ def faults_of_targets(router, chance):
         yield request_of("AWSEvents.PutRule", {"Name": rule, "EventPattern": '{"source":["a"]}', **bus}, chance, 1_000)
     for member, values in TARGET_FAULTS.items():
         targets = [{"Id": f"t{at}", "Arn": queue, member: it} for at, it in enumerate(values)]
-        yield request_of("AWSEvents.PutTargets", {"Rule": "rule.0", "Targets": targets, **bus}, chance, 20_000)
+        yield request_of("AWSEvents.PutTargets", {"Rule": "rule.0", "Targets": targets, **bus}, chance, 100_000)
     for at, arn in enumerate(ENDPOINTS):
         target = {"Id": f"t{at}", "Arn": arn, "RetryPolicy": a_retry_policy(chance), "DeadLetterConfig": {"Arn": queue}}
         yield request_of("AWSEvents.PutTargets", {"Rule": f"rule.{at // 5 * 5}", "Targets": [target], **bus}, chance, 5_000)
@@ -589,6 +595,37 @@ def faults_of_targets(router, chance):
     yield request_of("AWSEvents.PutEvents", {"Entries": [{**AN_ENTRY, **bus}]}, chance, 1_000)
     yield from all_that_is_due(router, chance)
     yield request_of("RouterLocal.PeekMessages", {"QueueName": "targets", "Limit": 100}, chance, 1_000)
+
+
+def inputs_of_targets(router, chance):
+    """Each input alone, as it is listed and as it is sent; two inputs; and texts at the limit, and past it."""
+    bus, of = {"EventBusName": "inputs"}, {"Rule": "r.1", "EventBusName": "inputs"}
+
+    def made(action, members, length=60_000):
+        return request_of(action, members, chance, length)
+
+    def sent(detail, inputs, length=60_000):
+        """Makes the inputs those of the rule's targets, puts an event, and shows what they get."""
+        targets = [{"Id": f"t{at}", "Arn": QUEUE_ARN + "inputs", "DeadLetterConfig": {"Arn": QUEUE_ARN + "late"}, **it} for at, it in enumerate(inputs)]
+        yield made("AWSEvents.PutTargets", {**of, "Targets": targets})
+        yield made("AWSEvents.ListTargetsByRule", of)
+        yield made("AWSEvents.PutEvents", {"Entries": [{**AN_ENTRY, "Detail": detail, **bus}]}, length)
+        yield made("AWSEvents.RemoveTargets", {**of, "Ids": [it["Id"] for it in targets]})
+        yield from all_that_is_due(router, chance)
+        for name in ("inputs", "late"):
+            yield made("RouterLocal.PeekMessages", {"QueueName": name})
+            yield made("RouterLocal.DeleteMessages", {"QueueName": name, "Through": LAST_NUMBER})
+
+    yield from all_that_is_due(router, chance)
+    for name in ("inputs", "late"):
+        yield made("RouterLocal.CreateQueue", {"QueueName": name})
+    yield made("AWSEvents.CreateEventBus", {"Name": "inputs"})
+    yield made("AWSEvents.PutRule", {"Name": of["Rule"], "EventPattern": '{"source":["a"]}', **bus})
+    for at in range(0, len(INPUTS), 4):
+        yield from sent(DETAIL, [{}, *INPUTS[at : at + 4]])
+    yield from sent(DETAIL, [{}, *TWO_INPUTS])
+    detail, inputs = MOST
+    yield from sent(detail, inputs, 200_000)
 
 
 def uses_of_queues(router, chance):

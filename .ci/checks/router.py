@@ -1,8 +1,8 @@
 """The router by its rules: the reply to each request, from the requests before it.
 
 A request is an action, its caller's header field and the value of its body. `Router.answer` finds the first refusal in the order
-of the rules, or makes the change. Patterns, policies and deliveries have models of their own, `patterns.py`, `policies.py` and
-`deliveries.py`. Each refusal is counted in `causes`, so that a run can show which ones it had.
+of the rules, or makes the change. Patterns, policies, the texts of targets and deliveries have models of their own: `patterns.py`,
+`policies.py`, `inputs.py` and `deliveries.py`. Each refusal is counted in `causes`, so that a run can show which ones it had.
 
 To add an action: a method of Router, and its line in CALLS with the members that it reads, in their order.
 """
@@ -10,8 +10,9 @@ import datetime
 import json
 import re
 
+import inputs
 import policies
-from deliveries import AGE, LONGEST_TEXT, QUEUE_ARN, RETRIES, Deliveries, Delivery, Queue, Target, queue_name
+from deliveries import AGE, QUEUE_ARN, RETRIES, Deliveries, Delivery, Queue, Target, queue_name
 from endpoint_texts import ENDPOINTS
 from patterns import Fault, Number, holds, read_json, read_pattern, spelled
 
@@ -180,31 +181,42 @@ def a_dead_letter(value):
     return None if arn is None else a_text(QUEUE_ARN + QUEUE)(arn)
 
 
-def not_supported(value):
-    need(value is None)
+def an_input(make):
+    """What makes the text of a target that has this member, or None without it."""
+
+    def read(value):
+        try:
+            return None if value is None else make(value)
+        except Fault:
+            raise NotValid from None
+
+    return read
 
 
 TARGET_MEMBERS = {
     "Id": a_name,
     "Arn": a_target_arn,
-    "Input": not_supported,
-    "InputPath": not_supported,
-    "InputTransformer": not_supported,
+    "Input": an_input(inputs.of_input),
+    "InputPath": an_input(inputs.of_path),
+    "InputTransformer": an_input(inputs.of_transformer),
     "RetryPolicy": a_retry,
     "DeadLetterConfig": a_dead_letter,
 }
 
 
 def target_of(given):
-    """The target of these members. Raises the first fault of one of them."""
+    """The target of these members. Raises the first fault of one of them, or that two of them say what its text is."""
     found = []
     for member, read in TARGET_MEMBERS.items():
         try:
             found.append(read(given.get(member)))
         except NotValid:
             raise Refusal(VALIDATION, f"Member {member} is not valid.", cause=f"A target's {member} is not valid.") from None
-    name, arn, _, _, _, retry, dead_letter = found
-    return Target(name, arn, retry, dead_letter)
+    name, arn, *ways, retry, dead_letter = found
+    ways = [it for it in ways if it is not None]
+    if len(ways) > 1:
+        raise Refusal(VALIDATION, "More than one input.")
+    return Target(name, arn, ways[0] if ways else None, inputs.as_given(given), retry, dead_letter)
 
 
 def some_ids(value):
@@ -522,12 +534,12 @@ class Router:
             "resources": entry.get("Resources", []),
         }
         text = f'{compact(made)[:-1]},"detail":{detail}}}'
-        is_too_long = len(text.encode()) > LONGEST_TEXT
         made["detail"] = detail.tree
         for rule in in_order(bus.rules):
             if rule.is_enabled and rule.targets and holds(rule.pattern, made):
                 for target in in_order(rule.targets):
-                    self.deliveries.add(Delivery(rule.arn, target, text, self.reading), is_too_long)
+                    sent = target.make_text(made, rule.arn, shown(self.reading)) if target.make_text else text
+                    self.deliveries.add(Delivery(rule.arn, target, sent, self.reading))
         return made["id"]
 
     # -- Queues

@@ -24,11 +24,12 @@ import threading
 import time
 from concurrent.futures import ThreadPoolExecutor
 
+import inputs
 import limits
 from endpoint_texts import ENDPOINTS
 from mixed import SEED, Failure, compare, message as mixed_message
 from mixed_requests import a_request, conditions, request_of, uses_of_queues
-from patterns import Number
+from patterns import Fault, Number
 from router import NO_OBJECT, QUEUE_ARN, Router
 from serving import COMMAND, HOST, Closed, Served, event_id, free_port, message, put_events, put_rule, run
 from sessions import command_of, expect, side_by_side
@@ -573,7 +574,7 @@ def connections_are_counted():
 
 
 def settled(request, chance):
-    """The request without what depends on the clock: each entry has a Time, and an endpoint has no retry."""
+    """The request without what depends on the clock: each entry has a Time, an endpoint has no retry, and no template has the time."""
     members = request.value
     if members is NO_OBJECT or members is None:
         return request
@@ -585,9 +586,19 @@ def settled(request, chance):
     if isinstance(members.get("Targets"), list):
         once = {"RetryPolicy": {"MaximumRetryAttempts": 0}}
         members["Targets"] = [{**it, **once} if isinstance(it, dict) and it.get("Arn") in ENDPOINTS else it for it in members["Targets"]]
+        members["Targets"] = [{**it, "InputTransformer": None} if shows_the_time(it) else it for it in members["Targets"]]
     if members == request.value:
         return request
     return request_of(request.action, members, chance, len(request.body) + 1_000, request.caller) or request
+
+
+def shows_the_time(target):
+    """Whether the target has a template whose text depends on when its event came."""
+    try:
+        make = inputs.of_transformer(target["InputTransformer"])
+    except (Fault, LookupError, TypeError, AttributeError):
+        return False
+    return make({}, "", "then") != make({}, "", "now")
 
 
 def mixed_exchanges():

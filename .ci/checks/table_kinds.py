@@ -162,6 +162,70 @@ class RemovedStatements(OnePolicy):
             yield "AWSEvents.PutEvents", "777788889999", object_of({"Entries": [entry]}), wanted
 
 
+QUEUE_ARN = "arn:aws:sqs:us-east-1:111122223333:"
+NO_FAILURE = '{"FailedEntryCount":0,"FailedEntries":[]}'
+FAILED = '{"FailedEntryCount":1,"FailedEntries":[{"TargetId":"t","ErrorCode":"ValidationException","ErrorMessage":"Member %s is not valid."}]}'
+TOO_LONG = {
+    "RULE_ARN": "arn:aws:events:us-east-1:111122223333:rule/r",
+    "TARGET_ARN": QUEUE_ARN + "q",
+    "ERROR_CODE": "TEXT_TOO_LONG",
+    "ERROR_MESSAGE": "The text is over 1048576 bytes.",
+    "EXHAUSTED_RETRY_CONDITION": "",
+    "RETRY_ATTEMPTS": "0",
+}
+
+
+class TargetTexts:
+    """`MEMBER|VALUE|TEXT`: what a target with this member gets of an event. Of InputTransformer the value is the template. A line `detail OBJECT`
+    gives the event's Detail, and a line `paths OBJECT` the InputPathsMap, for the rows after it. In place of the text may be:
+
+    not valid      the member is refused
+    valid          the member is taken, and no event is put
+    TEXT_TOO_LONG  what the target gets is too long, and its dead letter is empty
+    """
+
+    def __init__(self):
+        self.detail, self.paths, self.is_prepared = "{}", {}, False
+        self.events, self.numbers = 0, {"q": 0, "d": 0}
+
+    def requests(self, row):
+        if row.startswith("detail "):
+            self.detail = row[len("detail ") :]
+            return
+        if row.startswith("paths "):
+            self.paths = json.loads(row[len("paths ") :])
+            return
+        if not self.is_prepared:
+            self.is_prepared = True
+            yield from self.prepared()
+        member, _, rest = row.partition("|")
+        value, _, wanted = rest.rpartition("|")
+        if member == "InputTransformer":
+            value = {"InputPathsMap": self.paths, "InputTemplate": value}
+        target = {"Id": "t", "Arn": QUEUE_ARN + "q", "DeadLetterConfig": {"Arn": QUEUE_ARN + "d"}, member: value}
+        reply = FAILED % member if wanted == "not valid" else NO_FAILURE
+        yield "AWSEvents.PutTargets", None, object_of({"Rule": "r", "Targets": [target]}), reply
+        if wanted not in ("not valid", "valid"):
+            yield from self.sent(wanted)
+
+    def prepared(self):
+        for name in self.numbers:
+            yield "RouterLocal.CreateQueue", None, object_of({"QueueName": name}), None
+        yield "AWSEvents.PutRule", None, object_of({"Name": "r", "EventPattern": '{"source":["s"]}'}), None
+
+    def sent(self, text):
+        """An event, and the message that comes of it."""
+        self.events += 1
+        entry = {"Source": "s", "DetailType": "x", "Detail": self.detail}
+        yield "AWSEvents.PutEvents", None, object_of({"Entries": [entry]}), ACCEPTED % self.events
+        yield "RouterLocal.DeliverDue", None, "{}", None
+        name, body, attributes = ("d", "{}", TOO_LONG) if text == "TEXT_TOO_LONG" else ("q", text, {})
+        self.numbers[name] += 1
+        message = {"Number": self.numbers[name], "Body": body, "Attributes": attributes}
+        yield "RouterLocal.PeekMessages", None, object_of({"QueueName": name}), object_of({"Messages": [message]})
+        yield "RouterLocal.DeleteMessages", None, object_of({"QueueName": name, "Through": self.numbers[name]}), None
+
+
 KINDS = {
     "patterns that hold": Holds,
     "faults of patterns": PatternFaults,
@@ -170,4 +234,5 @@ KINDS = {
     "stored policies": StoredPolicies,
     "added statements": AddedStatements,
     "removed statements": RemovedStatements,
+    "texts of targets": TargetTexts,
 }

@@ -1,7 +1,12 @@
--- The targets of a PutTargets: the JSON types of their members, and what is read of two of them. Whether the values are valid is decided
+-- The targets of a PutTargets: the JSON types of their members, and what is read of some of them. Whether the values are valid is decided
 -- target by target.
-use Rattle.std.specs.Prelude.{ℕ, Bool, ◌&&◌, List, Option, Some, None, option_and_then, codes}
-use Rattle.json_text.specs.Tree.{Tree, Members}
+use Rattle.std.specs.Prelude.{ℕ, Bool, ◌&&◌, List, [], ◌∷◌, Option, Some, None, option_and_then, unwrap_or, codes}
+use Rattle.std.specs.Option.{option_map}
+use Rattle.json_text.specs.Tree.{Tree, text, Members, no_members, member}
+use Rattle.json_text.specs.Access.{text_in}
+use Rattle.rule_targets.specs.Given.{Transformer}
+use Rattle.rule_targets.specs.declared.given.GivenInput.{GivenInput}
+use Rattle.rule_targets.specs.declared.given.GivenInput.TheVariants as input
 use Rattle.api_replies.specs.declared.member.Member.TheVariants.{Id, Arn, Input, InputPath, InputTransformer, RetryPolicy, DeadLetterConfig}
 use Rattle.api_members.specs.declared.json_type.JsonType.TheVariants as is
 use Rattle.api_members.specs.Given.{value_at, given, text_given, object_in, members_in}
@@ -56,3 +61,32 @@ age_given policy = number_or 86400 4294967295 (value_at (codes "MaximumEventAgeI
 -- Shown by: tables api_members.rows: a_dead_letter_queue_is_that_of_the_config.
 abbrev pub dead_letter_given : Members → Option (List ℕ)
 dead_letter_given ms = option_and_then (λ config. text_given Arn (members_in config)) (given DeadLetterConfig ms)
+
+-- The Input of a target, if one is given.
+-- Shown by: inputs.
+abbrev pub input_given : Members → Option GivenInput
+input_given ms = option_map input.Input (text_given Input ms)
+
+-- Its InputPath, if one is given.
+-- Shown by: inputs.
+abbrev pub path_given : Members → Option GivenInput
+path_given ms = option_map input.InputPath (text_given InputPath ms)
+
+-- the keys whose values are texts, with these texts, in their order
+abbrev pub texts_under : Members → List (List ℕ × List ℕ)
+texts_under no_members = []
+texts_under (member key (text t) others) = (key, t) ∷ texts_under others
+texts_under (member key _ others) = texts_under others
+
+-- The InputTransformer with these members: no path if there is no InputPathsMap.
+-- Shown by: inputs.
+abbrev pub transformer_with : Members → Transformer
+transformer_with ms = record {
+  paths = texts_under (unwrap_or (option_and_then object_in (value_at (codes "InputPathsMap") ms)) no_members);
+  template = unwrap_or (option_and_then text_in (value_at (codes "InputTemplate") ms)) [];
+}
+
+-- Its InputTransformer, if one is given.
+-- Shown by: inputs.
+abbrev pub transformer_given : Members → Option GivenInput
+transformer_given ms = option_map (λ tree. input.InputTransformer (transformer_with (members_in tree))) (given InputTransformer ms)

@@ -24,5 +24,7 @@ pub use event::read_event;
 pub use fault::CallFault;
 pub use laws::one_first_refusal;
 pub use members::{given, members_in, text_given, text_of, values_in};
-pub use target::{age_given, attempts_given, read_dead_letter};
+pub use target::{
+    age_given, attempts_given, read_dead_letter, read_input, read_input_path, read_transformer,
+};
 pub use value::bus_given;

@@ -31,6 +31,8 @@ pub enum Cause {
     HasTargets { name: Text },
     /// The bus `default` is never deleted.
     DefaultBusStays,
+    /// A target has more than one of Input, InputPath and InputTransformer.
+    MoreThanOneInput,
     /// The policy of the bus has no statement with this StatementId.
     NoStatement { sid: Text },
     /// The policy of the bus has a statement with this StatementId already.
@@ -67,7 +69,8 @@ impl Cause {
             | Cause::TooLargeTogether
             | Cause::InUse { kind: _, name: _ }
             | Cause::HasTargets { name: _ }
-            | Cause::DefaultBusStays => "ValidationException",
+            | Cause::DefaultBusStays
+            | Cause::MoreThanOneInput => "ValidationException",
             Cause::NotAPattern { why: _, path: _ } => "InvalidEventPatternException",
             Cause::NotFound { kind: _, name: _ } => "ResourceNotFoundException",
             Cause::Exists { kind: _, name: _ } => "ResourceAlreadyExistsException",
@@ -102,6 +105,7 @@ impl Cause {
             Cause::InUse { kind, name } => in_use_message(alloc, *kind, name.as_str()),
             Cause::HasTargets { name } => has_targets_message(alloc, name.as_str()),
             Cause::DefaultBusStays => Text::from_str(alloc, "The default bus stays."),
+            Cause::MoreThanOneInput => Text::from_str(alloc, "More than one input."),
             Cause::NoStatement { sid } => no_statement_message(alloc, sid.as_str()),
             Cause::StatementExists { sid } => statement_exists_message(alloc, sid.as_str()),
             Cause::OwnerOnly => Text::from_str(alloc, "Only the owner may call this."),

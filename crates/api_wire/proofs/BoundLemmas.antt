@@ -1,5 +1,5 @@
 -- A request that a message asks for is within its bounds: `asked_bounded`. First the syntax of names, then numbers, then each operation.
-use Rattle.std.proofs.Common.{◌≡◌, ℕ, ◌≤◌, ◌<◌, ◌^◌, Bool, true, false, ◌&&◌, inl, inr, List, [], ◌∷◌, length, Option, Some, None, Ok, Err, suc, sym, refl, ap, ◌∙◌, subst, arith}
+use Rattle.std.proofs.Common.{◌≡◌, ℕ, ◌≤◌, Bool, true, false, ◌&&◌, inl, inr, List, [], ◌∷◌, length, Option, Some, None, Ok, Err, suc, sym, refl, ap, ◌∙◌, subst, arith}
 use Rattle.std.specs.Prelude.{if◌then◌else◌, codes, All, unwrap_or, option_and_then, IsTrue, IfSome, Result}
 use Rattle.std.specs.List.{list_all}
 use Rattle.std.specs.Option.{option_map}
@@ -10,10 +10,10 @@ use Rattle.std.proofs.lemmas.List.{length-map}
 use Rattle.std.proofs.lemmas.List.Elements.{All-nil, All-cons}
 use Rattle.json_text.specs.Tree.{Tree, text, Members}
 use Rattle.json_text.specs.Compact.{IsValue, compact_text}
-use Rattle.json_text.specs.Access.{text_in, IsTextThat}
+use Rattle.json_text.specs.Access.{text_in}
 use Rattle.json_text.specs.Checks.{else_fault}
 use Rattle.json_text.proofs.ValueLemmas.{text_is_value}
-use Rattle.event_shape.specs.Names.{IsBusName, IsShortName, IsQueueName, is_bus_name, is_short_name, default_bus, bus_in, bus_of_entry, is_account}
+use Rattle.event_shape.specs.Names.{IsBusName, IsShortName, IsQueueName, is_bus_name, is_short_name, default_bus, bus_in, bus_of_entry}
 use Rattle.event_shape.proofs.NameLemmas.{bus_given}
 use Rattle.event_shape.specs.Entry.{Entry}
 use Rattle.event_shape.specs.Unnumbered.{Unnumbered}
@@ -22,6 +22,12 @@ use Rattle.bus_policy.specs.Change.{IsAccountGiven}
 use Rattle.bus_policy.specs.StatementId.{IsStatementId}
 use Rattle.bus_policy.specs.Stored.{IsStored}
 use Rattle.bus_policy.proofs.ReadLemmas.{read_stored}
+use Rattle.rule_targets.specs.declared.given.GivenInput.{GivenInput}
+use Rattle.rule_targets.specs.declared.target.AskedInput.{AskedInput}
+use Rattle.rule_targets.specs.declared.target.AskedInput.TheVariants as asked
+use Rattle.rule_targets.specs.declared.target.AskedTarget.{AskedTarget}
+use Rattle.rule_targets.specs.Input.{IsValidInput}
+use Rattle.rule_targets.specs.Target.{IsAskedAs, IsValidRead, HasValidReads}
 use Rattle.rule_targets.specs.Checks.{IsTargetArn}
 use Rattle.rule_targets.specs.WellFormed.{names_rule, NamesRule, are_few as is_count_few, are_ids_formed}
 use Rattle.router_core.specs.Request.{Action, remove_policy, remove_statement, delete_messages, Request}
@@ -30,14 +36,14 @@ use Rattle.api_replies.specs.declared.member.Member.{Member}
 use Rattle.api_replies.specs.declared.member.Member.TheVariants as member
 use Rattle.api_replies.specs.declared.cause.Cause.TheVariants as cause
 use Rattle.api_messages.specs.declared.message.Message.{Message}
-use Rattle.api_members.specs.declared.asked.Asked.TheVariants.{Required, Optional}
+use Rattle.api_members.specs.declared.asked.Asked.TheVariants.{Required}
 use Rattle.api_members.specs.declared.asked.Syntax.{Syntax}
 use Rattle.api_members.specs.declared.asked.Syntax.TheVariants as syntax
 use Rattle.api_members.specs.Given.{given, text_given, text_of, list_in, values_in, members_in}
 use Rattle.api_members.specs.JsonType.{must_pass}
 use Rattle.api_members.specs.Entry.{is_entry, texts_of, entry_with, entries_of}
 use Rattle.api_members.specs.CheckedEntry.{IsChecked, AreChecked}
-use Rattle.api_members.specs.Target.{is_target}
+use Rattle.api_members.specs.Target.{is_target, input_given, path_given, transformer_given}
 use Rattle.api_members.specs.Count.{count_given}
 use Rattle.api_members.specs.Value.{IsGrantee, is_id, are_few, is_list_of, bus_or_default, IsValid}
 use Rattle.api_members.specs.Refusal.{value_check, IsSoundMember, AreSound}
@@ -50,7 +56,7 @@ use Rattle.api_wire.specs.declared.call.operation.Operation.TheVariants.{PutRule
 use Rattle.api_wire.specs.declared.call.operation.Operation.TheVariants.{PutTargets, RemoveTargets, ListTargetsByRule, ListRuleNamesByTarget}
 use Rattle.api_wire.specs.declared.call.operation.Operation.TheVariants.{PutPermission, RemovePermission, PutEvents, TestEventPattern}
 use Rattle.api_wire.specs.declared.call.operation.Operation.TheVariants.{CreateQueue, DeleteQueue, PeekMessages, DeleteMessages, DeliverDue, DutyCounts}
-use Rattle.api_wire.specs.Call.{caller_of, asked, permission_asked, bus_named, event_bus, account_in, IsStoredAs, removes_all, target_with, targets_of, action_in, IsPermission}
+use Rattle.api_wire.specs.Call.{caller_of, asked, permission_asked, bus_named, event_bus, account_in, IsStoredAs, removes_all, AreTargets, action_in, IsPermission}
 use Rattle.api_wire.specs.Call.{IsAction, IsAsked}
 
 -- `default` is a bus's name
@@ -112,14 +118,36 @@ few_values s m test most (Some tree) is valid = by_list (list_in tree) (is tree 
 few : (test : Tree → Bool) (most : ℕ) (values : List Tree) → IsTrue (are_few test most values) → (1 ≤ length values) × (length values ≤ most)
 few test most values is = (grind (arith, nat_tests), grind (arith, nat_tests))
 
--- 1 to 100 targets
-target_bounds : (ms : Members) → IsSoundMember (Required member.Targets syntax.Targets) ms
-    → (1 ≤ length (targets_of (values_in member.Targets ms))) × (length (targets_of (values_in member.Targets ms)) ≤ 100)
-target_bounds ms sound =
+-- what is read of a member is valid
+valid_read : (o : Option GivenInput) (member : AskedInput) → IsAskedAs o member → IsValidRead member
+valid_read None member is = rw is tt
+valid_read (Some g) asked.Absent is = absurd is
+valid_read (Some g) asked.NotValid is = tt
+valid_read (Some g) (asked.Read h) is = subst IsValidInput (sym is.0) is.1
+
+valid_reads : (trees : List Tree) (all : List AskedTarget) → AreTargets trees all → All HasValidReads all
+valid_reads [] all p = rw p (All-nil HasValidReads)
+valid_reads (tree ∷ trees) all p =
+    let ms = members_in tree in
+    let one = p.0 in
+    rw p.2 (All-cons HasValidReads one p.1 (record {
+      input = valid_read (input_given ms) one.input p.3.input;
+      input_path = valid_read (path_given ms) one.input_path p.3.input_path;
+      transformer = valid_read (transformer_given ms) one.transformer p.3.transformer;
+    }) (valid_reads trees p.1 p.4))
+
+targets_len : (trees : List Tree) (all : List AskedTarget) → AreTargets trees all → length all ≡ length trees
+targets_len [] all p = ap length p
+targets_len (tree ∷ trees) all p = omega (arith, ap length p.2, targets_len trees p.1 p.4)
+
+-- 1 to 100 targets, whose inputs are valid if they were read
+target_bounds : (ms : Members) (all : List AskedTarget) → IsSoundMember (Required member.Targets syntax.Targets) ms
+    → AreTargets (values_in member.Targets ms) all → (1 ≤ length all) × (length all ≤ 100) × All HasValidReads all
+target_bounds ms all sound are =
     let values = values_in member.Targets ms in
     let some = few is_target 100 values (few_values syntax.Targets member.Targets is_target 100 (given member.Targets ms) (λ tree is. is) sound) in
-    let same = length-map values (λ tree. target_with (members_in tree)) in
-    (omega (arith, some.0, same), omega (arith, some.1, same))
+    let same = targets_len values all are in
+    (omega (arith, some.0, same), omega (arith, some.1, same), valid_reads values all are)
 
 ids_formed : (values : List Tree) → list_all is_id values ≡ true
     → (length (texts_of values) ≡ length values) × (list_all is_short_name (texts_of values) ≡ true)
@@ -218,9 +246,6 @@ bounded EnableRule ms sound = (rule_named member.Name ms sound.0, tt)
 bounded DisableRule ms sound = (rule_named member.Name ms sound.0, tt)
 bounded DescribeRule ms sound = rule_named member.Name ms sound.0
 bounded ListRules ms sound = named_bus member.EventBusName ms
-bounded PutTargets ms sound =
-    let few_targets = target_bounds ms sound.1.1.0 in
-    (rule_named member.Rule ms sound.0, few_targets.0, few_targets.1)
 bounded RemoveTargets ms sound =
     (both (names_rule (event_bus ms) (text_of member.Rule ms)) (are_ids_formed (texts_of (values_in member.Ids ms))) (rule_named member.Rule ms sound.0) (id_bounds ms sound.1.1.0), tt)
 bounded ListTargetsByRule ms sound = rule_named member.Rule ms sound.0
@@ -247,6 +272,9 @@ permission_bounded (Some given) ms a sound is =
 
 action_bounded : (operation : Operation) (caller : List ℕ) (ms : Members) (reading : ℕ) (a : Action) → AreSound (asked operation ms) ms
     → IsAction operation caller ms reading a → IsBounded a
+action_bounded PutTargets caller ms reading a sound is =
+    let bounds = target_bounds ms is.0 sound.1.1.0 is.1 in
+    rw is.2 (rule_named member.Rule ms sound.0, bounds.0, bounds.1, bounds.2)
 action_bounded PutPermission caller ms reading a sound is = permission_bounded (given member.Policy ms) ms a sound is
 action_bounded PutEvents caller ms reading a sound is = rw is.2 (entry_bounds ms reading caller is.0 sound.0 is.1)
 action_bounded TestEventPattern caller ms reading a sound is =

@@ -16,7 +16,7 @@ use Rattle.api_members.specs.Entry.{entries_of}
 use Rattle.api_members.specs.CheckedEntry.{IsChecked, AreChecked}
 use Rattle.api_messages.specs.declared.message.Message.{Message}
 use Rattle.api_wire.specs.declared.call.operation.Operation.{Operation}
-use Rattle.api_wire.specs.declared.call.operation.Operation.TheVariants.{RemovePermission, DeleteMessages, PutPermission, PutEvents, TestEventPattern}
+use Rattle.api_wire.specs.declared.call.operation.Operation.TheVariants.{PutTargets, RemovePermission, DeleteMessages, PutPermission, PutEvents, TestEventPattern}
 use Rattle.api_wire.specs.Call.{caller_of, event_bus, removes_all, action_in, IsPermission, IsAction, MayCall, IsAsked}
 
 own_entry : (reading : ℕ) (caller : List ℕ) (e : Entry) (one : Result Unnumbered EntryFault) → IsChecked reading caller e one → IsEntryOf caller one
@@ -52,6 +52,7 @@ own_action : (operation : Operation) (caller : List ℕ) (ms : Members) (reading
     → AreEntriesOf caller a
 own_action PutPermission caller ms reading a p = own_permission (given member.Policy ms) caller ms a p
 own_action PutEvents caller ms reading a p = rw p.2 (own_entries reading caller (entries_of (values_in member.Entries ms)) p.0 p.1)
+own_action PutTargets caller ms reading a p = rw p.2 tt
 own_action TestEventPattern caller ms reading a p = rw p.2 tt
 own_action operation caller ms reading a p = subst (λ o. IfSome o (AreEntriesOf caller)) p (own_found operation caller ms)
 

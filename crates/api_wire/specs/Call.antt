@@ -1,6 +1,6 @@
 -- Which request a message asks for, and its first refusal.
-use Rattle.std.specs.Prelude.{◌≡◌, ℕ, ◌-◌, ◌^◌, min, Bool, true, false, not, List, [], ◌∷◌, Option, Some, None, Result, is_some, if◌then◌else◌}
-use Rattle.std.specs.Prelude.{codes, map, unwrap_or, IsTrue}
+use Rattle.std.specs.Prelude.{◌≡◌, ℕ, ◌-◌, ◌^◌, min, Bool, true, false, not, List, [], ◌∷◌, Option, Some, None, Result, if◌then◌else◌}
+use Rattle.std.specs.Prelude.{codes, unwrap_or, IsTrue}
 use Rattle.std.specs.Str.{bytes_eq}
 use Rattle.std.specs.Option.{option_map}
 use Rattle.json_text.specs.Tree.{Tree, truth, object, Members, no_members}
@@ -14,6 +14,7 @@ use Rattle.event_shape.specs.declared.entry.EntryFault.{EntryFault}
 use Rattle.bus_policy.specs.Text.{IsPolicyText}
 use Rattle.rule_targets.specs.declared.target.AskedRetry.{AskedRetry}
 use Rattle.rule_targets.specs.declared.target.AskedTarget.{AskedTarget}
+use Rattle.rule_targets.specs.Target.{IsAskedAs}
 use Rattle.router_core.specs.Request.{Action, Request, create_event_bus, delete_event_bus, describe_event_bus, list_event_buses, put_rule, delete_rule}
 use Rattle.router_core.specs.Request.{put_rule_state, describe_rule, list_rules, put_targets, remove_targets, list_targets_by_rule}
 use Rattle.router_core.specs.Request.{list_rule_names_by_target, put_policy, put_statement, remove_policy, remove_statement, put_events}
@@ -30,7 +31,7 @@ use Rattle.api_members.specs.Entry.{texts_of, entries_of}
 use Rattle.api_members.specs.CheckedEntry.{AreChecked, total_size}
 use Rattle.api_members.specs.Event.{IsEventGiven}
 use Rattle.api_members.specs.Count.{count_given}
-use Rattle.api_members.specs.Target.{attempts_given, age_given, dead_letter_given}
+use Rattle.api_members.specs.Target.{attempts_given, age_given, dead_letter_given, input_given, path_given, transformer_given}
 use Rattle.api_members.specs.Value.{bus_or_default}
 use Rattle.api_members.specs.Refusal.{AreSound, IsFirstRefusal}
 use Rattle.api_wire.specs.declared.call.operation.Operation.{Operation}
@@ -153,38 +154,30 @@ abbrev pub is_enabled : Option (List ℕ) → Bool
 is_enabled None = true
 is_enabled (Some state) = not (bytes_eq state (codes "DISABLED"))
 
--- The first of these members that is given.
--- Shown by: a_later_unsupported_member_is_named.edit.
-abbrev pub first_given : List Member → Members → Option Member
-first_given [] ms = None
-first_given (m ∷ others) ms = if is_some (given m ms) then Some m else first_given others ms
-
--- The members of a target that are not supported yet: Input, InputPath, InputTransformer.
--- Shown by: tables api_wire.rows: a_target_has_its_retry_policy_and_its_dead_letter_queue.
-abbrev pub unsupported : List Member
-unsupported = member.Input ∷ member.InputPath ∷ member.InputTransformer ∷ []
-
 -- The retry policy that is given; an absent number is its default, so `{}` has both.
 -- Shown by: an_empty_retry_policy_is_none.edit.
 abbrev pub retry_given : Option Tree → Option AskedRetry
 retry_given None = None
 retry_given (Some policy) = Some (record { attempts = attempts_given (members_in policy); age = age_given (members_in policy) })
 
--- The target with these members: its id, ARN, retry policy and dead-letter queue, and the first member that is not supported yet.
--- Shown by: tables api_wire.rows: a_request_has_what_the_message_gives.
-abbrev pub target_with : Members → AskedTarget
-target_with ms = record {
-  id = text_of member.Id ms;
-  arn = text_of member.Arn ms;
-  unbuilt = first_given unsupported ms;
-  retry = retry_given (given member.RetryPolicy ms);
-  dead_letter = dead_letter_given ms;
-}
+-- The target with these members: its id and ARN, what is read of its Input, its InputPath and its InputTransformer, its retry policy and its
+-- dead-letter queue.
+-- Shown by: tables api_wire.rows: a_request_has_what_the_message_gives; inputs.
+pub record IsTargetWith (ms : Members) (target : AskedTarget) : Type 0 where
+  pub id : target.id ≡ text_of member.Id ms
+  pub arn : target.arn ≡ text_of member.Arn ms
+  pub input : IsAskedAs (input_given ms) target.input
+  pub input_path : IsAskedAs (path_given ms) target.input_path
+  pub transformer : IsAskedAs (transformer_given ms) target.transformer
+  pub retry : target.retry ≡ retry_given (given member.RetryPolicy ms)
+  pub dead_letter : target.dead_letter ≡ dead_letter_given ms
 
 -- The targets that the values of a list are, in order.
 -- Shown by: targets_are_read_in_reverse.edit.
-abbrev pub targets_of : List Tree → List AskedTarget
-targets_of values = map (λ tree. target_with (members_in tree)) values
+abbrev pub AreTargets : List Tree → List AskedTarget → Type 0
+AreTargets [] all = all ≡ []
+AreTargets (tree ∷ trees) all = (one : AskedTarget) × (rest : List AskedTarget)
+    × (all ≡ one ∷ rest) × IsTargetWith (members_in tree) one × AreTargets trees rest
 
 -- A RemovePermission: the whole policy, or one statement of it.
 -- Shown by: tables api_wire.rows: a_removal_has_what_the_message_gives.
@@ -192,8 +185,8 @@ abbrev pub removal_in : Members → Action
 removal_in ms =
     if removes_all (given member.RemoveAllPermissions ms) then remove_policy (event_bus ms) else remove_statement (event_bus ms) (text_given member.StatementId ms)
 
--- The action that sound members of an operation make, a line for each operation. PutPermission, PutEvents and TestEventPattern have none
--- here: theirs depend on what a text spells, on the caller or on the reading (`IsAction`). A DeleteMessages has one if its Through is
+-- The action that sound members of an operation make, a line for each operation. PutTargets, PutPermission, PutEvents and TestEventPattern
+-- have none here: theirs depend on what a text spells, on the caller or on the reading (`IsAction`). A DeleteMessages has one if its Through is
 -- valid.
 -- Shown by: tables api_wire.rows: a_request_has_what_the_message_gives, a_call_on_a_queue_has_what_the_message_gives,
 -- a_call_on_a_rule_has_what_the_message_gives, a_removal_has_what_the_message_gives; the_default_budget_is_the_limit.edit.
@@ -208,7 +201,6 @@ action_in EnableRule ms = Some (put_rule_state (event_bus ms) (text_of member.Na
 action_in DisableRule ms = Some (put_rule_state (event_bus ms) (text_of member.Name ms) false)
 action_in DescribeRule ms = Some (describe_rule (event_bus ms) (text_of member.Name ms))
 action_in ListRules ms = Some (list_rules (event_bus ms) (text_given member.NamePrefix ms))
-action_in PutTargets ms = Some (put_targets (event_bus ms) (text_of member.Rule ms) (targets_of (values_in member.Targets ms)))
 action_in RemoveTargets ms = Some (remove_targets (event_bus ms) (text_of member.Rule ms) (texts_of (values_in member.Ids ms)))
 action_in ListTargetsByRule ms = Some (list_targets_by_rule (event_bus ms) (text_of member.Rule ms))
 action_in ListRuleNamesByTarget ms = Some (list_rule_names_by_target (text_of member.TargetArn ms) (event_bus ms))
@@ -230,6 +222,8 @@ IsPermission (Some _) ms a = (policy : List ℕ) × IsStoredAs (text_of member.P
 -- The members of an operation make this action of the caller, if they are sound.
 -- Shown by: tables api_wire.rows: a_request_has_what_the_message_gives.
 abbrev pub IsAction : Operation → List ℕ → Members → ℕ → Action → Type 0
+IsAction PutTargets caller ms reading a = (targets : List AskedTarget) × AreTargets (values_in member.Targets ms) targets
+    × (a ≡ put_targets (event_bus ms) (text_of member.Rule ms) targets)
 IsAction PutPermission caller ms reading a = IsPermission (given member.Policy ms) ms a
 IsAction PutEvents caller ms reading a = (entries : List (Result Unnumbered EntryFault))
     × AreChecked reading caller (entries_of (values_in member.Entries ms)) entries

@@ -51,6 +51,7 @@ change_cause control fault.NoMemory = None
 -- Shown by: the_missing_dead_letter_queue_is_not_named.edit.
 abbrev pub target_cause : TargetFault → Cause
 target_cause (target_fault.Member member) = cause.NotValid member
+target_cause target_fault.TwoInputs = cause.MoreThanOneInput
 target_cause (target_fault.NoQueue queue) = cause.NotFound kind.Queue queue
 target_cause (target_fault.NoDeadLetterQueue queue) = cause.NotFound kind.Queue queue
 target_cause target_fault.Sixth = cause.LimitReached kind.Target

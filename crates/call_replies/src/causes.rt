@@ -75,6 +75,7 @@ pub fn target_cause(fault: TargetFault) -> Cause
 {
     match fault {
         TargetFault::Member(member) => Cause::NotValid(member),
+        TargetFault::TwoInputs => Cause::MoreThanOneInput,
         TargetFault::NoQueue(name) => no_queue(name),
         TargetFault::NoDeadLetterQueue(name) => no_queue(name),
         TargetFault::Sixth => Cause::LimitReached(Kind::Target),

@@ -6,6 +6,9 @@ use Rattle.std.specs.Str.{bytes_eq}
 use Rattle.json_text.specs.Tree.{Tree, number, text, list, object, items_of, members_of}
 use Rattle.event_shape.specs.Names.{bus_arn}
 use Rattle.name_rows.specs.Rows.{named}
+use Rattle.rule_targets.specs.Given.{Transformer}
+use Rattle.rule_targets.specs.declared.given.GivenInput.{GivenInput}
+use Rattle.rule_targets.specs.declared.given.GivenInput.TheVariants as given
 use Rattle.rule_targets.specs.declared.target.Target.{Target}
 use Rattle.rule_targets.specs.declared.target.RetryPolicy.{RetryPolicy}
 use Rattle.rule_table.specs.RuleSet.{Rule, Bus, RuleSet}
@@ -124,13 +127,40 @@ abbrev pub dead_letter_member : Option (List ℕ) → List (List ℕ × Tree)
 dead_letter_member None = []
 dead_letter_member (Some arn) = (codes "DeadLetterConfig", object (members_of ((codes "Arn", text arn) ∷ []))) ∷ []
 
--- What a reply shows of a target: `Id`, `Arn`, `RetryPolicy` if one was given, and `DeadLetterConfig` if it has one.
+-- texts under their keys, as members
+abbrev pub text_members : List (List ℕ × List ℕ) → List (List ℕ × Tree)
+text_members = map (λ p. (p.0, text p.1))
+
+-- the member `InputPathsMap`, an object of the paths' texts in their order, if there is a path
+abbrev pub paths_member : List (List ℕ × List ℕ) → List (List ℕ × Tree)
+paths_member [] = []
+paths_member (path ∷ paths) = (codes "InputPathsMap", object (members_of (text_members (path ∷ paths)))) ∷ []
+
+-- what a reply shows of an InputTransformer
+abbrev pub transformer_members : Transformer → List (List ℕ × Tree)
+transformer_members t = paths_member t.paths ++ (codes "InputTemplate", text t.template) ∷ []
+
+-- An input as the member that it was given as. An InputTransformer is an object with its `InputPathsMap`, if that has an entry, and its
+-- `InputTemplate`.
+-- Shown by: the_list_shows_the_compact_text.edit.
+abbrev pub given_member : GivenInput → List ℕ × Tree
+given_member (given.Input t) = (codes "Input", text t)
+given_member (given.InputPath t) = (codes "InputPath", text t)
+given_member (given.InputTransformer t) = (codes "InputTransformer", object (members_of (transformer_members t)))
+
+-- A target's input as it was given, if it has one.
+-- Shown by: the_list_shows_the_compact_text.edit.
+abbrev pub input_member : Option GivenInput → List (List ℕ × Tree)
+input_member None = []
+input_member (Some input) = given_member input ∷ []
+
+-- What a reply shows of a target: `Id`, `Arn`, its input if it has one, `RetryPolicy` if one was given, and `DeadLetterConfig` if it has one.
 -- Shown by: tables config_views.rows: the_configuration_is_shown.
 abbrev pub target_members : Target → List (List ℕ × Tree)
 target_members target =
     (codes "Id", text target.id)
     ∷ (codes "Arn", text target.arn)
-    ∷ (retry_member target.retry ++ dead_letter_member target.dead_letter)
+    ∷ (input_member target.input ++ (retry_member target.retry ++ dead_letter_member target.dead_letter))
 
 -- The items of a rule's targets.
 -- Shown by: tables config_views.rows: the_configuration_is_shown.

@@ -2,6 +2,7 @@
 #![tactic(auto)]
 
 mod buses;
+mod inputs;
 mod parts;
 mod rules;
 mod targets;

@@ -9,6 +9,7 @@ ghost use Rattle.api_replies.specs.View.{reply_of};
 ghost use Rattle.rule_table.specs.Target.{target_of};
 ghost use Rattle.config_views.specs.Views as spec;
 
+use crate::inputs::push_input;
 use crate::parts::{listing, no_bus, no_rule};
 use api_replies::Reply;
 use json_text::{Items, Json, Members, NoMemory, Text, push_member, push_text};
@@ -16,7 +17,8 @@ use rule_table::{Bus, Rule, RuleSet, RuleTarget};
 use rule_targets::RetryPolicy;
 use std::alloc::Global;
 
-/// The reply to a ListTargetsByRule: each target's id, its ARN, its retry policy if one was given, and its dead-letter queue if it has one.
+/// The reply to a ListTargetsByRule: each target's id, its ARN, its input as it was given if it has one, its retry policy if one was given,
+/// and its dead-letter queue if it has one.
 pub fn list_targets_by_rule(
     alloc: Global,
     set: &RuleSet,
@@ -69,9 +71,10 @@ fn target_items(alloc: Global, targets: &[RuleTarget]) -> Result<Items, NoMemory
 fn target_members(alloc: Global, target: &RuleTarget) -> Result<Members, NoMemory>
     ensures { IfOk result (λ members. pairs_of members.items ≡ spec.target_members (target_of target.now)) }
 {
-    let mut members: Members = Vec::with_capacity(alloc, 4)?;
+    let mut members: Members = Vec::with_capacity(alloc, 5)?;
     push_text(alloc, &mut members, "Id", target.id())?;
     push_text(alloc, &mut members, "Arn", target.arn())?;
+    push_input(alloc, &mut members, target.input())?;
     push_retry(alloc, &mut members, target.retry())?;
     push_dead_letter(alloc, &mut members, target.dead_letter())?;
     Ok(members)

@@ -1,13 +1,15 @@
 -- A caller other than the owner writes nothing but events that the policies of their buses allow: `stranger_publishes`, which the law of
 -- src/laws.rt cites. The other lemmas lead to it.
-use Rattle.std.proofs.Common.{◌≡◌, ℕ, suc, ◌+◌, ◌⊎◌, inl, inr, Bool, true, false, List, [], ◌∷◌, map, Option, Ok, Err, sym, refl, ap, ◌∙◌, subst, arith}
+use Rattle.std.proofs.Common.{◌≡◌, ℕ, suc, ◌+◌, ◌⊎◌, inl, inr, Bool, true, false, List, [], ◌∷◌, map, Option, Ok, Err, sym, refl, subst, arith}
 use Rattle.std.specs.Prelude.{All, cond, nat_lt}
 use Rattle.std.specs.List.{Contains}
 use Rattle.std.proofs.lemmas.List.Elements.{All-map, All-cons, All-nil}
 use Rattle.json_text.specs.Limits.{most_together}
 use Rattle.json_text.specs.Tree.{Tree}
+use Rattle.event_time.specs.Time.{IsIso}
 use Rattle.event_shape.specs.Names.{owner}
 use Rattle.event_shape.specs.Unnumbered.{Unnumbered}
+use Rattle.api_replies.specs.declared.cause.Cause.{Cause}
 use Rattle.api_replies.specs.Reply.{Reply}
 use Rattle.rule_table.specs.RuleSet.{RuleSet}
 use Rattle.router_core.specs.Batch as batch
@@ -21,8 +23,8 @@ use Rattle.router_core.specs.declared.seen.SeenResult.TheVariants.{Entries, Test
 use Rattle.router_core.specs.declared.seen.SeenTarget.{SeenTarget}
 use Rattle.router_core.specs.declared.seen.SeenVerdict.{SeenVerdict}
 use Rattle.router_core.specs.declared.seen.SeenVerdict.TheVariants as verdict
-use Rattle.router_calls.specs.Accepted.{Given, Placed, AreEventsOf, IsEventOf, all_placed, event_placed, events_in, found_of, number_after, placed}
-use Rattle.router_calls.specs.Answer.{Answer, Decided, HasEvents, IsAnswer, answer_at, decided, written}
+use Rattle.router_calls.specs.Accepted.{Given, Placed, ArePlaced, IsAcceptedAs, IsEventPlaced, IsPlaced, events_in, found_of, number_after}
+use Rattle.router_calls.specs.Answer.{Answer, Decided, HasPlaced, IsAnswer, decided, publication, written}
 use Rattle.router_calls.specs.Allowed.{IsAllowedEvent, IsAllowedEntry, IsPublishedBy, entries_in}
 
 here : {X : Type 0} (x : X) (xs : List X) → Contains (x ∷ xs) x
@@ -31,36 +33,59 @@ here x xs = (0, omega arith, refl)
 there : {X : Type 0} (y x : X) (xs : List X) → Contains xs x → Contains (y ∷ xs) x
 there y x xs (k, low, is) = (suc k, omega (arith, low), is)
 
+abbrev AreAllowed : RuleSet → ℕ → List ℕ → List Given → List Placed → Type 0
+AreAllowed set moment caller whole all = All (IsAllowedEvent set moment caller whole) (events_in all)
+
+refused_more : (set : RuleSet) (moment : ℕ) (caller : List ℕ) (whole : List Given) (p : Placed) (c : Cause) (rest : List Placed) → p ≡ Err c
+    → AreAllowed set moment caller whole rest → AreAllowed set moment caller whole (p ∷ rest)
+refused_more set moment caller whole p c rest is more = subst (λ (q : Placed). AreAllowed set moment caller whole (q ∷ rest)) (sym is) more
+
 -- what becomes of an event, before others
-event_more : (v : SeenVerdict) (set : RuleSet) (caller : List ℕ) (n : ℕ) (whole : List Given) (event : Unnumbered) (targets : List SeenTarget)
-    (rest : List Placed) → Contains whole (Ok event) → IsEntryVerdict set caller (Ok event) v → AreTargetsOf set (Ok event) v targets
-    → IsEventOf (Ok event) (event_placed set.count n event v targets) → All (IsAllowedEvent set caller whole) (events_in rest)
-    → All (IsAllowedEvent set caller whole) (events_in (event_placed set.count n event v targets ∷ rest))
-event_more verdict.Allowed set caller n whole event targets rest within says matched is more =
-    All-cons (IsAllowedEvent set caller whole) _ (events_in rest)
-    (record { event = event; asked = within; verdict = says; targets = targets; matched = matched; accepted = refl; is_event = is }) more
-event_more (verdict.Fault f) set caller n whole event targets rest within says matched is more = more
-event_more verdict.NoBus set caller n whole event targets rest within says matched is more = more
-event_more (verdict.DeniedBy name) set caller n whole event targets rest within says matched is more = more
-event_more verdict.NotAllowed set caller n whole event targets rest within says matched is more = more
+event_more : (v : SeenVerdict) (set : RuleSet) (moment : ℕ) (time caller : List ℕ) (n : ℕ) (whole : List Given) (event : Unnumbered)
+    (targets : List SeenTarget) (p : Placed) (rest : List Placed) → IsIso moment time → Contains whole (Ok event) → IsEntryVerdict set caller (Ok event) v
+    → AreTargetsOf set (Ok event) v targets → IsEventPlaced set.count n time event v targets p → AreAllowed set moment caller whole rest
+    → AreAllowed set moment caller whole (p ∷ rest)
+event_more verdict.Allowed set moment time caller n whole event targets p rest at within says matched (a, is, same) more =
+    subst (λ (q : Placed). AreAllowed set moment caller whole (q ∷ rest)) (sym same)
+    (All-cons (IsAllowedEvent set moment caller whole) a (events_in rest)
+    (record {
+      event = event;
+      asked = within;
+      verdict = says;
+      targets = targets;
+      matched = matched;
+      time = time;
+      is_time = at;
+      accepted = subst (λ m. IsAcceptedAs set.count m time event targets a) (sym is.number) is;
+    })
+    more)
+event_more (verdict.Fault f) set moment time caller n whole event targets p rest at within says matched is more =
+    refused_more set moment caller whole p _ rest is more
+event_more verdict.NoBus set moment time caller n whole event targets p rest at within says matched is more =
+    refused_more set moment caller whole p _ rest is more
+event_more (verdict.DeniedBy name) set moment time caller n whole event targets p rest at within says matched is more =
+    refused_more set moment caller whole p _ rest is more
+event_more verdict.NotAllowed set moment time caller n whole event targets p rest at within says matched is more =
+    refused_more set moment caller whole p _ rest is more
 
-one_more : (set : RuleSet) (caller : List ℕ) (n : ℕ) (whole : List Given) (entry : Given) (seen : SeenEntry) (rest : List Placed)
-    → Contains whole entry → IsEntryVerdict set caller entry seen.verdict → AreTargetsOf set entry seen.verdict seen.targets.items
-    → IsEventOf entry (placed set.count n entry (found_of seen)) → All (IsAllowedEvent set caller whole) (events_in rest)
-    → All (IsAllowedEvent set caller whole) (events_in (placed set.count n entry (found_of seen) ∷ rest))
-one_more set caller n whole (Ok event) seen rest within says matched is more =
-    event_more seen.verdict set caller n whole event seen.targets.items rest within says matched is more
-one_more set caller n whole (Err fault) seen rest within says matched is more = more
+one_more : (set : RuleSet) (moment : ℕ) (time caller : List ℕ) (n : ℕ) (whole : List Given) (entry : Given) (seen : SeenEntry) (p : Placed)
+    (rest : List Placed) → IsIso moment time → Contains whole entry → IsEntryVerdict set caller entry seen.verdict
+    → AreTargetsOf set entry seen.verdict seen.targets.items → IsPlaced set.count n time entry (found_of seen) p
+    → AreAllowed set moment caller whole rest → AreAllowed set moment caller whole (p ∷ rest)
+one_more set moment time caller n whole (Ok event) seen p rest at within says matched is more =
+    event_more seen.verdict set moment time caller n whole event seen.targets.items p rest at within says matched is more
+one_more set moment time caller n whole (Err fault) seen p rest at within says matched is more = refused_more set moment caller whole p _ rest is more
 
-events_allowed : (set : RuleSet) (caller : List ℕ) (n : ℕ) (whole entries : List Given) (all : List SeenEntry)
-    → ((x : Given) → Contains entries x → Contains whole x) → AreSeenEntries set caller entries all
-    → AreEventsOf set.count n entries (map found_of all) → All (IsAllowedEvent set caller whole) (events_in (all_placed set.count n entries (map found_of all)))
-events_allowed set caller n whole [] all within are events = All-nil (IsAllowedEvent set caller whole)
-events_allowed set caller n whole (entry ∷ entries) [] within are events = absurd are
-events_allowed set caller n whole (entry ∷ entries) (seen ∷ all) within (is, are) (event, events) =
-    let next = number_after n (placed set.count n entry (found_of seen)) in
-    one_more set caller n whole entry seen (all_placed set.count next entries (map found_of all)) (within entry (here entry entries)) is.verdict is.targets event
-    (events_allowed set caller next whole entries all (λ x c. within x (there entry x entries c)) are events)
+events_allowed : (set : RuleSet) (moment : ℕ) (time caller : List ℕ) (n : ℕ) (whole entries : List Given) (seen : List SeenEntry) (all : List Placed)
+    → IsIso moment time → ((x : Given) → Contains entries x → Contains whole x) → AreSeenEntries set caller entries seen
+    → ArePlaced set.count n time entries (map found_of seen) all → AreAllowed set moment caller whole all
+events_allowed set moment time caller n whole [] seen all at within are none =
+    subst (AreAllowed set moment caller whole) (sym none) (All-nil (IsAllowedEvent set moment caller whole))
+events_allowed set moment time caller n whole (entry ∷ entries) [] all at within are none = absurd are
+events_allowed set moment time caller n whole (entry ∷ entries) (s ∷ seen) [] at within are none = absurd none
+events_allowed set moment time caller n whole (entry ∷ entries) (s ∷ seen) (p ∷ all) at within (is, are) (placed, others) =
+    one_more set moment time caller n whole entry s p all at (within entry (here entry entries)) is.verdict is.targets placed
+    (events_allowed set moment time caller (number_after n p) whole entries seen all at (λ x c. within x (there entry x entries c)) are others)
 
 -- a batch of such events is written, or none
 batch_allowed : (full : Bool) (set : RuleSet) (caller : List ℕ) (whole : List Given) (x y : Answer) → IsPublishedBy set caller whole x.batch
@@ -69,31 +94,32 @@ batch_allowed true set caller whole x y p q = p
 batch_allowed false set caller whole x y p q = q
 
 written_allowed : (t : Tables) (set : RuleSet) (caller : List ℕ) (whole : List Given) (moment : ℕ) (entries : List batch.Entry) (reply : Reply)
-    → All (IsAllowedEntry set caller whole) entries → IsPublishedBy set caller whole (written t moment entries reply).batch
+    → All (IsAllowedEntry set moment caller whole) entries → IsPublishedBy set caller whole (written t moment entries reply).batch
 written_allowed t set caller whole moment [] reply allowed = tt
 written_allowed t set caller whole moment (e ∷ es) reply allowed = batch_allowed (is_full t) set caller whole _ _ tt allowed
 
-decided_allowed : (large : Bool) (set : RuleSet) (caller : List ℕ) (whole : List Given) (x y : Decided) → x.entries ≡ []
-    → (large ≡ false → All (IsAllowedEntry set caller whole) y.entries) → All (IsAllowedEntry set caller whole) (cond large x y).entries
-decided_allowed true set caller whole x y none all = subst (All (IsAllowedEntry set caller whole)) (sym none) (All-nil (IsAllowedEntry set caller whole))
-decided_allowed false set caller whole x y none all = all refl
+decided_allowed : (large : Bool) (set : RuleSet) (moment : ℕ) (caller : List ℕ) (whole : List Given) (x y : Decided) → x.entries ≡ []
+    → (large ≡ false → All (IsAllowedEntry set moment caller whole) y.entries) → All (IsAllowedEntry set moment caller whole) (cond large x y).entries
+decided_allowed true set moment caller whole x y none all =
+    subst (All (IsAllowedEntry set moment caller whole)) (sym none) (All-nil (IsAllowedEntry set moment caller whole))
+decided_allowed false set moment caller whole x y none all = all refl
 
-publication_allowed : (t : Tables) (set : RuleSet) (caller : List ℕ) (entries : List Given) (size : ℕ) (policy : Option Tree) (seen : SeenResult)
-    → IsSeenResult set caller (put_events entries size) seen → HasEvents t set.count seen (put_events entries size)
-    → All (IsAllowedEntry set caller entries) (decided t set.count seen policy (put_events entries size)).entries
-publication_allowed t set caller entries size policy (Entries all) is events =
-    decided_allowed (nat_lt most_together size) set caller entries _ _ refl
-    (λ small. All-map (IsAllowedEntry set caller entries) batch.accepted
-    (events_in (all_placed set.count (t.events + 1) entries (map found_of all.items)))
-    (events_allowed set caller (t.events + 1) entries entries all.items (λ x c. c) is (events small)))
-publication_allowed t set caller entries size policy (Tested m) is events = absurd is
-publication_allowed t set caller entries size policy Nothing is events = absurd is
+publication_allowed : (t : Tables) (set : RuleSet) (moment : ℕ) (time caller : List ℕ) (entries : List Given) (size : ℕ) (seen : SeenResult)
+    (all : List Placed) → IsIso moment time → IsSeenResult set caller (put_events entries size) seen
+    → HasPlaced t set.count time seen (put_events entries size) all → All (IsAllowedEntry set moment caller entries) (publication all size).entries
+publication_allowed t set moment time caller entries size (Entries found) all at is placed =
+    decided_allowed (nat_lt most_together size) set moment caller entries _ _ refl
+    (λ small. All-map (IsAllowedEntry set moment caller entries) batch.accepted (events_in all)
+    (events_allowed set moment time caller (t.events + 1) entries entries found.items all at (λ x c. c) is (placed small)))
+publication_allowed t set moment time caller entries size (Tested m) all at is placed = absurd is
+publication_allowed t set moment time caller entries size Nothing all at is placed = absurd is
 
-publishing_allowed : (t : Tables) (set : RuleSet) (caller : List ℕ) (action : Action) (policy : Option Tree) (seen : SeenResult) → IsPublishing action
-    → IsSeenResult set caller action seen → HasEvents t set.count seen action
-    → All (IsAllowedEntry set caller (entries_in action)) (decided t set.count seen policy action).entries
-publishing_allowed t set caller (put_events entries size) policy seen p is events = publication_allowed t set caller entries size policy seen is events
-publishing_allowed t set caller _ policy seen p is events = absurd p
+publishing_allowed : (t : Tables) (set : RuleSet) (moment : ℕ) (time caller : List ℕ) (action : Action) (policy : Option Tree) (seen : SeenResult)
+    (all : List Placed) → IsPublishing action → IsIso moment time → IsSeenResult set caller action seen → HasPlaced t set.count time seen action all
+    → All (IsAllowedEntry set moment caller (entries_in action)) (decided t seen all policy action).entries
+publishing_allowed t set moment time caller (put_events entries size) policy seen all p at is placed =
+    publication_allowed t set moment time caller entries size seen all at is placed
+publishing_allowed t set moment time caller _ policy seen all p at is placed = absurd p
 
 other_one : (P Q : Type 0) → P ⊎ Q → ¬ P → Q
 other_one P Q (inl p) not_p = absurd (not_p p)
@@ -103,8 +129,9 @@ pub stranger_publishes : (t : Tables) (r : Request) (k : ℕ) (set : RuleSet) (a
     → IsPublishedBy set r.caller (entries_in r.action) a.batch
 stranger_publishes t r k set a h stranger =
     let publishes : IsPublishing r.action = other_one (r.caller ≡ owner) (IsPublishing r.action) h.entitled.allowed stranger in
-    let events = subst (λ n. HasEvents t n h.seen r.action) (sym h.version) h.events in
-    let all = publishing_allowed t set r.caller r.action h.policy h.seen publishes h.is_seen events in
-    let own = written_allowed t set r.caller (entries_in r.action) (moment_at t r.reading) _ (decided t set.count h.seen h.policy r.action).reply all in
-    subst (λ (x : Answer). IsPublishedBy set r.caller (entries_in r.action) x.batch)
-    (ap (λ n. answer_at t (moment_at t r.reading) (decided t n h.seen h.policy r.action)) h.version ∙ sym h.answers) own
+    let moment = moment_at t r.reading in
+    let placed = subst (λ n. HasPlaced t n h.time h.seen r.action h.placed) (sym h.version) h.has_placed in
+    let d = decided t h.seen h.placed h.policy r.action in
+    let all = publishing_allowed t set moment h.time r.caller r.action h.policy h.seen h.placed publishes h.is_time h.is_seen placed in
+    let own = written_allowed t set r.caller (entries_in r.action) moment d.entries d.reply all in
+    subst (λ (x : Answer). IsPublishedBy set r.caller (entries_in r.action) x.batch) (sym h.answers) own

@@ -4,7 +4,9 @@ use Rattle.std.proofs.Common.{◌≡◌, ℕ, suc, ◌-◌, ◌≤◌, List, [],
 use Rattle.std.specs.Prelude.{Result, Ok, Err, IfOk, OnOk, IsTrue}
 use Rattle.std.proofs.Math.Seq.{take-length}
 use Rattle.std.proofs.lemmas.List.Elements.{All-weaker}
+use Rattle.json_text.specs.Moment.{IsMoment}
 use Rattle.json_text.specs.Tree.{Tree}
+use Rattle.event_time.specs.Time.{IsIso}
 use Rattle.event_shape.specs.Names.{is_account}
 use Rattle.rule_table.specs.RuleSet.{RuleSet}
 use Rattle.rule_table.specs.Sound.{IsSound}
@@ -13,11 +15,12 @@ use Rattle.router_core.specs.Tables.{Tables, moment_at}
 use Rattle.router_core.specs.Matching.{HasValue, IsSeen}
 use Rattle.router_core.specs.declared.seen.Seen.{Seen}
 use Rattle.router_core.specs.Bounds.{IsBounded}
-use Rattle.router_calls.specs.Accepted.{Given}
-use Rattle.router_calls.specs.Answer.{Answer, Decided, HasEvents, IsAnswer, answer_at, decided}
+use Rattle.router_calls.specs.Accepted.{Given, Placed}
+use Rattle.router_calls.specs.Answer.{Answer, Decided, HasPlaced, IsAnswer, answer_at, decided}
 use Rattle.router_calls.specs.Matched.{IsMatchedOn}
 use Rattle.router_calls.specs.Permission.{IsPolicyNamed}
 use Rattle.router_calls.specs.Steps.{HasAccount, HaveAccounts, IsDecidedAs, IsSeenOn}
+use Rattle.router_calls.proofs.TimeLemmas.{iso_of}
 
 -- what a slice pattern takes apart
 pub first_and_rest : {X : Type 0} (xs : List X) (x : X) → 1 ≤ length xs → x ≡ get_or xs 0 x → xs ≡ x ∷ take (length xs - 1) (drop 1 xs)
@@ -39,19 +42,32 @@ pub seen_on : (t : Tables) (request : Request) (set : RuleSet) (seen : Seen) →
     → IsSeenOn t set request.caller request.action seen
 seen_on t request set seen m = record { sound = m.sound; version = m.is_seen.k; known = m.known; result = m.is_seen.result }
 
--- the policy by which an action was decided
-policy_by : (t : Tables) (seen : Seen) (action : Action) (d : Decided) → IsDecidedAs t seen action d
-    → (policy : Option Tree) × IsPolicyNamed t.set action policy × (d ≡ decided t seen.k seen.result policy action)
-policy_by t seen (put_statement bus sid account) d is = is
-policy_by t seen (remove_statement bus sid) d is = is
-policy_by t seen action d is = (None, refl, is)
+-- what became of the entries of an action, and the policy, by which it was decided
+record IsBy (t : Tables) (time : List ℕ) (seen : Seen) (action : Action) (d : Decided) : Type 0 where
+  pub placed : List Placed
+  pub has_placed : HasPlaced t seen.k time seen.result action placed
+  pub policy : Option Tree
+  pub is_policy : IsPolicyNamed t.set action policy
+  pub is : d ≡ decided t seen.result placed policy action
+
+decided_by : (t : Tables) (moment : ℕ) (time : List ℕ) (seen : Seen) (action : Action) (d : Decided) → IsIso moment time
+    → IsDecidedAs t moment seen action d → IsBy t time seen action d
+decided_by t moment time seen (put_events entries size) d at is =
+    let (placed, are, so) = is time at in
+    record { placed = placed; has_placed = are; policy = None; is_policy = refl; is = so }
+decided_by t moment time seen (put_statement bus sid account) d at (policy, there, is) =
+    record { placed = []; has_placed = tt; policy = policy; is_policy = there; is = is }
+decided_by t moment time seen (remove_statement bus sid) d at (policy, there, is) =
+    record { placed = []; has_placed = tt; policy = policy; is_policy = there; is = is }
+decided_by t moment time seen action d at is = record { placed = []; has_placed = tt; policy = None; is_policy = refl; is = is }
 
 -- what is decided is the answer on each rule set that the request was matched on
-pub answered : (t : Tables) (request : Request) (seen : Seen) (d : Decided) (a : Answer) → IsBounded request.action → IsEntitled request
-    → IsOneTurn request.action → IsDecidedAs t seen request.action d → a ≡ answer_at t (moment_at t request.reading) d
-    → HasEvents t seen.k seen.result request.action → (set : RuleSet) → IsMatchedOn t request set seen → IsAnswer t request seen.k set a
-answered t request seen d a bounded entitled one_turn is so events set m =
-    let p = policy_by t seen request.action d is in
+pub answered : (t : Tables) (request : Request) (seen : Seen) (moment : ℕ) (d : Decided) (a : Answer) → IsBounded request.action → IsEntitled request
+    → IsOneTurn request.action → IsMoment moment → moment ≡ moment_at t request.reading → IsDecidedAs t moment seen request.action d
+    → a ≡ answer_at t moment d → (set : RuleSet) → IsMatchedOn t request set seen → IsAnswer t request seen.k set a
+answered t request seen moment d a bounded entitled one_turn fits at is so set m =
+    let (time, shown) = iso_of moment (omega (arith, fits)) in
+    let p = decided_by t moment time seen request.action d shown is in
     record {
       bounded = bounded;
       entitled = entitled;
@@ -61,10 +77,13 @@ answered t request seen d a bounded entitled one_turn is so events set m =
       latest = m.latest;
       seen = seen.result;
       is_seen = m.is_seen.result;
-      policy = p.0;
-      is_policy = p.1;
-      answers = so ∙ ap (λ (x : Decided). answer_at t (moment_at t request.reading) x) p.2;
-      events = events;
+      policy = p.policy;
+      is_policy = p.is_policy;
+      time = time;
+      is_time = subst (λ n. IsIso n time) at shown;
+      placed = p.placed;
+      has_placed = p.has_placed;
+      answers = so ∙ ap (λ n. answer_at t n d) at ∙ ap (λ (x : Decided). answer_at t (moment_at t request.reading) x) p.is;
     }
 
 -- the events that a caller publishes have accounts of callers

@@ -1,28 +1,27 @@
--- The entries of a PutEvents: `seen_both`, `adds_none`, `adds_event` and `adds_refusal` (one entry and those after it), `published_so` (what is
+-- The entries of a PutEvents: `seen_both`, `adds_none`, `adds_event` and `adds_refusal` (one entry and those after it), `published_at` (what is
 -- decided for what was placed) and `are_ready` (the events can be applied as one batch).
 use Rattle.std.proofs.Common.{◌≡◌, ℕ, ◌+◌, ◌≤◌, List, [], ◌∷◌, ◌++◌, length, map, Ok, Err, sym, refl, ap, ◌∙◌, subst}
 use Rattle.std.proofs.Common.{arith, append_assoc, append-nil}
-use Rattle.std.specs.Prelude.{Bool, true, false, cond, None, All, IsTrue, codes, nat_le, not}
-use Rattle.std.proofs.lemmas.Bool.{leb-true}
+use Rattle.std.specs.Prelude.{Bool, false, cond, All, IsTrue, codes, nat_lt}
 use Rattle.std.proofs.lemmas.List.{map-append, length-map}
 use Rattle.std.proofs.lemmas.List.Elements.{All-head, All-tail, All-map}
-use Rattle.json_text.specs.Limits.{most_text}
+use Rattle.json_text.specs.Limits.{most_together}
 use Rattle.json_text.specs.View.{trees_of}
 use Rattle.event_shape.specs.Names.{IsBusName, is_account}
-use Rattle.event_shape.specs.Event.{IsEventAt, event_tree}
+use Rattle.json_text.specs.Moment.{IsMoment}
 use Rattle.event_shape.specs.Unnumbered.{Unnumbered, with_number}
 use Rattle.api_replies.specs.declared.cause.Cause.{Cause}
+use Rattle.api_replies.specs.declared.cause.Cause.TheVariants as cause
 use Rattle.api_replies.specs.Reply.{Reply}
 use Rattle.rule_table.specs.RuleSet.{RuleSet}
 use Rattle.rule_table.specs.Sound.{IsSound}
-use Rattle.delivery_duties.specs.declared.duty.NewDuty.{NewDuty}
 use Rattle.router_core.specs.Batch as batch
 use Rattle.router_core.specs.View.{accepted_of, entry_of}
 use Rattle.router_core.specs.Request.{put_events}
 use Rattle.router_core.specs.Tables.{Tables, after_entry}
 use Rattle.router_core.specs.Admitted.{IsEventAdmitted, AreAdmitted, IsAnEvent}
 use Rattle.router_core.specs.Ready.{IsPartOf, ArePartsOf, set_after}
-use Rattle.router_core.specs.Matching.{AreMatchedFor, AreSeenEntries, AreTargetsOf, IsSeenEntry, duty_of, is_too_long}
+use Rattle.router_core.specs.Matching.{AreMatchedFor, AreSeenEntries, AreTargetsOf, IsSeenEntry}
 use Rattle.router_core.specs.declared.seen.SeenEntry.{SeenEntry}
 use Rattle.router_core.specs.declared.seen.SeenTarget.{SeenTarget}
 use Rattle.router_core.specs.declared.batch.AcceptedEvent.{AcceptedEvent}
@@ -30,10 +29,11 @@ use Rattle.router_core.specs.declared.ready.Part.{Part}
 use Rattle.router_core.specs.declared.seen.SeenVerdict.{SeenVerdict}
 use Rattle.router_core.specs.declared.seen.SeenVerdict.TheVariants as verdict
 use Rattle.router_core.proofs.MatchingLemmas.{few_matched}
-use Rattle.router_calls.specs.Accepted.{Given, Placed, AreEventsOf, IsEventOf, accepted_as, all_placed, event_placed, events_in, failures_in}
-use Rattle.router_calls.specs.Accepted.{Found, found_of, number_after, numbered_text, placed}
+use Rattle.router_core.proofs.DutyLemmas.{duties_count, duties_short}
+use Rattle.router_calls.specs.Accepted.{Given, Placed, ArePlaced, IsAcceptedAs, IsEventPlaced, IsPlaced, events_in, failures_in}
+use Rattle.router_calls.specs.Accepted.{Found, found_of, number_after, numbered_tree}
 use Rattle.call_replies.specs.Replies.{items_reply}
-use Rattle.router_calls.specs.Answer.{entry_report, entries_reply, published, Decided}
+use Rattle.router_calls.specs.Answer.{entry_report, entries_reply, publication, published, refusal, Decided}
 use Rattle.router_core.specs.Bounds.{IsBounded, IsForBus}
 use Rattle.router_calls.specs.Steps.{Adds, AreReady, HasAccount, IsEventAdded, IsRefusalAdded, Places, placed_decided}
 use Rattle.router_calls.specs.declared.put_events.PlacedEntries.{PlacedEntries}
@@ -99,18 +99,25 @@ adds_refusal c all old mid new added more = record {
   failed = omega (arith, more.failed, added.failed);
 }
 
+-- an allowed entry became its event
+pub allowed_placed : (k n : ℕ) (time : List ℕ) (u : Unnumbered) (entry : Given) (seen : SeenEntry) (a : batch.Accepted) → entry ≡ Ok u
+    → seen.verdict ≡ verdict.Allowed → IsAcceptedAs k n time u seen.targets.items a → IsPlaced k n time entry (found_of seen) (Ok a)
+allowed_placed k n time u entry seen a is says accepted =
+    let p : Placed = Ok a in
+    subst (λ (e : Given). IsPlaced k n time e (found_of seen) p) (sym is)
+    (subst (λ (v : SeenVerdict). IsEventPlaced k n time u v seen.targets.items p) (sym says) (a, accepted, refl))
+
 -- the entries, of which the first one became this
-pub placed_first : (k n : ℕ) (entries rest : List Given) (entry : Given) (found more : List SeenEntry) (seen : SeenEntry) (p : Placed)
-    (old new : PlacedEntries) → entries ≡ entry ∷ rest → found ≡ seen ∷ more → p ≡ placed k n entry (found_of seen) → IsEventOf entry p
-    → Adds (p ∷ all_placed k (number_after n p) rest (map found_of more)) old new → AreEventsOf k (number_after n p) rest (map found_of more)
-    → Places k n entries (map found_of found) old new
-placed_first k n entries rest entry found more seen p old new is found_is became event adds events =
-    let first : Adds (all_placed k n (entry ∷ rest) (map found_of (seen ∷ more))) old new =
-    subst (λ (x : Placed). Adds (x ∷ all_placed k (number_after n x) rest (map found_of more)) old new) became adds in
-    let both : AreEventsOf k n (entry ∷ rest) (map found_of (seen ∷ more)) =
-    subst (λ (x : Placed). IsEventOf entry x × AreEventsOf k (number_after n x) rest (map found_of more)) became (event, events) in
-    subst (λ (fs : List SeenEntry). Places k n entries (map found_of fs) old new) (sym found_is)
-    (subst (λ (es : List Given). Places k n es (map found_of (seen ∷ more)) old new) (sym is) (record { adds = first; events = both }))
+pub placed_first : (k n : ℕ) (time : List ℕ) (entries rest : List Given) (entry : Given) (found more : List SeenEntry) (seen : SeenEntry) (p : Placed)
+    (old mid new : PlacedEntries) → entries ≡ entry ∷ rest → found ≡ seen ∷ more → IsPlaced k n time entry (found_of seen) p
+    → ((all : List Placed) → Adds all mid new → Adds (p ∷ all) old new)
+    → Places k (number_after n p) time rest (map found_of more) mid new → Places k n time entries (map found_of found) old new
+placed_first k n time entries rest entry found more seen p old mid new is found_is became adds others = record {
+  all = p ∷ others.all;
+  are = subst (λ (fs : List SeenEntry). ArePlaced k n time entries (map found_of fs) (p ∷ others.all)) (sym found_is)
+      (subst (λ (es : List Given). ArePlaced k n time es (map found_of (seen ∷ more)) (p ∷ others.all)) (sym is) (became, others.are));
+  adds = adds others.all others.adds;
+}
 
 -- nothing was placed before
 pub record IsFresh (old : PlacedEntries) : Type 0 where
@@ -134,7 +141,7 @@ abbrev decided_from : List batch.Entry → Reply → Decided
 decided_from es r = record { entries = es; reply = r }
 
 -- what is decided for what was placed
-pub published_so : (all : List Placed) (old new : PlacedEntries) → Adds all old new → IsFresh old → placed_decided new ≡ published all
+published_so : (all : List Placed) (old new : PlacedEntries) → Adds all old new → IsFresh old → placed_decided new ≡ published all
 published_so all old new p fresh =
     ap (λ es. decided_from es (items_reply new.failed (codes "Entries") (trees_of new.reports.items))) (events_so all old new p fresh)
     ∙ ap (decided_from (map batch.accepted (events_in all))) (reply_so all old new p fresh)
@@ -146,104 +153,108 @@ one_event (Ok a) rest = omega arith
 one_event (Err c) rest = omega arith
 
 -- there are at most as many events as entries
-few_events : (k n : ℕ) (entries : List Given) (found : List Found) → length (events_in (all_placed k n entries found)) ≤ length entries
-few_events k n [] found = omega arith
-few_events k n (entry ∷ entries) [] = omega arith
-few_events k n (entry ∷ entries) (f ∷ found) =
-    let p = placed k n entry f in
-    omega (arith, one_event p (all_placed k (number_after n p) entries found), few_events k (number_after n p) entries found)
-
--- the text of a duty is short
-short_text : (b : Bool) (text : List ℕ) → not (nat_le (length text) most_text) ≡ b → length (cond b (codes "{}") text) ≤ most_text
-short_text true text is = leb-true 2 most_text refl
-short_text false text is = leb-true (length text) most_text (short_so (nat_le (length text) most_text) is)
-  where
-    short_so : (b : Bool) → not b ≡ false → b ≡ true
-    short_so true e = refl
-    short_so false e = cc
-
-duties_short : (text : List ℕ) (targets : List SeenTarget) → All (λ (duty : NewDuty). length duty.text ≤ most_text) (map (duty_of text) targets)
-duties_short text targets = All-map (λ (duty : NewDuty). length duty.text ≤ most_text) (duty_of text) targets
-    (λ k d low. short_text (is_too_long text) text refl)
+few_events : (k n : ℕ) (time : List ℕ) (entries : List Given) (found : List Found) (all : List Placed) → ArePlaced k n time entries found all
+    → length (events_in all) ≤ length entries
+few_events k n time [] found all none = omega (arith, ap (λ (ps : List Placed). length (events_in ps)) none)
+few_events k n time (entry ∷ entries) [] all none = omega (arith, ap (λ (ps : List Placed). length (events_in ps)) none)
+few_events k n time (entry ∷ entries) (f ∷ found) [] are = absurd are
+few_events k n time (entry ∷ entries) (f ∷ found) (p ∷ all) (is, are) =
+    omega (arith, one_event p all, few_events k (number_after n p) time entries found all are)
 
 -- an event that was accepted is admitted
-accepted_admitted : (t : Tables) (set : RuleSet) (u : Unnumbered) (targets : List SeenTarget) → IsSound set → set.count ≤ t.set.count → IsBusName u.bus
-    → IsTrue (is_account u.event.account) → AreMatchedFor set u targets → IsEventAt u.moment (with_number (t.events + 1) u.event)
-    → IsEventAdmitted t (accepted_as set.count (t.events + 1) u targets)
-accepted_admitted t set u targets sound known bus account matched event =
-    let few = few_matched set u.bus (event_tree (with_number (t.events + 1) u.event) None) targets sound (matched (t.events + 1)) in
+accepted_admitted : (t : Tables) (set : RuleSet) (time : List ℕ) (u : Unnumbered) (targets : List SeenTarget) (a : batch.Accepted) → IsSound set
+    → set.count ≤ t.set.count → IsBusName u.bus → IsTrue (is_account u.event.account) → AreMatchedFor set u targets
+    → IsAcceptedAs set.count (t.events + 1) time u targets a → IsEventAdmitted t a
+accepted_admitted t set time u targets a sound known bus account matched is =
+    let n = t.events + 1 in
+    let few = few_matched set u.bus (numbered_tree n u) targets sound (matched n) in
+    let count = duties_count (numbered_tree n u) time targets a.duties is.duties in
     record {
-      number = refl;
-      bus = bus;
-      known = known;
-      time = event.is_moment;
+      number = is.number;
+      bus = subst IsBusName (sym is.bus) bus;
+      known = omega (arith, known, is.version);
+      time = subst IsMoment (sym is.at) is.is_event.is_moment;
       text = record {
-        event = with_number (t.events + 1) u.event;
-        text = record { written = refl; is_event = (u.moment, event) };
+        event = with_number n u.event;
+        text = record { written = is.text; is_event = (u.moment, is.is_event) };
         number = omega arith;
         account = account;
       };
-      few = omega (arith, length-map targets (duty_of (numbered_text (t.events + 1) u)), few);
-      short = duties_short (numbered_text (t.events + 1) u) targets;
+      few = omega (arith, count, few);
+      short = duties_short (numbered_tree n u) time targets a.duties is.duties;
     }
 
--- the event of the first entry, if it became one, and those after it
-event_admitted : (t : Tables) (set : RuleSet) (moment : ℕ) (v : SeenVerdict) (u : Unnumbered) (targets : List SeenTarget) (rest : List Placed)
-    → IsSound set → set.count ≤ t.set.count → IsBusName u.bus → IsTrue (is_account u.event.account) → AreTargetsOf set (Ok u) v targets
-    → IsEventOf (Ok u) (event_placed set.count (t.events + 1) u v targets)
-    → ((x : Tables) → x.set ≡ t.set → number_after (t.events + 1) (event_placed set.count (t.events + 1) u v targets) ≡ x.events + 1
-    → AreAdmitted moment (map batch.accepted (events_in rest)) x)
-    → AreAdmitted moment (map batch.accepted (events_in (event_placed set.count (t.events + 1) u v targets ∷ rest))) t
-event_admitted t set moment verdict.Allowed u targets rest sound known bus account matched event later = (
-  accepted_admitted t set u targets sound known bus account matched event,
-  later (after_entry moment (batch.accepted (accepted_as set.count (t.events + 1) u targets)) t) refl refl,
-)
-event_admitted t set moment (verdict.Fault f) u targets rest sound known bus account matched event later = later t refl refl
-event_admitted t set moment verdict.NoBus u targets rest sound known bus account matched event later = later t refl refl
-event_admitted t set moment (verdict.DeniedBy name) u targets rest sound known bus account matched event later = later t refl refl
-event_admitted t set moment verdict.NotAllowed u targets rest sound known bus account matched event later = later t refl refl
+-- if the events after an entry are admitted, it may come first
+abbrev MayComeFirst : Tables → ℕ → List Placed → Placed → Type 0
+MayComeFirst t moment rest p =
+    ((x : Tables) → x.set ≡ t.set → number_after (t.events + 1) p ≡ x.events + 1 → AreAdmitted moment (map batch.accepted (events_in rest)) x)
+    → AreAdmitted moment (map batch.accepted (events_in (p ∷ rest))) t
 
-first_admitted : (t : Tables) (set : RuleSet) (moment : ℕ) (caller : List ℕ) (entry : Given) (seen : SeenEntry) (rest : List Placed) → IsSound set
-    → set.count ≤ t.set.count → IsForBus entry → HasAccount entry → IsSeenEntry set caller entry seen
-    → IsEventOf entry (placed set.count (t.events + 1) entry (found_of seen))
-    → ((x : Tables) → x.set ≡ t.set → number_after (t.events + 1) (placed set.count (t.events + 1) entry (found_of seen)) ≡ x.events + 1
-    → AreAdmitted moment (map batch.accepted (events_in rest)) x)
-    → AreAdmitted moment (map batch.accepted (events_in (placed set.count (t.events + 1) entry (found_of seen) ∷ rest))) t
-first_admitted t set moment caller (Ok u) seen rest sound known bus account is event later =
-    event_admitted t set moment seen.verdict u seen.targets.items rest sound known bus account is.targets event later
-first_admitted t set moment caller (Err f) seen rest sound known bus account is event later = later t refl refl
+refused_first : (t : Tables) (moment : ℕ) (rest : List Placed) (p : Placed) (c : Cause) → p ≡ Err c → MayComeFirst t moment rest p
+refused_first t moment rest p c is = subst (MayComeFirst t moment rest) (sym is) (λ later. later t refl refl)
 
-all_admitted : (t : Tables) (set : RuleSet) (caller : List ℕ) (moment n : ℕ) (entries : List Given) (all : List SeenEntry) → IsSound set
-    → set.count ≤ t.set.count → All IsForBus entries → All HasAccount entries → AreSeenEntries set caller entries all → n ≡ t.events + 1
-    → AreEventsOf set.count n entries (map found_of all)
-    → AreAdmitted moment (map batch.accepted (events_in (all_placed set.count n entries (map found_of all)))) t
-all_admitted t set caller moment n [] all sound known buses accounts are number events = tt
-all_admitted t set caller moment n (entry ∷ entries) [] sound known buses accounts are number events = tt
-all_admitted t set caller moment n (entry ∷ entries) (seen ∷ all) sound known buses accounts (is, are) number events =
-    let now = subst (λ m. AreEventsOf set.count m (entry ∷ entries) (map found_of (seen ∷ all))) number events in
-    subst (λ m. AreAdmitted moment (map batch.accepted (events_in (all_placed set.count m (entry ∷ entries) (map found_of (seen ∷ all))))) t) (sym number)
-    (first_admitted t set moment caller entry seen _ sound known (All-head IsForBus entry entries buses) (All-head HasAccount entry entries accounts) is
-    now.0 (λ x same next. all_admitted x set caller moment (number_after (t.events + 1) (placed set.count (t.events + 1) entry (found_of seen))) entries all
-    sound (subst (λ (s : RuleSet). set.count ≤ s.count) (sym same) known) (All-tail IsForBus entry entries buses)
-    (All-tail HasAccount entry entries accounts) are next now.1))
+-- the event of the first entry, if it became one
+event_first : (t : Tables) (set : RuleSet) (moment : ℕ) (time : List ℕ) (v : SeenVerdict) (u : Unnumbered) (targets : List SeenTarget) (p : Placed)
+    (rest : List Placed) → IsSound set → set.count ≤ t.set.count → IsBusName u.bus → IsTrue (is_account u.event.account)
+    → AreTargetsOf set (Ok u) v targets → IsEventPlaced set.count (t.events + 1) time u v targets p → MayComeFirst t moment rest p
+event_first t set moment time verdict.Allowed u targets p rest sound known bus account matched (a, is, same) =
+    subst (MayComeFirst t moment rest) (sym same)
+    (λ later. (accepted_admitted t set time u targets a sound known bus account matched is, later (after_entry moment (batch.accepted a) t) refl refl))
+event_first t set moment time (verdict.Fault f) u targets p rest sound known bus account matched same = refused_first t moment rest p _ same
+event_first t set moment time verdict.NoBus u targets p rest sound known bus account matched same = refused_first t moment rest p _ same
+event_first t set moment time (verdict.DeniedBy name) u targets p rest sound known bus account matched same = refused_first t moment rest p _ same
+event_first t set moment time verdict.NotAllowed u targets p rest sound known bus account matched same = refused_first t moment rest p _ same
+
+entry_first : (t : Tables) (set : RuleSet) (moment : ℕ) (time caller : List ℕ) (entry : Given) (seen : SeenEntry) (p : Placed) (rest : List Placed)
+    → IsSound set → set.count ≤ t.set.count → IsForBus entry → HasAccount entry → IsSeenEntry set caller entry seen
+    → IsPlaced set.count (t.events + 1) time entry (found_of seen) p → MayComeFirst t moment rest p
+entry_first t set moment time caller (Ok u) seen p rest sound known bus account is placed =
+    event_first t set moment time seen.verdict u seen.targets.items p rest sound known bus account is.targets placed
+entry_first t set moment time caller (Err f) seen p rest sound known bus account is placed = refused_first t moment rest p _ placed
+
+all_admitted : (t : Tables) (set : RuleSet) (caller time : List ℕ) (moment n : ℕ) (entries : List Given) (seen : List SeenEntry) (all : List Placed)
+    → IsSound set → set.count ≤ t.set.count → All IsForBus entries → All HasAccount entries → AreSeenEntries set caller entries seen
+    → n ≡ t.events + 1 → ArePlaced set.count n time entries (map found_of seen) all → AreAdmitted moment (map batch.accepted (events_in all)) t
+all_admitted t set caller time moment n [] seen all sound known buses accounts are number none =
+    subst (λ (ps : List Placed). AreAdmitted moment (map batch.accepted (events_in ps)) t) (sym none) tt
+all_admitted t set caller time moment n (entry ∷ entries) [] all sound known buses accounts are number none = absurd are
+all_admitted t set caller time moment n (entry ∷ entries) (s ∷ seen) [] sound known buses accounts are number none = absurd none
+all_admitted t set caller time moment n (entry ∷ entries) (s ∷ seen) (p ∷ all) sound known buses accounts (is, are) number placed =
+    let now = subst (λ m. ArePlaced set.count m time (entry ∷ entries) (map found_of (s ∷ seen)) (p ∷ all)) number placed in
+    entry_first t set moment time caller entry s p all sound known (All-head IsForBus entry entries buses)
+    (All-head HasAccount entry entries accounts) is now.0
+    (λ x same next. all_admitted x set caller time moment (number_after (t.events + 1) p) entries seen all sound
+    (subst (λ (r : RuleSet). set.count ≤ r.count) (sym same) known) (All-tail IsForBus entry entries buses) (All-tail HasAccount entry entries accounts)
+    are next now.1)
 
 all_events : (events : List batch.Accepted) → All IsAnEvent (map batch.accepted events)
 all_events events = All-map IsAnEvent batch.accepted events (λ k d low. tt)
 
 -- the events that were placed can be applied as one batch
-pub are_ready : (t : Tables) (set : RuleSet) (caller : List ℕ) (k n : ℕ) (entries : List Given) (size : ℕ) (seen : List SeenEntry)
+pub are_ready : (t : Tables) (set : RuleSet) (caller time : List ℕ) (k n : ℕ) (entries : List Given) (size : ℕ) (seen : List SeenEntry)
     (old new : PlacedEntries) → IsSound set → k ≡ set.count → set.count ≤ t.set.count → IsBounded (put_events entries size) → All HasAccount entries
-    → AreSeenEntries set caller entries seen → n ≡ t.events + 1 → IsFresh old → Places k n entries (map found_of seen) old new → AreReady t new
-are_ready t set caller k n entries size seen old new sound version known bounded accounts are number fresh places =
-    let all = all_placed set.count n entries (map found_of seen) in
-    let p = subst (λ v. Places v n entries (map found_of seen) old new) version places in
-    let events = events_so all old new p.adds fresh in
-    let count = few_events set.count n entries (map found_of seen) in
+    → AreSeenEntries set caller entries seen → n ≡ t.events + 1 → IsFresh old → Places k n time entries (map found_of seen) old new → AreReady t new
+are_ready t set caller time k n entries size seen old new sound version known bounded accounts are number fresh places =
+    let all = places.all in
+    let placed = subst (λ v. ArePlaced v n time entries (map found_of seen) all) version places.are in
+    let events = events_so all old new places.adds fresh in
+    let count = few_events set.count n time entries (map found_of seen) all placed in
     let none = subst (λ (ps : List Part). ArePartsOf t.set [] ps) (sym fresh.parts) refl in
     record {
       few = omega (arith, ap length events, length-map (events_in all) batch.accepted, count, bounded.1);
       are_events = subst (All IsAnEvent) (sym events) (all_events (events_in all));
       admitted = λ moment. subst (λ (es : List batch.Entry). AreAdmitted moment es t) (sym events)
-          (all_admitted t set caller moment n entries seen sound known bounded.2 accounts are number p.events);
-      parts = p.adds.parts t.set (subst (λ es. ArePartsOf t.set (map entry_of es) old.parts.items) (sym fresh.entries) none);
+          (all_admitted t set caller time moment n entries seen all sound known bounded.2 accounts are number placed);
+      parts = places.adds.parts t.set (subst (λ es. ArePartsOf t.set (map entry_of es) old.parts.items) (sym fresh.entries) none);
     }
+
+-- what is decided for the entries that were placed
+pub published_at : (t : Tables) (k n size : ℕ) (time : List ℕ) (entries : List Given) (found : List Found) (old new : PlacedEntries) (d : Decided)
+    → nat_lt most_together size ≡ false → n ≡ t.events + 1 → d ≡ placed_decided new → IsFresh old → Places k n time entries found old new
+    → (placed : List Placed) × (nat_lt most_together size ≡ false → ArePlaced k (t.events + 1) time entries found placed)
+    × (d ≡ publication placed size)
+published_at t k n size time entries found old new d small number is fresh places = (
+  places.all,
+  λ again. subst (λ m. ArePlaced k m time entries found places.all) number places.are,
+  is ∙ published_so places.all old new places.adds fresh ∙ sym (ap (λ (b : Bool). cond b (refusal cause.TooLargeTogether) (published places.all)) small),
+)

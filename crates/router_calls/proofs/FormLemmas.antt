@@ -29,6 +29,7 @@ use Rattle.router_core.specs.Request.{list_rule_names_by_target, put_policy, put
 use Rattle.router_core.specs.Request.{test_event_pattern, create_queue, delete_queue, peek_messages, delete_messages, duty_counts, deliver_due}
 use Rattle.router_core.specs.Tables.{Tables, is_full, moment_at}
 use Rattle.router_core.specs.declared.seen.SeenResult.{SeenResult}
+use Rattle.router_calls.specs.Accepted.{Placed}
 use Rattle.router_calls.specs.Answer.{Answer, Decided, IsAnswer, decided, for_rule, lacks_rule, on_bus, on_rule, change_reply, controlled}
 use Rattle.router_calls.specs.Answer.{deletion_of, refusal, shown, unless_none, unless_refused, written, writes}
 use Rattle.router_calls.specs.Changes.{MayMake}
@@ -143,46 +144,46 @@ replied false x y p q = q
 
 -- ---- each action
 
-formed : (t : Tables) (k : ℕ) (seen : SeenResult) (policy : Option Tree) (action : Action) → IsPolicyNamed t.set action policy
-    → IsFormed t.set action (decided t k seen policy action)
-formed t k seen policy (create_event_bus name) is = changes t.set _ _ _ (inl refl) refl
-formed t k seen policy (delete_event_bus name) is = changes t.set _ _ _ (inl refl) refl
-formed t k seen policy (describe_event_bus name) is = bus_shown t.set _ t.set name _ (λ bus. inl refl)
-formed t k seen policy (list_event_buses prefix) is = alone t.set _ _ (inl refl)
-formed t k seen policy (put_rule bus name pattern enabled) is = changes t.set _ _ _ (inl refl) refl
-formed t k seen policy (delete_rule bus name) is =
+formed : (t : Tables) (seen : SeenResult) (became : List Placed) (policy : Option Tree) (action : Action) → IsPolicyNamed t.set action policy
+    → IsFormed t.set action (decided t seen became policy action)
+formed t seen became policy (create_event_bus name) is = changes t.set _ _ _ (inl refl) refl
+formed t seen became policy (delete_event_bus name) is = changes t.set _ _ _ (inl refl) refl
+formed t seen became policy (describe_event_bus name) is = bus_shown t.set _ t.set name _ (λ bus. inl refl)
+formed t seen became policy (list_event_buses prefix) is = alone t.set _ _ (inl refl)
+formed t seen became policy (put_rule bus name pattern enabled) is = changes t.set _ _ _ (inl refl) refl
+formed t seen became policy (delete_rule bus name) is =
     either t.set _ (lacks_rule bus name t.set) _ _ (alone t.set _ _ (inl refl)) (changes t.set (delete_rule bus name) _ _ (inl refl) refl)
-formed t k seen policy (put_rule_state bus name enabled) is = changes t.set _ _ _ (inl refl) refl
-formed t k seen policy (describe_rule bus name) is = bus_shown t.set _ t.set bus _ (λ b. rule_shown name _ (λ rule. inl refl) b)
-formed t k seen policy (list_rules bus prefix) is = bus_shown t.set _ t.set bus _ (λ b. inl refl)
-formed t k seen policy (put_targets bus rule targets) is = at_rule t.set (put_targets bus rule targets) bus rule _ (λ r.
+formed t seen became policy (put_rule_state bus name enabled) is = changes t.set _ _ _ (inl refl) refl
+formed t seen became policy (describe_rule bus name) is = bus_shown t.set _ t.set bus _ (λ b. rule_shown name _ (λ rule. inl refl) b)
+formed t seen became policy (list_rules bus prefix) is = bus_shown t.set _ t.set bus _ (λ b. inl refl)
+formed t seen became policy (put_targets bus rule targets) is = at_rule t.set (put_targets bus rule targets) bus rule _ (λ r.
     some_changed t.set (put_targets bus rule targets) (accepted_targets t.set r.targets targets) _ _ (inl refl)
     (accepted_targets t.set r.targets targets, refl, accepted_within t.set r.targets targets))
-formed t k seen policy (remove_targets bus rule ids) is = at_rule t.set (remove_targets bus rule ids) bus rule _ (λ r.
+formed t seen became policy (remove_targets bus rule ids) is = at_rule t.set (remove_targets bus rule ids) bus rule _ (λ r.
     some_changed t.set (remove_targets bus rule ids) (removed_ids ids r.targets) _ _ (inl refl)
     (removed_ids ids r.targets, refl, removed_within ids r.targets))
-formed t k seen policy (list_targets_by_rule bus rule) is = bus_shown t.set _ t.set bus _ (λ b. rule_shown rule _ (λ r. inl refl) b)
-formed t k seen policy (list_rule_names_by_target arn bus) is = bus_shown t.set _ t.set bus _ (λ b. inl refl)
-formed t k seen policy (put_policy bus given) is = changes t.set _ _ _ (inl refl) refl
-formed t k seen policy (put_statement bus sid account) is = at_bus t.set (put_statement bus sid account) bus _
+formed t seen became policy (list_targets_by_rule bus rule) is = bus_shown t.set _ t.set bus _ (λ b. rule_shown rule _ (λ r. inl refl) b)
+formed t seen became policy (list_rule_names_by_target arn bus) is = bus_shown t.set _ t.set bus _ (λ b. inl refl)
+formed t seen became policy (put_policy bus given) is = changes t.set _ _ _ (inl refl) refl
+formed t seen became policy (put_statement bus sid account) is = at_bus t.set (put_statement bus sid account) bus _
     (either t.set _ (has_statement sid policy) _ _ (refused t.set _ (cause.StatementExists sid))
     (changes t.set (put_statement bus sid account) _ _ (inl refl) (policy, is, refl)))
-formed t k seen policy (remove_policy bus) is = changes t.set _ _ _ (inl refl) refl
-formed t k seen policy (remove_statement bus None) is = at_bus t.set _ bus _ (refused t.set _ (cause.Required member.StatementId))
-formed t k seen policy (remove_statement bus (Some sid)) is = at_bus t.set (remove_statement bus (Some sid)) bus _
+formed t seen became policy (remove_policy bus) is = changes t.set _ _ _ (inl refl) refl
+formed t seen became policy (remove_statement bus None) is = at_bus t.set _ bus _ (refused t.set _ (cause.Required member.StatementId))
+formed t seen became policy (remove_statement bus (Some sid)) is = at_bus t.set (remove_statement bus (Some sid)) bus _
     (either t.set _ (has_statement sid policy) _ _ (changes t.set (remove_statement bus (Some sid)) _ _ (inl refl) (policy, is, refl))
     (refused t.set _ (cause.NoStatement sid)))
-formed t k seen policy (put_events entries size) is = either t.set _ (nat_lt most_together size) _ _ (refused t.set _ cause.TooLargeTogether)
+formed t seen became policy (put_events entries size) is = either t.set _ (nat_lt most_together size) _ _ (refused t.set _ cause.TooLargeTogether)
     (record { status = inl refl; writes = all_of t.set (put_events entries size) _ })
-formed t k seen policy (test_event_pattern pattern event) is = alone t.set _ _ (inl refl)
-formed t k seen policy (create_queue name) is = changes t.set _ _ _ (inl refl) refl
-formed t k seen policy (delete_queue name) is = either t.set _ (has_queue name t.set && names_queue name t.duties) _ _
+formed t seen became policy (test_event_pattern pattern event) is = alone t.set _ _ (inl refl)
+formed t seen became policy (create_queue name) is = changes t.set _ _ _ (inl refl) refl
+formed t seen became policy (delete_queue name) is = either t.set _ (has_queue name t.set && names_queue name t.duties) _ _
     (refused t.set _ (cause.InUse kind.Queue name)) (changes t.set (delete_queue name) _ _ (inl refl) refl)
-formed t k seen policy (peek_messages queue limit) is = alone t.set _ _ (replied (has_queue queue t.set) _ _ (inl refl) (inr (inl refl)))
-formed t k seen policy (delete_messages queue through) is = either t.set _ (has_queue queue t.set) _ _
+formed t seen became policy (peek_messages queue limit) is = alone t.set _ _ (replied (has_queue queue t.set) _ _ (inl refl) (inr (inl refl)))
+formed t seen became policy (delete_messages queue through) is = either t.set _ (has_queue queue t.set) _ _
     (deletion t.set _ queue through (messages_through through (messages_of queue t.duties.queues))) (refused t.set _ (cause.NotFound kind.Queue queue))
-formed t k seen policy duty_counts is = alone t.set _ _ (inl refl)
-formed t k seen policy (deliver_due budget) is = alone t.set _ _ (inl refl)
+formed t seen became policy duty_counts is = alone t.set _ _ (inl refl)
+formed t seen became policy (deliver_due budget) is = alone t.set _ _ (inl refl)
 
 -- ---- the answer
 
@@ -198,7 +199,7 @@ batched t set action moment (e ∷ es) reply is of =
 
 pub request_form : {t : Tables} {r : Request} {k : ℕ} {set : RuleSet} {a : Answer} → IsAnswer t r k set a → HasForm t.set r.action a
 request_form {t} {r} {k} {set} {a} h =
-    let d = formed t k h.seen h.policy r.action h.is_policy in
+    let d = formed t h.seen h.placed h.policy r.action h.is_policy in
     subst (HasForm t.set r.action) (sym h.answers) (batched t t.set r.action (moment_at t r.reading) _ _ d.status d.writes)
 
 -- ---- a request writes no change of the configuration but its own

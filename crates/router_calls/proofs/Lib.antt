@@ -6,6 +6,7 @@
 -- and parts.
 -- A pair as the fact of an `Any` is one component of the tuple pattern: `(k, row, below, is, (same, other))`. A label is in its goal's
 -- name.
+pub mod TimeLemmas
 pub mod CallLemmas
 pub mod DecidedLemmas
 pub mod EntryLemmas
@@ -16,3 +17,4 @@ pub mod PolicyLemmas
 pub mod OneLemmas
 pub mod AllowedLemmas
 pub mod FormLemmas
+pub mod JsonLemmas

@@ -6,22 +6,22 @@ use Rattle.std.proofs.Common.{append_assoc, append-nil}
 use Rattle.std.specs.Prelude.{nat_le, Option, None, All}
 use Rattle.std.specs.List.{Contains}
 use Rattle.std.proofs.lemmas.Bool.{le-leb, leb-true}
-use Rattle.std.proofs.lemmas.List.Elements.{All-cons, All-weaker}
+use Rattle.std.proofs.lemmas.List.Elements.{All-head, All-tail, All-cons, All-weaker}
 use Rattle.json_text.specs.Tree.{Tree}
 use Rattle.json_text.specs.View.{trees_of}
 use Rattle.rule_targets.specs.declared.target.AskedTarget.{AskedTarget}
 use Rattle.rule_targets.specs.declared.target.Target.{Target}
-use Rattle.rule_targets.specs.Target.{asked_of, put_as}
+use Rattle.rule_targets.specs.Target.{asked_of, put_as, HasValidReads}
 use Rattle.rule_targets.specs.WellFormed.{names_rule, NamesRule, are_few}
-use Rattle.rule_targets.proofs.TargetLemmas.{asked_put}
+use Rattle.rule_targets.proofs.TargetLemmas.{asked_put, put_valid}
 use Rattle.rule_table.specs.declared.control.TargetFault.{TargetFault}
 use Rattle.rule_table.specs.declared.control.ControlFault.TheVariants.{Validation}
 use Rattle.api_replies.specs.declared.member.Member.TheVariants as member
 use Rattle.rule_table.specs.Control.{Control, targets_put}
 use Rattle.rule_table.specs.RuleSet.{Rule, RuleSet, put_target, rule_at, targets_of}
 use Rattle.rule_table.specs.Refusal.{target_fault, are_put, are_some_put, IsAllowed}
-use Rattle.rule_table.specs.WellFormed.{IsWellFormed}
-use Rattle.rule_table.proofs.AllowedLemmas.{no_member_fault, put_formed, targets_fine}
+use Rattle.rule_table.specs.WellFormed.{HasValidInput, IsWellFormed}
+use Rattle.rule_table.proofs.AllowedLemmas.{no_member_fault, one_input, put_formed, targets_fine}
 use Rattle.rule_table.proofs.ChangeLemmas.{after_rule}
 use Rattle.call_replies.specs.Causes.{target_cause}
 use Rattle.api_replies.specs.declared.cause.Cause.{Cause}
@@ -64,7 +64,7 @@ good_first : (set : RuleSet) (have : List Target) (target : AskedTarget) (rest :
     → are_put set rest (having o target have) ≡ true → are_put set (accepted_first o target rest) have ≡ true
 good_first set have target rest (Some fault) is good = good
 good_first set have target rest None is good =
-    let same = asked_put target (no_member_fault set have target is) in
+    let same = asked_put target (no_member_fault set have target is) (one_input set have target is) in
     both (not (is_some (target_fault set have (asked_of (put_as target))))) (are_put set rest (put_target (put_as target) have))
     (ap (λ t. not (is_some (target_fault set have t))) same ∙ ap (λ o. not (is_some o)) is) good
 
@@ -134,6 +134,20 @@ accepted_within set have (target ∷ targets) =
     let next = having (target_fault set have target) target have in
     within_first (target_fault set have target) target (map put_as targets) (accepted_targets set next targets) (accepted_within set next targets)
 
+valid_first : (o : Option TargetFault) (target : AskedTarget) (rest : List Target) → HasValidReads target → All HasValidInput rest
+    → All HasValidInput (accepted_first o target rest)
+valid_first None target rest valid others = All-cons HasValidInput (put_as target) rest (put_valid target valid) others
+valid_first (Some fault) target rest valid others = others
+
+-- the inputs of the accepted targets are valid
+accepted_valid : (set : RuleSet) (have : List Target) (targets : List AskedTarget) → All HasValidReads targets
+    → All HasValidInput (accepted_targets set have targets)
+accepted_valid set have [] valid = none_of HasValidInput
+accepted_valid set have (target ∷ targets) valid =
+    let next = having (target_fault set have target) target have in
+    valid_first (target_fault set have target) target (accepted_targets set next targets) (All-head HasValidReads target targets valid)
+    (accepted_valid set next targets (All-tail HasValidReads target targets valid))
+
 few_first : (o : Option TargetFault) (target : AskedTarget) (rest : List Target) (n : ℕ) → length rest ≤ n → length (accepted_first o target rest) ≤ suc n
 few_first None target rest n low = omega (arith, low)
 few_first (Some fault) target rest n low = omega (arith, low)
@@ -158,11 +172,14 @@ put_allowed on set bus rule r targets have all kept c found same have_is split i
 
 -- and is well formed
 pub put_formed_so : (on set : RuleSet) (bus rule : List ℕ) (targets : List AskedTarget) (have : List Target) (all : SplitTargets)
-    (kept : List Target) (c : Control) → NamesRule bus rule → length targets ≤ 100 → AreAllSplit on have targets all
+    (kept : List Target) (c : Control) → NamesRule bus rule → length targets ≤ 100 → All HasValidReads targets
+    → AreAllSplit on have targets all
     → kept ≡ all.accepted.items → c ≡ targets_put bus rule kept → IsAllowed c set → IsWellFormed c
-put_formed_so on set bus rule targets have all kept c names few split is change allowed =
+put_formed_so on set bus rule targets have all kept c names few valid split is change allowed =
     let put = targets_fine bus rule kept set (subst (λ (x : Control). IsAllowed x set) change allowed) in
     let count = accepted_few on have targets in
     let counted = few_is (length kept) (leb-true 1 (length kept) put.0) (omega (arith, ap length is, ap length split.accepted, count, few)) in
-    subst IsWellFormed (sym change)
-    ((both (names_rule bus rule) _ names (both (are_few (length kept)) _ counted (put_formed set kept (targets_of bus rule set) put.1)), tt))
+    subst IsWellFormed (sym change) (
+      both (names_rule bus rule) _ names (both (are_few (length kept)) _ counted (put_formed set kept (targets_of bus rule set) put.1)),
+      subst (All HasValidInput) (sym (is ∙ split.accepted)) (accepted_valid on have targets valid),
+    )

@@ -6,6 +6,7 @@ use Rattle.json_text.specs.Compact.{compact_text}
 use Rattle.json_text.specs.Limits.{most_together}
 use Rattle.api_replies.specs.declared.member.Member.TheVariants as member
 use Rattle.json_text.specs.Tree.{Tree, text, object, members_of}
+use Rattle.event_time.specs.Time.{IsIso}
 use Rattle.event_shape.specs.Names.{queue_arn, bus_arn, rule_arn}
 use Rattle.event_shape.specs.Id.{event_id}
 use Rattle.rule_targets.specs.declared.target.AskedTarget.{AskedTarget}
@@ -36,7 +37,7 @@ use Rattle.router_core.specs.declared.seen.SeenResult.{SeenResult}
 use Rattle.config_views.specs.Views.{described_bus, listed_buses, described_rule, listed_rules, listed_targets, listed_rule_names}
 use Rattle.call_replies.specs.Causes.{change_cause}
 use Rattle.call_replies.specs.Replies.{empty_reply, items_reply, targets_reply, peeked, deletion_reply, duties_reply, tested_reply}
-use Rattle.router_calls.specs.Accepted.{Given, Placed, AreEventsOf, all_placed, entries_seen, is_tested, events_in, failures_in}
+use Rattle.router_calls.specs.Accepted.{Placed, ArePlaced, entries_seen, is_tested, events_in, failures_in}
 use Rattle.router_calls.specs.Targets.{accepted_targets, failed_targets}
 use Rattle.router_calls.specs.Removals.{removed_ids, failed_ids}
 use Rattle.router_calls.specs.Permission.{IsPolicyNamed, has_statement, granting, revoking}
@@ -152,13 +153,11 @@ entries_reply all = items_reply (failures_in all) (codes "Entries") (map entry_r
 abbrev pub published : List Placed → Decided
 published all = record { entries = map batch.accepted (events_in all); reply = entries_reply all }
 
--- PutEvents, matched on configuration version k. Entries of more than 262,144 bytes together are refused as a whole. Else each becomes an
--- event, numbered after the last one, or fails by itself.
+-- PutEvents, by what became of its entries. Entries of more than 262,144 bytes together are refused as a whole. Else each has become an
+-- event, numbered after the last one, or has failed by itself.
 -- Shown by: a_byte_too_many_is_accepted.edit.
-abbrev pub publication : Tables → ℕ → SeenResult → List Given → ℕ → Decided
-publication t k seen entries size =
-    if nat_lt most_together size then refusal cause.TooLargeTogether
-    else published (all_placed k (t.events + 1) entries (entries_seen seen))
+abbrev pub publication : List Placed → ℕ → Decided
+publication placed size = if nat_lt most_together size then refusal cause.TooLargeTogether else published placed
 
 -- DeleteQueue. An existing queue that a pending delivery or a message names is in use; else it is a change like others. A missing queue is
 -- refused as such, whatever names it.
@@ -181,39 +180,39 @@ messages_deletion t queue through =
     if has_queue queue t.set then deletion_of queue through (messages_through through (messages_of queue t.duties.queues))
     else refusal (cause.NotFound kind.Queue queue)
 
--- What is decided of an action, from the tables before its turn. Arguments are what matching found of it, on configuration version k, and
--- the policy of the bus that it names (`IsPolicyNamed`). Events are matched on that version; everything else goes by the tables' own rule
--- set. What is said of a DeliverDue has no use: it is answered by its steps (router_sessions `IsDelivery`).
+-- What is decided of an action, from the tables before its turn. Arguments are what matching found of it, what became of its entries
+-- (`HasPlaced`), and the policy of the bus that it names (`IsPolicyNamed`). Everything but events goes by the tables' own rule set. What is
+-- said of a DeliverDue has no use: it is answered by its steps (router_sessions `IsDelivery`).
 -- Shown by: tables router_calls.rows: each_request_is_answered.
-abbrev pub decided : Tables → ℕ → SeenResult → Option Tree → Action → Decided
-decided t k seen policy (create_event_bus name) =
+abbrev pub decided : Tables → SeenResult → List Placed → Option Tree → Action → Decided
+decided t seen placed policy (create_event_bus name) =
     controlled t.set (bus_created name) (served ((codes "EventBusArn", text (bus_arn name)) ∷ []))
-decided t k seen policy (delete_event_bus name) = controlled t.set (bus_deleted name) empty_reply
-decided t k seen policy (describe_event_bus name) = shown (described_bus name t.set)
-decided t k seen policy (list_event_buses prefix) = shown (listed_buses prefix t.set)
-decided t k seen policy (put_rule bus name pattern enabled) =
+decided t seen placed policy (delete_event_bus name) = controlled t.set (bus_deleted name) empty_reply
+decided t seen placed policy (describe_event_bus name) = shown (described_bus name t.set)
+decided t seen placed policy (list_event_buses prefix) = shown (listed_buses prefix t.set)
+decided t seen placed policy (put_rule bus name pattern enabled) =
     controlled t.set (rule_put bus name pattern enabled) (served ((codes "RuleArn", text (rule_arn bus name)) ∷ []))
-decided t k seen policy (delete_rule bus name) = rule_deletion t.set bus name
-decided t k seen policy (put_rule_state bus name enabled) = controlled t.set (state_put bus name enabled) empty_reply
-decided t k seen policy (describe_rule bus name) = shown (described_rule bus name t.set)
-decided t k seen policy (list_rules bus prefix) = shown (listed_rules bus prefix t.set)
-decided t k seen policy (put_targets bus rule targets) = on_rule t.set bus rule (λ r. targets_decided t.set bus rule r.targets targets)
-decided t k seen policy (remove_targets bus rule ids) = on_rule t.set bus rule (λ r. removals_decided bus rule r.targets ids)
-decided t k seen policy (list_targets_by_rule bus rule) = shown (listed_targets bus rule t.set)
-decided t k seen policy (list_rule_names_by_target arn bus) = shown (listed_rule_names arn bus t.set)
-decided t k seen policy (put_policy bus given) = controlled t.set (policy_put bus (Some given)) empty_reply
-decided t k seen policy (put_statement bus sid account) = on_bus t.set bus (statement_put t.set bus sid account policy)
-decided t k seen policy (remove_policy bus) = controlled t.set (policy_put bus None) empty_reply
-decided t k seen policy (remove_statement bus sid) = on_bus t.set bus (statement_removed t.set bus sid policy)
-decided t k seen policy (put_events entries size) = publication t k seen entries size
-decided t k seen policy (test_event_pattern pattern event) = shown (tested_reply (is_tested seen))
-decided t k seen policy (create_queue name) =
+decided t seen placed policy (delete_rule bus name) = rule_deletion t.set bus name
+decided t seen placed policy (put_rule_state bus name enabled) = controlled t.set (state_put bus name enabled) empty_reply
+decided t seen placed policy (describe_rule bus name) = shown (described_rule bus name t.set)
+decided t seen placed policy (list_rules bus prefix) = shown (listed_rules bus prefix t.set)
+decided t seen placed policy (put_targets bus rule targets) = on_rule t.set bus rule (λ r. targets_decided t.set bus rule r.targets targets)
+decided t seen placed policy (remove_targets bus rule ids) = on_rule t.set bus rule (λ r. removals_decided bus rule r.targets ids)
+decided t seen placed policy (list_targets_by_rule bus rule) = shown (listed_targets bus rule t.set)
+decided t seen placed policy (list_rule_names_by_target arn bus) = shown (listed_rule_names arn bus t.set)
+decided t seen placed policy (put_policy bus given) = controlled t.set (policy_put bus (Some given)) empty_reply
+decided t seen placed policy (put_statement bus sid account) = on_bus t.set bus (statement_put t.set bus sid account policy)
+decided t seen placed policy (remove_policy bus) = controlled t.set (policy_put bus None) empty_reply
+decided t seen placed policy (remove_statement bus sid) = on_bus t.set bus (statement_removed t.set bus sid policy)
+decided t seen placed policy (put_events entries size) = publication placed size
+decided t seen placed policy (test_event_pattern pattern event) = shown (tested_reply (is_tested seen))
+decided t seen placed policy (create_queue name) =
     controlled t.set (queue_created name) (served ((codes "QueueArn", text (queue_arn name)) ∷ []))
-decided t k seen policy (delete_queue name) = queue_deletion t name
-decided t k seen policy (peek_messages queue limit) = shown (peeked queue limit t.set t.duties)
-decided t k seen policy (delete_messages queue through) = messages_deletion t queue through
-decided t k seen policy duty_counts = shown (duties_reply t.duties)
-decided t k seen policy (deliver_due budget) = shown empty_reply
+decided t seen placed policy (delete_queue name) = queue_deletion t name
+decided t seen placed policy (peek_messages queue limit) = shown (peeked queue limit t.set t.duties)
+decided t seen placed policy (delete_messages queue through) = messages_deletion t queue through
+decided t seen placed policy duty_counts = shown (duties_reply t.duties)
+decided t seen placed policy (deliver_due budget) = shown empty_reply
 
 -- What a request's turn writes, a batch or none, and its reply.
 -- Shown by: tables router_calls.rows: each_request_is_answered.
@@ -235,15 +234,17 @@ written t moment (entry ∷ entries) reply =
 abbrev pub answer_at : Tables → ℕ → Decided → Answer
 answer_at t moment d = written t moment d.entries d.reply
 
--- The accepted events of a PutEvents are events. Another action has none, and neither has a PutEvents that is refused as a whole.
--- Shown by: event_tests test_event_shape.rt: an_event_has_its_exact_text.
-abbrev pub HasEvents : Tables → ℕ → SeenResult → Action → Type 0
-HasEvents t k seen (put_events entries size) =
-    nat_lt most_together size ≡ false → AreEventsOf k (t.events + 1) entries (entries_seen seen)
-HasEvents t k seen action = Unit {0}
+-- What became of the entries of a PutEvents, matched on configuration version k and filled with this time text. The first event is numbered
+-- after the last one of the tables. Nothing is said of another action, or of a PutEvents that is refused as a whole.
+-- Shown by: tables router_calls.rows: each_request_is_answered.
+abbrev pub HasPlaced : Tables → ℕ → List ℕ → SeenResult → Action → List Placed → Type 0
+HasPlaced t k time seen (put_events entries size) placed =
+    nat_lt most_together size ≡ false → ArePlaced k (t.events + 1) time entries (entries_seen seen) placed
+HasPlaced t k time seen action placed = Unit {0}
 
 -- The answer to a request that one turn answers: `decided` at the moment of the turn, on a configuration version that the tables have had.
--- Only a PutEvents may be matched on an earlier version than the latest. Each entry that is accepted is an event at the moment of its time.
+-- Only a PutEvents may be matched on an earlier version than the latest. Each entry that is accepted is an event at the moment of its time,
+-- and its targets get texts that are filled at the moment of the turn.
 -- A request outside `IsBounded` has no answer, and neither has one that its caller may not make (router_core `IsEntitled`).
 -- Shown by: tables router_calls.rows: each_request_is_answered.
 pub record IsAnswer (t : Tables) (request : Request) (k : ℕ) (set : RuleSet) (a : Answer) : Type 0 where
@@ -257,5 +258,8 @@ pub record IsAnswer (t : Tables) (request : Request) (k : ℕ) (set : RuleSet) (
   pub is_seen : IsSeenResult set request.caller request.action seen
   pub policy : Option Tree
   pub is_policy : IsPolicyNamed t.set request.action policy
-  pub answers : a ≡ answer_at t (moment_at t request.reading) (decided t k seen policy request.action)
-  pub events : HasEvents t k seen request.action
+  pub time : List ℕ
+  pub is_time : IsIso (moment_at t request.reading) time
+  pub placed : List Placed
+  pub has_placed : HasPlaced t k time seen request.action placed
+  pub answers : a ≡ answer_at t (moment_at t request.reading) (decided t seen placed policy request.action)

@@ -1,8 +1,10 @@
 -- For private clauses: what was seen of an action, what is decided of it, and what one entry or target, or several, add to what was read
 -- before them.
-use Rattle.std.specs.Prelude.{◌≡◌, ℕ, ◌+◌, ◌≤◌, List, [], ◌∷◌, ◌++◌, length, map, Option, None, Result, Ok, Err, All, IsTrue, codes}
+use Rattle.std.specs.Prelude.{◌≡◌, ℕ, ◌+◌, ◌≤◌, List, [], ◌∷◌, ◌++◌, length, map, Option, None, Result, Ok, Err, All, IsTrue, codes, nat_lt, false}
 use Rattle.json_text.specs.Tree.{Tree}
+use Rattle.json_text.specs.Limits.{most_together}
 use Rattle.json_text.specs.View.{trees_of}
+use Rattle.event_time.specs.Time.{IsIso}
 use Rattle.event_shape.specs.Names.{is_account}
 use Rattle.name_rows.specs.Rows.{named}
 use Rattle.rule_targets.specs.declared.target.AskedTarget.{AskedTarget}
@@ -23,11 +25,11 @@ use Rattle.router_core.specs.declared.batch.Entry.TheVariants as entry
 use Rattle.router_core.specs.declared.ready.Part.{Part}
 use Rattle.router_core.specs.declared.seen.Seen.{Seen}
 use Rattle.router_core.specs.declared.seen.SeenEntry.{SeenEntry}
-use Rattle.router_calls.specs.Accepted.{Given, Found, Placed, AreEventsOf, all_placed, events_in, failures_in}
+use Rattle.router_calls.specs.Accepted.{Given, Found, Placed, ArePlaced, entries_seen, events_in, failures_in}
 use Rattle.router_calls.specs.Permission.{IsPolicyThere}
 use Rattle.router_calls.specs.Targets.{having, accepted_first, failed_first, accepted_targets, failed_targets}
 use Rattle.call_replies.specs.Replies.{target_report, items_reply}
-use Rattle.router_calls.specs.Answer.{Decided, decided, entry_report, on_bus, statement_put, statement_removed}
+use Rattle.router_calls.specs.Answer.{Decided, decided, entry_report, on_bus, publication, statement_put, statement_removed}
 use Rattle.router_calls.specs.declared.put_events.PlacedEntries.{PlacedEntries}
 use Rattle.router_calls.specs.declared.put_targets.SplitTargets.{SplitTargets}
 
@@ -43,11 +45,19 @@ abbrev pub IsByPolicy : RuleSet → List ℕ → (Option Tree → Decided) → D
 IsByPolicy set bus decide d =
     (policy : Option Tree) × IsPolicyThere (named (λ b. b.name) bus set.buses) policy × (d ≡ on_bus set bus (decide policy))
 
--- what is decided of an action by what was seen of it
-abbrev pub IsDecidedAs : Tables → Seen → Action → Decided → Type 0
-IsDecidedAs t seen (put_statement bus sid account) d = IsByPolicy t.set bus (statement_put t.set bus sid account) d
-IsDecidedAs t seen (remove_statement bus sid) d = IsByPolicy t.set bus (statement_removed t.set bus sid) d
-IsDecidedAs t seen action d = d ≡ decided t seen.k seen.result None action
+-- what is decided of entries, filled at a moment
+abbrev pub IsPublication : Tables → ℕ → ℕ → List Given → List Found → ℕ → Decided → Type 0
+IsPublication t k moment entries found size d =
+    (time : List ℕ) → IsIso moment time → (placed : List Placed)
+    × (nat_lt most_together size ≡ false → ArePlaced k (t.events + 1) time entries found placed)
+    × (d ≡ publication placed size)
+
+-- what is decided of an action at a moment by what was seen of it
+abbrev pub IsDecidedAs : Tables → ℕ → Seen → Action → Decided → Type 0
+IsDecidedAs t moment seen (put_events entries size) d = IsPublication t seen.k moment entries (entries_seen seen.result) size d
+IsDecidedAs t moment seen (put_statement bus sid account) d = IsByPolicy t.set bus (statement_put t.set bus sid account) d
+IsDecidedAs t moment seen (remove_statement bus sid) d = IsByPolicy t.set bus (statement_removed t.set bus sid) d
+IsDecidedAs t moment seen action d = d ≡ decided t seen.result [] None action
 
 -- the results of matching entries of this caller, on configuration version k, which the tables have had
 pub record AreSeenOn (t : Tables) (set : RuleSet) (caller : List ℕ) (entries : List Given) (k : ℕ) (all : List SeenEntry) : Type 0 where
@@ -79,10 +89,11 @@ pub record Adds (all : List Placed) (old new : PlacedEntries) : Type 0 where
   pub reports : trees_of new.reports.items ≡ trees_of old.reports.items ++ map entry_report all
   pub failed : new.failed ≡ old.failed + failures_in all
 
--- the entries, of which the first event gets the number n, add what they became, and the accepted ones are events
-pub record Places (k n : ℕ) (entries : List Given) (found : List Found) (old new : PlacedEntries) : Type 0 where
-  pub adds : Adds (all_placed k n entries found) old new
-  pub events : AreEventsOf k n entries found
+-- the entries, of which the first event gets the number n, add what they became
+pub record Places (k n : ℕ) (time : List ℕ) (entries : List Given) (found : List Found) (old new : PlacedEntries) : Type 0 where
+  pub all : List Placed
+  pub are : ArePlaced k n time entries found all
+  pub adds : Adds all old new
 
 -- what is decided for the entries that were placed
 abbrev pub placed_decided : PlacedEntries → Decided

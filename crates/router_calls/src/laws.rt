@@ -1,10 +1,17 @@
 //! Laws of the machine.
-ghost use Rattle.std.specs.Prelude.{◌≡◌, ℕ, Some};
+ghost use Rattle.std.specs.Prelude.{◌≡◌, ◌≤◌, ℕ, List, Option, Some};
 ghost use Rattle.std.specs.List.{Contains};
+ghost use Rattle.json_text.specs.Node.{Node};
+ghost use Rattle.json_text.specs.Grammar.{IsText};
+ghost use Rattle.json_text.specs.Compact.{tree_levels};
 ghost use Rattle.event_shape.specs.Names.{owner};
+ghost use Rattle.input_transform.specs.Names.{Scene};
+ghost use Rattle.input_transform.specs.Stored.{IsScene};
+ghost use Rattle.rule_targets.specs.declared.given.GivenInput.{GivenInput};
 ghost use Rattle.rule_table.specs.Control.{Control};
 ghost use Rattle.rule_table.specs.RuleSet.{RuleSet};
 ghost use Rattle.router_core.specs.Batch.{Batch, control};
+ghost use Rattle.router_core.specs.Duties.{IsTargetText};
 ghost use Rattle.router_core.specs.Request.{Request};
 ghost use Rattle.router_core.specs.Tables.{Tables};
 ghost use Rattle.router_calls.specs.Answer.{Answer, IsAnswer};
@@ -14,6 +21,12 @@ ghost use Rattle.router_calls.specs.Changes.{MayMake};
 /// A request has at most one answer on each configuration version.
 pub fn one_answer()
     ensures { (t : Tables) (r : Request) (k : ℕ) (set : RuleSet) (a b : Answer) → IsAnswer t r k set a → IsAnswer t r k set b → a ≡ b }
+{}
+
+/// What a target gets is one JSON text of at most 200 levels, whatever the event and the input are: the event has at most 100.
+pub fn a_target_gets_one_json_text()
+    ensures { (scene : Scene) (input : Option GivenInput) (text : List ℕ) → IsScene scene → tree_levels scene.event ≤ 100
+        → IsTargetText scene input text → (n : Node) × IsText 200 text n }
 {}
 
 /// A caller other than the owner writes nothing but accepted events, each of which the policy of its bus allows.

@@ -22,5 +22,7 @@ mod remove_targets;
 mod requests;
 mod test_event_pattern;
 
-pub use laws::{a_stranger_only_publishes, one_answer, only_its_request};
+pub use laws::{
+    a_stranger_only_publishes, a_target_gets_one_json_text, one_answer, only_its_request,
+};
 pub use requests::decide;

@@ -1,28 +1,28 @@
 //! PutEvents.
-ghost use Rattle.std.specs.Prelude.{◌≡◌, ◌<◌, ◌+◌, ◌^◌, ℕ, List, length, map, nat_lt, if◌then◌else◌, false, Ok, IfOk, OnOk, All};
-ghost use Rattle.json_text.specs.Limits.{most_together};
+ghost use Rattle.std.specs.Prelude.{◌≡◌, ◌<◌, ◌+◌, ◌^◌, ℕ, List, length, map, Ok, IfOk, OnOk, All};
+ghost use Rattle.json_text.specs.Moment.{IsMoment};
 ghost use Rattle.json_text.specs.View.{tree_of};
-ghost use Rattle.event_shape.specs.Event.{IsEventAt};
-ghost use Rattle.event_shape.specs.Unnumbered.{with_number};
+ghost use Rattle.event_time.specs.Time.{IsIso};
 ghost use Rattle.rule_table.specs.RuleSet.{RuleSet};
-ghost use Rattle.api_replies.specs.declared.cause.Cause.TheVariants as cause_is;
 ghost use Rattle.router_core.specs.Request.{put_events};
 ghost use Rattle.router_core.specs.View.{accepted_of};
 ghost use Rattle.router_core.specs.Matching.{AreSeenEntries, IsSeenEntry};
+ghost use Rattle.router_core.specs.Duties.{AreDuties};
 ghost use Rattle.router_core.specs.Bounds.{IsBounded};
-ghost use Rattle.router_calls.specs.Accepted.{accepted_as, all_placed, found_of, placed, AreEventsOf, IsEventOf};
-ghost use Rattle.router_calls.specs.Answer.{entry_report, publication, published, refusal, HasEvents};
+ghost use Rattle.router_calls.specs.Accepted.{entries_seen, found_of, numbered_text, numbered_tree, IsAcceptedAs, IsPlaced};
+ghost use Rattle.router_calls.specs.Answer.{entry_report};
 ghost use Rattle.router_calls.specs.Decided.{decided_of, CanBeMade};
-ghost use Rattle.router_calls.specs.Steps.{placed_of, placed_decided, Places, AreReady, AreSeenOn, HasAccount, IsEventAdded, IsRefusalAdded, IsSeenOn};
+ghost use Rattle.router_calls.specs.Steps.{placed_of, placed_decided, Places, AreReady, AreSeenOn, HasAccount, IsEventAdded, IsPublication, IsRefusalAdded, IsSeenOn};
 
 use crate::decided::{Decided, refused};
 use crate::requests::read_tables;
 use call_replies::{entry_cause, items_reply};
+use delivery_duties::NewDuty;
 use event_shape::{EntryFault, Unnumbered, event_id};
 use json_text::{Items, Json, Members, NoMemory, Text, push_member};
 use router_core::{
     AcceptedEvent, Cause, Entry, Member, Part, Seen, SeenEntries, SeenEntry, SeenResult,
-    SeenTargets, SeenVerdict, Tables, duties_of, push_failure,
+    SeenTargets, SeenVerdict, Tables, duties_of, need_tree, push_failure,
 };
 use shared_text::SharedText;
 use std::alloc::Global;
@@ -31,23 +31,27 @@ use std::collections::VecDeque;
 /// The greatest number of bytes that the entries of one request have together.
 const SIZE_LIMIT: u64 = 262_144;
 
-/// Accepts each entry that matching found allowed. If all fail, nothing is changed. The results of matching are taken out of `seen`.
+/// Accepts each entry that matching found allowed, at this moment. If all fail, nothing is changed. The results of matching are taken
+/// out of `seen`.
 pub(crate) fn put_events(
     alloc: Global,
     tables: &Tables,
     entries: &[Result<Unnumbered, EntryFault>],
     size: u64,
+    moment: u64,
     seen: &mut Seen,
 ) -> Result<Decided, NoMemory>
+    requires moment { IsMoment moment }
     requires bounded { IsBounded (put_events entries.now size) }
     requires accounts { All HasAccount entries.now }
     requires seen { (set : RuleSet) × (caller : List ℕ) × IsSeenOn tables.now set caller (put_events entries.now size) seen.old }
-    ensures answer { IfOk result (λ d. decided_of d ≡ publication tables.now seen.old.k seen.old.result entries.now size) }
-    ensures events { OnOk result (HasEvents tables.now seen.old.k seen.old.result (put_events entries.now size)) }
+    ensures answer { IfOk result (λ d. IsPublication tables.now seen.old.k moment entries.now (entries_seen seen.old.result) size (decided_of d)) }
     ensures made { IfOk result (λ d. CanBeMade tables.now d) }
 {
     match &mut seen.result {
-        SeenResult::Entries(found) => publish(alloc, tables, entries, size, seen.k, found),
+        SeenResult::Entries(found) => {
+            publish(alloc, tables, entries, size, moment, seen.k, found)
+        }
         SeenResult::Tested(_) | SeenResult::Nothing => unreachable!(),
     }
 }
@@ -58,16 +62,15 @@ fn publish(
     tables: &Tables,
     entries: &[Result<Unnumbered, EntryFault>],
     size: u64,
+    moment: u64,
     k: u64,
     found: &mut SeenEntries,
 ) -> Result<Decided, NoMemory>
+    requires moment { IsMoment moment }
     requires bounded { IsBounded (put_events entries.now size) }
     requires accounts { All HasAccount entries.now }
     requires seen { (set : RuleSet) × (caller : List ℕ) × AreSeenOn tables.now set caller entries.now k found.old.items }
-    ensures answer { IfOk result (λ d. decided_of d ≡ (if nat_lt most_together size then refusal cause_is.TooLargeTogether
-        else published (all_placed k (tables.now.events + 1) entries.now (map found_of found.old.items)))) }
-    ensures events { OnOk result (nat_lt most_together size ≡ false
-        → AreEventsOf k (tables.now.events + 1) entries.now (map found_of found.old.items)) }
+    ensures answer { IfOk result (λ d. IsPublication tables.now k moment entries.now (map found_of found.old.items) size (decided_of d)) }
     ensures made { IfOk result (λ d. CanBeMade tables.now d) }
 {
     if size > SIZE_LIMIT {
@@ -80,7 +83,15 @@ fn publish(
         reports: Vec::with_capacity(alloc, entries.len())?,
         failed: 0,
     };
-    place_all(alloc, entries, k, found, tables.events() + 1, &mut all)?;
+    place_all(
+        alloc,
+        entries,
+        k,
+        moment,
+        found,
+        tables.events() + 1,
+        &mut all,
+    )?;
     reported(alloc, tables, all)
 }
 
@@ -122,25 +133,28 @@ fn place_all(
     alloc: Global,
     entries: &[Result<Unnumbered, EntryFault>],
     k: u64,
+    moment: u64,
     found: &mut SeenEntries,
     number: u64,
     all: &mut PlacedEntries,
 ) -> Result<(), NoMemory>
+    requires moment { IsMoment moment }
     requires seen { (set : RuleSet) × (caller : List ℕ) × AreSeenEntries set caller entries.now found.old.items }
     requires number { number + length entries.now < 2 ^ 63 }
     requires failed { all.old.failed + length entries.now < 2 ^ 63 }
-    ensures { OnOk result (Places k number entries.now (map found_of found.old.items) all.old all.new) }
+    ensures { OnOk result ((time : List ℕ) → IsIso moment time
+        → Places k number time entries.now (map found_of found.old.items) all.old all.new) }
 {
     match entries {
         [entry, rest @ ..] => match found.pop_front() {
-            Some(seen) => match place(alloc, entry, k, seen, number)? {
+            Some(seen) => match place(alloc, entry, k, moment, seen, number)? {
                 Ok(event) => {
                     push_event(alloc, event, all)?;
-                    place_all(alloc, rest, k, found, number + 1, all)
+                    place_all(alloc, rest, k, moment, found, number + 1, all)
                 }
                 Err(cause) => {
                     push_refusal(alloc, &cause, all)?;
-                    place_all(alloc, rest, k, found, number, all)
+                    place_all(alloc, rest, k, moment, found, number, all)
                 }
             },
             None => unreachable!(),
@@ -176,12 +190,13 @@ fn place(
     alloc: Global,
     entry: &Result<Unnumbered, EntryFault>,
     k: u64,
+    moment: u64,
     seen: SeenEntry,
     number: u64,
 ) -> Result<Result<AcceptedEvent, Cause>, NoMemory>
-    requires { (set : RuleSet) × (caller : List ℕ) × IsSeenEntry set caller entry.now seen }
-    ensures placed { IfOk result (λ p. placed_of p ≡ placed k number entry.now (found_of seen)) }
-    ensures event { IfOk result (λ p. IsEventOf entry.now (placed_of p)) }
+    requires moment { IsMoment moment }
+    requires seen { (set : RuleSet) × (caller : List ℕ) × IsSeenEntry set caller entry.now seen }
+    ensures { IfOk result (λ p. (time : List ℕ) → IsIso moment time → IsPlaced k number time entry.now (found_of seen) (placed_of p)) }
 {
     let SeenEntry { verdict, targets } = seen;
     match verdict {
@@ -190,25 +205,27 @@ fn place(
         SeenVerdict::DeniedBy(statement) => Ok(Err(Cause::DeniedBy { statement })),
         SeenVerdict::NotAllowed => Ok(Err(Cause::NotAllowed)),
         SeenVerdict::Allowed => match entry {
-            Ok(event) => Ok(Ok(accept(alloc, event, k, targets, number)?)),
+            Ok(event) => Ok(Ok(accept(alloc, event, k, moment, targets, number)?)),
             Err(_) => unreachable!(),
         },
     }
 }
 
-/// The event with this number, and a duty for each of these targets.
+/// The event with this number, and a duty for each of these targets, filled at this moment.
 fn accept(
     alloc: Global,
     event: &Unnumbered,
     k: u64,
+    moment: u64,
     targets: SeenTargets,
     number: u64,
 ) -> Result<AcceptedEvent, NoMemory>
-    ensures accepted { IfOk result (λ e. accepted_of e ≡ accepted_as k number event.now targets.items) }
-    ensures event { IfOk result (λ e. IsEventAt e.time (with_number e.number event.now.event)) }
+    requires { IsMoment moment }
+    ensures { IfOk result (λ e. (time : List ℕ) → IsIso moment time
+        → IsAcceptedAs k number time event.now targets.items (accepted_of e)) }
 {
     let text = SharedText::new(alloc, event.numbered(alloc, number)?)?;
-    let duties = duties_of(alloc, targets, &text)?;
+    let duties = duties(alloc, event, number, moment, targets, &text)?;
     let bus = Text::from_str(alloc, event.bus())?;
     Ok(AcceptedEvent {
         number,
@@ -218,6 +235,28 @@ fn accept(
         text,
         duties,
     })
+}
+
+/// The duties of the event with this number and text. Its tree is made only if a target has a path or a template.
+fn duties(
+    alloc: Global,
+    event: &Unnumbered,
+    number: u64,
+    moment: u64,
+    targets: SeenTargets,
+    text: &SharedText,
+) -> Result<Vec<NewDuty>, NoMemory>
+    requires moment { IsMoment moment }
+    requires text { text.now ≡ numbered_text number event.now }
+    ensures { IfOk result (λ duties. (time : List ℕ) → IsIso moment time
+        → AreDuties (numbered_tree number event.now) time targets.items duties.items) }
+{
+    if need_tree(&targets) {
+        let tree = event.numbered_tree(alloc, number)?;
+        duties_of(alloc, targets, text, Some(&tree), moment)
+    } else {
+        duties_of(alloc, targets, text, None, moment)
+    }
 }
 
 fn event_json(alloc: Global, event: &AcceptedEvent) -> Result<Json, NoMemory>

@@ -1,5 +1,6 @@
 //! PutTargets.
-ghost use Rattle.std.specs.Prelude.{◌≡◌, ◌≤◌, length, map, Some, IfOk, OnOk};
+ghost use Rattle.std.specs.Prelude.{◌≡◌, ◌≤◌, length, map, Some, IfOk, OnOk, All};
+ghost use Rattle.rule_targets.specs.Target.{HasValidReads};
 ghost use Rattle.rule_targets.specs.WellFormed.{NamesRule};
 ghost use Rattle.rule_table.specs.Control.{targets_put};
 ghost use Rattle.rule_table.specs.RuleSet.{rule_at};
@@ -28,6 +29,7 @@ pub(crate) fn put_targets(
 ) -> Result<Decided, NoMemory>
     requires names { NamesRule bus.now rule.now }
     requires few { length targets.now ≤ 100 }
+    requires valid { All HasValidReads targets.now }
     ensures answer { IfOk result (λ d. decided_of d ≡ on_rule tables.now.set bus.now rule.now (λ r.
         targets_decided tables.now.set bus.now rule.now r.targets targets.now)) }
     ensures made { IfOk result (λ d. CanBeMade tables.now d) }
@@ -50,6 +52,7 @@ fn put_to(
     requires there { rule_at bus.now rule.now tables.now.set ≡ Some old.now }
     requires names { NamesRule bus.now rule.now }
     requires few { length targets.now ≤ 100 }
+    requires valid { All HasValidReads targets.now }
     ensures answer { IfOk result (λ d. decided_of d ≡ targets_decided tables.now.set bus.now rule.now old.now.targets targets.now) }
     ensures made { IfOk result (λ d. CanBeMade tables.now d) }
 {

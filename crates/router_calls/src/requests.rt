@@ -1,5 +1,5 @@
 //! What each request changes, and its reply.
-ghost use Rattle.std.specs.Prelude.{◌≡◌, ℕ, List, IfOk, IfSome, OnOk};
+ghost use Rattle.std.specs.Prelude.{◌≡◌, ℕ, List, IfOk, IfSome};
 ghost use Rattle.std.specs.Option.{option_copied};
 ghost use Rattle.json_text.specs.Moment.{IsMoment};
 ghost use Rattle.rule_table.specs.RuleSet.{RuleSet};
@@ -9,7 +9,7 @@ ghost use Rattle.router_core.specs.View.{action_of, request_of};
 ghost use Rattle.router_core.specs.Tables.{IsConsistent, moment_at};
 ghost use Rattle.router_core.specs.Ready.{IsReadyFor};
 ghost use Rattle.router_core.specs.Bounds.{IsBounded};
-ghost use Rattle.router_calls.specs.Answer.{IsAnswer, HasEvents};
+ghost use Rattle.router_calls.specs.Answer.{IsAnswer};
 ghost use Rattle.router_calls.specs.Decided.{answer_of, decided_of, CanBeMade};
 ghost use Rattle.router_calls.specs.Matched.{IsMatchedOn};
 ghost use Rattle.router_calls.specs.Steps.{HaveAccounts, IsDecidedAs, IsSeenOn};
@@ -59,23 +59,25 @@ pub fn decide(
     ensures ready { IfOk result (λ p. IfSome p.0 (λ r. IsReadyFor tables.now r)) }
 {
     read_tables(tables);
-    let decided = answer(alloc, tables, &request.action, &mut seen)?;
+    let decided = answer(alloc, tables, &request.action, moment, &mut seen)?;
     batched(alloc, tables, moment, decided)
 }
 
-/// The operations that the action writes, if any, and the reply. What was found of the entries of a PutEvents is taken out of `seen`.
+/// The operations that the action writes at this moment, if any, and the reply. What was found of the entries of a PutEvents is taken
+/// out of `seen`.
 fn answer(
     alloc: Global,
     tables: &Tables,
     action: &Action,
+    moment: u64,
     seen: &mut Seen,
 ) -> Result<Decided, NoMemory>
+    requires moment { IsMoment moment }
     requires bounded { IsBounded (action_of action.now) }
     requires accounts { HaveAccounts (action_of action.now) }
     requires one_turn { IsOneTurn (action_of action.now) }
     requires seen { (set : RuleSet) × (caller : List ℕ) × IsSeenOn tables.now set caller (action_of action.now) seen.old }
-    ensures answer { IfOk result (λ d. IsDecidedAs tables.now seen.old (action_of action.now) (decided_of d)) }
-    ensures events { OnOk result (HasEvents tables.now seen.old.k seen.old.result (action_of action.now)) }
+    ensures answer { IfOk result (λ d. IsDecidedAs tables.now moment seen.old (action_of action.now) (decided_of d)) }
     ensures made { IfOk result (λ d. CanBeMade tables.now d) }
 {
     match action {
@@ -103,7 +105,9 @@ fn answer(
         }
         Action::RemovePolicy { bus } => remove_policy(alloc, tables, bus),
         Action::RemoveStatement { bus, sid } => remove_statement(alloc, tables, bus, sid),
-        Action::PutEvents { entries, size } => { put_events(alloc, tables, entries, *size, seen) }
+        Action::PutEvents { entries, size } => {
+            put_events(alloc, tables, entries, *size, moment, seen)
+        }
         Action::CreateQueue { name } => create_queue(alloc, tables, name),
         Action::DeleteQueue { name } => delete_queue(alloc, tables, name),
         Action::PeekMessages { queue, limit } => Ok(shown(

@@ -15,6 +15,8 @@ use Rattle.bus_policy.specs.contracts.policy.Policy as policy
 use Rattle.name_rows.proofs.rows.Rows.TheSendSync as rows
 use Rattle.shared_text.proofs.row.TargetRow.TheSendSync as target_row
 use Rattle.shared_text.specs.contracts.row.SharedRow as shared_row
+use Rattle.rule_targets.proofs.shared_input.ReadInput.TheSendSync as read_input
+use Rattle.rule_targets.specs.contracts.shared_input.SharedInput as shared_input
 use Rattle.rule_table.specs.contracts.rule_target.RuleTarget as rule_target
 use Rattle.rule_table.specs.contracts.rule.Rule as rule
 use Rattle.rule_table.specs.contracts.policy.SharedPolicy as shared
@@ -60,11 +62,17 @@ row_send = search (sendable, crosses, target_row.the_send, target_row.the_sync) 
 pub row_sync : IsSync shared_row.the_row
 row_sync = search (sendable, crosses, target_row.the_send, target_row.the_sync) depth 20
 
+pub input_send : IsSend shared_input.the_row
+input_send = search (sendable, crosses, read_input.the_send, read_input.the_sync) depth 20
+
+pub input_sync : IsSync shared_input.the_row
+input_sync = search (sendable, crosses, read_input.the_send, read_input.the_sync) depth 20
+
 target_send : IsSend rule_target.the_row
-target_send = search (sendable, crosses, row_send) depth 20
+target_send = search (sendable, crosses, row_send, input_send) depth 20
 
 target_sync : IsSync rule_target.the_row
-target_sync = search (sendable, crosses, row_sync) depth 20
+target_sync = search (sendable, crosses, row_sync, input_sync) depth 20
 
 rule_send : IsSend rule.the_row
 rule_send = search (sendable, crosses, text.the_send, shared_pattern_send, target_send) depth 20

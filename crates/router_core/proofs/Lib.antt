@@ -14,6 +14,7 @@ mod TablesLemmas
 mod BatchLemmas
 mod ClaimLemmas
 pub mod MatchingLemmas
+pub mod DutyLemmas
 pub mod OnceLemmas
 pub mod CrossingLemmas
 pub mod MovingLemmas

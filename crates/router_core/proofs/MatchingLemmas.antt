@@ -119,9 +119,9 @@ matched_numbered (rule ∷ rules) e n m targets (rest, are, which) = (
   ],
 )
 
--- the target of a row
+-- the target that is stored so
 abbrev pub seen_row : StoredTarget → SeenTarget
-seen_row stored = record { row = stored.row }
+seen_row stored = record { row = stored.row; input = stored.input }
 
 -- the targets of the rows of a rule
 seen_rows : (rule : Rule) (targets : List Target) → map seen_row (map (stored_of rule) targets) ≡ map (seen_target rule) targets

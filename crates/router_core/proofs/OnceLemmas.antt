@@ -12,7 +12,7 @@ use Rattle.bus_policy.proofs.LawLemmas.{verdict_once as policy_verdict_once}
 use Rattle.bus_policy.proofs.ReadLemmas.{one_policy}
 use Rattle.name_rows.specs.Rows.{named}
 use Rattle.rule_table.specs.RuleSet.{Rule, Bus, RuleSet, rules_of}
-use Rattle.router_core.specs.Matching.{AreMatched, AreMatchedFor, AreTargetsOf, IsTestedAs, seen_target}
+use Rattle.router_core.specs.Matching.{AreMatched, AreTargetsOf, IsTestedAs, seen_target}
 use Rattle.router_core.specs.Verdict.{IsPolicyOf, asker_for, seen_verdict, IsVerdictOn, IsEntryVerdict}
 use Rattle.router_core.specs.declared.seen.SeenTarget.{SeenTarget}
 use Rattle.router_core.specs.declared.seen.SeenVerdict.{SeenVerdict}

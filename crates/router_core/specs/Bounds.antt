@@ -10,6 +10,7 @@ use Rattle.bus_policy.specs.Change.{IsAccountGiven}
 use Rattle.bus_policy.specs.StatementId.{IsStatementId}
 use Rattle.rule_table.specs.Control.{bus_created, bus_deleted, rule_put, rule_deleted, state_put, targets_removed, policy_put, queue_created}
 use Rattle.rule_table.specs.Control.{queue_deleted}
+use Rattle.rule_targets.specs.Target.{HasValidReads}
 use Rattle.rule_targets.specs.Checks.{IsTargetArn}
 use Rattle.rule_table.specs.WellFormed.{IsWellFormed, IsSomePattern}
 use Rattle.rule_targets.specs.WellFormed.{NamesRule}
@@ -31,7 +32,7 @@ IsStatementIdIfGiven None = Unit {0}
 IsStatementIdIfGiven (Some sid) = IsStatementId sid
 
 -- The names of buses, rules and queues have their syntax, and so have a TargetArn, a StatementId and the ids of a RemoveTargets. The
--- members of a target are checked later, target by target. As in the Amazon EventBridge API Reference, a PutTargets has 1 to 100 targets, a
+-- members of a target are checked later, target by target; what was read of its input is valid. As in the Amazon EventBridge API Reference, a PutTargets has 1 to 100 targets, a
 -- RemoveTargets 1 to 100 ids, a PutEvents 1 to 10 entries, each for a bus name or faulty. By this project's own rule, a PeekMessages shows
 -- 1 to 1,000 messages, a DeleteMessages deletes those up to a number below 2 ^ 48, a DeliverDue makes 1 to 1,000 steps. A PutRule has a
 -- pattern, a TestEventPattern a pattern and a JSON value. A policy that is put is one as it is stored, of any length; a statement that is
@@ -47,7 +48,7 @@ IsBounded (delete_rule bus name) = IsWellFormed (rule_deleted bus name)
 IsBounded (put_rule_state bus name enabled) = IsWellFormed (state_put bus name enabled)
 IsBounded (describe_rule bus name) = NamesRule bus name
 IsBounded (list_rules bus prefix) = IsBusName bus
-IsBounded (put_targets bus rule targets) = NamesRule bus rule × (1 ≤ length targets) × (length targets ≤ 100)
+IsBounded (put_targets bus rule targets) = NamesRule bus rule × (1 ≤ length targets) × (length targets ≤ 100) × All HasValidReads targets
 IsBounded (remove_targets bus rule ids) = IsWellFormed (targets_removed bus rule ids)
 IsBounded (list_targets_by_rule bus rule) = NamesRule bus rule
 IsBounded (list_rule_names_by_target arn bus) = IsBusName bus × IsTargetArn arn

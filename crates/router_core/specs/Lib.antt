@@ -6,6 +6,7 @@ pub mod Tables
 pub mod Admitted
 pub mod Verdict
 pub mod Matching
+pub mod Duties
 pub mod Parts
 pub mod Ready
 pub mod Steps

@@ -1,8 +1,7 @@
--- Which rules match an event, and the duties of the event.
-use Rattle.std.specs.Prelude.{◌≡◌, ℕ, ◌⊎◌, Bool, true, false, not, nat_le, if◌then◌else◌, List, [], ◌∷◌, ◌++◌, length, map, codes, None, Result, Ok}
+-- Which rules match an event.
+use Rattle.std.specs.Prelude.{◌≡◌, ℕ, ◌⊎◌, Bool, true, false, List, [], ◌∷◌, ◌++◌, map, None, Result, Ok}
 use Rattle.json_text.specs.Tree.{Tree}
 use Rattle.json_text.specs.Compact.{IsValue}
-use Rattle.json_text.specs.Limits.{most_text}
 use Rattle.event_shape.specs.Event.{event_tree}
 use Rattle.event_shape.specs.Unnumbered.{Unnumbered, with_number}
 use Rattle.event_shape.specs.declared.entry.EntryFault.{EntryFault}
@@ -12,7 +11,6 @@ use Rattle.pattern_read.specs.Text.{IsPatternText}
 use Rattle.rule_targets.specs.declared.target.Target.{Target}
 use Rattle.rule_table.specs.RuleSet.{Rule, RuleSet, rules_of}
 use Rattle.rule_table.specs.Target.{row_of}
-use Rattle.delivery_duties.specs.declared.duty.NewDuty.{NewDuty}
 use Rattle.router_core.specs.Request.{Action, Request, put_events, test_event_pattern}
 use Rattle.router_core.specs.Verdict.{IsEntryVerdict}
 use Rattle.router_core.specs.declared.seen.SeenTarget.{SeenTarget}
@@ -35,10 +33,10 @@ pub record TextMatches (text : List ℕ) (event : Tree) : Type 0 where
 abbrev pub Matches : Rule → Tree → Type 0
 Matches rule event = (rule.enabled ≡ true) × TextMatches rule.pattern event
 
--- A target of a rule as matching finds it: its row (rule_table `row_of`).
+-- A target of a rule as matching finds it: its row (rule_table `row_of`), and the input that it was given.
 -- Shown by: tables router_core.rows: the_targets_of_the_rules_that_match_are_seen.
 abbrev pub seen_target : Rule → Target → SeenTarget
-seen_target rule target = record { row = row_of rule target }
+seen_target rule target = record { row = row_of rule target; input = target.input }
 
 -- The targets of the rules that match, by rule in the order of the rule set, and by target in the rule's order.
 -- Shown by: one_duty_per_rule.edit.
@@ -107,17 +105,3 @@ HasValue action = Unit {0}
 pub record IsSeenEvent (set : RuleSet) (bus : List ℕ) (event : Tree) (k : ℕ) (targets : List SeenTarget) : Type 0 where
   pub version : k ≡ set.count
   pub matched : AreMatched (rules_of bus set) event targets
-
--- The text has more bytes than a target accepts, which are 1,048,576 (this project's own limit).
--- Shown by: tables router_core.rows: each_target_is_owed_one_duty.
-abbrev pub is_too_long : List ℕ → Bool
-is_too_long text = not (nat_le (length text) most_text)
-
--- The duty of one target: the target's row, and the event's text, or `{}` if that is too long.
--- Shown by: a_too_long_text_is_sent.edit.
-abbrev pub duty_of : List ℕ → SeenTarget → NewDuty
-duty_of text seen = record {
-  target = seen.row;
-  text = (if is_too_long text then codes "{}" else text);
-  too_long = is_too_long text;
-}

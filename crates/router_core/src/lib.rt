@@ -2,7 +2,9 @@
 #![tactic(auto)]
 
 mod batch;
+mod duties;
 mod errand;
+mod finder;
 mod laws;
 mod matching;
 mod ready;
@@ -13,9 +15,13 @@ mod tables;
 
 pub use api_replies::{Cause, Kind, Member, Reply, limit_reply, push_failure, refused_reply};
 pub use batch::{AcceptedEvent, Batch, Entry};
+pub use duties::{duties_of, need_tree};
 pub use errand::Errand;
+pub use finder::Finder;
 pub use laws::a_prepared_batch_stays_prepared;
-pub use matching::{duties_of, pattern_matches, see_plain, see_plain_event};
+pub use matching::{
+    pattern_matches, push_targets, see_event_with, see_plain, see_plain_event, see_with,
+};
 pub use ready::{Part, Ready};
 pub use released::Released;
 pub use request::{Action, Request};

@@ -1,5 +1,5 @@
-//! Which rules match an event, and the duties of the event.
-ghost use Rattle.std.specs.Prelude.{◌≡◌, ◌↔◌, ◌++◌, ℕ, List, None, Some, map, codes, if◌then◌else◌, IsTrue, IsFalse, IfOk, OnOk, Ok};
+//! Which rules match an event.
+ghost use Rattle.std.specs.Prelude.{◌≡◌, ◌↔◌, ◌++◌, ℕ, List, None, Some, map, IsTrue, IsFalse, IfOk, OnOk, Ok};
 ghost use Rattle.std.specs.Option.{option_copied};
 ghost use Rattle.json_text.specs.View.{tree_of};
 ghost use Rattle.json_text.specs.Compact.{IsValue};
@@ -9,23 +9,20 @@ ghost use Rattle.bus_policy.specs.View.{verdict_of as policy_verdict_of};
 ghost use Rattle.router_core.specs.View.{request_of, action_of};
 ghost use Rattle.router_core.specs.Verdict.{IsEntryVerdict, IsVerdictOn, seen_verdict};
 ghost use Rattle.router_core.specs.Matching.{TextMatches, Matches, seen_target, AreMatched, AreTargetsOf, IsSeenEntry, AreSeenEntries, IsSeenResult};
-ghost use Rattle.router_core.specs.Matching.{IsSeen, HasValue, IsSeenEvent, is_too_long, duty_of};
+ghost use Rattle.router_core.specs.Matching.{IsSeen, HasValue, IsSeenEvent};
 
+use crate::finder::Finder;
 use crate::request::{Action, Request};
 use crate::seen::{Seen, SeenEntries, SeenEntry, SeenResult, SeenTarget, SeenTargets, SeenVerdict};
 use bus_policy::{Asker, Verdict, bus_verdict};
-use delivery_duties::NewDuty;
 use event_shape::{EntryFault, Event, Unnumbered};
 use json_text::{Json, NoMemory, Text};
 use pattern_meaning::plain_holds;
 use pattern_read::PatternText;
 use rule_table::{Bus, Rule, RuleSet};
-use shared_text::SharedText;
+use rule_targets::share_input;
 use std::alloc::Global;
 use std::collections::VecDeque;
-
-/// The greatest number of bytes that a target accepts.
-const TEXT_LIMIT: usize = 1_048_576;
 
 /// Matches the request against the rule set: what becomes of each entry of a PutEvents, and whether the pattern of a
 /// TestEventPattern matches. It needs no number of an event, so it may come before the request's turn.
@@ -33,25 +30,33 @@ pub fn see_plain(alloc: Global, set: &RuleSet, request: &Request) -> Result<Seen
     requires { HasValue (action_of request.now.action) }
     ensures { IfOk result (λ seen. IsSeen set.now (request_of request.now) seen) }
 {
+    see_with(alloc, set, request)
+}
+
+/// The same as `see_plain`, on the rule set of this finder.
+pub fn see_with<F: Finder>(alloc: Global, finder: &F, request: &Request) -> Result<Seen, NoMemory>
+    requires { HasValue (action_of request.now.action) }
+    ensures { IfOk result (λ seen. IsSeen (F.set_of finder.now) (request_of request.now) seen) }
+{
     Ok(Seen {
-        k: set.control_count(),
-        result: found(alloc, set, request.caller.as_str(), &request.action)?,
+        k: finder.rule_set().control_count(),
+        result: found(alloc, finder, request.caller.as_str(), &request.action)?,
     })
 }
 
 /// What matching finds for the action of this caller.
-fn found(
+fn found<F: Finder>(
     alloc: Global,
-    set: &RuleSet,
+    finder: &F,
     caller: &str,
     action: &Action,
 ) -> Result<SeenResult, NoMemory>
     requires { HasValue (action_of action.now) }
-    ensures { IfOk result (λ found. IsSeenResult set.now caller.now (action_of action.now) found) }
+    ensures { IfOk result (λ found. IsSeenResult (F.set_of finder.now) caller.now (action_of action.now) found) }
 {
     match action {
         Action::PutEvents { entries, size: _ } => {
-            Ok(SeenResult::Entries(see_entries(alloc, set, caller, entries)?))
+            Ok(SeenResult::Entries(see_entries(alloc, finder, caller, entries)?))
         }
         Action::TestEventPattern { pattern, event } => {
             Ok(SeenResult::Tested(pattern_matches(pattern.pattern(), event)))
@@ -83,32 +88,32 @@ fn found(
 }
 
 /// Matches each entry of this caller.
-fn see_entries(
+fn see_entries<F: Finder>(
     alloc: Global,
-    set: &RuleSet,
+    finder: &F,
     caller: &str,
     entries: &[Result<Unnumbered, EntryFault>],
 ) -> Result<SeenEntries, NoMemory>
-    ensures { IfOk result (λ all. AreSeenEntries set.now caller.now entries.now all.items) }
+    ensures { IfOk result (λ all. AreSeenEntries (F.set_of finder.now) caller.now entries.now all.items) }
 {
     let mut all = VecDeque::with_capacity(alloc, entries.len())?;
     for entry in entries {
-        all.push_back(see_entry(alloc, set, caller, entry)?)?;
+        all.push_back(see_entry(alloc, finder, caller, entry)?)?;
     }
     Ok(all)
 }
 
 /// The verdict on an entry of this caller, and the targets that match its event if it is allowed.
-fn see_entry(
+fn see_entry<F: Finder>(
     alloc: Global,
-    set: &RuleSet,
+    finder: &F,
     caller: &str,
     entry: &Result<Unnumbered, EntryFault>,
 ) -> Result<SeenEntry, NoMemory>
-    ensures { IfOk result (λ seen. IsSeenEntry set.now caller.now entry.now seen) }
+    ensures { IfOk result (λ seen. IsSeenEntry (F.set_of finder.now) caller.now entry.now seen) }
 {
     match entry {
-        Ok(event) => see_event(alloc, set, caller, event),
+        Ok(event) => see_event(alloc, finder, caller, event),
         Err(fault) => Ok(SeenEntry {
             verdict: SeenVerdict::Fault(*fault),
             targets: VecDeque::new(alloc),
@@ -117,16 +122,16 @@ fn see_entry(
 }
 
 /// The verdict on an event of this caller that has no number yet, and the targets that match it if it is allowed.
-fn see_event(
+fn see_event<F: Finder>(
     alloc: Global,
-    set: &RuleSet,
+    finder: &F,
     caller: &str,
     event: &Unnumbered,
 ) -> Result<SeenEntry, NoMemory>
-    ensures { IfOk result (λ seen. IsSeenEntry set.now caller.now (Ok event.now) seen) }
+    ensures { IfOk result (λ seen. IsSeenEntry (F.set_of finder.now) caller.now (Ok event.now) seen) }
 {
-    let verdict = verdict_on(alloc, set, caller, event)?;
-    let targets = targets_of(alloc, set, event, &verdict)?;
+    let verdict = verdict_on(alloc, finder.rule_set(), caller, event)?;
+    let targets = targets_of(alloc, finder, event, &verdict)?;
     Ok(SeenEntry { verdict, targets })
 }
 
@@ -146,16 +151,16 @@ fn verdict_on(
 }
 
 /// The targets of an event with this verdict: those that match it if it is allowed, else none.
-fn targets_of(
+fn targets_of<F: Finder>(
     alloc: Global,
-    set: &RuleSet,
+    finder: &F,
     event: &Unnumbered,
     verdict: &SeenVerdict,
 ) -> Result<SeenTargets, NoMemory>
-    ensures { IfOk result (λ targets. AreTargetsOf set.now (Ok event.now) verdict.now targets.items) }
+    ensures { IfOk result (λ targets. AreTargetsOf (F.set_of finder.now) (Ok event.now) verdict.now targets.items) }
 {
     match verdict {
-        SeenVerdict::Allowed => matched(alloc, set, event.bus(), event.tree()),
+        SeenVerdict::Allowed => finder.matched(alloc, event.bus(), event.tree()),
         SeenVerdict::Fault(_)
         | SeenVerdict::NoBus
         | SeenVerdict::DeniedBy(_)
@@ -173,9 +178,22 @@ pub fn see_plain_event(
 ) -> Result<(u64, SeenTargets), NoMemory>
     ensures { IfOk result (λ seen. IsSeenEvent set.now bus.now (event_tree event.now (option_copied replay.entry)) seen.0 seen.1.items) }
 {
+    see_event_with(alloc, set, bus, event, replay)
+}
+
+/// The same as `see_plain_event`, on the rule set of this finder.
+pub fn see_event_with<F: Finder>(
+    alloc: Global,
+    finder: &F,
+    bus: &str,
+    event: &Event,
+    replay: Option<&str>,
+) -> Result<(u64, SeenTargets), NoMemory>
+    ensures { IfOk result (λ seen. IsSeenEvent (F.set_of finder.now) bus.now (event_tree event.now (option_copied replay.entry)) seen.0 seen.1.items) }
+{
     let tree = event.tree(alloc, replay)?;
-    let targets = matched(alloc, set, bus, &tree)?;
-    Ok((set.control_count(), targets))
+    let targets = finder.matched(alloc, bus, &tree)?;
+    Ok((finder.rule_set().control_count(), targets))
 }
 
 /// The verdict on an event for this bus.
@@ -211,7 +229,12 @@ fn owned(alloc: Global, verdict: Verdict) -> Result<SeenVerdict, NoMemory>
 }
 
 /// The targets of the rules of the bus that match the event; none if there is no such bus.
-fn matched(alloc: Global, set: &RuleSet, bus: &str, event: &Json) -> Result<SeenTargets, NoMemory>
+pub(crate) fn matched(
+    alloc: Global,
+    set: &RuleSet,
+    bus: &str,
+    event: &Json,
+) -> Result<SeenTargets, NoMemory>
     requires { IsValue (tree_of event.now) }
     ensures { IfOk result (λ targets. AreMatched (rules_of bus.now set.now) (tree_of event.now) targets.items) }
 {
@@ -246,53 +269,14 @@ pub fn pattern_matches(pattern: &PatternText, event: &Json) -> bool
 }
 
 /// Appends the targets of the rule.
-fn push_targets(rule: &Rule, targets: &mut SeenTargets) -> Result<(), NoMemory>
+pub fn push_targets(rule: &Rule, targets: &mut SeenTargets) -> Result<(), NoMemory>
     ensures { OnOk result (targets.new.items ≡ targets.old.items ++ map (seen_target rule.now) rule.now.targets) }
 {
     for target in rule.targets() {
         targets.push_back(SeenTarget {
             row: target.row().share()?,
+            input: share_input(target.input())?,
         })?;
     }
     Ok(())
-}
-
-/// One duty for each target, in their order; all share the text. If the text has more than 1,048,576 bytes, each duty has the text `{}`
-/// instead and is marked too long.
-pub fn duties_of(
-    alloc: Global,
-    mut targets: SeenTargets,
-    text: &SharedText,
-) -> Result<Vec<NewDuty>, NoMemory>
-    ensures { IfOk result (λ duties. duties.items ≡ map (duty_of text.now) targets.items) }
-{
-    let too_long = is_too_long(text.as_str());
-    let sent = sent(alloc, text, too_long)?;
-    let mut duties = Vec::with_capacity(alloc, targets.len())?;
-    while let Some(seen) = targets.pop_front() {
-        duties.push(NewDuty {
-            target: seen.row,
-            text: sent.share()?,
-            too_long,
-        })?;
-    }
-    Ok(duties)
-}
-
-/// Whether the text has more bytes than a target accepts.
-fn is_too_long(text: &str) -> bool
-    ensures { result ≡ is_too_long text.now }
-{
-    text.len() > TEXT_LIMIT
-}
-
-/// The text of each duty: the event's, or `{}` if that is too long.
-fn sent(alloc: Global, text: &SharedText, too_long: bool) -> Result<SharedText, NoMemory>
-    ensures { IfOk result (λ sent. sent ≡ (if too_long then codes "{}" else text.now)) }
-{
-    if too_long {
-        SharedText::new(alloc, Text::from_str(alloc, "{}")?)
-    } else {
-        text.share()
-    }
 }

@@ -1,6 +1,7 @@
 //! The result of matching a request against a rule set.
 use event_shape::EntryFault;
 use json_text::Text;
+use rule_targets::SharedInput;
 use shared_text::SharedRow;
 use std::collections::VecDeque;
 
@@ -8,6 +9,8 @@ use std::collections::VecDeque;
 #[derive(Debug, Drop)]
 pub struct SeenTarget {
     pub row: SharedRow,
+    /// What its text is made of; without an input it gets the event's text.
+    pub input: Option<SharedInput>,
 }
 
 /// The verdict on an entry of a PutEvents, on a rule set.

@@ -1,5 +1,5 @@
 -- What it says that a change is allowed: `bus_new`, `bus_free`, `rule_room`, `rule_free`, `targets_fine`, `removal_fine`, `queue_new`,
--- `queue_free`. Of targets that are put one by one: `no_member_fault`, `own_member`, `own_queues`, `fault_found`, `room_decides`,
+-- `queue_free`. Of targets that are put one by one: `no_member_fault`, `one_input`, `own_member`, `own_inputs`, `own_queues`, `fault_found`, `room_decides`,
 -- `put_formed`, `good_few`, `good_there`. Of the queues of a target after a change: `target_still`. Of truth values and optional values:
 -- `not_true`, `not_false`, `both_true`, `either_false`, `some_items`, `no_items`, `none_of`, `by_option`.
 use Rattle.std.proofs.Common.{◌≡◌, ◌<◌, ◌≤◌, ◌⊎◌, ◌&&◌, ◌||◌, ◌++◌, if◌then◌else◌, ℕ, Bool, true, false, not, List, [], ◌∷◌, length, map, Option, Some, None}
@@ -10,6 +10,7 @@ use Rattle.std.specs.Option.{option_map, option_and_then}
 use Rattle.std.specs.Str.{bytes_eq}
 use Rattle.std.proofs.lemmas.Bool.{false≢true, ltb-true, leb-true, le-leb}
 use Rattle.std.proofs.lemmas.Bool.Decides.{leb_tells}
+use Rattle.std.proofs.lemmas.List.Elements.{All-head, All-tail}
 use Rattle.json_text.specs.Checks.{unless, first_fault}
 use Rattle.event_shape.specs.Names.{default_bus, queue_in}
 use Rattle.api_replies.specs.declared.member.Member.{Member}
@@ -18,7 +19,7 @@ use Rattle.name_rows.proofs.RowLemmas.{by_test, All_placed}
 use Rattle.rule_targets.specs.declared.target.AskedTarget.{AskedTarget}
 use Rattle.rule_targets.specs.declared.target.Target.{Target}
 use Rattle.rule_targets.specs.Target.{asked_of, put_as}
-use Rattle.rule_targets.specs.Checks.{member_checks, member_fault}
+use Rattle.rule_targets.specs.Checks.{member_checks, member_fault, has_two_inputs}
 use Rattle.rule_targets.specs.WellFormed.{is_target_formed}
 use Rattle.rule_targets.proofs.CheckLemmas.{kept, passed_front, found_front, both_none, two_none, mapped}
 use Rattle.rule_targets.proofs.TargetLemmas.{put_asked}
@@ -27,6 +28,7 @@ use Rattle.rule_table.specs.declared.control.TargetFault.TheVariants as fault
 use Rattle.rule_table.specs.Control.{bus_created, bus_deleted, rule_put, rule_deleted, targets_put, targets_removed, queue_created, queue_deleted}
 use Rattle.rule_table.specs.RuleSet.{RuleSet, put_target, put_targets, has_bus, has_rule, has_queue, is_queue_used, rules_of, targets_of}
 use Rattle.rule_table.specs.Refusal.{missing_in, own_checks, target_fault, are_put, are_some_put, are_some_removable, rule_checks, IsAllowed}
+use Rattle.rule_table.specs.WellFormed.{HasValidInput}
 use Rattle.rule_table.specs.Sound.{IsSoundTarget}
 
 -- ---- truth values
@@ -129,14 +131,14 @@ queue_free name set a =
 
 -- ---- targets one by one
 
--- a target without a fault may be stored, and there is room for it
-accepted : (set : RuleSet) (targets : List Target) (new : Target) → not (is_some (target_fault set targets (asked_of new))) ≡ true
+-- a target without a fault, whose input is valid, may be stored, and there is room for it
+accepted : (set : RuleSet) (targets : List Target) (new : Target) → not (is_some (target_fault set targets (asked_of new))) ≡ true → HasValidInput new
     → IsSoundTarget set new × (length (put_target new targets) ≤ 5)
-accepted set targets new e =
+accepted set targets new e valid =
     let checked = both_none (own_checks set (asked_of new)) _ (none_found (target_fault set targets (asked_of new)) e) in
     let few = leb-true (length (put_target (put_as (asked_of new)) targets)) 5
     (kept (nat_le (length (put_target (put_as (asked_of new)) targets)) 5) _ _ checked.1).0 in
-    (checked.0, subst (λ t. length (put_target t targets) ≤ 5) (put_asked new) few)
+    (record { checked = checked.0; input = valid }, subst (λ t. length (put_target t targets) ≤ 5) (put_asked new) few)
 
 map_none : {A B : Type 0} (g : A → B) (o : Option A) → option_map g o ≡ None → o ≡ None
 map_none g None e = refl
@@ -149,6 +151,13 @@ no_member_fault set targets target none =
     let own = (both_none members _ (both_none (own_checks set target) _ none).0).0 in
     map_none fault.Member (member_fault target) (sym (mapped fault.Member (member_checks target)) ∙ own)
 
+-- and has at most one input
+pub one_input : (set : RuleSet) (targets : List Target) (target : AskedTarget) → target_fault set targets target ≡ None → has_two_inputs target ≡ false
+one_input set targets target none =
+    let members : List (Option TargetFault) = map (option_map fault.Member) (member_checks target) in
+    let after = (both_none members _ (both_none (own_checks set target) _ none).0).1 in
+    not_true (has_two_inputs target) (kept (not (has_two_inputs target)) _ _ after).0
+
 -- ---- the own fault of a target
 
 pub own_member : (set : RuleSet) (target : AskedTarget) (m : Member) → member_fault target ≡ Some m
@@ -157,15 +166,29 @@ own_member set target m is =
     found_front (map (option_map fault.Member) (member_checks target)) _ (fault.Member m)
     (mapped fault.Member (member_checks target) ∙ ap (option_map fault.Member) is)
 
--- without a faulty member the queues decide
+-- without a faulty member, and with at most one input, the queues decide
 abbrev pub queue_faults : Option (List ℕ) → Option (List ℕ) → List (Option TargetFault)
 queue_faults own dead = option_map fault.NoQueue own ∷ option_map fault.NoDeadLetterQueue dead ∷ []
 
-pub own_queues : (set : RuleSet) (target : AskedTarget) (own dead : Option (List ℕ)) → member_fault target ≡ None
+members_pass : (target : AskedTarget) (rest : List (Option TargetFault)) → member_fault target ≡ None
+    → first_fault (map (option_map fault.Member) (member_checks target) ++ rest) ≡ first_fault rest
+members_pass target rest none =
+    passed_front (map (option_map fault.Member) (member_checks target)) rest (mapped fault.Member (member_checks target) ∙ ap (option_map fault.Member) none)
+
+pub own_inputs : (set : RuleSet) (target : AskedTarget) → member_fault target ≡ None → has_two_inputs target ≡ true
+    → first_fault (own_checks set target) ≡ Some fault.TwoInputs
+own_inputs set target none two =
+    let queues = queue_faults (missing_in set (queue_in target.arn)) (missing_in set (option_and_then queue_in target.dead_letter)) in
+    members_pass target (unless (not (has_two_inputs target)) fault.TwoInputs ∷ queues) none
+    ∙ ap (λ b. first_fault (unless (not b) fault.TwoInputs ∷ queues)) two
+
+pub own_queues : (set : RuleSet) (target : AskedTarget) (own dead : Option (List ℕ)) → member_fault target ≡ None → has_two_inputs target ≡ false
     → missing_in set (queue_in target.arn) ≡ own → missing_in set (option_and_then queue_in target.dead_letter) ≡ dead
     → first_fault (own_checks set target) ≡ first_fault (queue_faults own dead)
-own_queues set target own dead none own_is dead_is =
-    passed_front (map (option_map fault.Member) (member_checks target)) _ (mapped fault.Member (member_checks target) ∙ ap (option_map fault.Member) none)
+own_queues set target own dead none one own_is dead_is =
+    let queues = queue_faults (missing_in set (queue_in target.arn)) (missing_in set (option_and_then queue_in target.dead_letter)) in
+    members_pass target (unless (not (has_two_inputs target)) fault.TwoInputs ∷ queues) none
+    ∙ ap (λ b. first_fault (unless (not b) fault.TwoInputs ∷ queues)) one
     ∙ ap (λ o. first_fault (queue_faults o (missing_in set (option_and_then queue_in target.dead_letter)))) own_is
     ∙ ap (λ o. first_fault (queue_faults own o)) dead_is
 
@@ -191,19 +214,21 @@ put_formed set (new ∷ news) targets good =
     let none = no_member_fault set targets (asked_of new) (none_found (target_fault set targets (asked_of new)) both.0) in
     ap (λ o. not (is_some o) && list_all is_target_formed news) none ∙ put_formed set news (put_target new targets) both.1
 
-pub good_few : (set : RuleSet) (news targets : List Target) → are_put set news targets ≡ true → length targets ≤ 5 → length (put_targets news targets) ≤ 5
-good_few set [] targets good few = few
-good_few set (new ∷ news) targets good few =
+pub good_few : (set : RuleSet) (news targets : List Target) → are_put set news targets ≡ true → All HasValidInput news → length targets ≤ 5
+    → length (put_targets news targets) ≤ 5
+good_few set [] targets good valid few = few
+good_few set (new ∷ news) targets good valid few =
     let both = both_true (not (is_some (target_fault set targets (asked_of new)))) _ good in
-    good_few set news (put_target new targets) both.1 (accepted set targets new both.0).1
+    good_few set news (put_target new targets) both.1 (All-tail HasValidInput new news valid)
+    (accepted set targets new both.0 (All-head HasValidInput new news valid)).1
 
-pub good_there : (set : RuleSet) (news targets : List Target) → are_put set news targets ≡ true → All (IsSoundTarget set) targets
+pub good_there : (set : RuleSet) (news targets : List Target) → are_put set news targets ≡ true → All HasValidInput news → All (IsSoundTarget set) targets
     → All (IsSoundTarget set) (put_targets news targets)
-good_there set [] targets good all = all
-good_there set (new ∷ news) targets good all =
+good_there set [] targets good valid all = all
+good_there set (new ∷ news) targets good valid all =
     let both = both_true (not (is_some (target_fault set targets (asked_of new)))) _ good in
-    let fits = (accepted set targets new both.0).0 in
-    good_there set news (put_target new targets) both.1
+    let fits = (accepted set targets new both.0 (All-head HasValidInput new news valid)).0 in
+    good_there set news (put_target new targets) both.1 (All-tail HasValidInput new news valid)
     (All_placed (IsSoundTarget set) (λ target. target.id) replacing new targets fits (λ old p. fits) all)
 
 -- ---- the queues of a target
@@ -223,10 +248,15 @@ pub target_still : (set next : RuleSet) (target : Target) → Stays set next (qu
     → IsSoundTarget set target → IsSoundTarget next target
 target_still set next target own dead sound =
     let members : List (Option TargetFault) = map (option_map fault.Member) (member_checks (asked_of target)) in
-    let checked = both_none members _ sound in
-    let queues = two_none (option_map fault.NoQueue (missing_in set (queue_in target.arn))) _ checked.1 in
-    passed_front members _ checked.0
-    ∙ rw (
-      there_still set next (queue_in target.arn) fault.NoQueue own queues.0,
-      there_still set next (option_and_then queue_in target.dead_letter) fault.NoDeadLetterQueue dead queues.1,
-    ) refl
+    let checked = both_none members _ sound.checked in
+    let one = kept (not (has_two_inputs (asked_of target))) _ _ checked.1 in
+    let queues = two_none (option_map fault.NoQueue (missing_in set (queue_in target.arn))) _ one.1 in
+    record {
+      checked = passed_front members _ checked.0
+          ∙ rw (
+            one.0,
+            there_still set next (queue_in target.arn) fault.NoQueue own queues.0,
+            there_still set next (option_and_then queue_in target.dead_letter) fault.NoDeadLetterQueue dead queues.1,
+          ) refl;
+      input = sound.input;
+    }

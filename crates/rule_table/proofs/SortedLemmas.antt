@@ -1,4 +1,4 @@
--- An allowed change, whose policy is as it is stored, leads from a sound rule set to a sound one: `sound_applied`.
+-- An allowed change, whose policy is as it is stored and whose inputs are valid, leads from a sound rule set to a sound one: `sound_applied`.
 use Rattle.std.proofs.Common.{◌≡◌, ℕ, ◌+◌, ◌<◌, ◌≤◌, ◌⊎◌, true, false, Bool, List, [], ◌∷◌, length, Option, Some, None, refl, sym, ap, ◌∙◌}
 use Rattle.std.proofs.Common.{subst, arith, inl, inr, is_some, suc}
 use Rattle.std.specs.Prelude.{All, ◌||◌}
@@ -20,7 +20,7 @@ use Rattle.rule_table.specs.RuleSet.{Rule, Bus, RuleSet, changed, new_rule, keep
 use Rattle.rule_table.specs.RuleSet.{put_targets, without_targets, with_rule_changed, rules_in, rules_of, rule_at, applied}
 use Rattle.rule_table.specs.RuleSet.{is_dead_letter_of, is_used_by_target, is_used_by_rule, is_used_by_bus, targets_in}
 use Rattle.rule_table.specs.Refusal.{are_put, IsAllowed}
-use Rattle.rule_table.specs.WellFormed.{IsNoneOrStored}
+use Rattle.rule_table.specs.WellFormed.{IsNoneOrStored, HasValidInput}
 use Rattle.rule_table.specs.Sound.{IsSoundTarget, HasSoundTargets, HasItsArn, IsSound}
 use Rattle.rule_table.specs.Control.{Control, bus_created, bus_deleted, rule_put, rule_deleted, state_put, targets_put, targets_removed, policy_put}
 use Rattle.rule_table.specs.Control.{queue_created, queue_deleted}
@@ -241,12 +241,12 @@ sound_rule_changed bus rule change set named_so arn_so good ordered k =
       queue_order = k.queue_order;
     }
 
-sound_targets : (bus rule : List ℕ) (targets : List Target) (set : RuleSet) → IsAllowed (targets_put bus rule targets) set → IsSound set
-    → IsSound (applied (targets_put bus rule targets) set)
-sound_targets bus rule targets set a k =
+sound_targets : (bus rule : List ℕ) (targets : List Target) (set : RuleSet) → IsAllowed (targets_put bus rule targets) set → All HasValidInput targets
+    → IsSound set → IsSound (applied (targets_put bus rule targets) set)
+sound_targets bus rule targets set a valid k =
     sound_rule_changed bus rule (λ r. record r { targets = put_targets targets r.targets }) set (λ r. refl) (λ b r p. p)
     (λ r there p. let fine = subst (λ o. are_put set targets (targets_in o) ≡ true) there (targets_fine bus rule targets set a).1 in
-    (good_few set targets r.targets fine p.0, good_there set targets r.targets fine p.1))
+    (good_few set targets r.targets fine valid p.0, good_there set targets r.targets fine valid p.1))
     (λ r o. sorted_put_targets targets r.targets o) k
 
 sound_removal : (bus rule : List ℕ) (ids : List (List ℕ)) (set : RuleSet) → IsSound set → IsSound (applied (targets_removed bus rule ids) set)
@@ -428,9 +428,10 @@ sound_queue_deletion name set a k =
       queue_order = sorted_without itself name set.queues k.queue_order;
     }
 
--- a policy that is put is one as it is stored
+-- a policy that is put is one as it is stored, and inputs of targets that are put are valid
 abbrev pub HasStored : Control → Type 0
 HasStored (policy_put bus policy) = IsNoneOrStored policy
+HasStored (targets_put bus rule targets) = All HasValidInput targets
 HasStored _ = Unit {0}
 
 pub sound_applied : (control : Control) (set : RuleSet) → IsAllowed control set → HasStored control → IsSound set → IsSound (applied control set)
@@ -439,7 +440,7 @@ sound_applied (bus_deleted name) set a spelled k = sound_bus_deletion name set a
 sound_applied (rule_put bus name pattern enabled) set a spelled k = sound_rule bus name pattern enabled set a k
 sound_applied (rule_deleted bus name) set a spelled k = sound_deletion bus name set k
 sound_applied (state_put bus name enabled) set a spelled k = sound_state bus name enabled set k
-sound_applied (targets_put bus rule targets) set a spelled k = sound_targets bus rule targets set a k
+sound_applied (targets_put bus rule targets) set a spelled k = sound_targets bus rule targets set a spelled k
 sound_applied (targets_removed bus rule ids) set a spelled k = sound_removal bus rule ids set k
 sound_applied (policy_put bus policy) set a spelled k = sound_policy bus policy set spelled k
 sound_applied (queue_created name) set a spelled k = sound_queue name set a k

@@ -1,15 +1,18 @@
 -- Targets as a rule stores them: those of a rule (`rows_made`, `rows_again`, `is_stored`), one that is put or removed (`target_put`,
--- `target_removed`), and the number of targets (`length_stored`, `above`, `from_full`); whether one of them names a queue (`any_stored`).
-use Rattle.std.proofs.Common.{◌≡◌, ◌≤◌, ◌+◌, ◌||◌, if◌then◌else◌, ℕ, false, not, inl, inr, List, [], ◌∷◌, length, map, Option, Some, None, is_some, refl, sym, ap, ◌∙◌, subst, arith}
+-- `target_removed`), whose inputs are valid (`valid_more`), and the number of targets (`length_stored`, `above`, `from_full`); whether one of
+-- them names a queue (`any_stored`).
+use Rattle.std.proofs.Common.{◌≡◌, ◌≤◌, ◌<◌, ◌+◌, ◌++◌, ◌||◌, if◌then◌else◌, ℕ, false, not, inl, inr, List, [], ◌∷◌, length, take, get_or, map, Option, Some, None, is_some, refl, sym, ap, ◌∙◌, subst, arith}
 use Rattle.std.specs.Prelude.{All, nat_le, nat_lt}
 use Rattle.std.proofs.lemmas.Bool.{false_from_ne_true, le-leb, leb-true}
 use Rattle.std.proofs.lemmas.Bool.Decides.{leb_tells}
 use Rattle.std.specs.List.{list_any}
-use Rattle.std.proofs.lemmas.List.Elements.{All-head, All-tail, All-cons, All-nil}
+use Rattle.std.proofs.lemmas.List.{take_more}
+use Rattle.std.proofs.lemmas.List.Elements.{All-head, All-tail, All-cons, All-nil, All-push}
 use Rattle.name_rows.specs.Rows.{placed, replacing, without}
 use Rattle.rule_targets.specs.declared.target.Target.{Target}
 use Rattle.rule_targets.specs.declared.target.RetryPolicy.{RetryPolicy}
 use Rattle.rule_table.specs.RuleSet.{Rule, put_target, is_used_by_target}
+use Rattle.rule_table.specs.WellFormed.{HasValidInput}
 use Rattle.rule_table.specs.Target.{StoredTarget, stored_of, target_of, IsStoredOf}
 use Rattle.rule_targets.specs.Retry.{attempts_of, age_of}
 use Rattle.rule_table.proofs.RowLemmas.{map_placed, map_without, length_names}
@@ -66,6 +69,14 @@ target_put rule new row rows is =
 
 pub target_removed : (id : List ℕ) (rows : List StoredTarget) → map target_of (without row_id id rows) ≡ without id_of id (map target_of rows)
 target_removed id rows = map_without target_of id_of id rows
+
+-- ---- valid inputs
+
+pub valid_more : (news : List Target) (at : ℕ) (new : Target) → at < length news → new ≡ get_or news at new → HasValidInput new
+    → All HasValidInput (take at news) → All HasValidInput (take (at + 1) news)
+valid_more news at new low is valid all =
+    subst (All HasValidInput) (sym (take_more news at new low ∙ ap (λ (t : Target). take at news ++ t ∷ []) (sym is)))
+    (All-push HasValidInput (take at news) new all valid)
 
 -- ---- the number of targets
 

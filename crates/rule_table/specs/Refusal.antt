@@ -11,7 +11,7 @@ use Rattle.name_rows.specs.Rows.{named, without}
 use Rattle.rule_targets.specs.declared.target.AskedTarget.{AskedTarget}
 use Rattle.rule_targets.specs.declared.target.Target.{Target}
 use Rattle.rule_targets.specs.Target.{asked_of, put_as}
-use Rattle.rule_targets.specs.Checks.{member_checks}
+use Rattle.rule_targets.specs.Checks.{member_checks, has_two_inputs}
 use Rattle.rule_table.specs.declared.control.TargetFault.{TargetFault}
 use Rattle.rule_table.specs.declared.control.TargetFault.TheVariants as fault
 use Rattle.rule_table.specs.declared.control.ControlFault.{ControlFault}
@@ -27,12 +27,14 @@ abbrev pub missing_in : RuleSet → Option (List ℕ) → Option (List ℕ)
 missing_in set None = None
 missing_in set (Some queue) = unless (has_queue queue set) queue
 
--- The conditions on a target, whatever targets its rule has: those on its members, then its queue and its dead-letter queue exist.
--- Shown by: tables rule_table.rows: a_target_has_its_first_fault.
+-- The conditions on a target, whatever targets its rule has: those on its members, then it has at most one input, then its queue and its
+-- dead-letter queue exist.
+-- Shown by: two_inputs_are_taken.edit; tables rule_table.rows: a_target_has_its_first_fault.
 abbrev pub own_checks : RuleSet → AskedTarget → List (Option TargetFault)
 own_checks set target =
     map (option_map fault.Member) (member_checks target)
-    ++ option_map fault.NoQueue (missing_in set (queue_in target.arn))
+    ++ unless (not (has_two_inputs target)) fault.TwoInputs
+    ∷ option_map fault.NoQueue (missing_in set (queue_in target.arn))
     ∷ option_map fault.NoDeadLetterQueue (missing_in set (option_and_then queue_in target.dead_letter))
     ∷ []
 

@@ -7,12 +7,14 @@ use Rattle.rule_targets.specs.declared.target.Target.{Target}
 use Rattle.rule_targets.specs.Target.{asked_of}
 use Rattle.rule_table.specs.RuleSet.{Rule, RuleSet, has_bus}
 use Rattle.rule_table.specs.Refusal.{own_checks}
-use Rattle.rule_table.specs.WellFormed.{IsNoneOrStored}
+use Rattle.rule_table.specs.WellFormed.{IsNoneOrStored, HasValidInput}
 
--- The target may be stored: it has none of the faults that it can have whatever other targets its rule has (`own_checks`).
+-- The target may be stored: it has none of the faults that it can have whatever other targets its rule has (`own_checks`), and its input is
+-- valid.
 -- Shown by: target-members.
-abbrev pub IsSoundTarget : RuleSet → Target → Type 0
-IsSoundTarget set target = first_fault (own_checks set (asked_of target)) ≡ None
+pub record IsSoundTarget (set : RuleSet) (target : Target) : Type 0 where
+  pub checked : first_fault (own_checks set (asked_of target)) ≡ None
+  pub input : HasValidInput target
 
 -- the rule has at most five targets, each of which may be stored
 abbrev pub HasSoundTargets : RuleSet → Rule → Type 0

@@ -1,16 +1,18 @@
 -- What a rule stores of its targets, and what matching and delivery need of them: a row for each target.
 use Rattle.std.specs.Prelude.{◌≡◌, Bool, if◌then◌else◌, List, [], map, Option, Some, None, is_some}
 use Rattle.shared_text.specs.declared.row.TargetRow.{TargetRow}
+use Rattle.rule_targets.specs.declared.given.GivenInput.{GivenInput}
 use Rattle.rule_targets.specs.declared.target.Target.{Target}
 use Rattle.rule_targets.specs.declared.target.RetryPolicy.{RetryPolicy}
 use Rattle.rule_targets.specs.Retry.{attempts_of, age_of}
 use Rattle.rule_table.specs.RuleSet.{Rule}
 
--- A target as a rule stores it: its row, and whether it was put with a retry policy.
+-- A target as a rule stores it: its row, whether it was put with a retry policy, and its input as it was given.
 -- Shown by: table_tests test_rule_table.rt: a_target_has_its_row.
 pub record StoredTarget : Type 0 where
   pub row : TargetRow
   pub has_retry_policy : Bool
+  pub input : Option GivenInput
 
 -- What matching and delivery need of a target of a rule: the rule's ARN and name, the target's id and ARN, the ARN of its dead-letter
 -- queue, and how it is retried: by its retry policy, and else at most 185 times, within 86,400 seconds.
@@ -29,7 +31,7 @@ row_of rule target = record {
 -- A target of a rule, as the rule stores it.
 -- Shown by: table_tests test_rule_table.rt: a_target_has_its_row.
 abbrev pub stored_of : Rule → Target → StoredTarget
-stored_of rule target = record { row = row_of rule target; has_retry_policy = is_some target.retry }
+stored_of rule target = record { row = row_of rule target; has_retry_policy = is_some target.retry; input = target.input }
 
 -- The retry policy that a stored target was put with; none if it was put without one.
 -- Shown by: tables rule_table.rows: a_target_shows_its_retries; table_tests test_rule_table.rt: a_target_has_its_row.
@@ -43,6 +45,7 @@ abbrev pub target_of : StoredTarget → Target
 target_of stored = record {
   id = stored.row.target_id;
   arn = stored.row.endpoint;
+  input = stored.input;
   retry = retry_of stored;
   dead_letter = stored.row.dead_letter;
 }

@@ -1,12 +1,14 @@
 -- What a change has to be whatever the rule set is: the syntax of its names and its ids, its targets, and what its texts spell. The syntax
 -- and the numbers are those of the Amazon EventBridge API Reference.
-use Rattle.std.specs.Prelude.{◌≡◌, ℕ, Bool, ◌&&◌, IsTrue, List, Option, Some, None}
+use Rattle.std.specs.Prelude.{◌≡◌, ℕ, Bool, ◌&&◌, IsTrue, List, Option, Some, None, All}
 use Rattle.json_text.specs.Tree.{Tree}
 use Rattle.json_text.specs.Compact.{compact_text}
 use Rattle.event_shape.specs.Names.{is_bus_name, is_queue_name}
 use Rattle.bus_policy.specs.Text.{IsPolicyText}
 use Rattle.pattern_meaning.specs.Pattern.{Pattern}
 use Rattle.pattern_read.specs.Text.{IsPatternText}
+use Rattle.rule_targets.specs.declared.target.Target.{Target}
+use Rattle.rule_targets.specs.Input.{IsNoneOrValid}
 use Rattle.rule_targets.specs.WellFormed.{names_rule, are_targets_formed, are_ids_formed}
 use Rattle.rule_table.specs.Control.{Control, bus_created, bus_deleted, rule_put, rule_deleted, state_put, targets_put, targets_removed, policy_put}
 use Rattle.rule_table.specs.Control.{queue_created, queue_deleted}
@@ -41,10 +43,16 @@ abbrev pub IsNoneOrStored : Option (List ℕ) → Type 0
 IsNoneOrStored None = Unit {0}
 IsNoneOrStored (Some t) = IsBusPolicy t
 
--- The text of a rule's pattern is a pattern, and that of a policy one as it is stored.
+-- The input of the target, if it has one, is valid.
+-- Shown by: proofs alone.
+abbrev pub HasValidInput : Target → Type 0
+HasValidInput target = IsNoneOrValid target.input
+
+-- The text of a rule's pattern is a pattern, that of a policy one as it is stored, and each input of a target is valid.
 -- Shown by: proofs alone.
 abbrev pub IsSpelled : Control → Type 0
 IsSpelled (rule_put bus name pattern enabled) = IsSomePattern pattern
+IsSpelled (targets_put bus rule targets) = All HasValidInput targets
 IsSpelled (policy_put bus policy) = IsNoneOrStored policy
 IsSpelled _ = Unit {0}
 

@@ -66,8 +66,10 @@ pub enum Control {
 /// Why a target is not put to a rule, in the order of the checks.
 #[derive(Debug, Drop)]
 pub enum TargetFault {
-    /// The member is outside its syntax or its limits, or not supported yet.
+    /// The member is outside its syntax or its limits.
     Member(Member),
+    /// It has more than one of Input, InputPath and InputTransformer.
+    TwoInputs,
     /// The queue of its ARN, which has this name, does not exist.
     NoQueue(Text),
     /// Its dead-letter queue, which has this name, does not exist.

@@ -1,5 +1,6 @@
 //! Rules.
-ghost use Rattle.std.specs.Prelude.{◌≡◌, map, All, IfOk};
+ghost use Rattle.std.specs.Prelude.{◌≡◌, map, All, IfOk, OnOk};
+ghost use Rattle.rule_targets.specs.Input.{IsNoneOrValid};
 ghost use Rattle.rule_table.specs.RuleSet.{new_rule, is_used_by_rule};
 ghost use Rattle.rule_table.specs.Target.{stored_of, target_of, IsStoredOf};
 
@@ -114,9 +115,17 @@ impl Rule {
         self.pattern.pattern()
     }
 
+    /// The pattern, which others may share.
+    pub fn shared_pattern(&self) -> &SharedPattern
+        ensures { result.now ≡ self.now.pattern }
+    {
+        &self.pattern
+    }
+
     /// The target, as this rule stores it.
     pub(crate) fn stored(&self, alloc: Global, target: &Target) -> Result<RuleTarget, NoMemory>
-        ensures { IfOk result (λ stored. stored ≡ stored_of self.now target.now) }
+        ensures stored { IfOk result (λ stored. stored ≡ stored_of self.now target.now) }
+        ensures valid { OnOk result (IsNoneOrValid target.now.input) }
     {
         RuleTarget::new(alloc, &self.arn, &self.name, target)
     }

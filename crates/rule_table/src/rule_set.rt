@@ -11,6 +11,7 @@ ghost use Rattle.rule_table.specs.RuleSet as spec;
 ghost use Rattle.rule_table.specs.Refusal as refusal;
 ghost use Rattle.rule_table.specs.Refusal.{IsChanged};
 ghost use Rattle.rule_table.specs.Sound.{IsSound};
+ghost use Rattle.rule_table.specs.WellFormed.{HasValidInput};
 ghost use Rattle.rule_table.specs.Target.{target_of, stored_in, IsStoredOf};
 ghost use Rattle.rule_table.specs.View.{control_of};
 
@@ -25,7 +26,7 @@ use event_shape::{DEFAULT_BUS, queue_of};
 use json_text::{NoMemory, Text};
 use name_rows::{Rows, RowsFrom};
 use pattern_read::SharedPattern;
-use rule_targets::{AskedTarget, Target, member_fault};
+use rule_targets::{AskedTarget, Target, has_two_inputs, member_fault};
 use std::alloc::Global;
 use std::marker::Model;
 
@@ -191,6 +192,9 @@ impl RuleSet {
         if let Some(member) = member_fault(alloc, target)? {
             return Ok(Some(TargetFault::Member(member)));
         }
+        if has_two_inputs(target) {
+            return Ok(Some(TargetFault::TwoInputs));
+        }
         if let Some(queue) = self.missing(target.arn.as_str()) {
             return Ok(Some(TargetFault::NoQueue(Text::from_str(alloc, queue)?)));
         }
@@ -288,7 +292,8 @@ impl RuleSet {
         ensures { IfOk result (λ found. MatchOption found
             (refusal.are_some_put self.now news.now rule.now.targets ≡ false)
             (λ others. (refusal.are_some_put self.now news.now rule.now.targets ≡ true)
-            × (map target_of others.items ≡ spec.put_targets news.now rule.now.targets) × All (IsStoredOf rule.now) others.items)) }
+            × (map target_of others.items ≡ spec.put_targets news.now rule.now.targets) × All (IsStoredOf rule.now) others.items
+            × All HasValidInput news.now)) }
     {
         if news.is_empty() {
             return Ok(None);

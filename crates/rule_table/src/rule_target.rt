@@ -1,13 +1,16 @@
 //! The stored targets of rules.
-ghost use Rattle.std.specs.Prelude.{◌≡◌, IfOk};
+ghost use Rattle.std.specs.Prelude.{◌≡◌, IfOk, OnOk};
 ghost use Rattle.std.specs.Option.{option_map};
+ghost use Rattle.rule_targets.specs.Input.{IsNoneOrValid};
 ghost use Rattle.rule_table.specs.RuleSet.{Rule, is_used_by_target};
 ghost use Rattle.rule_table.specs.Target.{stored_of, retry_of, target_of};
 
 use event_shape::is_queue_arn;
 use json_text::{NoMemory, Text};
 use name_rows::Row;
-use rule_targets::{RetryPolicy, Target, age_of, attempts_of, copy_optional};
+use rule_targets::{
+    RetryPolicy, SharedInput, Target, age_of, attempts_of, copy_optional, share_input,
+};
 use shared_text::{SharedRow, TargetRow};
 use std::alloc::Global;
 use std::marker::Model;
@@ -18,6 +21,7 @@ pub struct RuleTarget {
     row: SharedRow,
     /// Whether the target was put with a retry policy.
     has_retry_policy: bool,
+    input: Option<SharedInput>,
 }
 
 impl Model for RuleTarget {
@@ -25,7 +29,7 @@ impl Model for RuleTarget {
 
     ghost Value = { StoredTarget };
 
-    ghost view = { λ t. record { row = t.row; has_retry_policy = t.has_retry_policy } };
+    ghost view = { λ t. record { row = t.row; has_retry_policy = t.has_retry_policy; input = t.input } };
 }
 
 impl Row for RuleTarget {
@@ -44,7 +48,8 @@ impl RuleTarget {
         name: &Text,
         target: &Target,
     ) -> Result<RuleTarget, NoMemory>
-        ensures { (rule : Rule) → rule.arn ≡ arn.now → rule.name ≡ name.now → IfOk result (λ stored. stored ≡ stored_of rule target.now) }
+        ensures stored { (rule : Rule) → rule.arn ≡ arn.now → rule.name ≡ name.now → IfOk result (λ stored. stored ≡ stored_of rule target.now) }
+        ensures valid { OnOk result (IsNoneOrValid target.now.input) }
     {
         let row = TargetRow {
             rule_arn: arn.copy(alloc)?,
@@ -58,6 +63,7 @@ impl RuleTarget {
         Ok(RuleTarget {
             row: SharedRow::new(alloc, row)?,
             has_retry_policy: target.retry.is_some(),
+            input: share_input(&target.input)?,
         })
     }
 
@@ -93,6 +99,13 @@ impl RuleTarget {
         self.row.dead_letter()
     }
 
+    /// What the target gets in place of the event, if it has an input. Rule sets share it, as do matches.
+    pub fn input(&self) -> &Option<SharedInput>
+        ensures { result.now ≡ self.now.input }
+    {
+        &self.input
+    }
+
     /// What matching and delivery need of the target. The row stays valid after the rule set is dropped.
     pub fn row(&self) -> &SharedRow
         ensures { result.now ≡ self.now.row }
@@ -107,16 +120,18 @@ impl RuleTarget {
         Ok(RuleTarget {
             row: self.row.share()?,
             has_retry_policy: self.has_retry_policy,
+            input: share_input(&self.input)?,
         })
     }
 
-    /// The target, in memory of its own.
+    /// The target. Its texts are in memory of its own.
     pub fn copy(&self, alloc: Global) -> Result<Target, NoMemory>
         ensures { IfOk result (λ target. target ≡ target_of self.now) }
     {
         Ok(Target {
             id: Text::from_str(alloc, self.id())?,
             arn: Text::from_str(alloc, self.arn())?,
+            input: share_input(&self.input)?,
             retry: self.retry(),
             dead_letter: self.copy_dead_letter(alloc)?,
         })

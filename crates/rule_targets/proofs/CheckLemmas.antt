@@ -1,6 +1,6 @@
--- Conditions in an order: what it says of each that no fault is there (`kept`, `none_first`, `both_none`, `two_none`); a first fault that is
+-- Conditions in an order: what it says of each that no fault is there (`kept`, `both_none`, `two_none`); a first fault that is
 -- there (`found_first`); two lists, one after the other (`passed_front`, `found_front`); and faults that are renamed (`mapped`).
-use Rattle.std.proofs.Common.{◌≡◌, Bool, true, false, List, [], ◌∷◌, ◌++◌, map, Option, Some, None, refl, sym, ap, ◌∙◌}
+use Rattle.std.proofs.Common.{◌≡◌, Bool, true, false, List, [], ◌∷◌, ◌++◌, map, Option, Some, None, refl, ap}
 use Rattle.std.specs.Option.{option_map}
 use Rattle.json_text.specs.Checks.{unless, first_fault}
 
@@ -8,10 +8,6 @@ use Rattle.json_text.specs.Checks.{unless, first_fault}
 pub kept : {F : Type 0} (b : Bool) (f : F) (rest : List (Option F)) → first_fault (unless b f ∷ rest) ≡ None → (b ≡ true) × (first_fault rest ≡ None)
 kept true f rest none = (refl, none)
 kept false f rest none = let never : Some f ≡ None = none in absurd cc
-
-pub none_first : {F : Type 0} (o : Option F) (rest : List (Option F)) → first_fault (o ∷ rest) ≡ None → (o ≡ None) × (first_fault rest ≡ None)
-none_first None rest none = (refl, none)
-none_first (Some f) rest none = let never : Some f ≡ None = none in absurd cc
 
 pub found_first : {F : Type 0} (o : Option F) (rest : List (Option F)) (f : F) → o ≡ Some f → first_fault (o ∷ rest) ≡ Some f
 found_first o rest f is = ap (λ first. first_fault (first ∷ rest)) is

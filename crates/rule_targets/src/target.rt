@@ -3,8 +3,9 @@ ghost use Rattle.std.specs.Prelude.{◌≡◌, IfOk};
 ghost use Rattle.std.specs.Option.{option_map};
 ghost use Rattle.rule_targets.specs.Target as spec;
 
+use crate::given::GivenInput;
 use crate::retry::{GREATEST_AGE, MOST_ATTEMPTS};
-use api_replies::Member;
+use crate::shared_input::{SharedInput, share_input};
 use json_text::{NoMemory, Text};
 use name_rows::Row;
 use std::alloc::Global;
@@ -18,13 +19,24 @@ pub struct AskedRetry {
     pub age: Option<u32>,
 }
 
+/// A member Input, InputPath or InputTransformer of a target, as a request asks for it.
+#[derive(Debug, Drop)]
+pub enum AskedInput {
+    Absent,
+    /// It is outside its syntax or its limits.
+    NotValid,
+    /// What is given, read.
+    Read(SharedInput),
+}
+
 /// A target as a request asks for it: its id, which is unique in the rule, and the ARN of its queue or the URL of its HTTP endpoint.
 #[derive(Debug, Drop)]
 pub struct AskedTarget {
     pub id: Text,
     pub arn: Text,
-    /// The first member that it has of those that are not supported yet: Input, InputPath, InputTransformer.
-    pub unbuilt: Option<Member>,
+    pub input: AskedInput,
+    pub input_path: AskedInput,
+    pub transformer: AskedInput,
     pub retry: Option<AskedRetry>,
     /// The ARN of the dead-letter queue.
     pub dead_letter: Option<Text>,
@@ -44,6 +56,8 @@ pub struct RetryPolicy {
 pub struct Target {
     pub id: Text,
     pub arn: Text,
+    /// What the target gets in place of the event. Copies of the target share it.
+    pub input: Option<SharedInput>,
     pub retry: Option<RetryPolicy>,
     /// The ARN of the dead-letter queue.
     pub dead_letter: Option<Text>,
@@ -58,13 +72,14 @@ impl Row for Target {
 }
 
 impl Target {
-    /// A copy of the target, in memory of its own.
+    /// A copy of the target. Its texts are in memory of its own.
     pub fn copy(&self, alloc: Global) -> Result<Target, NoMemory>
         ensures { IfOk result (λ target. target ≡ self.now) }
     {
         Ok(Target {
             id: self.id.copy(alloc)?,
             arn: self.arn.copy(alloc)?,
+            input: share_input(&self.input)?,
             retry: self.retry,
             dead_letter: copy_optional(alloc, &self.dead_letter)?,
         })
@@ -77,24 +92,103 @@ impl Target {
         Ok(AskedTarget {
             id: self.id.copy(alloc)?,
             arn: self.arn.copy(alloc)?,
-            unbuilt: None,
+            input: asked_input(&self.input)?,
+            input_path: asked_path(&self.input)?,
+            transformer: asked_transformer(&self.input)?,
             retry: asked_retry(&self.retry),
             dead_letter: copy_optional(alloc, &self.dead_letter)?,
         })
     }
 }
 
+impl AskedInput {
+    /// The member with this value, read.
+    pub fn read(alloc: Global, given: Option<GivenInput>) -> Result<AskedInput, NoMemory>
+        ensures { IfOk result (spec.IsAskedAs given) }
+    {
+        let Some(given) = given else {
+            return Ok(AskedInput::Absent);
+        };
+        match SharedInput::read(alloc, given)? {
+            Some(input) => Ok(AskedInput::Read(input)),
+            None => Ok(AskedInput::NotValid),
+        }
+    }
+}
+
 impl AskedTarget {
-    /// The target as it is put to a rule, if the request has no fault. Copies its texts.
+    /// The target as it is put to a rule, if the request has no fault. Copies its texts, and shares its input.
     pub fn put_as(&self, alloc: Global) -> Result<Target, NoMemory>
         ensures { IfOk result (λ target. target ≡ spec.put_as self.now) }
     {
         Ok(Target {
             id: self.id.copy(alloc)?,
             arn: self.arn.copy(alloc)?,
+            input: self.put_input()?,
             retry: put_retry(&self.retry),
             dead_letter: copy_optional(alloc, &self.dead_letter)?,
         })
+    }
+
+    /// The first input that is given and valid.
+    fn put_input(&self) -> Result<Option<SharedInput>, NoMemory>
+        ensures { IfOk result (λ input. input ≡ spec.put_input self.now) }
+    {
+        let input = first_read(&self.transformer, None)?;
+        let input = first_read(&self.input_path, input)?;
+        first_read(&self.input, input)
+    }
+}
+
+/// The input that the member gives, if it is valid, and else the other one.
+fn first_read(
+    member: &AskedInput,
+    other: Option<SharedInput>,
+) -> Result<Option<SharedInput>, NoMemory>
+    ensures { IfOk result (λ input. input ≡ spec.first_read member.now other) }
+{
+    match member {
+        AskedInput::Read(input) => Ok(Some(input.share()?)),
+        AskedInput::Absent | AskedInput::NotValid => Ok(other),
+    }
+}
+
+/// The member Input of a request that asks for this input.
+fn asked_input(input: &Option<SharedInput>) -> Result<AskedInput, NoMemory>
+    ensures { IfOk result (λ member. member ≡ spec.asked_input input.now) }
+{
+    match input {
+        Some(input) => match input.given() {
+            GivenInput::Input(_) => Ok(AskedInput::Read(input.share()?)),
+            GivenInput::InputPath(_) | GivenInput::InputTransformer(_) => Ok(AskedInput::Absent),
+        },
+        None => Ok(AskedInput::Absent),
+    }
+}
+
+/// Its member InputPath.
+fn asked_path(input: &Option<SharedInput>) -> Result<AskedInput, NoMemory>
+    ensures { IfOk result (λ member. member ≡ spec.asked_path input.now) }
+{
+    match input {
+        Some(input) => match input.given() {
+            GivenInput::InputPath(_) => Ok(AskedInput::Read(input.share()?)),
+            GivenInput::Input(_) | GivenInput::InputTransformer(_) => Ok(AskedInput::Absent),
+        },
+        None => Ok(AskedInput::Absent),
+    }
+}
+
+/// Its member InputTransformer.
+fn asked_transformer(input: &Option<SharedInput>) -> Result<AskedInput, NoMemory>
+    ensures { IfOk result (λ member. member ≡ spec.asked_transformer input.now) }
+{
+    match input {
+        Some(input) => match input.given() {
+            GivenInput::InputTransformer(_) => Ok(AskedInput::Read(input.share()?)),
+            GivenInput::Input(_) | GivenInput::InputPath(_) => Ok(AskedInput::Absent),
+        },
+        None => Ok(AskedInput::Absent),
     }
 }
 

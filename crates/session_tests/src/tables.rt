@@ -6,6 +6,7 @@ use router_core::{Errand, SeenTargets, Tables, see_plain_event};
 use router_disk::{LinkFault, MemClock, MemLink, MemSink, MemSource};
 use router_sessions::{Book, serve_session};
 use rule_table::RuleSet;
+use rule_targets::SharedInput;
 use shared_text::{SharedRow, SharedText};
 use std::alloc::Global;
 use std::sync::Wait;
@@ -157,6 +158,7 @@ fn cross_threads() {
     may_be_shared::<RuleSet>();
     may_be_shared::<SharedRow>();
     may_be_shared::<SharedText>();
+    may_be_shared::<SharedInput>();
 }
 
 /// Accepts only types whose values may move between threads.

@@ -52,6 +52,7 @@ fn target(alloc: Global, parts: &str) -> Result<Target, Fail> {
     Ok(Target {
         id,
         arn,
+        input: None,
         retry,
         dead_letter,
     })

@@ -1,15 +1,15 @@
 //! Calls on the targets of rules.
-ghost use Rattle.std.specs.Prelude.{◌≡◌, Some, IfOk};
+ghost use Rattle.std.specs.Prelude.{◌≡◌, ℕ, List, Some, IfOk};
 ghost use Rattle.std.specs.Option.{option_map, option_copied};
 ghost use Rattle.json_text.specs.Tree.{members_of};
 ghost use Rattle.json_text.specs.View.{tree_of, trees_of, pairs_of};
 ghost use Rattle.router_core.specs.View.{action_of};
-ghost use Rattle.api_wire.specs.Call.{action_in, retry_given, target_with, targets_of, first_given, unsupported};
+ghost use Rattle.api_wire.specs.Call.{action_in, retry_given, IsTargetWith, AreTargets, IsAction};
 ghost use Rattle.api_wire.specs.declared.call.operation.Operation.TheVariants.{PutTargets, RemoveTargets, ListTargetsByRule, ListRuleNamesByTarget};
 
 use api_members::{
-    age_given, attempts_given, bus_given, given, members_in, read_dead_letter, read_texts, text_of,
-    values_in,
+    age_given, attempts_given, bus_given, given, members_in, read_dead_letter, read_input,
+    read_input_path, read_texts, read_transformer, text_of, values_in,
 };
 use api_replies::Member;
 use json_text::{Json, NoMemory, Text};
@@ -18,7 +18,7 @@ use rule_targets::{AskedRetry, AskedTarget};
 use std::alloc::Global;
 
 pub(super) fn put_targets(alloc: Global, members: &[(Text, Json)]) -> Result<Action, NoMemory>
-    ensures { IfOk result (λ a. action_in PutTargets (members_of (pairs_of members.now)) ≡ Some (action_of a)) }
+    ensures { (caller : List ℕ) (reading : ℕ) → IfOk result (λ a. IsAction PutTargets caller (members_of (pairs_of members.now)) reading (action_of a)) }
 {
     let bus = bus_given(alloc, members, Member::EventBusName)?;
     let rule = Text::from_str(alloc, text_of(members, Member::Rule))?;
@@ -27,7 +27,7 @@ pub(super) fn put_targets(alloc: Global, members: &[(Text, Json)]) -> Result<Act
 }
 
 fn read_targets(alloc: Global, values: &[Json]) -> Result<Vec<AskedTarget>, NoMemory>
-    ensures { IfOk result (λ targets. targets.items ≡ targets_of (trees_of values.now)) }
+    ensures { IfOk result (λ targets. AreTargets (trees_of values.now) targets.items) }
 {
     let mut targets = Vec::with_capacity(alloc, values.len())?;
     for value in values {
@@ -38,7 +38,7 @@ fn read_targets(alloc: Global, values: &[Json]) -> Result<Vec<AskedTarget>, NoMe
 }
 
 fn read_target(alloc: Global, members: &[(Text, Json)]) -> Result<AskedTarget, NoMemory>
-    ensures { IfOk result (λ target. target ≡ target_with (members_of (pairs_of members.now))) }
+    ensures { IfOk result (IsTargetWith (members_of (pairs_of members.now))) }
 {
     let id = Text::from_str(alloc, text_of(members, Member::Id))?;
     let arn = Text::from_str(alloc, text_of(members, Member::Arn))?;
@@ -46,7 +46,9 @@ fn read_target(alloc: Global, members: &[(Text, Json)]) -> Result<AskedTarget, N
     Ok(AskedTarget {
         id,
         arn,
-        unbuilt: first_unsupported(members),
+        input: read_input(alloc, members)?,
+        input_path: read_input_path(alloc, members)?,
+        transformer: read_transformer(alloc, members)?,
         retry: read_retry(given(members, Member::RetryPolicy)),
         dead_letter,
     })
@@ -62,21 +64,6 @@ fn read_retry(policy: Option<&Json>) -> Option<AskedRetry>
             age: age_given(members_in(policy)),
         }),
         None => None,
-    }
-}
-
-/// The first member of a target that is not supported yet.
-fn first_unsupported(members: &[(Text, Json)]) -> Option<Member>
-    ensures { result ≡ first_given unsupported (members_of (pairs_of members.now)) }
-{
-    if given(members, Member::Input).is_some() {
-        Some(Member::Input)
-    } else if given(members, Member::InputPath).is_some() {
-        Some(Member::InputPath)
-    } else if given(members, Member::InputTransformer).is_some() {
-        Some(Member::InputTransformer)
-    } else {
-        None
     }
 }
 

@@ -33,7 +33,7 @@ pub returns-in-ListRules : goal.returns-in-ListRules
 returns-in-ListRules c = rw c.in-ListRules.is c.list_rules.ensures
 
 pub returns-in-PutTargets : goal.returns-in-PutTargets
-returns-in-PutTargets c = rw c.in-PutTargets.is c.put_targets.ensures
+returns-in-PutTargets c = rw c.in-PutTargets.is (c.put_targets.ensures c.args.caller.now c.args.reading)
 
 pub returns-in-RemoveTargets : goal.returns-in-RemoveTargets
 returns-in-RemoveTargets c = rw c.in-RemoveTargets.is c.remove_targets.ensures

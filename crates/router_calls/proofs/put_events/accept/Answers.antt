@@ -1,12 +1,23 @@
+use Rattle.std.proofs.Common.{refl, ◌∙◌, subst}
+use Rattle.json_text.specs.Moment.{IsMoment}
+use Rattle.event_time.specs.Time.{IsIso}
 use Rattle.router_calls.proofs.put_events.accept.Goals as goal
 
-pub returns-clause-event : goal.returns-clause-event
-returns-clause-event c =
-    let at = c.numbered.ensures.event.1 in
+pub returns : goal.returns
+returns c = λ time at.
+    let event = c.numbered.ensures.event.1 in
     record {
-      number = at.number;
-      account = at.account;
-      is_moment = c.moment.ensures.moment;
-      time = c.moment.ensures.shown;
-      content = at.content;
+      number = refl;
+      bus = c.in_ok-bus.ensures ∙ c.bus.ensures;
+      version = refl;
+      at = c.moment.ensures.value;
+      text = c.in_ok-text.ensures ∙ c.in_ok-numbered.ensures.text;
+      duties = c.in_ok-duties.ensures time at;
+      is_event = record {
+        number = event.number;
+        account = event.account;
+        is_moment = subst IsMoment c.moment.ensures.value c.moment.ensures.moment;
+        time = subst (λ n. IsIso n c.args.event.now.event.time) c.moment.ensures.value c.moment.ensures.shown;
+        content = event.content;
+      };
     }

@@ -21,7 +21,7 @@ change_with_reports-requires-clause-form c = λ some.
     let kept : 0 < length c.in_ok-accepted.field-0.accepted.items =
     subst (λ ts. 0 < length ts) c.as_slice.ensures.value (c.are_some-some.ensures.some some) in
     put_formed_so c.set.result.now c.args.tables.now.set c.args.bus.now c.args.rule.now c.args.targets.now _ c.in_ok-accepted.field-0
-    c.in_ok-accepted.field-0.accepted.items (control_of c.in_ok-control.control) c.requires.names c.requires.few c.in_ok-accepted.ensures
+    c.in_ok-accepted.field-0.accepted.items (control_of c.in_ok-control.control) c.requires.names c.requires.few c.requires.valid c.in_ok-accepted.ensures
     refl c.in_ok-control.ensures
     (put_allowed c.set.result.now c.args.tables.now.set c.args.bus.now c.args.rule.now c.args.old.now c.args.targets.now _ c.in_ok-accepted.field-0
     c.in_ok-accepted.field-0.accepted.items (control_of c.in_ok-control.control) c.requires.there c.set.ensures c.targets.ensures.targets c.in_ok-accepted.ensures

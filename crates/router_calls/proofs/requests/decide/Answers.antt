@@ -1,6 +1,5 @@
-use Rattle.std.proofs.Common.{ap, ◌∙◌}
+use Rattle.std.proofs.Common.{arith}
 use Rattle.router_core.specs.View.{request_of}
-use Rattle.router_calls.specs.Answer.{answer_at}
 use Rattle.router_calls.specs.Decided.{answer_of, decided_of}
 use Rattle.router_calls.proofs.CallLemmas.{answered, if_ok_more}
 use Rattle.router_calls.proofs.requests.decide.Goals as goal
@@ -9,6 +8,5 @@ pub returns-clause-answer : goal.returns-clause-answer
 returns-clause-answer c =
     let t = c.args.tables.now in
     let d = c.in_ok-decided.decided in
-    if_ok_more c.batched.result (λ p h. answered t (request_of c.args.request.now) c.args.seen (decided_of d) (answer_of p) c.requires.bounded
-    c.requires.entitled c.requires.one_turn c.in_ok-decided.ensures.answer (h ∙ ap (λ m. answer_at t m (decided_of d)) c.requires.at)
-    c.in_ok-decided.ensures.events) c.batched.ensures.answer
+    if_ok_more c.batched.result (λ p h. answered t (request_of c.args.request.now) c.args.seen c.args.moment (decided_of d) (answer_of p) c.requires.bounded
+    c.requires.entitled c.requires.one_turn (omega (arith, c.requires.at, c.requires.reading, c.read_tables.ensures.consistent.moment)) c.requires.at c.in_ok-decided.ensures.answer h) c.batched.ensures.answer

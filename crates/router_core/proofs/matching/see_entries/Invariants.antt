@@ -4,4 +4,4 @@ use Rattle.router_core.proofs.matching.see_entries.Given as goal
 
 -- the results so far
 abbrev pub invariant-loop-entry : goal.invariant-loop-entry
-invariant-loop-entry l = AreSeenEntries l.set l.caller (take l.entry-index l.entries) l.all.items
+invariant-loop-entry g l = AreSeenEntries (g.F.Finder.set_of l.finder) l.caller (take l.entry-index l.entries) l.all.items

@@ -7,11 +7,12 @@ use Rattle.router_core.proofs.MatchingLemmas.{matched_numbered}
 use Rattle.router_core.proofs.matching.targets_of.Goals as goal
 
 pub returns-in-Allowed : goal.returns-in-Allowed
-returns-in-Allowed c =
+returns-in-Allowed g c =
+    let set = g.F.Finder.set_of c.args.finder.now in
     let e = c.args.event.now.event in
-    let rules = rules_of c.args.event.now.bus c.args.set.now in
+    let rules = rules_of c.args.event.now.bus set in
     IfOk-weaker c.matched.result _ _
     (λ targets found.
-    subst (λ (v : SeenVerdict). AreTargetsOf c.args.set.now (Ok c.args.event.now) v targets.items) (sym c.in-Allowed.is)
+    subst (λ (v : SeenVerdict). AreTargetsOf set (Ok c.args.event.now) v targets.items) (sym c.in-Allowed.is)
     (λ number. matched_numbered rules e e.number number targets.items (rw (c.bus.ensures, c.tree.ensures.tree) at found)))
     c.matched.ensures

@@ -1,4 +1,4 @@
-use Rattle.std.proofs.Common.{◌≡◌, ◌&&◌, ◌+◌, ◌≤◌, [], ◌∷◌, ℕ, List, true, false, length, drop, drop-cons, add-one, map, suc, is_some, ap, sym, ◌∙◌, subst, arith}
+use Rattle.std.proofs.Common.{◌≡◌, ◌&&◌, ◌+◌, [], ◌∷◌, ℕ, List, true, false, length, drop, drop-cons, add-one, map, suc, is_some, ap, sym, ◌∙◌, subst, arith}
 use Rattle.std.specs.Prelude.{All, nat_le}
 use Rattle.std.proofs.lemmas.List.{drop_all}
 use Rattle.name_rows.specs.Place.{IsHere, IsBefore}

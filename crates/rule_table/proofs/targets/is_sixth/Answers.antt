@@ -1,4 +1,4 @@
-use Rattle.std.proofs.Common.{◌≡◌, ◌+◌, ℕ, List, not, length, map, refl, sym, ap, ◌∙◌}
+use Rattle.std.proofs.Common.{◌+◌, ℕ, List, not, length, map, sym, ap, ◌∙◌}
 use Rattle.std.specs.Prelude.{nat_le}
 use Rattle.std.proofs.lemmas.List.{length-map}
 use Rattle.name_rows.proofs.RowLemmas.{here_map, before_map}

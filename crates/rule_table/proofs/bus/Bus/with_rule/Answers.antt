@@ -1,4 +1,4 @@
-use Rattle.std.proofs.Common.{◌≡◌, ◌||◌, ℕ, Bool, List, true, false, length, is_some, Some, None, ap, sym, ◌∙◌, subst, refl}
+use Rattle.std.proofs.Common.{◌≡◌, ◌||◌, ℕ, List, true, length, is_some, Some, None, ap, sym, ◌∙◌, subst, refl}
 use Rattle.std.specs.Prelude.{nat_lt}
 use Rattle.name_rows.specs.Rows.{AreSorted, named, placed, replacing}
 use Rattle.rule_table.specs.RuleSet.{Rule, Bus, new_rule, keeping_targets}

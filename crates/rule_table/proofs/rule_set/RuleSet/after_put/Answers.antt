@@ -1,15 +1,17 @@
-use Rattle.std.proofs.Common.{◌≡◌, ◌&&◌, ◌+◌, ◌≤◌, [], ◌∷◌, Bool, true, false, not, is_some, length, drop, drop-cons, add-one, map, suc, ap, sym, ◌∙◌, subst, arith}
+use Rattle.std.proofs.Common.{◌≡◌, ◌&&◌, ◌+◌, [], ◌∷◌, true, false, not, is_some, length, drop, drop-cons, add-one, map, suc, ap, sym, ◌∙◌, subst, arith}
 use Rattle.std.specs.Prelude.{All, nat_le}
-use Rattle.std.proofs.lemmas.List.{drop_all}
+use Rattle.std.proofs.lemmas.List.{drop_all, take_all}
+use Rattle.std.proofs.lemmas.List.Elements.{All-nil}
 use Rattle.name_rows.specs.Rows.{placed, replacing}
 use Rattle.name_rows.proofs.RowLemmas.{All_placed}
 use Rattle.rule_targets.specs.Target.{asked_of}
 use Rattle.rule_targets.specs.declared.target.Target.{Target}
 use Rattle.rule_table.specs.RuleSet.{put_target, put_targets}
 use Rattle.rule_table.specs.Refusal.{target_fault, are_put}
+use Rattle.rule_table.specs.WellFormed.{HasValidInput}
 use Rattle.rule_table.specs.Target.{target_of, IsStoredOf}
 use Rattle.rule_table.proofs.AllowedLemmas.{some_items, either_false}
-use Rattle.rule_table.proofs.TargetLemmas.{row_id, rows_made, is_stored, target_put}
+use Rattle.rule_table.proofs.TargetLemmas.{row_id, rows_made, is_stored, target_put, valid_more}
 use Rattle.rule_table.proofs.rule_set.RuleSet.after_put.Goals as goal
 
 pub returns-then-is_some : goal.returns-then-is_some
@@ -48,14 +50,15 @@ loop-new-preserved c =
     ∙ ap (target_fault set targets) c.in_ok-asked.ensures)) ∙ sym c.if-is_some.ensures in
     let put : c.put_in_order.new.targets.items ≡ placed row_id replacing row others = c.in_ok-put_in_order.ensures.put in
     let made : map target_of c.put_in_order.new.targets.items ≡ put_target new targets =
-    ap (map target_of) put ∙ target_put rule new row others c.in_ok-stored.ensures in
-    let its_row : IsStoredOf rule row = is_stored rule new row c.in_ok-stored.ensures in
+    ap (map target_of) put ∙ target_put rule new row others c.in_ok-stored.ensures.stored in
+    let its_row : IsStoredOf rule row = is_stored rule new row c.in_ok-stored.ensures.stored in
     record {
       put = c.loop-new.invariant.put ∙ ap (λ ns. put_targets ns targets) cons ∙ ap (put_targets rest) (sym made);
       good = c.loop-new.invariant.good ∙ ap (λ ns. are_put set ns targets) cons
           ∙ ap (λ b. not b && are_put set rest (put_target new targets)) found ∙ ap (are_put set rest) (sym made);
       rows = subst (All (IsStoredOf rule)) (sym put)
           (All_placed (IsStoredOf rule) row_id replacing row others its_row (λ old p. its_row) c.loop-new.invariant.rows);
+      valid = valid_more news at new c.loop-new-test.true c.new-item.is c.in_ok-stored.ensures.valid c.loop-new.invariant.valid;
     }
 
 pub loop-new-init : goal.loop-new-init
@@ -69,6 +72,7 @@ loop-new-init c =
       put = ap (put_targets news) same;
       good = ap (are_put set news) same;
       rows = subst (All (IsStoredOf rule)) (sym rows) (rows_made rule rule.targets);
+      valid = All-nil HasValidInput;
     }
 
 pub returns : goal.returns
@@ -82,4 +86,5 @@ returns c =
       ap (λ b. b && are_put set news c.args.rule.now.targets) (some_items news c.if-is_empty.ensures) ∙ good,
       sym (c.loop-new.invariant.put ∙ ap (λ ns. put_targets ns targets) done),
       c.loop-new.invariant.rows,
+      subst (All HasValidInput) (take_all at news (omega arith)) c.loop-new.invariant.valid,
     )

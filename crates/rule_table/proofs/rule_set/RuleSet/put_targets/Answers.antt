@@ -24,7 +24,7 @@ with_bus-requires-clause-sound c =
     let made : c.in_ok-with_targets.field-0 ≡ change r = c.in_ok-with_targets.ensures ∙ ap (λ ts. record r { targets = ts }) put.1 in
     let allowed = after_rule bus rule set r (are_some_put set news) (Validation member.Targets) true (rule_found bus rule set old r found.0 found.1) put.0 in
     (rule_made (targets_put bus rule news) set bus rule change old r c.in_ok-with_targets.field-0 c.in_ok-new.new (λ r. refl) found.0 found.1
-    c.in_ok-old.ensures.sound made c.in_ok-new.ensures allowed tt refl).0
+    c.in_ok-old.ensures.sound made c.in_ok-new.ensures allowed put.3 refl).0
 
 pub returns : goal.returns
 returns c =
@@ -40,5 +40,5 @@ returns c =
     let made : c.in_ok-with_targets.field-0 ≡ change r = c.in_ok-with_targets.ensures ∙ ap (λ ts. record r { targets = ts }) put.1 in
     let allowed = after_rule bus rule set r (are_some_put set news) (Validation member.Targets) true (rule_found bus rule set old r found.0 found.1) put.0 in
     let after = rule_made (targets_put bus rule news) set bus rule change old r c.in_ok-with_targets.field-0 c.in_ok-new.new (λ r. refl) found.0 found.1
-    c.in_ok-old.ensures.sound made c.in_ok-new.ensures allowed tt refl in
+    c.in_ok-old.ensures.sound made c.in_ok-new.ensures allowed put.3 refl in
     (allowed, c.in_ok-with_bus.ensures ∙ after.1)

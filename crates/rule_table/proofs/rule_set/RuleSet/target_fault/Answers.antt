@@ -1,5 +1,4 @@
-use Rattle.std.proofs.Common.{◌≡◌, if◌then◌else◌, not, length, map, Some, None, sym, ap, ◌∙◌}
-use Rattle.std.specs.Prelude.{nat_le}
+use Rattle.std.proofs.Common.{◌≡◌, if◌then◌else◌, length, map, Some, None, sym, ap, ◌∙◌}
 use Rattle.json_text.specs.Checks.{first_fault}
 use Rattle.name_rows.specs.Rows.{placed, replacing}
 use Rattle.rule_targets.specs.Target.{put_as}

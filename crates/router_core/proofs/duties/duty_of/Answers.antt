@@ -1,0 +1,17 @@
+use Rattle.std.proofs.Common.{sym, subst}
+use Rattle.router_core.specs.declared.duties.Sent.{Sent}
+use Rattle.router_core.specs.Duties.{IsDutyOf}
+use Rattle.router_core.proofs.DutyLemmas.{duty_filled, duty_whole, duty_with}
+use Rattle.router_core.proofs.duties.duty_of.Goals as goal
+use Rattle.router_core.proofs.duties.duty_of.Goals.{in-Some+in_ok-sent-in-Some, in-None+in_ok-sent-in-None}
+
+pub returns : goal.returns
+returns c = λ event time whole tree is.
+    let seen = c.args.seen in
+    elim c.match-input.branch [
+      | in-Some+in_ok-sent-in-Some w ↦ subst (λ (s : Sent). IsDutyOf event time seen (duty_with seen.row s)) (sym w.sent-is)
+          (duty_filled event time seen w.in-Some.input w.rule_arn.result.now w.in_ok-sent-in-Some.sent w.in-Some.is w.rule_arn.ensures
+          (w.in_ok-sent-in-Some.ensures event time tree is))
+      | in-None+in_ok-sent-in-None w ↦ subst (λ (s : Sent). IsDutyOf event time seen (duty_with seen.row s)) (sym w.sent-is)
+          (duty_whole event time seen w.in_ok-sent-in-None.sent c.args.whole.now w.in-None.is w.in_ok-sent-in-None.ensures whole)
+    ]
