@@ -15,6 +15,15 @@ kept_after a b x c h e = ap (take (length a)) (e ∙ ap (λ t. t ++ x) (begins a
 pub kept_further : (a b c : List ℕ) → take (length a) b ≡ a → take (length b) c ≡ b → take (length a) c ≡ a
 kept_further a b c h k = kept_after a b (drop (length b) c) c h (begins b c k)
 
+-- the plain bytes at the front, and what is left
+pub quoted_front : (out rest front back : List ℕ) (n : ℕ) → front ≡ take n rest → back ≡ drop n rest → flat_map escape (take n rest) ≡ take n rest
+    → (out ++ front) ++ flat_map escape back ≡ out ++ flat_map escape rest
+quoted_front out rest front back n is cut plain = let split : flat_map escape rest ≡ take n rest ++ flat_map escape (drop n rest) =
+    ap (flat_map escape) (sym (take-append-drop n rest)) ∙ flat_map-append escape (take n rest) (drop n rest)
+    ∙ ap (λ t. t ++ flat_map escape (drop n rest)) plain in
+    ap (λ t. (out ++ t) ++ flat_map escape back) is ∙ ap (λ t. (out ++ take n rest) ++ flat_map escape t) cut
+    ∙ append_assoc out (take n rest) (flat_map escape (drop n rest)) ∙ ap (λ t. out ++ t) (sym split)
+
 -- the plain bytes at the front, an escape, and what is left
 pub quoted_turn : (out rest after : List ℕ) (n b : ℕ) (front : List ℕ) → front ≡ take n rest → flat_map escape (take n rest) ≡ take n rest
     → drop n rest ≡ b ∷ after → ((out ++ front) ++ escape b) ++ flat_map escape after ≡ out ++ flat_map escape rest

@@ -4,7 +4,8 @@
 -- same sequence of other elements. What follows a byte is said of the result of its step, and that is what follows with the byte, in
 -- both directions (ByteSteps), so the machine reads exactly the texts of the grammar (WholeTexts). Each state can be completed, and a
 -- byte does the same at one level more but for a bracket: the place of a fault is the longest front of some text (FaultPlaces).
--- The code does what the machine does: a string by itself (StringScan), each token within a text (TokenRuns),
+-- The code does what the machine does: a string by itself (StringScan), its plain bytes several at a time (PlainLemmas), each token within
+-- a text (TokenRuns),
 -- one byte between tokens (StepLemmas), what the reader keeps (KeptLemmas). What is read is a value (ValueLemmas).
 -- What is written is spelled (CompactLemmas, SpelledBack) and UTF-8 (WrittenUtf8).
 -- Notes. What is still to come in the open lists and objects is one argument (`Future outer`), so no existential is inside a continuation.
@@ -43,3 +44,4 @@ pub mod OneValue
 pub mod CompactLemmas
 pub mod SpelledBack
 pub mod WrittenUtf8
+pub mod PlainLemmas

@@ -113,7 +113,7 @@ from_anywhere text None unit n m next =
     (λ v. string_on (cond v high_on alone) text n next ≡ string_on (cond v high_on alone) text m next) [ true ↦ refl | false ↦ refl ]
 
 -- the quotation mark
-at_mark : (bytes text : List ℕ) (at : ℕ) → at < length bytes → get_or bytes at 0 ≡ 34 → scan_string between text at (drop at bytes) ≡ Ok (text, at + 1)
+pub at_mark : (bytes text : List ℕ) (at : ℕ) → at < length bytes → get_or bytes at 0 ≡ 34 → scan_string between text at (drop at bytes) ≡ Ok (text, at + 1)
 unfolding scan_string
 at_mark bytes text at h e = rw (drop_more bytes at 0 h, e) refl
 

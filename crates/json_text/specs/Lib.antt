@@ -9,6 +9,7 @@ pub mod Objects
 pub mod Reading
 pub mod Scan
 pub mod Parts
+pub mod Plain
 pub mod Kept
 pub mod View
 pub mod Once

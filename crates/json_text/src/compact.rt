@@ -5,6 +5,7 @@ ghost use Rattle.json_text.specs.Compact.{compact_text, quoted, escape, lower_he
 ghost use Rattle.json_text.specs.Grammar.{IsText};
 ghost use Rattle.json_text.specs.Node.{Node, value_of, first_repeat};
 
+use super::plain::{UTF8, plain_len};
 use super::{Bytes, Json, NoMemory};
 
 /// Puts the value's compact text at the end: no spaces, numbers as they are spelled, in strings the fewest escapes.
@@ -67,7 +68,7 @@ fn push_quoted(text: &[u8], out: &mut Bytes) -> Result<(), NoMemory>
     out.extend(b"\"")?;
     let mut rest = text;
     while !rest.is_empty() {
-        let (plain, escaped) = rest.split_at(plain_len(rest));
+        let (plain, escaped) = rest.split_at(plain_len(rest, UTF8));
         out.extend(plain)?;
         rest = escaped;
         if let Some((byte, after)) = escaped.split_first() {
@@ -76,25 +77,6 @@ fn push_quoted(text: &[u8], out: &mut Bytes) -> Result<(), NoMemory>
         }
     }
     out.extend(b"\"")
-}
-
-/// The number of bytes at the front that are written unchanged.
-fn plain_len(bytes: &[u8]) -> usize
-    ensures within { result ≤ length bytes.now }
-    ensures plain { flat_map escape (take result bytes.now) ≡ take result bytes.now }
-{
-    for (i, byte) in bytes.iter().enumerate() {
-        if needs_escape(*byte) {
-            return i;
-        }
-    }
-    bytes.len()
-}
-
-fn needs_escape(byte: u8) -> bool
-    ensures { result ≡ false → escape byte ≡ byte ∷ [] }
-{
-    (byte < b' ') | (byte == b'"') | (byte == b'\\')
 }
 
 fn push_escape(byte: u8, out: &mut Bytes) -> Result<(), NoMemory>

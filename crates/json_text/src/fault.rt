@@ -59,3 +59,14 @@ impl From<AllocError> for TokenFault {
         TokenFault::NoMemory
     }
 }
+
+impl From<NoMemory> for TokenFault {
+    ghost use Rattle.std.specs.Prelude.{◌≡◌};
+    ghost use Rattle.json_text.specs.declared.fault.TokenFault.TheVariants.{NoMemory as refused};
+
+    ghost from_gives = { λ _ e. e ≡ refused };
+
+    fn from(_refused: NoMemory) -> TokenFault {
+        TokenFault::NoMemory
+    }
+}

@@ -8,6 +8,7 @@ mod fault;
 mod laws;
 mod number;
 mod object;
+mod plain;
 mod reader;
 mod reading;
 mod state;

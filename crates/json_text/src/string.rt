@@ -4,13 +4,17 @@ ghost use Rattle.std.specs.Char.{IsScalar};
 ghost use Rattle.json_text.specs.Characters.{escape_of, hex_digit_of};
 ghost use Rattle.json_text.specs.Reading.{digit_fits, between, backslash, hex, high, tail, is_within, unescaped_step};
 ghost use Rattle.json_text.specs.Scan.{scan_string, Passes, Scanned, Taken, HasRoom, IsUnit, IsUnitSoFar, GoesToUnit, StopsAt, first_step, after_of};
+ghost use Rattle.json_text.specs.Plain.{PlainBetween};
 
 use super::Text;
 use super::fault::TokenFault;
-use std::alloc::Global;
+use super::plain::{ASCII, plain_len};
+use std::alloc::{AllocError, Global};
+
+/// The bytes that a string with escapes or with characters of several bytes is first read to, if so many are left.
+const FIRST_ROOM: usize = 1_000;
 
 /// A string's text, and the number of bytes after its first quotation mark.
-#[tactic(auto, unfolding(crate::specs::Scan::scan_string))]
 pub(crate) fn string(alloc: Global, bytes: &[u8]) -> Result<(Text, usize), TokenFault>
     ensures ok { IfOk result (λ r. scan_string between [] 0 bytes.now ≡ Ok (r.0, r.1)) }
     ensures within { IfOk result (λ r. r.1 ≤ length bytes.now) }
@@ -18,20 +22,42 @@ pub(crate) fn string(alloc: Global, bytes: &[u8]) -> Result<(Text, usize), Token
     ensures stop { (n : ℕ) → result ≡ Err (TokenFault.Stop n)
         → scan_string between [] 0 bytes.now ≡ Err n }
 {
-    let mut text = Vec::new(alloc);
-    let mut at = 0;
+    let plain = plain_len(bytes, ASCII);
+    if plain == bytes.len() {
+        return Err(TokenFault::Stop(plain));
+    }
+    if bytes[plain] != b'"' {
+        return string_after(alloc, bytes, plain);
+    }
+    Ok((Text::from_utf8(alloc, &bytes[..plain])?, plain + 1))
+}
+
+/// The same if this number of bytes at the front is plain. It has no more room in the end than its text needs.
+#[inline(never)]
+#[tactic(auto, unfolding(crate::specs::Scan::scan_string))]
+fn string_after(alloc: Global, bytes: &[u8], plain: usize) -> Result<(Text, usize), TokenFault>
+    requires within { plain ≤ length bytes.now }
+    requires plain { PlainBetween 127 bytes.now 0 plain }
+    ensures ok { IfOk result (λ r. scan_string between [] 0 bytes.now ≡ Ok (r.0, r.1)) }
+    ensures within { IfOk result (λ r. r.1 ≤ length bytes.now) }
+    ensures ends { (n : ℕ) → result ≡ Err (TokenFault.Stop n) → n ≤ length bytes.now }
+    ensures stop { (n : ℕ) → result ≡ Err (TokenFault.Stop n)
+        → scan_string between [] 0 bytes.now ≡ Err n }
+{
+    let mut text = Vec::with_capacity(alloc, bytes.len().min(FIRST_ROOM))?;
+    text.extend_from_slice(&bytes[..plain])?;
+    let mut at = plain;
     while at < bytes.len() && bytes[at] != b'"' {
         at = after(at, push_characters(&mut text, &bytes[at..]))?;
     }
     if at == bytes.len() {
         return Err(TokenFault::Stop(at));
     }
-    // SAFETY: only whole characters were put, so the bytes are UTF-8.
-    let text = unsafe { String::from_utf8_unchecked(text) };
-    Ok((Text::from(text), at + 1))
+    Ok((Text::from_utf8(alloc, &text)?, at + 1))
 }
 
 /// Puts the characters at the front, of which the first is no quotation mark, and answers how many bytes they take.
+#[inline(always)]
 #[tactic(auto, unfolding(crate::specs::Scan::scan_string))]
 fn push_characters(text: &mut Vec<u8>, bytes: &[u8]) -> Result<usize, TokenFault>
     requires some { 0 < length bytes.now }
@@ -39,37 +65,32 @@ fn push_characters(text: &mut Vec<u8>, bytes: &[u8]) -> Result<usize, TokenFault
     ensures scanned { Scanned between text.old.items bytes.now between text.new.items result }
     ensures goes { IfOk result (λ n. 0 < n) }
 {
-    let plain = plain_len(bytes);
-    if plain > 0 {
-        text.extend_from_slice(&bytes[..plain])?;
-        return Ok(plain);
-    }
     if bytes[0] == b'\\' {
         return after(1, push_escaped(text, &bytes[1..]));
+    }
+    let plain = plain_len(bytes, ASCII);
+    if plain > 0 {
+        push_front(text, bytes, plain)?;
+        return Ok(plain);
     }
     let len = character_len(bytes)?;
     text.extend_from_slice(&bytes[..len])?;
     Ok(len)
 }
 
-/// The number of bytes at the front that are unescaped characters of one byte.
-#[tactic(auto, unfolding(crate::specs::Scan::scan_string))]
-fn plain_len(bytes: &[u8]) -> usize
-    ensures { (text : List ℕ)
-        → Passes between text bytes.now between (text ++ take result bytes.now) result }
+/// Puts the bytes at the front. A few are put with those after them, since 16 bytes are written at once.
+#[inline(always)]
+fn push_front(text: &mut Vec<u8>, bytes: &[u8], len: usize) -> Result<(), AllocError>
+    requires { len ≤ length bytes.now }
+    ensures { OnOk result (text.new.items ≡ text.old.items ++ take len bytes.now) }
 {
-    for (n, byte) in bytes.iter().enumerate() {
-        if !is_plain(*byte) {
-            return n;
-        }
+    if len > 16 || bytes.len() < 16 {
+        return text.extend_from_slice(&bytes[..len]);
     }
-    bytes.len()
-}
-
-fn is_plain(byte: u8) -> bool
-    ensures { result ≡ (is_within 32 127 byte && (not (byte == 34) && not (byte == 92))) }
-{
-    ((byte >= b' ') & (byte <= 0x7F)) & ((byte != b'"') & (byte != b'\\'))
+    text.extend_from_slice(&bytes[..16])?;
+    let end = text.as_slice().len() - (16 - len);
+    text.truncate(end);
+    Ok(())
 }
 
 /// Adds the character after a backslash, and returns the number of its bytes.
@@ -91,6 +112,7 @@ fn push_escaped(text: &mut Vec<u8>, bytes: &[u8]) -> Result<usize, TokenFault>
 }
 
 /// The same result with `count` more bytes before it.
+#[inline(always)]
 fn after(count: usize, taken: Result<usize, TokenFault>) -> Result<usize, TokenFault>
     requires { HasRoom count taken }
     ensures { result ≡ after_of count taken }

@@ -1,6 +1,6 @@
 use Rattle.std.proofs.Common.{◌≡◌, ◌≤◌, ◌-◌, [], length, drop}
 use Rattle.json_text.specs.{Reading.between, Scan.scan_string}
-use Rattle.json_text.proofs.string.string.Given as goal
+use Rattle.json_text.proofs.string.string_after.Given as goal
 
 -- reading what is left is reading everything
 abbrev pub invariant-loop-at : goal.invariant-loop-at

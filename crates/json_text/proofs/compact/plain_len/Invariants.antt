@@ -1,6 +1,0 @@
-use Rattle.std.proofs.Common.{◌≡◌, take, flat_map}
-use Rattle.json_text.specs.Compact.{escape}
-use Rattle.json_text.proofs.compact.plain_len.Given as goal
-
-abbrev pub invariant-loop-i : goal.invariant-loop-i
-invariant-loop-i l = flat_map escape (take l.i l.bytes) ≡ take l.i l.bytes
