@@ -141,15 +141,15 @@ abbrev pub transformer_members : Transformer → List (List ℕ × Tree)
 transformer_members t = paths_member t.paths ++ (codes "InputTemplate", text t.template) ∷ []
 
 -- An input as the member that it was given as. An InputTransformer is an object with its `InputPathsMap`, if that has an entry, and its
--- `InputTemplate`.
--- Shown by: the_list_shows_the_compact_text.edit.
+-- `InputTemplate`. The edit leaves out the blanks at the front of an Input; the table shows all three members.
+-- Shown by: the_list_shows_the_compact_text.edit; tables config_views.rows: a_target_is_shown_with_its_input.
 abbrev pub given_member : GivenInput → List ℕ × Tree
 given_member (given.Input t) = (codes "Input", text t)
 given_member (given.InputPath t) = (codes "InputPath", text t)
 given_member (given.InputTransformer t) = (codes "InputTransformer", object (members_of (transformer_members t)))
 
 -- A target's input as it was given, if it has one.
--- Shown by: the_list_shows_the_compact_text.edit.
+-- Shown by: the_list_shows_the_compact_text.edit; tables config_views.rows: a_target_is_shown_with_its_input.
 abbrev pub input_member : Option GivenInput → List (List ℕ × Tree)
 input_member None = []
 input_member (Some input) = given_member input ∷ []

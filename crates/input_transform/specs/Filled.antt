@@ -8,7 +8,7 @@ use Rattle.input_transform.specs.Names.{Scene, value_in}
 use Rattle.input_transform.specs.Template.{Part, byte, put, Content, null_content, truth_content, number_content, text_content, name_content, list_content, object_content, Contents, no_contents, content, Entries, no_entries, entry}
 
 -- What a name becomes in a string: a string's characters, any other value's compact text, nothing if it is missing.
--- Shown by: text_tests test_input_transform.rt: filled_texts.
+-- Shown by: text_tests test_input_transform.rt: filled_texts; tables input_transform.rows: each_kind_of_value_is_put_in.
 abbrev pub inside_text : Option Tree → List ℕ
 inside_text None = []
 inside_text (Some tree) = unwrap_or (text_in tree) (compact_text tree)
@@ -19,7 +19,7 @@ part_text scene (put source) = inside_text (value_in scene source)
 
 -- The tree of a template with its names replaced. In the place of a value a name becomes its value, or `""` if it is missing. Of a repeated
 -- key the first place and the last value count. What was put in is not searched again.
--- Shown by: text_tests test_input_transform.rt: filled_texts.
+-- Shown by: text_tests test_input_transform.rt: filled_texts; tables input_transform.rows: a_template_is_filled, an_order_is_filled_in.
 abbrev mutual
   pub filled : Scene → Content → Tree
   filled scene null_content = null

@@ -16,7 +16,7 @@ use Rattle.input_transform.specs.Stored.{pieces_text}
 
 -- The text that a target gets: without an input the event's text; a fixed text as it is; the text of what a path finds, or `null` if it
 -- finds nothing; or the text of a template's pieces.
--- Shown by: text_tests test_input_transform.rt: filled_texts.
+-- Shown by: text_tests test_input_transform.rt: filled_texts; tables input_transform.rows: an_input_is_sent_compact.
 abbrev pub input_text : Scene → Input → List ℕ
 input_text scene Whole = compact_text scene.event
 input_text scene (Fixed t) = arc_value t
@@ -24,7 +24,7 @@ input_text scene (Path steps) = compact_text (unwrap_or (found_at steps scene.ev
 input_text scene (Transform stored) = pieces_text scene stored.1 stored.0
 
 -- The result is this text; or the fault that it is longer than 1,048,576 bytes; or out of memory.
--- Shown by: text_tests test_input_transform.rt: a_text_has_its_limit.
+-- Shown by: text_tests test_input_transform.rt: a_text_has_its_limit; tables input_transform.rows: a_filled_text_has_at_most_1048576_bytes.
 abbrev pub IsWithinLimit : {T : Type 0} → (T → List ℕ) → List ℕ → Result T FillFault → Type 0
 IsWithinLimit shown bytes result =
     MatchResult result (λ t. (shown t ≡ bytes) × (length bytes ≤ most_text)) (λ e. e ≡ TooLong → most_text < length bytes)

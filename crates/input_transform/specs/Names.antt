@@ -75,7 +75,7 @@ without_detail (text t) = text t
 without_detail (list items) = list items
 
 -- The value of what a name stands for. It is missing if a path finds nothing.
--- Shown by: text_tests test_input_transform.rt: filled_texts.
+-- Shown by: text_tests test_input_transform.rt: filled_texts; tables input_transform.rows: each_name_has_its_value.
 abbrev pub value_in : Scene → Source → Option Tree
 value_in scene rule_arn = Some (text scene.rule_arn)
 value_in scene rule_name = Some (text (after_slash scene.rule_arn))

@@ -33,7 +33,7 @@ steps_text [] = []
 steps_text (step ∷ steps) = step_text step ++ steps_text steps
 
 -- The text is a path of these steps: `$`, and each step as it is written. `$.a[01]`, `$..a` and `$['a']` are no paths.
--- Shown by: text_tests test_input_transform.rt: paths.
+-- Shown by: text_tests test_input_transform.rt: paths; tables input_transform.rows: texts_are_paths_or_none.
 abbrev pub IsPath : List ℕ → List Step → Type 0
 IsPath bytes steps = (bytes ≡ 36 ∷ steps_text steps) × AreSteps steps
 
@@ -53,7 +53,7 @@ step_in (Name name) tree = member_of name tree
 step_in (Place n) tree = slice_get (items_in tree) n
 
 -- What a path finds in a value: each step looks into what the steps before it found. `$` finds the value itself.
--- Shown by: text_tests test_input_transform.rt: paths.
+-- Shown by: text_tests test_input_transform.rt: paths; tables input_transform.rows: a_path_finds_a_value.
 abbrev pub found_at : List Step → Tree → Option Tree
 found_at [] tree = Some tree
 found_at (step ∷ steps) tree = option_and_then (found_at steps) (step_in step tree)

@@ -130,7 +130,7 @@ abbrev mutual
   entries_levels (entry key c es) = max (content_levels c) (entries_levels es)
 
 -- The text is a template that gives this tree: one value with white space around it, at most 100 levels.
--- Shown by: text_tests test_input_transform.rt: templates.
+-- Shown by: text_tests test_input_transform.rt: templates; tables input_transform.rows: texts_are_templates_or_none.
 pub record IsTemplate (paths : Paths) (bytes : List ℕ) (c : Content) : Type 0 where
   pub spelled : Around (λ inside. SpellsContent paths inside c) bytes
   pub within : content_levels c ≤ 100

@@ -42,7 +42,7 @@ impl Model for Template {
 }
 
 impl Template {
-    /// The template that the text spells: JSON of at most 100 levels, in which a value may also be `<name>`. A name is
+    /// The template that the text spells: JSON with names, nested at most 100 deep. `<name>` is a value, or in a string that is one. A name is
     /// `aws.events.rule-arn`, `aws.events.rule-name`, `aws.events.event.ingestion-time`, `aws.events.event.json`, `aws.events.event`,
     /// or else a key of `paths` that has only `A-Z a-z 0-9 _ - .`. Of two equal keys the first counts. `NotTemplate` if the text is
     /// none.

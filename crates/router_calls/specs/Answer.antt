@@ -1,5 +1,5 @@
--- The router machine: what a request changes and what its reply is, as a function of the request, the tables, what matching found, and the
--- policy that it names.
+-- The router machine: what a request changes and what its reply is. Both are a function of the request, the tables, what matching found,
+-- what became of its entries, and the policy that it names.
 use Rattle.std.specs.Prelude.{◌≡◌, ℕ, ◌+◌, ◌≤◌, is_some, not, ◌&&◌, nat_lt, if◌then◌else◌, Bool, false, List, [], ◌∷◌, length, map}
 use Rattle.std.specs.Prelude.{Option, Some, None, Ok, Err, codes}
 use Rattle.json_text.specs.Compact.{compact_text}

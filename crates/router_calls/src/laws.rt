@@ -23,7 +23,8 @@ pub fn one_answer()
     ensures { (t : Tables) (r : Request) (k : ℕ) (set : RuleSet) (a b : Answer) → IsAnswer t r k set a → IsAnswer t r k set b → a ≡ b }
 {}
 
-/// What a target gets is one JSON text of at most 200 levels, whatever the event and the input are: the event has at most 100.
+/// The text of a target is one JSON text of at most 200 levels, whatever the input is. The event is a JSON value of at most 100 levels,
+/// and the rule's ARN, the name in it and the time are UTF-8.
 pub fn a_target_gets_one_json_text()
     ensures { (scene : Scene) (input : Option GivenInput) (text : List ℕ) → IsScene scene → tree_levels scene.event ≤ 100
         → IsTargetText scene input text → (n : Node) × IsText 200 text n }

@@ -22,13 +22,13 @@ use Rattle.router_core.specs.declared.seen.SeenTarget.{SeenTarget}
 use Rattle.router_core.specs.declared.duties.Sent.{Sent}
 
 -- What the text of a target is filled from: the event, the ARN of the target's rule, and the time text of the batch's moment.
--- Shown by: templates.
+-- Shown by: templates; tables router_core.rows: a_template_sees_its_rule_and_its_event.
 abbrev pub scene_at : Tree → List ℕ → SeenTarget → Scene
 scene_at event time seen = record { event = event; rule_arn = seen.row.rule_arn; time = time }
 
 -- The text of a target with this input: of an Input the compact text of its value; of an InputPath that of what the path finds in the event,
 -- or `null` if it finds nothing; of an InputTransformer that of its template with the names replaced.
--- Shown by: templates.
+-- Shown by: templates; tables router_core.rows: each_target_gets_its_own_text.
 abbrev pub IsTextOf : Scene → GivenInput → List ℕ → Type 0
 IsTextOf scene (Input given) text = (n : Node) × IsText 100 given n × (text ≡ compact_text (value_of n))
 IsTextOf scene (InputPath given) text =
@@ -37,18 +37,19 @@ IsTextOf scene (InputTransformer given) text =
     (paths : Paths) × (c : Content) × IsTemplateOf given paths c × (text ≡ compact_text (filled scene c))
 
 -- The text of a target; without an input it is the compact text of the event.
--- Shown by: templates.
+-- Shown by: templates; tables router_core.rows: each_target_gets_its_own_text.
 abbrev pub IsTargetText : Scene → Option GivenInput → List ℕ → Type 0
 IsTargetText scene None text = text ≡ compact_text scene.event
 IsTargetText scene (Some input) text = IsTextOf scene input text
 
 -- The text has more bytes than a target accepts, which are 1,048,576 (this project's own limit).
--- Shown by: tables router_core.rows: each_target_is_owed_one_duty.
+-- Shown by: tables router_core.rows: each_target_is_owed_one_duty, each_target_gets_its_own_text.
 abbrev pub is_too_long : List ℕ → Bool
 is_too_long text = not (nat_le (length text) most_text)
 
--- The duty to deliver a text: the target's row, and the text, or `{}` if that is too long.
--- Shown by: a_too_long_text_is_sent.edit.
+-- The duty to deliver a text: the target's row, and the text, or `{}` if that is too long. The edit changes the test of texts that are not
+-- filled: an event's and an Input's. That a filled text is too long is in the table.
+-- Shown by: a_too_long_text_is_sent.edit; tables router_core.rows: each_target_gets_its_own_text.
 abbrev pub duty_of : TargetRow → List ℕ → NewDuty
 duty_of row text = record {
   target = row;
@@ -64,7 +65,7 @@ pub record IsDutyOf (event : Tree) (time : List ℕ) (seen : SeenTarget) (duty :
   pub is : duty ≡ duty_of seen.row text
 
 -- The duties of an event, one for each target, in their order.
--- Shown by: templates; the_first_target_fills_all.edit.
+-- Shown by: templates; the_first_target_fills_all.edit; tables router_core.rows: a_text_is_made_with_its_event.
 abbrev pub AreDuties : Tree → List ℕ → List SeenTarget → List NewDuty → Type 0
 AreDuties event time [] duties = duties ≡ []
 AreDuties event time (seen ∷ targets) [] = ⊥

@@ -29,7 +29,7 @@ missing_in set (Some queue) = unless (has_queue queue set) queue
 
 -- The conditions on a target, whatever targets its rule has: those on its members, then it has at most one input, then its queue and its
 -- dead-letter queue exist.
--- Shown by: two_inputs_are_taken.edit; tables rule_table.rows: a_target_has_its_first_fault.
+-- Shown by: two_inputs_are_taken.edit; tables rule_table.rows: a_target_has_its_first_fault, a_target_has_one_input.
 abbrev pub own_checks : RuleSet → AskedTarget → List (Option TargetFault)
 own_checks set target =
     map (option_map fault.Member) (member_checks target)
@@ -39,12 +39,12 @@ own_checks set target =
     ∷ []
 
 -- The conditions on a target that is put to a rule with these targets: its own, then the rule has at most five targets with it.
--- Shown by: a_replaced_target_is_a_sixth.edit; tables rule_table.rows: a_target_has_its_first_fault.
+-- Shown by: a_replaced_target_is_a_sixth.edit; tables rule_table.rows: a_target_has_its_first_fault, a_target_has_one_input.
 abbrev pub target_checks : RuleSet → List Target → AskedTarget → List (Option TargetFault)
 target_checks set targets target = own_checks set target ++ unless (nat_le (length (put_target (put_as target) targets)) 5) fault.Sixth ∷ []
 
 -- The first fault of a target that is put to a rule with these targets.
--- Shown by: tables rule_table.rows: a_target_has_its_first_fault.
+-- Shown by: tables rule_table.rows: a_target_has_its_first_fault, a_target_has_one_input.
 abbrev pub target_fault : RuleSet → List Target → AskedTarget → Option TargetFault
 target_fault set targets target = first_fault (target_checks set targets target)
 

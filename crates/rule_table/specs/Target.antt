@@ -8,7 +8,7 @@ use Rattle.rule_targets.specs.Retry.{attempts_of, age_of}
 use Rattle.rule_table.specs.RuleSet.{Rule}
 
 -- A target as a rule stores it: its row, whether it was put with a retry policy, and its input as it was given.
--- Shown by: table_tests test_rule_table.rt: a_target_has_its_row.
+-- Shown by: table_tests test_rule_table.rt: a_target_has_its_row; tables config_views.rows: a_target_is_shown_with_its_input.
 pub record StoredTarget : Type 0 where
   pub row : TargetRow
   pub has_retry_policy : Bool
@@ -29,7 +29,7 @@ row_of rule target = record {
 }
 
 -- A target of a rule, as the rule stores it.
--- Shown by: table_tests test_rule_table.rt: a_target_has_its_row.
+-- Shown by: table_tests test_rule_table.rt: a_target_has_its_row; tables config_views.rows: a_target_is_shown_with_its_input.
 abbrev pub stored_of : Rule → Target → StoredTarget
 stored_of rule target = record { row = row_of rule target; has_retry_policy = is_some target.retry; input = target.input }
 
@@ -40,7 +40,7 @@ retry_of stored =
     if stored.has_retry_policy then Some (record { attempts = stored.row.attempts; age = stored.row.age }) else None
 
 -- The target that is stored so: with a retry policy only if it was put with one.
--- Shown by: tables rule_table.rows: a_target_shows_its_retries; table_tests test_rule_table.rt: a_target_has_its_row.
+-- Shown by: tables rule_table.rows: a_target_shows_its_retries; tables config_views.rows: a_target_is_shown_with_its_input.
 abbrev pub target_of : StoredTarget → Target
 target_of stored = record {
   id = stored.row.target_id;

@@ -48,7 +48,8 @@ may_be_transformer _ = false
 
 -- The conditions on the members of a target, in the order in which their faults are reported: its id, its ARN, its Input, InputPath and
 -- InputTransformer (`IsValidInput`, by which they were read), its retry policy, the ARN of its dead-letter queue.
--- Shown by: tables rule_targets.rows: a_target_has_its_first_fault, a_retry_policy_has_its_limits.
+-- Shown by: tables rule_targets.rows: a_target_has_its_first_fault, a_retry_policy_has_its_limits;
+-- tables rule_table.rows: a_target_has_one_input.
 abbrev pub member_checks : AskedTarget → List (Option Member)
 member_checks target =
     unless (is_short_name target.id) member.Id
@@ -61,7 +62,8 @@ member_checks target =
     ∷ []
 
 -- The first member of a target that is outside its syntax or its limits.
--- Shown by: tables rule_targets.rows: a_target_has_its_first_fault, a_retry_policy_has_its_limits.
+-- Shown by: tables rule_targets.rows: a_target_has_its_first_fault, a_retry_policy_has_its_limits;
+-- tables rule_table.rows: a_target_has_one_input.
 abbrev pub member_fault : AskedTarget → Option Member
 member_fault target = first_fault (member_checks target)
 
@@ -71,7 +73,7 @@ is_given asked.Absent = false
 is_given _ = true
 
 -- More than one of Input, InputPath and InputTransformer are given.
--- Shown by: two_inputs_are_one.edit.
+-- Shown by: two_inputs_are_one.edit; tables rule_table.rows: a_target_has_one_input.
 abbrev pub has_two_inputs : AskedTarget → Bool
 has_two_inputs target =
     (is_given target.input && (is_given target.input_path || is_given target.transformer)) || (is_given target.input_path && is_given target.transformer)

@@ -20,42 +20,43 @@ use Rattle.rule_targets.specs.declared.given.GivenInput.{GivenInput}
 use Rattle.rule_targets.specs.declared.given.GivenInput.TheVariants as given
 
 -- The text has from `least` to `most` characters, which are Unicode scalar values.
--- Shown by: a_long_input_is_accepted.edit.
+-- Shown by: a_long_input_is_accepted.edit; tables rule_targets.rows: an_input_is_json_within_its_limits.
 abbrev pub has_chars : ℕ → ℕ → List ℕ → Bool
 has_chars least most t = nat_le least (length (chars t)) && nat_le (length (chars t)) most
 
 -- An Input: 1 to 8,192 characters that are JSON within 100 levels.
--- Shown by: a_long_input_is_accepted.edit.
+-- Shown by: a_long_input_is_accepted.edit; tables rule_targets.rows: an_input_is_json_within_its_limits.
 pub record IsInput (t : List ℕ) : Type 0 where
   pub size : has_chars 1 8192 t ≡ true
   pub json : (n : Node) × IsText 100 t n
 
 -- An InputPath: 1 to 256 characters that are a path.
--- Shown by: proofs alone.
+-- Shown by: tables rule_targets.rows: an_input_path_is_a_path_within_its_limit.
 pub record IsInputPath (t : List ℕ) : Type 0 where
   pub size : has_chars 1 256 t ≡ true
   pub path : (steps : List Step) × IsPath t steps
 
 -- A key of an InputPathsMap: 1 to 256 of `A-Z a-z 0-9 _ -`. Keys that begin with `AWS` are reserved.
--- Shown by: a_reserved_key_is_accepted.edit.
+-- Shown by: a_reserved_key_is_accepted.edit; tables rule_targets.rows: a_map_of_paths_has_its_keys.
 abbrev pub is_key : List ℕ → Bool
 is_key key = is_name_of is_letter 256 key && not (starts_with nat_eq key (codes "AWS"))
 
--- The entries of an InputPathsMap are these paths, of any length, under the same keys, which are valid (`is_key`).
--- Shown by: a_reserved_key_is_accepted.edit.
+-- The entries of an InputPathsMap are these paths, of any length, under the same keys, which are valid (`is_key`). Two keys may be equal:
+-- no request gives such a map, but a change may hold one.
+-- Shown by: a_reserved_key_is_accepted.edit; tables rule_targets.rows: a_map_of_paths_has_its_keys.
 abbrev pub ArePaths : List (List ℕ × List ℕ) → Paths → Type 0
 ArePaths [] paths = paths ≡ []
 ArePaths (entry ∷ entries) paths = (steps : List Step) × (rest : Paths) × (paths ≡ (entry.0, steps) ∷ rest)
     × (is_key entry.0 ≡ true) × IsPath entry.1 steps × ArePaths entries rest
 
 -- An InputTransformer is this template, which names these paths.
--- Shown by: proofs alone.
+-- Shown by: tables rule_targets.rows: a_template_has_its_limit, a_map_of_paths_has_its_keys.
 pub record IsTemplateOf (t : Transformer) (paths : Paths) (c : Content) : Type 0 where
   pub entries : ArePaths t.paths paths
   pub template : IsTemplate paths t.template c
 
 -- An InputTransformer: at most 100 paths, and 1 to 8,192 characters that are a template.
--- Shown by: a_hundred_and_one_paths_are_accepted.edit.
+-- Shown by: a_hundred_and_one_paths_are_accepted.edit; tables rule_targets.rows: a_template_has_its_limit.
 pub record IsInputTransformer (t : Transformer) : Type 0 where
   pub few : length t.paths ≤ 100
   pub size : has_chars 1 8192 t.template ≡ true
@@ -75,7 +76,7 @@ IsNoneOrValid None = Unit {0}
 IsNoneOrValid (Some input) = IsValidInput input
 
 -- What is read of an input: the compact text of the value that an Input spells; the steps of a path; a template that fills as it is written.
--- Shown by: proofs alone.
+-- Shown by: tables input_transform.rows: a_path_finds_a_value, an_input_is_sent_compact, a_template_is_filled.
 abbrev pub IsReadOf : GivenInput → Input → Type 0
 IsReadOf (given.Input t) (input.Fixed text) = (n : Node) × IsText 100 t n × (arc_value text ≡ compact_text (value_of n))
 IsReadOf (given.InputPath t) (input.Path steps) = IsPath t steps

@@ -11,7 +11,7 @@ use Rattle.rule_targets.specs.declared.target.RetryPolicy.{RetryPolicy}
 use Rattle.rule_targets.specs.declared.target.Target.{Target}
 use Rattle.rule_targets.specs.Input.{IsValidInput}
 
--- A member of a target is asked for so: absent; with what it is given, which is valid; or not valid.
+-- What is read of a member of a target: `Absent` if the member is not given; what is given, if that is valid; else `NotValid`.
 -- Shown by: a_member_that_is_not_valid_is_absent.edit.
 abbrev pub IsAskedAs : Option GivenInput → AskedInput → Type 0
 IsAskedAs None member = member ≡ asked.Absent
@@ -58,7 +58,7 @@ asked_transformer (Some (given.InputPath t)) = asked.Absent
 asked_transformer (Some (given.InputTransformer t)) = asked.Read (given.InputTransformer t)
 
 -- This target, as a request would ask for it.
--- Shown by: table_tests test_rule_table.rt: changes_are_well_formed.
+-- Shown by: table_tests test_rule_table.rt: changes_are_well_formed; tables config_views.rows: a_target_is_shown_with_its_input.
 abbrev pub asked_of : Target → AskedTarget
 asked_of target = record {
   id = target.id;

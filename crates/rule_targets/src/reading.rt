@@ -177,7 +177,7 @@ fn read_paths(
     }
 }
 
-/// Adds the paths of the entries. `false` if there are none of all of them.
+/// Adds the path of each entry, under its key. `false` if a key is not valid, or a value is no path.
 fn push_paths(
     alloc: Global,
     entries: &[(Text, Text)],
