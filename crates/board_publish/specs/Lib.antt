@@ -1,0 +1,5 @@
+pub mod Numbers
+pub mod Entered
+pub mod MatcherView
+pub mod Matchers
+pub mod Found
