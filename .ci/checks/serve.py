@@ -7,14 +7,16 @@ a client that sends a byte a second has 60. A reply that has to come at once has
 connection may be late by 1.5 s. boto3 is Debian's python3-boto3, which is installed if it is not there. If it cannot be, the check
 says so, and the cases are made without it.
 
-A word names another program to run. SERVE_CASES in the environment chooses cases by their names; serve.sh makes all. The last line is
+A word names another program to run. `--crowd PORT` are the clients of `a_full_door`, in a process of their own. SERVE_CASES in the environment chooses cases by their names; serve.sh makes all. The last line is
 `N passed, M failed`.
 """
+import http.server
 import json
 import os
 import queue
 import random
 import re
+import resource
 import signal
 import socket
 import struct
@@ -31,15 +33,17 @@ from mixed import SEED, Failure, compare, message as mixed_message
 from mixed_requests import a_request, conditions, request_of, uses_of_queues
 from patterns import Fault, Number
 from router import NO_OBJECT, QUEUE_ARN, Router
-from serving import COMMAND, HOST, Closed, Served, event_id, free_port, message, put_events, put_rule, run
+from serving import COMMAND, HOST, Client, Closed, Served, event_id, free_port, message, put_events, put_rule, run
 from sessions import command_of, expect, side_by_side
 
 AT_ONCE = 1.0  # seconds in which a reply has to come that waits for nothing
 LATE = 1.5  # seconds by which the end of a connection may be late
 IDLE, UNFINISHED, SHORT = 20.0, 60.0, 0.25  # seconds after which a connection ends
+LONG = 5.0  # seconds that a message may take while another client waits
 SEND = 5.0  # seconds of a send to an endpoint
 UNREAD = 20.0  # seconds that a client has to read a reply
 PATIENCE = 20  # seconds for what should come soon
+FILES = 2 * 1_024 + 40  # open files that 1,024 workers may need
 EXAMPLES = "examples/serve/"
 BOTO3 = []  # the Python that has it
 
@@ -147,6 +151,78 @@ def fifteen_clients():
             client.close()
 
 
+def any_number_of_workers():
+    """Each of many clients puts a rule of its own name and events. Each gets the reply to its own request, and each id comes once. If
+    nobody waits, no thread is left: the process ends once all connections have ended."""
+    for workers, clients in ((1, 8), (2, 8), (16, 15), (16, 40), (64, 63), (1_024, 200)):
+        waits = clients >= workers
+        with Served(workers, connections=None if waits else clients) as it:
+
+            def one(number):
+                ids = []
+                with it.client(within=PATIENCE, again=waits) as client:
+                    name = f"r-{number}"
+                    arn = client.ask("PutRule", {"Name": name, "EventPattern": '{"source":["none"]}'})["RuleArn"]
+                    expect("the name in the reply to a PutRule", arn.rpartition("/")[2], name)
+                    for count in range(1, 6):
+                        ids += put_events(client, f"shop.{number}", count)
+                return ids
+
+            ids = sum(together([lambda number=number: one(number) for number in range(clients)]), [])
+            expect_ids(f"with {workers} workers all replies", ids, [event_id(number) for number in range(1, 15 * clients + 1)])
+            if not waits:
+                output, status = it.over()
+                expect("the status, and the events", (status, output.splitlines()[1].split()[:2]), (0, [b"events", b"%d" % (15 * clients)]))
+
+
+def a_full_door():
+    """1,024 workers serve 1,023 clients, all of them idle then. 20 new ones have their replies within 3 s. The clients have a process of
+    their own, because of their files."""
+    _, allowed = resource.getrlimit(resource.RLIMIT_NOFILE)
+    if allowed != resource.RLIM_INFINITY and allowed < FILES:
+        print(f"1,024 workers may need {FILES} open files, and {allowed} are allowed: a_full_door is skipped")
+        return
+    with Served(1_024, files=FILES) as it:
+        words = ["prlimit", f"--nofile={FILES}:", sys.executable, "-B", __file__, "--crowd", str(it.port)]
+        ran = subprocess.run(words, capture_output=True, text=True, timeout=75)
+        expect("the clients' faults and their status", (ran.stderr, ran.returncode), ("", 0))
+        expect_between("the last of the new clients has its reply", float(ran.stdout), 0, 3)
+        with open(f"/proc/{it.ran.pid}/status", encoding="ascii") as lines:
+            threads = next(int(line.split()[1]) for line in lines if line.startswith("Threads:"))
+        expect(f"1,024 threads at least, of {threads}", threads >= 1_024, True)
+
+
+def crowd(port):
+    """1,023 clients that ask once and stay, and 20 new ones that stay too. Prints the longest time in which a new one had its reply."""
+    clients = [Client(port) for _ in range(1_023)]
+    for client in clients:
+        client.ask("DutyCounts")
+
+    def new():
+        client = Client(port)
+        clients.append(client)
+        client.ask("DutyCounts")
+
+    print(max(seconds for _, seconds in together([lambda: timed(new)] * 20)))
+    for client in clients:
+        client.close()
+
+
+def few_files():
+    """With 256 open files there are 108 workers. 107 clients are served at once, and no send fails for want of a file."""
+    with Served(1_024, files=256, faults=b"ebusd: 256 open files are allowed: 108 workers\n") as it, Answering() as endpoint:
+        clients = [it.client() for _ in range(107)]
+        for client in clients:
+            client.ask("DutyCounts")
+        put_rule(clients[0], "r", "shop.a", endpoint.url, RetryPolicy={"MaximumRetryAttempts": 0})
+        for client in clients[:20]:
+            put_events(client, "shop.a", 10)
+        for client in clients[1:]:
+            client.close()
+        until_delivered(clients[0], 200)
+        clients[0].close()
+
+
 def a_rule_of_another_connection():
     """A rule that one client puts holds for the events that another one puts after the reply."""
     with Served(3) as it, it.client() as one, it.client() as other:
@@ -238,6 +314,59 @@ def idle_while_another_waits():
             left = [client for client in idle if client.is_quiet()]
             expect("the idle clients that stay while nobody waits", len(left), 1)
             left[0].ask("DutyCounts")
+
+
+def the_one_idle_longest_ends():
+    """Of three idle clients the one that asked first ends for a fourth one."""
+    with Served(4) as it, it.client() as one, it.client() as two, it.client() as three:
+        for client in (two, three, one):
+            client.ask("DutyCounts")
+            time.sleep(0.6)
+        with it.client() as fourth:
+            fourth.ask("DutyCounts")
+            time.sleep(0.2)
+            expect("the clients that stay", [client.is_quiet() for client in (one, two, three)], [True, False, True])
+
+
+def slow_messages_end_for_others():
+    """Of two clients inside a message the one whose message began first ends for a third one, 5 s after its first byte. Before that
+    nobody waits, and it stays."""
+    data = message("CreateQueue", b'{"QueueName":"q"}')
+    with Served(3) as it, it.client() as one, it.client() as two:
+        began = time.monotonic()
+        two.send(data[:1])
+        time.sleep(1)
+        one.send(data[:1])
+        time.sleep(0.5)
+        with it.client() as third:
+            third.ask("DutyCounts")
+            expect_between("the third client is served", time.monotonic() - began, LONG - 0.05, LONG + LATE)
+            expect("what is sent to the client that ended", two.rest(PATIENCE), b"")
+            expect("the other one stays", one.is_quiet(), True)
+            one.send(data[1:])
+            expect("the status of its message", one.reply()[0], 200)
+
+
+def a_reply_is_whole_while_another_waits():
+    """A client that reads its reply late gets all of it while another one waits, and ends after it."""
+    with Served(2) as it:
+        with it.client() as client:
+            client.ask("CreateQueue", {"QueueName": "q"})
+            put_rule(client, "r", "shop.a", QUEUE_ARN + "q")
+            for _ in range(100):
+                put_events(client, "shop.a", 1, json.dumps({"text": "x" * 200_000}))
+            until_delivered(client, 100)
+        with it.client(within=PATIENCE) as client:
+            client.send(message("PeekMessages", b'{"QueueName":"q","Limit":100}'))
+            time.sleep(0.5)
+            with it.client(within=PATIENCE) as waiting:
+                waiting.send(message("DutyCounts", b"{}"))
+                time.sleep(LONG + 1)
+                expect("the waiting client has no reply", waiting.is_quiet(), True)
+                status, text = client.reply()
+                expect("the reply", (status, len(json.loads(text)["Messages"])), (200, 100))
+                expect("what comes after it", client.rest(PATIENCE), b"")
+                expect("the status of the waiting client's reply", waiting.reply()[0], 200)
 
 
 def a_busy_client_stays():
@@ -426,6 +555,38 @@ class Hanging:
             connection.close()
 
 
+class Answering:
+    """An endpoint that answers each request by a 200."""
+
+    def __init__(self):
+        class Answer(http.server.BaseHTTPRequestHandler):
+            def do_POST(self):
+                self.rfile.read(int(self.headers["Content-Length"]))
+                time.sleep(0.1)
+                self.send_response(200)
+                self.send_header("Content-Length", "0")
+                self.end_headers()
+
+            def log_message(self, *_):
+                pass
+
+        class Server(http.server.ThreadingHTTPServer):
+            request_queue_size = 512
+
+        self.server = Server((HOST, 0), Answer)
+        self.url = f"http://{HOST}:{self.server.server_address[1]}/"
+        self.thread = threading.Thread(target=self.server.serve_forever)
+        self.thread.start()
+
+    def __enter__(self):
+        return self
+
+    def __exit__(self, *_):
+        self.server.shutdown()
+        self.thread.join()
+        self.server.server_close()
+
+
 def an_endpoint_that_never_answers():
     """Two clients are served while deliveries hang: the first at once, the second within 6 seconds."""
     with Served(3) as it, Hanging() as endpoint:
@@ -495,7 +656,7 @@ def bad_words():
     port = str(free_port())
     good = ["--port", port, "--workers", "2"]
     cases = [["--port", it, "--workers", "2"] for it in ("0", "65536", "09100", "+9100", "", "9100x", "-1", "99999999999999999999")]
-    cases += [["--port", port, "--workers", it] for it in ("0", "17", "02", "")]
+    cases += [["--port", port, "--workers", it] for it in ("0", "1025", "02", "")]
     cases += [[*good, "--connections", it] for it in ("0", "1000001", "01", "")]
     cases += [[*good, *it] for it in (good[:2], good[2:], ["--connections", "1", "--connections", "1"], ["--now", "0"], ["x"])]
     cases += [[*good, "--journal", "J"], ["--journal", "J", *good], [], ["--port", port], ["--workers", "2"], ["--port"], [*good, "--connections"]]
@@ -713,11 +874,17 @@ CASES = [
     twelve_clients,
     eight_clients,
     fifteen_clients,
+    any_number_of_workers,
+    a_full_door,
+    few_files,
     a_rule_of_another_connection,
     one_worker,
     only_127_0_0_1,
     idle_for_20_s,
     idle_while_another_waits,
+    the_one_idle_longest_ends,
+    slow_messages_end_for_others,
+    a_reply_is_whole_while_another_waits,
     a_busy_client_stays,
     an_unfinished_message_is_not_idle,
     a_byte_a_second,
@@ -740,6 +907,9 @@ CASES = [
 
 
 def main():
+    if sys.argv[1:2] == ["--crowd"]:
+        crowd(int(sys.argv[2]))
+        return 0
     only = os.environ.get("SERVE_CASES", "").split()
     cases = [(it.__name__, it) for it in CASES if not only or it.__name__ in only]
     if not cases:

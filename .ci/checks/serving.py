@@ -42,15 +42,17 @@ def run(*words, stdout=subprocess.PIPE):
 
 
 class Served:
-    """A process that serves. It is ended with the case by SIGTERM, and standard error has to be empty."""
+    """A process that serves. It is ended with the case by SIGTERM. Standard error has to be these lines."""
 
-    def __init__(self, workers=3, connections=None, port=None):
+    def __init__(self, workers=3, connections=None, port=None, files=None, faults=b""):
+        self.faults = faults
         more = [] if connections is None else ["--connections", str(connections)]
         for _ in range(1 if port else TRIES):
             self.port = port or free_port()
             words = ["serve", "--workers", str(workers), *more, "--port", str(self.port)]
             pipes = {"stdin": subprocess.DEVNULL, "stdout": subprocess.PIPE, "stderr": subprocess.PIPE}
-            self.ran = subprocess.Popen(["env", "--default-signal=INT,TERM", *COMMAND, *words], **pipes)
+            few = ["prlimit", f"--nofile={files}:"] if files else []
+            self.ran = subprocess.Popen([*few, "env", "--default-signal=INT,TERM", *COMMAND, *words], **pipes)
             self.timer = threading.Timer(SECONDS, self.ran.kill)
             self.timer.start()
             line = self.ran.stdout.readline()
@@ -89,7 +91,7 @@ class Served:
         except subprocess.TimeoutExpired:
             raise Failure(f"the process has not ended within {END_WITHIN} s") from None
         self.timer.cancel()
-        expect("standard error", self.ran.stderr.read(), b"")
+        expect("standard error", self.ran.stderr.read(), self.faults)
         return self.ran.stdout.read(), status
 
     def client(self, **words):

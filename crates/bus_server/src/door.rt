@@ -34,7 +34,7 @@ pub fn serve_door<Rt: Wait + Threads + Sync, D: Door, L: Link, C: Clock, G: Gate
 ) -> Serving<Book, D, L>
     requires here { IsIdlePass hall.now.table.shared.table_id pass.old.seat }
     requires maker { 0 < (view pass.old.seat).made }
-    requires links { (0 < vec_len links) × (vec_len links ≤ 16) }
+    requires links { (0 < vec_len links) × (vec_len links ≤ 1024) }
     requires seats { (view pass.old.seat).made + vec_len links + 1 ≤ hall.now.seats }
     ensures pass { IsIdlePass hall.now.table.shared.table_id pass.new.seat × (number_of pass.new.seat ≡ number_of pass.old.seat) }
     ensures more { SeesMore pass.old.seat pass.new.seat }

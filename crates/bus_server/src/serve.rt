@@ -39,13 +39,13 @@ pub(crate) fn serve<Rt: Wait + Threads + Sync, K: Sink, H: Host, C: Clock>(
     rt: &Rt,
     alloc: Global,
     port: u16,
-    workers: u8,
+    workers: u16,
     connections: Option<u64>,
     output: &mut K,
     host: &mut H,
     clock: &mut C,
 ) -> Status
-    requires workers { (0 < workers) × (workers ≤ 16) }
+    requires workers { (0 < workers) × (workers ≤ 1024) }
     ensures serve { IsServe (shown_by H.Door.faults H.Door.ahead H.Door.given H.Door.ended H.Door.gave H.Door.took_back H.Door.closed) (IsVisit H.Door.In.left H.Door.Out.written H.Door.In.faults H.Door.Out.faults) port workers
         connections
         (around_door (K.written output.old) (H.doors_given host.old) (H.doors_back host.old) (H.links_given host.old) (H.links_back host.old)
@@ -167,7 +167,7 @@ fn at_port<Rt: Wait + Threads + Sync, K: Sink, H: Host, C: Clock>(
     requires opener { view pass.seat ≡ opener [] }
     requires free { IsFree pass.seat }
     requires seats { vec_len links + 2 ≤ hall.seats }
-    requires links { (0 < vec_len links) × (vec_len links ≤ 16) }
+    requires links { (0 < vec_len links) × (vec_len links ≤ 1024) }
     requires listening { listening.now ≡ listening_text port }
     ensures served { ServesBy (shown_by H.Door.faults H.Door.ahead H.Door.given H.Door.ended H.Door.gave H.Door.took_back H.Door.closed) (IsVisit H.Door.In.left H.Door.Out.written H.Door.In.faults H.Door.Out.faults) port connections links.items
         (around_door (K.written output.old) (H.doors_given host.old) (H.doors_back host.old) (H.links_given host.old) (H.links_back host.old)
@@ -232,7 +232,7 @@ fn announce<Rt: Wait + Threads + Sync, K: Sink, D: Door, L: Link, C: Clock>(
     requires opener { view pass.seat ≡ opener [] }
     requires free { IsFree pass.seat }
     requires seats { vec_len links + 2 ≤ hall.seats }
-    requires links { (0 < vec_len links) × (vec_len links ≤ 16) }
+    requires links { (0 < vec_len links) × (vec_len links ≤ 1024) }
     requires listening { listening.now ≡ listening_text port }
     ensures announced { IsAnnounced (shown_by D.faults D.ahead D.given D.ended D.gave D.took_back D.closed) (IsVisit ⟦<D::In as Source>⟧.left ⟦<D::Out as Sink>⟧.written ⟦<D::In as Source>⟧.faults ⟦<D::Out as Sink>⟧.faults) port connections door result.door
         links.items result.links.items (K.written output.old) (K.written output.new) result.status
@@ -276,7 +276,7 @@ fn open<Rt: Wait + Threads + Sync, K: Sink, D: Door, L: Link, C: Clock>(
     requires opener { view pass.seat ≡ opener [] }
     requires free { IsFree pass.seat }
     requires seats { vec_len links + 2 ≤ hall.seats }
-    requires links { (0 < vec_len links) × (vec_len links ≤ 16) }
+    requires links { (0 < vec_len links) × (vec_len links ≤ 1024) }
     ensures opened { ((vec_len result.links ≡ vec_len links) × IsOpened (shown_by D.faults D.ahead D.given D.ended D.gave D.took_back D.closed)
         (IsVisit ⟦<D::In as Source>⟧.left ⟦<D::Out as Sink>⟧.written ⟦<D::In as Source>⟧.faults ⟦<D::Out as Sink>⟧.faults) connections door result.door (K.written output.old) (K.written output.new) result.status)
         ⊎ IsUnopened door result.door links.items result.links.items (K.written output.old) (K.written output.new) result.status }

@@ -1,8 +1,17 @@
 //! How many workers and connections there are.
 ghost use Rattle.std.specs.Prelude.{◌+◌, ◌<◌, ◌≤◌, ◌⊎◌, ◌↔◌, IsTrue};
 
-use std::sync::Mutex;
-use std::sync::atomic::AtomicU64;
+use std::sync::Wait;
+use std::sync::atomic::{AtomicU64, Ordering};
+
+/// No worker knocks.
+const FREE: u64 = 0;
+
+/// A worker knocks.
+const TAKEN: u64 = 1;
+
+/// The door gives no more, and any number of workers may find that.
+const OPEN: u64 = 2;
 
 /// How many workers and connections there are. No clause depends on it: it only decides who stops knocking for a while.
 #[derive(Drop)]
@@ -15,9 +24,8 @@ pub(crate) struct Counts {
     pub(crate) out: AtomicU64,
     /// The number of connections that the door gives at once.
     pub(crate) limit: u64,
-    /// Held by the worker that knocks. The others wait for it and not for the porch, so that a connection that ends waits for one
-    /// knock at most.
-    pub(crate) knocking: Mutex<()>,
+    /// Whether a worker knocks.
+    knocking: AtomicU64,
 }
 
 impl Counts {
@@ -28,7 +36,44 @@ impl Counts {
             busy: AtomicU64::new(0),
             out: AtomicU64::new(0),
             limit: (workers as u64).saturating_sub(1).max(1),
-            knocking: Mutex::new(()),
+            knocking: AtomicU64::new(FREE),
+        }
+    }
+
+    /// Waits until no other worker knocks. Workers wait here and not for the porch, so that a connection that ends waits for few
+    /// knocks.
+    pub(crate) fn enter<Rt: Wait>(&self, rt: &Rt) {
+        for _ in rt.forever() {
+            match self
+                .knocking
+                .compare_exchange(FREE, TAKEN, Ordering::SeqCst, Ordering::SeqCst)
+            {
+                Ok(_) => return,
+                Err(found) => {
+                    if found == OPEN {
+                        return;
+                    }
+                    self.knocking.park(rt, 1);
+                }
+            }
+        }
+    }
+
+    /// Lets another worker knock.
+    pub(crate) fn leave(&self) {
+        if self
+            .knocking
+            .compare_exchange(TAKEN, FREE, Ordering::SeqCst, Ordering::SeqCst)
+            .is_ok()
+        {
+            self.knocking.wake_one();
+        }
+    }
+
+    /// Lets all workers knock at once from now on. One after the other they would take a while to end.
+    pub(crate) fn open(&self) {
+        if self.knocking.swap(OPEN, Ordering::SeqCst) != OPEN {
+            self.knocking.wake_all();
         }
     }
 }

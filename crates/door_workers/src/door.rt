@@ -66,7 +66,7 @@ pub fn serve_door<
     requires works { W.works work.now }
     requires here { IsIdlePass hall.now.table.shared.table_id pass.old.seat }
     requires maker { 0 < (view pass.old.seat).made }
-    requires owns { (0 < vec_len owns) × (vec_len owns ≤ 16) }
+    requires owns { (0 < vec_len owns) × (vec_len owns ≤ 1024) }
     requires seats { (view pass.old.seat).made + vec_len owns + 1 ≤ hall.now.seats }
     ensures pass { IsIdlePass hall.now.table.shared.table_id pass.new.seat × ((view pass.new.seat).number ≡ (view pass.old.seat).number) }
     ensures more { Learns V.made_by (view pass.old.seat) (view pass.new.seat).seen }

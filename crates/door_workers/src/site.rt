@@ -12,7 +12,11 @@ use shared_door::{Act, Connection, Knocked, Naming, Porch, Served, turns_seen};
 use std::alloc::AllocError;
 use std::sync::atomic::Ordering;
 use std::sync::{Mutex, Wait};
+use std::time::Duration;
 use turn_book::Hall;
+
+/// How many milliseconds a worker waits for a connection to end before it knocks again.
+const PAUSE: u64 = 1;
 
 /// What the workers share. The porch is locked only for a knock, by one worker at a time, and to take a connection back.
 pub(crate) struct Site<'a, 'h, Rt, V: Served<D::In, D::Out>, D: Door, N: Naming<D::In, D::Out>, W> {
@@ -51,18 +55,20 @@ pub(crate) fn attend<
 {
     site.counts.begun.fetch_add(1, Ordering::SeqCst);
     for _ in site.rt.forever() {
-        let knocking = site.counts.knocking.lock(site.rt);
+        site.counts.enter(site.rt);
         let knocked = site.porch.lock(site.rt).knock(&mut worker.pass);
-        drop(knocking);
+        site.counts.leave();
         match knocked {
             Knocked::Conn(connection) => serve(site, worker, connection),
             Knocked::Quiet => be_quiet(site, worker),
             Knocked::NoMemory => be_quiet(site, worker),
             Knocked::Closed(front) => {
+                site.counts.open();
                 worker.front = front;
                 return;
             }
             Knocked::Failed(front) => {
+                site.counts.open();
                 worker.front = front;
                 return;
             }
@@ -136,7 +142,8 @@ fn converse<
         .back(connection, before, cut, &mut worker.pass);
 }
 
-/// Does for a while what there is to do without a connection, if this worker may.
+/// Does for a while what there is to do without a connection, if this worker may. If all connections that the door gives are out, it
+/// then waits for one to end, so that the porch is free for it meanwhile.
 fn be_quiet<
     Rt: Wait + Sync,
     V: Served<D::In, D::Out>,
@@ -157,6 +164,12 @@ fn be_quiet<
     if may_leave(busy, begun, out, counts.limit) {
         site.work
             .meanwhile(&mut worker.own, site.hall, &mut worker.pass);
+    }
+    if out >= counts.limit {
+        let most = Duration::from_millis(PAUSE);
+        counts
+            .out
+            .park_timeout(site.rt, (out % (1 << 32)) as u32, most);
     }
     counts.busy.fetch_sub(1, Ordering::SeqCst);
 }

@@ -23,7 +23,7 @@ pub(crate) fn room_for<V: Story, C, Own, A>(
     alloc: Global,
     count: usize,
 ) -> Result<Room<V, C, Own, A>, NoMemory>
-    requires { count ≤ 16 }
+    requires { count ≤ 1024 }
     ensures tickets { IfOk result (λ r. (r.tickets.given ≡ 0) × (r.tickets.seat.me.0.back ≡ [])) }
     ensures workers { IfOk result (λ r. (vec_len r.workers ≡ 0) × (count ≤ vec_capacity r.workers)) }
     ensures passes { IfOk result (λ r. (r.passes.items ≡ []) × (count + 1 ≤ vec_capacity r.passes)) }

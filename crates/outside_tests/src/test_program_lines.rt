@@ -1,6 +1,8 @@
 //! The command line, and the lines that the program prints. The rows are worked by hand. No clause says that the two writers
 //! succeed if memory is available.
-use program_lines::{Command, Summary, listening_line, read_command, summary_text};
+use program_lines::{
+    Command, Summary, fitting_workers, listening_line, read_command, summary_text,
+};
 use std::alloc::Global;
 use std::test::Fail;
 use test_rows::{all_met, two};
@@ -15,7 +17,7 @@ ebusd serve --port 1 --workers 16 --connections 2|Some(Serve { port: 1, workers:
 ebusd serve --port 1 --connections 2 --workers 16|Some(Serve { port: 1, workers: 16, connections: Some(2) })
 ebusd serve --workers 16 --port 1 --connections 2|Some(Serve { port: 1, workers: 16, connections: Some(2) })
 ebusd serve --workers 16 --connections 2 --port 1|Some(Serve { port: 1, workers: 16, connections: Some(2) })
-ebusd serve --connections 2 --port 1 --workers 16|Some(Serve { port: 1, workers: 16, connections: Some(2) })
+ebusd serve --connections 2 --port 1 --workers 1024|Some(Serve { port: 1, workers: 1024, connections: Some(2) })
 ebusd serve --connections 1000000 --workers 1 --port 65535|Some(Serve { port: 65535, workers: 1, connections: Some(1000000) })
 ";
 
@@ -37,7 +39,7 @@ ebusd serve --port 65536 --workers 4
 ebusd serve --port 09100 --workers 4
 ebusd serve --port +1 --workers 4
 ebusd serve --port  --workers 4
-ebusd serve --port 9100 --workers 17
+ebusd serve --port 9100 --workers 1025
 ebusd serve --port 9100 --workers 0
 ebusd serve --port 9100 --workers 4 --connections 0
 ebusd serve --port 9100 --workers 4 --connections 1000001
@@ -77,6 +79,28 @@ fn words_are_read_to_their_command(rt: HostRuntime) -> Result<(), Fail> {
 fn other_words_are_no_command(rt: HostRuntime) -> Result<(), Fail> {
     assert_eq!(rt; read_command(&[]), None);
     all_met(rt.alloc(), NO_COMMANDS, 27, is_none)
+}
+
+// How many files may be open, how many workers are asked for, and how many there are.
+const FITTING: &str = "256|1024|108
+2088|1024|1024
+2087|1024|1023
+43|5|1
+42|5|1
+0|5|1
+18446744073709551615|1|1
+";
+
+fn is_fitting(alloc: Global, row: &str) -> Result<bool, Fail> {
+    let (files, rest) = two(row);
+    let (asked, want) = two(rest);
+    let fitting = fitting_workers(files.parse::<u64>()?, asked.parse::<u16>()?);
+    Ok(format!(in alloc; "{fitting}")?.as_str() == want)
+}
+
+#[test]
+fn few_files_are_for_fewer_workers(rt: HostRuntime) -> Result<(), Fail> {
+    all_met(rt.alloc(), FITTING, 7, is_fitting)
 }
 
 #[test]

@@ -3,10 +3,10 @@ use crate::ledger::knock;
 use bus_host::{Door, Host, HostFault, Knock};
 use router_disk::{Link, LinkFault, Source};
 use std::alloc::Global;
-use std::io;
 use std::net::{Ipv4Addr, SocketAddr, TcpListener, TcpStream};
 use std::test::Fail;
 use std::time::Duration;
+use std::{io, thread};
 use tcp_host::{TcpDoor, TcpHost, Waited};
 use test_rows::{all_met, four};
 
@@ -61,7 +61,9 @@ const WAITS: &str = "249||true|false
 250||false|false
 19999||false|false
 20000||false|true
-19999|19999|true|false
+19999|4999|true|false
+0|5000|true|true
+19999|19999|false|false
 20000|20000|false|true
 1000|59999|false|false
 1000|60000|false|true
@@ -81,7 +83,7 @@ fn is_wait_met(alloc: Global, row: &str) -> Result<bool, Fail> {
 
 #[test]
 fn a_connection_ends_when_it_waited_too_long(rt: HostRuntime) -> Result<(), Fail> {
-    all_met(rt.alloc(), WAITS, 9, is_wait_met)
+    all_met(rt.alloc(), WAITS, 11, is_wait_met)
 }
 
 // The address of a port that nobody uses.
@@ -89,13 +91,13 @@ fn free(rt: &HostRuntime) -> io::Result<SocketAddr> {
     TcpListener::bind(rt, local(0))?.local_addr()
 }
 
-// A door for a program with two workers, and its address.
-fn open(rt: &HostRuntime) -> Option<(TcpDoor<HostRuntime>, SocketAddr)> {
+// A door for a program with this number of workers, and its address.
+fn open(rt: &HostRuntime, workers: usize) -> Option<(TcpDoor<HostRuntime>, SocketAddr)> {
     for _ in 0..10 {
         let Ok(address) = free(rt) else {
             return None;
         };
-        if let Ok(door) = TcpDoor::open(rt.alloc(), *rt, address.port(), 2) {
+        if let Ok(door) = TcpDoor::open(rt.alloc(), *rt, address.port(), workers) {
             return Some((door, address));
         }
     }
@@ -104,12 +106,13 @@ fn open(rt: &HostRuntime) -> Option<(TcpDoor<HostRuntime>, SocketAddr)> {
 
 #[test]
 fn an_idle_client_ends_for_one_that_waits(rt: HostRuntime) {
-    let (mut door, address) = open(&rt).expect(&rt, "a door");
+    let (mut door, address) = open(&rt, 2).expect(&rt, "a door");
     let _first = TcpStream::connect(&rt, address).expect(&rt, "a client");
     let Knock::Conn(mut input, output) = door.next() else {
         panic!(rt; "no connection");
     };
     let _second = TcpStream::connect(&rt, address).expect(&rt, "a client");
+    thread::sleep(&rt, Duration::from_millis(300));
     assert_eq!(rt; knock(&mut door), b'q', "the second waits");
     input.rests();
     assert_eq!(rt; input.read(&mut [0u8; 8]), Ok(0));

@@ -31,7 +31,7 @@ options_once words m p w c m' p' w' c' a b =
     let same : a.options ≡ b.options = words_once a.options b.options (sym a.spelled ∙ b.spelled) in (
       once_at 0 250000000000 (codes "--now") a.options b.options m m' (lit< tt) same a.moment_is b.moment_is,
       once_at 1 65535 (codes "--port") a.options b.options p p' (lit< tt) same a.port_is b.port_is,
-      once_at 1 16 (codes "--workers") a.options b.options w w' (lit< tt) same a.workers_are b.workers_are,
+      once_at 1 1024 (codes "--workers") a.options b.options w w' (lit< tt) same a.workers_are b.workers_are,
       once_at 1 1000000 (codes "--connections") a.options b.options c c' (lit< tt) same a.connections_are b.connections_are,
     )
 
@@ -114,7 +114,7 @@ command_within (name ∷ []) c is = absurd is
 command_within (name ∷ word ∷ words) (Once m) (named, o) = moment_within (values_of (codes "--now") o.options) m o.moment_is
 command_within (name ∷ word ∷ words) (Serve p w k) (named, o) =
     let port = given_within 1 65535 (values_of (codes "--port") o.options) (Some p) o.port_is in
-    let workers = given_within 1 16 (values_of (codes "--workers") o.options) (Some w) o.workers_are in
+    let workers = given_within 1 1024 (values_of (codes "--workers") o.options) (Some w) o.workers_are in
     (port.0, port.1, workers.0, workers.1, given_within 1 1000000 (values_of (codes "--connections") o.options) k o.connections_are)
 
 pub read_within : (words : List (List ℕ)) (r : Option Command)

@@ -14,7 +14,7 @@ abbrev pub CompletesBy : Options → List (List ℕ × List ℕ) → Options →
 CompletesBy given options all = AreNamed options
     × IsCompleted 0 250000000000 given.now (values_of (codes "--now") options) all.now
     × IsCompleted 1 65535 given.port (values_of (codes "--port") options) all.port
-    × IsCompleted 1 16 given.workers (values_of (codes "--workers") options) all.workers
+    × IsCompleted 1 1024 given.workers (values_of (codes "--workers") options) all.workers
     × IsCompleted 1 1000000 given.connections (values_of (codes "--connections") options) all.connections
 
 -- `Completes` with the first option apart
@@ -121,29 +121,29 @@ port_stops given name value is_given named is never words all = rw named (λ don
     never found.0 (is ∙ found.1.0, found.1.1))
 
 workers_forth : (given : Options) (value : List ℕ) (words : List (List ℕ)) (all : Options) (n : ℕ)
-    → (is_some given.workers ≡ false) × IsNumber 1 16 value n → Front given (codes "--workers") value words all
+    → (is_some given.workers ≡ false) × IsNumber 1 1024 value n → Front given (codes "--workers") value words all
     → Completes (record given { workers = Some n }) words all
 workers_forth given value words all n number (options, spelled, ((name, named), m, p, w, k)) =
-    let next = completed_forth 1 16 value (values_of (codes "--workers") options) given.workers all.workers n (lit< tt) number w in
+    let next = completed_forth 1 1024 value (values_of (codes "--workers") options) given.workers all.workers n (lit< tt) number w in
     completes (record given { workers = Some n }) words all options spelled (named, m, p, next, k)
 
 workers_back : (given : Options) (value : List ℕ) (words : List (List ℕ)) (all : Options) (n : ℕ)
-    → (is_some given.workers ≡ false) × IsNumber 1 16 value n → Completes (record given { workers = Some n }) words all
+    → (is_some given.workers ≡ false) × IsNumber 1 1024 value n → Completes (record given { workers = Some n }) words all
     → Completes given (codes "--workers" ∷ value ∷ words) all
 workers_back given value words all n number c =
-    let before = completed_back 1 16 value (values_of (codes "--workers") c.options) given.workers all.workers n number c.workers_are in
+    let before = completed_back 1 1024 value (values_of (codes "--workers") c.options) given.workers all.workers n number c.workers_are in
     completes given (codes "--workers" ∷ value ∷ words) all ((codes "--workers", value) ∷ c.options)
     (ap (λ (rest : List (List ℕ)). codes "--workers" ∷ value ∷ rest) c.spelled)
     ((inr (inr (inl refl)), c.named), c.moment_is, c.port_is, before, c.connections_are)
 
 workers_first : (given : Options) (value : List ℕ) (words : List (List ℕ)) (all : Options) → Front given (codes "--workers") value words all
-    → (n : ℕ) × ((is_some given.workers ≡ false) × IsNumber 1 16 value n)
+    → (n : ℕ) × ((is_some given.workers ≡ false) × IsNumber 1 1024 value n)
 workers_first given value words all (options, spelled, ((name, named), m, p, w, k)) =
-    completed_first 1 16 value (values_of (codes "--workers") options) given.workers all.workers w
+    completed_first 1 1024 value (values_of (codes "--workers") options) given.workers all.workers w
 
 pub workers_step : (given : Options) (name value : List ℕ) (is_given : Bool) (n : ℕ) → name ≡ codes "--workers"
     → is_given ≡ is_some given.workers
-    → (is_given ≡ false) × IsNumber 1 16 value n → (words : List (List ℕ)) (all : Options)
+    → (is_given ≡ false) × IsNumber 1 1024 value n → (words : List (List ℕ)) (all : Options)
     → (Completes given (name ∷ value ∷ words) all → Completes (record given { workers = Some n }) words all)
     × (Completes (record given { workers = Some n }) words all → Completes given (name ∷ value ∷ words) all)
 workers_step given name value is_given n named is (none, number) words all = rw named (
@@ -152,7 +152,7 @@ workers_step given name value is_given n named is (none, number) words all = rw 
 )
 
 pub workers_stops : (given : Options) (name value : List ℕ) (is_given : Bool) → name ≡ codes "--workers" → is_given ≡ is_some given.workers
-    → ((n : ℕ) → (is_given ≡ false) × IsNumber 1 16 value n → ⊥) → (words : List (List ℕ)) (all : Options)
+    → ((n : ℕ) → (is_given ≡ false) × IsNumber 1 1024 value n → ⊥) → (words : List (List ℕ)) (all : Options)
     → Completes given (name ∷ value ∷ words) all → ⊥
 workers_stops given name value is_given named is never words all = rw named (λ done.
     let found = workers_first given value words all (front_of given (codes "--workers") value words all done) in

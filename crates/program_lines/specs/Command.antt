@@ -20,7 +20,7 @@ IsCommand (name ∷ word ∷ words) (Serve port workers connections) =
 abbrev pub IsWithin : Command → Type 0
 IsWithin (Once now) = IfSome now IsMoment
 IsWithin (Serve port workers connections) =
-    (1 ≤ port) × (port ≤ 65535) × (1 ≤ workers) × (workers ≤ 16) × IfSome connections (λ k. (1 ≤ k) × (k ≤ 1000000))
+    (1 ≤ port) × (port ≤ 65535) × (1 ≤ workers) × (workers ≤ 1024) × IfSome connections (λ k. (1 ≤ k) × (k ≤ 1000000))
 
 -- Words are at most one command.
 -- Shown by: law one_command.

@@ -4,3 +4,4 @@ pub mod Command
 pub mod Reading
 pub mod Status
 pub mod Printed
+pub mod Files

@@ -33,14 +33,14 @@ IsGiven least most [] given = given ≡ None
 IsGiven least most (value ∷ []) given = (number : ℕ) × (given ≡ Some number) × IsNumber least most value number
 IsGiven least most (value ∷ again ∷ more) given = ⊥
 
--- The words are options in any order, each at most once: `--now` a moment, `--port` 1 to 65,535, `--workers` 1 to 16, `--connections` 1 to
+-- The words are options in any order, each at most once: `--now` a moment, `--port` 1 to 65,535, `--workers` 1 to 1,024, `--connections` 1 to
 -- 1,000,000. The parameters are the number of each, or none if the option is not given.
--- Shown by: seventeen_workers.edit.
+-- Shown by: too_many_workers.edit.
 pub record AreOptions (words : List (List ℕ)) (moment port workers connections : Option ℕ) : Type 0 where
   pub options : List (List ℕ × List ℕ)
   pub spelled : words ≡ words_of options
   pub named : AreNamed options
   pub moment_is : IsGiven 0 250000000000 (values_of (codes "--now") options) moment
   pub port_is : IsGiven 1 65535 (values_of (codes "--port") options) port
-  pub workers_are : IsGiven 1 16 (values_of (codes "--workers") options) workers
+  pub workers_are : IsGiven 1 1024 (values_of (codes "--workers") options) workers
   pub connections_are : IsGiven 1 1000000 (values_of (codes "--connections") options) connections

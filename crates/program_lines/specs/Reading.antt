@@ -21,7 +21,7 @@ pub record Completes (given : Options) (words : List (List ℕ)) (all : Options)
   pub named : AreNamed options
   pub moment_is : IsCompleted 0 250000000000 given.now (values_of (codes "--now") options) all.now
   pub port_is : IsCompleted 1 65535 given.port (values_of (codes "--port") options) all.port
-  pub workers_are : IsCompleted 1 16 given.workers (values_of (codes "--workers") options) all.workers
+  pub workers_are : IsCompleted 1 1024 given.workers (values_of (codes "--workers") options) all.workers
   pub connections_are : IsCompleted 1 1000000 given.connections (values_of (codes "--connections") options) all.connections
 
 -- the command of this name with these options

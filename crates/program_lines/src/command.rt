@@ -16,7 +16,7 @@ pub enum Command {
     /// Sessions over connections to the port, on this number of workers. If `connections` is given, it ends after that many.
     Serve {
         port: u16,
-        workers: u8,
+        workers: u16,
         connections: Option<u64>,
     },
 }

@@ -2,6 +2,7 @@
 #![tactic(auto)]
 
 mod command;
+mod files;
 mod laws;
 mod number;
 mod options;
@@ -9,6 +10,7 @@ mod printed;
 mod status;
 
 pub use command::{Command, read_command};
+pub use files::fitting_workers;
 pub use laws::one_command;
 pub use printed::{Summary, listening_line, summary_text};
 pub use status::Status;

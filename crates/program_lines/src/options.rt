@@ -9,7 +9,7 @@ use json_text::LAST_MOMENT;
 
 const LAST_PORT: u64 = 65_535;
 
-const MOST_WORKERS: u64 = 16;
+const MOST_WORKERS: u64 = 1_024;
 
 const MOST_CONNECTIONS: u64 = 1_000_000;
 
@@ -18,7 +18,7 @@ const MOST_CONNECTIONS: u64 = 1_000_000;
 pub(crate) struct Options {
     pub(crate) now: Option<u64>,
     pub(crate) port: Option<u16>,
-    pub(crate) workers: Option<u8>,
+    pub(crate) workers: Option<u16>,
     pub(crate) connections: Option<u64>,
 }
 
@@ -74,7 +74,7 @@ impl Options {
             "--workers" => {
                 let workers = first(self.workers.is_some(), value, 1, MOST_WORKERS)?;
                 Some(Options {
-                    workers: Some(workers as u8),
+                    workers: Some(workers as u16),
                     ..self
                 })
             }

@@ -1,5 +1,5 @@
 -- When a connection of the listener over TCP ends without its client's doing. This project's own rule.
-use Rattle.std.specs.Prelude.{ℕ, ◌*◌, ◌≤◌, ◌⊎◌, Bool, IsTrue, Option, Some, None}
+use Rattle.std.specs.Prelude.{ℕ, ◌*◌, ◌≤◌, ◌⊎◌, Bool, true, false, IsTrue, Option, Some, None}
 use Rattle.std.specs.Duration.{as_nanos}
 use Rattle.std.specs.declared.time.Duration.{Duration}
 
@@ -9,8 +9,20 @@ abbrev pub Lasts : ℕ → Duration → Type 0
 Lasts millis time = millis * 1_000_000 ≤ as_nanos time
 
 -- When a connection over TCP is over: between messages after 20 s without a byte and a reply, or after 0.25 s if another client waits;
--- inside a message after 20 s, or 60 s after its first byte.
--- Shown by: a_message_in_progress_ends_after_20_s.edit; outside_tests test_tcp_host.rt: a_connection_ends_when_it_waited_too_long.
+-- inside a message after 20 s, or 60 s after its first byte, or 5 s after it if another client waits.
+-- Shown by: an_idle_client_stays_while_another_waits.edit; outside_tests test_tcp_host.rt: a_connection_ends_when_it_waited_too_long.
 abbrev pub IsOver : (idle : Duration) (message : Option Duration) (another_waits : Bool) → Type 0
 IsOver idle None another_waits = Lasts 20_000 idle ⊎ (IsTrue another_waits × Lasts 250 idle)
-IsOver idle (Some since) another_waits = Lasts 20_000 idle ⊎ Lasts 60_000 since
+IsOver idle (Some since) another_waits = Lasts 20_000 idle ⊎ (Lasts 60_000 since ⊎ (IsTrue another_waits × Lasts 5_000 since))
+
+-- since when a connection is idle, by whether its session is busy, the first byte of its unfinished message, and the last byte or reply: only
+-- if it waits between messages
+abbrev pub idle_since : Bool → Option ℕ → ℕ → Option ℕ
+idle_since true message last = None
+idle_since false None last = Some last
+idle_since false (Some since) last = None
+
+-- since when a connection waits for the rest of a message: only while its session reads it
+abbrev pub message_since : Bool → Option ℕ → Option ℕ
+message_since true message = None
+message_since false message = message

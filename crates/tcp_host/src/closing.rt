@@ -7,23 +7,25 @@ use std::alloc::{AllocError, Global};
 use std::sync::Arc;
 use std::time::{Clock, Duration, Instant};
 
-/// How many connections wait for their client's end at once.
-const MOST: usize = 16;
+/// How many connections wait for their client's end at once. With the connections, the sends, 8 clients that wait and the
+/// program's other files, W workers then need at most 2 W + 36 open files.
+const MOST: usize = 24;
 
 /// How many milliseconds a connection waits for its client's end.
 const WAIT: u64 = 1_000;
 
-/// How many bytes are dropped at once, and how many times in one look: 256 KiB together.
-const PIECE: usize = 16_384;
+/// How many bytes are dropped at once, and how many times in one look: 256 KiB together. Each worker has the piece on its
+/// stack, so it is smaller than a page.
+const PIECE: usize = 2_048;
 
-const PIECES: u32 = 16;
+const PIECES: u32 = 128;
 
 /// The connections that wait for their client's end, the oldest first. Their memory is taken at the start.
 #[derive(Drop)]
 pub(crate) struct Closing {
     ended: Vec<Ended>,
-    ghost few: { vec_len ended ≤ 16 },
-    ghost room: { 16 ≤ vec_capacity ended },
+    ghost few: { vec_len ended ≤ 24 },
+    ghost room: { 24 ≤ vec_capacity ended },
 }
 
 #[derive(Drop)]
@@ -33,6 +35,7 @@ struct Ended {
 }
 
 impl Closing {
+    /// None waits yet. At most 24 will.
     pub(crate) fn new(alloc: Global) -> Result<Closing, AllocError> {
         Ok(Closing {
             ended: Vec::with_capacity(alloc, MOST)?,
@@ -43,7 +46,7 @@ impl Closing {
         self.ended.is_empty()
     }
 
-    /// Ends the sending side of a connection. It waits for its client's end; if 16 wait already, the oldest is closed.
+    /// Ends the sending side of a connection. It waits for its client's end; if as many wait as may, the oldest is closed.
     /// A connection that cannot be ended, or whose time is not known, is closed at once.
     pub(crate) fn add(&mut self, line: Arc<Line>, clock: &impl Clock) {
         let Ok(since) = Instant::now(clock) else {
@@ -52,7 +55,7 @@ impl Closing {
         if line.end_sending().is_err() {
             return;
         }
-        if self.ended.len() == MOST {
+        if self.ended.len() >= MOST {
             self.ended.remove(0);
         }
         self.ended.push_reserved(Ended { line, since });

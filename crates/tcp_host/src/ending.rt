@@ -13,6 +13,9 @@ const MESSAGE: u64 = 60_000;
 /// How many milliseconds a connection may be idle between messages while another client waits.
 const SPARED: u64 = 250;
 
+/// How many milliseconds a message may take from its first byte on while another client waits.
+const LONG: u64 = 5_000;
+
 /// How long a connection has waited for its client.
 #[derive(Clone, Copy, Debug)]
 pub struct Waited {
@@ -23,8 +26,9 @@ pub struct Waited {
 }
 
 impl Waited {
-    /// Whether the connection is over: after 20 s without a byte and a reply, 60 s after the first byte of an
-    /// unfinished message, and between messages after 0.25 s if another client waits for a connection.
+    /// Whether the connection is over: after 20 s without a byte and a reply, 60 s after the first byte of an unfinished
+    /// message, and if another client waits for a connection after 0.25 s between messages, and 5 s after the first byte of
+    /// an unfinished message.
     pub fn is_over(self, another_waits: bool) -> bool
         ensures { IsTrue result ↔ IsOver self.idle self.message another_waits }
     {
@@ -34,8 +38,23 @@ impl Waited {
                     || another_waits && self.idle >= Duration::from_millis(SPARED)
             }
             Some(since) => {
-                self.idle >= Duration::from_millis(IDLE) || since >= Duration::from_millis(MESSAGE)
+                self.idle >= Duration::from_millis(IDLE)
+                    || since >= Duration::from_millis(MESSAGE)
+                    || another_waits && since >= Duration::from_millis(LONG)
             }
+        }
+    }
+
+    /// How long it may still wait while no client waits. If it is its program's only one at a time, `spares` is true, and it
+    /// may be idle between messages only as long as if another client waited.
+    pub(crate) fn left(self, spares: bool) -> Duration {
+        match self.message {
+            None => Duration::from_millis(if spares { SPARED } else { IDLE }).saturating_sub(
+                self.idle,
+            ),
+            Some(since) => Duration::from_millis(IDLE)
+                .saturating_sub(self.idle)
+                .min(Duration::from_millis(MESSAGE).saturating_sub(since)),
         }
     }
 }

@@ -1,34 +1,58 @@
-// A connection's socket, which its source and its sink share.
+// A connection's socket, which its source, its sink and its door share.
 ghost use Rattle.std.specs.Io.{ReadsAtMost, WritesAtMost};
 
+use crate::times::Times;
 use std::io;
 use std::io::{Read, Write};
 use std::net::{Shutdown, TcpStream};
-use std::sync::atomic::{AtomicBool, Ordering};
+use std::sync::atomic::{AtomicBool, AtomicU64, Ordering};
 use std::time::Duration;
 
-/// How many milliseconds a read waits before the source looks at its times and at the mark.
-const READ_WAIT: u64 = 50;
+/// In place of a time: the connection does not wait for that.
+const NEVER: u64 = u64::MAX;
 
-/// A socket, and whether a reply was written since the source last looked.
+/// A socket; whether a reply was written since the source last looked; what the connection waits for, and since when, for
+/// its door; and when its door will look at it.
 #[derive(Drop)]
 pub(crate) struct Line {
     stream: TcpStream,
     replied: AtomicBool,
+    /// Its place among the connections of its door.
+    number: u64,
+    idle: AtomicU64,
+    message: AtomicU64,
+    /// The times by which its door has it among those that may be idle, and among those that may be inside a message.
+    pub(crate) idle_place: AtomicU64,
+    pub(crate) message_place: AtomicU64,
+    ended: AtomicBool,
 }
 
 impl Line {
-    /// A line over an accepted socket, with no Nagle delay.
-    pub(crate) fn new(stream: TcpStream) -> io::Result<Line> {
+    /// A line over an accepted socket, with no Nagle delay, for a connection that begins now.
+    pub(crate) fn new(stream: TcpStream, number: u64, now: u64) -> io::Result<Line> {
         stream.set_nodelay(true)?;
-        stream.set_read_timeout(Some(Duration::from_millis(READ_WAIT)))?;
         Ok(Line {
             stream,
             replied: AtomicBool::new(false),
+            number,
+            idle: AtomicU64::new(now),
+            message: AtomicU64::new(NEVER),
+            idle_place: AtomicU64::new(now),
+            message_place: AtomicU64::new(now),
+            ended: AtomicBool::new(false),
         })
     }
 
-    /// Reads once. Waits at most 50 ms.
+    pub(crate) fn number(&self) -> u64 {
+        self.number
+    }
+
+    /// How long a read waits at most.
+    pub(crate) fn set_wait(&self, wait: Duration) -> io::Result<()> {
+        self.stream.set_read_timeout(Some(wait))
+    }
+
+    /// Reads once. Waits for bytes, or until its time is over.
     pub(crate) fn read(&self, buf: &mut [u8]) -> io::Result<usize>
         ensures { ReadsAtMost result buf.new }
     {
@@ -53,9 +77,46 @@ impl Line {
         self.replied.swap(false, Ordering::SeqCst)
     }
 
+    /// Shows the door what the connection waits for.
+    pub(crate) fn show(&self, times: Times) {
+        self.idle
+            .store(times.idle_since().unwrap_or(NEVER), Ordering::SeqCst);
+        self.message
+            .store(times.message_since().unwrap_or(NEVER), Ordering::SeqCst);
+    }
+
+    /// Since when it is idle between messages, if it is.
+    pub(crate) fn idle_since(&self) -> Option<u64> {
+        time_in(&self.idle)
+    }
+
+    /// Since when it waits for the rest of a message, if it does.
+    pub(crate) fn message_since(&self) -> Option<u64> {
+        time_in(&self.message)
+    }
+
+    /// Ends the receiving side: a read that waits returns, and later ones find what has arrived and then the end. What is
+    /// written still goes to the client.
+    pub(crate) fn end_receiving(&self) {
+        self.ended.store(true, Ordering::SeqCst);
+        let _ = self.stream.shutdown(Shutdown::Read);
+    }
+
+    /// Whether its door has ended the receiving side.
+    pub(crate) fn is_ended(&self) -> bool {
+        self.ended.load(Ordering::SeqCst)
+    }
+
     /// Ends the sending side. From then on a read does not wait.
     pub(crate) fn end_sending(&self) -> io::Result<()> {
         self.stream.shutdown(Shutdown::Write)?;
         self.stream.set_nonblocking(true)
+    }
+}
+
+fn time_in(word: &AtomicU64) -> Option<u64> {
+    match word.load(Ordering::SeqCst) {
+        NEVER => None,
+        time => Some(time),
     }
 }

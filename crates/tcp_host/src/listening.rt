@@ -2,6 +2,7 @@
 ghost use Rattle.std.specs.Prelude.{◌≡◌, ◌⊎◌, ◌↔◌, Some, IsTrue};
 
 use bus_host::HostFault;
+use libc::net::listen as set_queue;
 use libc::{EBADF, EINVAL, ENOTSOCK};
 use mio::unix::SourceFd;
 use mio::{Events, Interest, Poll, Token};
@@ -14,6 +15,9 @@ use std::time::{Clock, Duration};
 
 /// How many milliseconds a call waits for a client.
 const PAUSE: u64 = 5;
+
+/// How many clients may wait in the system's queue.
+const QUEUE: i32 = 4_096;
 
 /// The name of the listening socket in events.
 const LISTENER: Token = Token(0);
@@ -29,7 +33,7 @@ pub(crate) enum Arrival {
     Broken,
 }
 
-/// A listening socket. At most 128 clients wait for it in the system's queue.
+/// A listening socket. At most 4,096 clients wait for it in the system's queue, and no more than the system allows.
 #[derive(Drop)]
 pub(crate) struct Listening {
     pub(crate) listener: TcpListener,
@@ -61,8 +65,11 @@ impl Listening {
     pub(crate) fn arrival(&mut self, clock: &impl Clock) -> Arrival {
         match self.accept() {
             Arrival::Nobody => {
-                self.wait(clock);
-                self.accept()
+                if self.wait(clock) {
+                    self.accept()
+                } else {
+                    Arrival::Nobody
+                }
             }
             Arrival::Lost => {
                 pause(clock);
@@ -72,32 +79,18 @@ impl Listening {
         }
     }
 
-    /// Whether a client waits. It does not wait itself.
-    pub(crate) fn has_client(&mut self) -> bool {
-        let fd = self.listener.as_raw_fd();
-        let registry = self.poll.registry();
-        // Registered again, a socket that is ready is reported again.
-        if registry
-            .reregister(&mut SourceFd(&fd), LISTENER, Interest::READABLE)
-            .is_err()
-        {
-            return false;
-        }
-        match self.poll.poll(&mut self.events, Some(Duration::ZERO)) {
-            Ok(()) => !self.events.is_empty(),
-            Err(_) => false,
-        }
-    }
-
-    /// Waits for a client, at most 5 ms.
-    fn wait(&mut self, clock: &impl Clock) {
+    /// Waits for a client, at most 5 ms. Returns whether one may have come.
+    pub(crate) fn wait(&mut self, clock: &impl Clock) -> bool {
         let most = Duration::from_millis(PAUSE);
         if self.poll.poll(&mut self.events, Some(most)).is_err() {
             pause(clock);
+            return true;
         }
+        !self.events.is_empty()
     }
 
-    fn accept(&self) -> Arrival {
+    /// A client that waits.
+    pub(crate) fn accept(&self) -> Arrival {
         match self.listener.accept() {
             Ok((stream, _)) => Arrival::Client(stream),
             Err(fault) => {
@@ -122,6 +115,8 @@ fn listen<N: Net<Stream = TcpStream, Listener = TcpListener>>(
     listener.set_nonblocking(true)?;
     let poll = Poll::new(system)?;
     let fd = listener.as_raw_fd();
+    // The socket listens already; a second call changes the length of its queue, and one that fails changes nothing.
+    set_queue(fd, QUEUE);
     poll.registry()
         .register(&mut SourceFd(&fd), LISTENER, Interest::READABLE)?;
     Ok((listener, poll))

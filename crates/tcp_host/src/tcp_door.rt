@@ -4,10 +4,13 @@ ghost use Rattle.bus_host.specs.Doors.{Lengthened, closed_after, given_by};
 ghost use Rattle.bus_host.specs.Knock.{knock_outcome};
 ghost use Rattle.tcp_host.specs.Places.{fresh, limit_for, out_after};
 
+use crate::alone::Alone;
 use crate::closing::Closing;
 use crate::line::Line;
+use crate::lines::Lines;
 use crate::listening::{Arrival, Listening, pause};
-use crate::mark::Mark;
+use crate::tcp_source::nanos_between;
+use crate::waiting::Waiting;
 use crate::{TcpSink, TcpSource};
 use bus_host::{Door, Ended, HostFault, Knock, raise};
 use http_server::Log;
@@ -18,17 +21,25 @@ use std::sync::Arc;
 use std::time::{Clock, Instant};
 
 /// A door at a port of 127.0.0.1. `next` waits at most 5 ms. Only EBADF, EINVAL and ENOTSOCK of accept(2) are its fault.
-/// `done` ends the sending side; each `next` then drops what such clients still send, at most 256 KiB of each of 16
+/// If all connections that there may be are out, `next` ends one of them for each client that waits (`Lines::end_for`), by
+/// ending its receiving side: its session finds the end of its input, and what it writes still goes to its client.
+/// `done` ends the sending side; each `next` then drops what such clients still send, at most 256 KiB of each of 24
 /// connections, and closes them at the client's end or after 1 s, so that a client refused while it sends gets its reply as
-/// long as `next` is called.
+/// long as `next` is called. If both sides were ended here, the system answers what the client still sends by a reset.
 #[derive(Drop)]
 pub struct TcpDoor<N> {
     alloc: Global,
     system: N,
     pub(crate) listening: Listening,
+    /// When it was opened.
+    start: Instant,
     limit: usize,
     out: usize,
-    mark: Arc<Mark>,
+    /// How many connections were begun.
+    begun: u64,
+    alone: Arc<Alone>,
+    lines: Lines,
+    waiting: Waiting,
     closing: Closing,
     given: Log<TcpSource<N>, TcpSink<N>>,
     ended: Log<Ended<TcpSource<N>, TcpSink<N>>, ()>,
@@ -60,20 +71,30 @@ impl<N: Net<Stream = TcpStream, Listener = TcpListener> + Clock + Copy> TcpDoor<
     pub fn open(alloc: Global, system: N, port: u16, workers: usize) -> Result<Self, HostFault>
         ensures opened { IfOk result (λ door. door ≡ fresh (limit_for workers)) }
     {
-        let Ok(mark) = Arc::new(alloc, Mark::new(workers <= 1)) else {
+        let Ok(alone) = Arc::new(alloc, Alone::new(workers <= 1)) else {
+            return Err(HostFault::NoMemory);
+        };
+        let Ok(waiting) = Waiting::new(alloc) else {
             return Err(HostFault::NoMemory);
         };
         let Ok(closing) = Closing::new(alloc) else {
             return Err(HostFault::NoMemory);
+        };
+        let Ok(start) = Instant::now(&system) else {
+            return Err(HostFault::Failed);
         };
         let listening = Listening::open(alloc, &system, port)?;
         Ok(TcpDoor {
             alloc,
             system,
             listening,
+            start,
             limit: workers.saturating_sub(1).max(1),
             out: 0,
-            mark,
+            begun: 0,
+            alone,
+            lines: Lines::new(),
+            waiting,
             closing,
             given: Log::new(),
             ended: Log::new(),
@@ -99,16 +120,30 @@ impl<N: Net<Stream = TcpStream, Listener = TcpListener> + Clock + Copy> TcpDoor<
         }
     }
 
-    /// Waits 5 ms, and has an idle connection end if a client waits.
+    /// Accepts clients that wait, as many as there is room for, and ends connections for them. If no client waits, it waits
+    /// 5 ms for one.
     fn refuse(&mut self)
         ensures { self.new ≡ self.old }
     {
-        if self.listening.has_client() {
-            self.mark.set();
-        } else {
-            self.mark.clear();
+        self.waiting.fill(&self.listening);
+        if self.waiting.count() == 0 {
+            self.listening.wait(&self.system);
+            return;
         }
-        pause(&self.system);
+        if let Ok(now) = Instant::now(&self.system) {
+            self.lines
+                .end_for(self.waiting.count(), nanos_between(self.start, now));
+        }
+    }
+
+    /// The client that has waited for a place longest, or one that comes.
+    fn arrival(&mut self) -> Arrival
+        ensures { self.new ≡ self.old }
+    {
+        match self.waiting.take() {
+            Some(stream) => Arrival::Client(stream),
+            None => self.listening.arrival(&self.system),
+        }
     }
 
     /// Gives a client its connection. Its socket is closed if the system or the memory fails.
@@ -118,14 +153,43 @@ impl<N: Net<Stream = TcpStream, Listener = TcpListener> + Clock + Copy> TcpDoor<
         ensures open { false ≡ closed_after false result }
         ensures out { self.new ≡ record self.old { out = out_after self.old.out result; given = self.old.given ++ given_by result } }
     {
-        self.mark.clear();
-        let Ok(line) = Line::new(stream) else {
+        let Ok(now) = Instant::now(&self.system) else {
             return Knock::Quiet;
         };
-        let Ok(since) = Instant::now(&self.system) else {
-            return Knock::Quiet;
+        let now = nanos_between(self.start, now);
+        match self.line(stream, now) {
+            Ok(line) => self.give(line, now),
+            Err(HostFault::Failed) => Knock::Quiet,
+            Err(HostFault::NoMemory) => Knock::NoMemory,
+        }
+    }
+
+    /// The line of a connection that begins now. It is among those that are out.
+    fn line(&mut self, stream: TcpStream, now: u64) -> Result<Arc<Line>, HostFault>
+        ensures { self.new ≡ self.old }
+    {
+        let number = self.begun;
+        self.begun = number.saturating_add(1);
+        let Ok(line) = Line::new(stream, number, now) else {
+            return Err(HostFault::Failed);
         };
-        match self.halves(line, since) {
+        let Ok(line) = Arc::new(self.alloc, line) else {
+            return Err(HostFault::NoMemory);
+        };
+        match self.lines.add(self.alloc, &line) {
+            Ok(()) => Ok(line),
+            Err(AllocError) => Err(HostFault::NoMemory),
+        }
+    }
+
+    /// Gives a connection.
+    fn give(&mut self, line: Arc<Line>, now: u64) -> Knock<TcpSource<N>, TcpSink<N>>
+        requires { self.old.out < self.old.limit }
+        ensures outcome { knock_outcome result ≡ Ok tt }
+        ensures open { false ≡ closed_after false result }
+        ensures out { self.new ≡ record self.old { out = out_after self.old.out result; given = self.old.given ++ given_by result } }
+    {
+        match self.halves(line, now) {
             Ok((input, output)) => {
                 self.out += 1;
                 self.given = self.given.and(&input, &output);
@@ -135,10 +199,10 @@ impl<N: Net<Stream = TcpStream, Listener = TcpListener> + Clock + Copy> TcpDoor<
         }
     }
 
-    fn halves(&self, line: Line, since: Instant) -> Result<(TcpSource<N>, TcpSink<N>), AllocError> {
-        let line = Arc::new(self.alloc, line)?;
-        let mark = Arc::try_clone(&self.mark)?;
-        let input = TcpSource::new(Arc::try_clone(&line)?, mark, self.system, since);
+    /// Fails only if the count of an `Arc` is full.
+    fn halves(&self, line: Arc<Line>, now: u64) -> Result<(TcpSource<N>, TcpSink<N>), AllocError> {
+        let alone = Arc::try_clone(&self.alone)?;
+        let input = TcpSource::new(Arc::try_clone(&line)?, alone, self.system, self.start, now);
         Ok((input, TcpSink::new(line, self.system)))
     }
 }
@@ -187,7 +251,7 @@ impl<N: Net<Stream = TcpStream, Listener = TcpListener> + Clock + Copy + Send> D
             self.refuse();
             return Knock::Quiet;
         }
-        match self.listening.arrival(&self.system) {
+        match self.arrival() {
             Arrival::Client(stream) => self.admit(stream),
             Arrival::Nobody | Arrival::Lost => Knock::Quiet,
             Arrival::Broken => {
@@ -209,16 +273,8 @@ impl<N: Net<Stream = TcpStream, Listener = TcpListener> + Clock + Copy + Send> D
         let ended = Ended { input, output, cut };
         self.ended = self.ended.and(&ended, &());
         let Ended { input, .. } = ended;
-        let TcpSource {
-            line,
-            took_mark,
-            ..
-        } = input;
-        if took_mark {
-            self.mark.release();
-        } else {
-            self.mark.clear();
-        }
+        let TcpSource { line, .. } = input;
+        self.lines.take_back(&line);
         self.closing.add(line, &self.system);
     }
 }

@@ -2,55 +2,69 @@
 ghost use Rattle.std.specs.Prelude.{◌≡◌, []};
 ghost use Rattle.std.specs.Io.{ReadsAtMost};
 
-use crate::ending::Waited;
+use crate::alone::Alone;
 use crate::http_link::is_waiting;
 use crate::line::Line;
-use crate::mark::Mark;
+use crate::times::Times;
 use bus_host::raise;
 use router_disk::{Failed, Pieces, Source};
 use std::sync::Arc;
-use std::time::{Clock, Instant};
+use std::time::{Clock, Duration, Instant};
 
-/// The bytes that a client sends. The input ends at the client's end, and when `Waited::is_over` says so; a read
-/// returns at most 50 ms after that time. By the monotonic clock; if the clock fails, the read fails.
+/// How many milliseconds a read may wait too long or too short, so that not each read sets its time anew.
+const SLACK: u64 = 50;
+
+/// The bytes that a client sends. The input ends at the client's end, when `Waited::is_over` says so while no other client waits,
+/// and when the door ends it for another client; a connection that had no reply yet is read once more then. By the monotonic
+/// clock; if the clock fails, the read fails.
 #[derive(Drop)]
 pub struct TcpSource<C> {
     pub(crate) line: Arc<Line>,
-    mark: Arc<Mark>,
+    alone: Arc<Alone>,
     clock: C,
-    /// The time of the last byte or the last reply, whichever came later; before both, of the connection.
-    since: Instant,
-    /// The time of the first byte of the unfinished message. `None` between messages.
-    message: Option<Instant>,
+    /// When the door was opened.
+    start: Instant,
+    times: Times,
     /// Whether the next read is between messages.
     rests: bool,
-    /// Whether the input has ended for another client.
-    pub(crate) took_mark: bool,
+    /// Whether a reply was written. Before the first one the socket is read even if the door has ended the connection, so
+    /// that a request that has arrived is not lost.
+    answered: bool,
+    /// How long a read of the socket waits; zero, if no time is set yet.
+    wait: Duration,
     gave: Pieces,
     faults: u64,
 }
 
 impl<C: Clock> TcpSource<C> {
-    pub(crate) fn new(line: Arc<Line>, mark: Arc<Mark>, clock: C, since: Instant) -> Self
+    /// A source of a connection that begins now, in nanoseconds since the door was opened.
+    pub(crate) fn new(
+        line: Arc<Line>,
+        alone: Arc<Alone>,
+        clock: C,
+        start: Instant,
+        now: u64,
+    ) -> Self
         ensures gave { result.gave ≡ [] }
         ensures faults { result.faults ≡ 0 }
     {
         TcpSource {
             line,
-            mark,
+            alone,
             clock,
-            since,
-            message: None,
+            start,
+            times: Times::new(now),
             rests: false,
-            took_mark: false,
+            answered: false,
+            wait: Duration::ZERO,
             gave: Pieces::new(),
             faults: 0,
         }
     }
 
-    fn now(&self) -> Result<Instant, Failed> {
+    fn now(&self) -> Result<u64, Failed> {
         match Instant::now(&self.clock) {
-            Ok(now) => Ok(now),
+            Ok(now) => Ok(nanos_between(self.start, now)),
             Err(_) => Err(Failed),
         }
     }
@@ -61,7 +75,11 @@ impl<C: Clock> TcpSource<C> {
         ensures gave { self.new.gave ≡ self.old.gave }
         ensures faults { self.new.faults ≡ self.old.faults }
     {
+        let rests = self.rests;
         self.begin()?;
+        if rests && self.answered && self.line.is_ended() {
+            return Ok(0);
+        }
         for _ in 0..u64::MAX {
             match self.line.read(buf) {
                 Ok(0) => return Ok(0),
@@ -82,53 +100,72 @@ impl<C: Clock> TcpSource<C> {
         Err(Failed)
     }
 
-    /// Takes note of the replies since the last read. The session reads only if it has no whole message, so what is
-    /// left after a reply came with the last bytes.
+    /// Takes note of the replies since the last read, shows the door that the session waits, and sets how long.
     fn begin(&mut self) -> Result<(), Failed>
         ensures gave { self.new.gave ≡ self.old.gave }
         ensures faults { self.new.faults ≡ self.old.faults }
     {
-        let last = self.since;
-        if self.line.take_reply() {
-            self.since = self.now()?;
-            self.message = Some(last);
-        }
-        if self.rests {
-            self.message = None;
-        }
+        let now = self.now()?;
+        let replied = self.line.take_reply();
+        self.answered = self.answered | replied;
+        self.times = self.times.at_read(now, replied, self.rests);
         self.rests = false;
-        Ok(())
+        self.line.show(self.times);
+        self.set_wait(now)
     }
 
-    /// Takes note of bytes. A clock that fails changes nothing: the bytes are not lost.
+    /// Takes note of bytes. A clock that fails does not lose them.
     fn note_bytes(&mut self)
         ensures gave { self.new.gave ≡ self.old.gave }
         ensures faults { self.new.faults ≡ self.old.faults }
     {
-        if let Ok(now) = self.now() {
-            self.since = now;
-            if self.message.is_none() {
-                self.message = Some(now);
-            }
-        }
+        let now = self.now().unwrap_or(self.times.last);
+        self.times = self.times.at_bytes(now);
+        self.line.show(self.times);
     }
 
-    /// Whether the input ends here. It ends for another client only if it takes the mark.
+    /// Whether the input ends here. If it does not, sets how long the next read of the socket waits.
     fn is_over(&mut self) -> Result<bool, Failed>
         ensures gave { self.new.gave ≡ self.old.gave }
         ensures faults { self.new.faults ≡ self.old.faults }
     {
         let now = self.now()?;
-        let waited = Waited {
-            idle: now.duration_since(self.since),
-            message: self.message.map(|first| now.duration_since(first)),
-        };
-        if waited.is_over(false) {
+        let waited = self.times.waited(now);
+        let spares = waited.message.is_none() && self.alone.get();
+        if waited.is_over(spares) {
             return Ok(true);
         }
-        self.took_mark = waited.is_over(true) && self.mark.take();
-        Ok(self.took_mark)
+        self.set_wait(now)?;
+        Ok(false)
     }
+
+    /// Has a read of the socket wait until the input is over, within 50 ms, and at least 1 ms.
+    fn set_wait(&mut self, now: u64) -> Result<(), Failed>
+        ensures gave { self.new.gave ≡ self.old.gave }
+        ensures faults { self.new.faults ≡ self.old.faults }
+    {
+        let left = self.times.waited(now).left(self.alone.get());
+        let slack = Duration::from_millis(SLACK);
+        if self.wait.saturating_sub(left) < slack
+            && left.saturating_sub(self.wait) < slack
+            && left >= slack
+        {
+            return Ok(());
+        }
+        let left = left.max(Duration::from_millis(1));
+        match self.line.set_wait(left) {
+            Ok(()) => {
+                self.wait = left;
+                Ok(())
+            }
+            Err(_) => Err(Failed),
+        }
+    }
+}
+
+/// The nanoseconds from one time to another; 0, if that is not later.
+pub(crate) fn nanos_between(start: Instant, now: Instant) -> u64 {
+    u64::try_from(now.duration_since(start).as_nanos()).unwrap_or(u64::MAX)
 }
 
 impl<C: Clock + Send> Source for TcpSource<C> {
