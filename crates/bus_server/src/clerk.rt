@@ -5,6 +5,7 @@ ghost use Rattle.router_sessions.specs.Book.{IsBook, HasNamed};
 ghost use Rattle.router_sessions.specs.Desk.{book_seen, seat_of, seen_by};
 ghost use Rattle.router_sessions.specs.Visit.{IsVisit};
 
+use crate::places::{Placed, Places};
 use bus_host::Gate;
 use door_workers::Work;
 use http_server::Log;
@@ -53,7 +54,9 @@ impl<
     }
 }
 
-/// Serves the session of the connection with this number. Returns whether out of memory ended it.
+/// Serves the session of the connection with this number. Returns whether out of memory ended it. It is no part of its caller's
+/// frame, so that the stack of a worker without a connection has no room for a session's input.
+#[inline(never)]
 pub(crate) fn converse<I: Source, O: Sink, Rt: Wait + Sync, L: Link, C: Clock, G: Gate>(
     rt: &Rt,
     alloc: Global,
@@ -82,9 +85,31 @@ pub(crate) fn converse<I: Source, O: Sink, Rt: Wait + Sync, L: Link, C: Clock, G
     was_cut(end)
 }
 
+/// Makes delivery steps for a while, if a place is free. The worker has no place during a send, which holds no turn.
+pub(crate) fn deliver_in_a_place<Rt: Wait + Sync, L: Link, C: Clock>(
+    rt: &Rt,
+    alloc: Global,
+    clock: &Mutex<&mut C>,
+    places: &Places,
+    link: &mut L,
+    hall: &Hall<Book>,
+    pass: &mut Pass<Book>,
+)
+    requires here { pass.old.seat.table_id ≡ hall.now.table.shared.table_id }
+    requires free { IsFree pass.old.seat }
+    ensures pass { IsSamePass pass.old.seat pass.new.seat × IsFree pass.new.seat }
+    ensures named { HasNamed (seat_of None pass.old.seat) (book_seen pass.old.seat) (book_seen pass.new.seat) }
+{
+    if places.enter() {
+        let mut link = Placed { rt, places, link };
+        deliver_for_a_while(rt, alloc, clock, &mut link, hall, pass);
+        places.leave();
+    }
+}
+
 /// Makes delivery steps until none is made, a fault comes, `STEPS` were made, or the second in which it began is over. So it waits for
 /// one endpoint at most that does not answer. Its turns name no connection.
-pub(crate) fn deliver_for_a_while<Rt: Wait + Sync, L: Link, C: Clock>(
+fn deliver_for_a_while<Rt: Wait + Sync, L: Link, C: Clock>(
     rt: &Rt,
     alloc: Global,
     clock: &Mutex<&mut C>,

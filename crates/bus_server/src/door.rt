@@ -8,7 +8,8 @@ ghost use Rattle.router_sessions.specs.Book.{IsBook, HasNamed};
 ghost use Rattle.router_sessions.specs.Desk.{book_seen, number_of, seat_of, seen_by, SeesMore};
 ghost use Rattle.router_sessions.specs.Visit.{IsVisit};
 
-use crate::clerk::{Clerk, converse, deliver_for_a_while};
+use crate::clerk::{Clerk, converse, deliver_in_a_place};
+use crate::places::Places;
 use bus_host::{Door, Gate};
 use door_workers::{DoorEnd, Serving};
 use router_disk::{Clock, Link, Sink, Source};
@@ -50,6 +51,7 @@ pub fn serve_door<Rt: Wait + Threads + Sync, D: Door, L: Link, C: Clock, G: Gate
         × (result.passes.items ≡ []) × (pass.new ≡ pass.old) }
 {
     let clock = Mutex::new(clock);
+    let places = Places::new();
     let clerk = Clerk {
         serve: |link: &mut L, hall: &Hall<Book>, pass: &mut Pass<
             Book,
@@ -68,7 +70,7 @@ pub fn serve_door<Rt: Wait + Threads + Sync, D: Door, L: Link, C: Clock, G: Gate
             requires free { IsFree pass.old.seat }
             ensures pass { IsSamePass pass.old.seat pass.new.seat × IsFree pass.new.seat }
             ensures named { HasNamed (seat_of None pass.old.seat) (book_seen pass.old.seat) (book_seen pass.new.seat) }
-        { deliver_for_a_while(rt, alloc, &clock, link, hall, pass) },
+        { deliver_in_a_place(rt, alloc, &clock, &places, link, hall, pass) },
     };
     let serving = door_workers::serve_door(rt, alloc, hall, pass, links, door, connections, &clerk);
     look_after(rt, alloc, hall, pass, serving.end);

@@ -3,6 +3,7 @@
 
 mod clerk;
 mod door;
+mod places;
 mod program;
 mod serve;
 
