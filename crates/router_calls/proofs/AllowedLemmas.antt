@@ -1,9 +1,9 @@
 -- A caller other than the owner writes nothing but events that the policies of their buses allow: `stranger_publishes`, which the law of
--- src/laws.rt cites. The other lemmas lead to it.
-use Rattle.std.proofs.Common.{◌≡◌, ℕ, suc, ◌+◌, ◌⊎◌, inl, inr, Bool, true, false, List, [], ◌∷◌, map, Option, Ok, Err, sym, refl, subst, arith}
+-- src/laws.rt cites. An event that any answer writes is one that is allowed: `answer_allowed`. The other lemmas lead to these.
+use Rattle.std.proofs.Common.{◌≡◌, ℕ, suc, ◌+◌, ◌⊎◌, inl, inr, Bool, true, false, List, [], ◌∷◌, map, Option, Some, Ok, Err, sym, refl, subst, arith}
 use Rattle.std.specs.Prelude.{All, cond, nat_lt}
 use Rattle.std.specs.List.{Contains}
-use Rattle.std.proofs.lemmas.List.Elements.{All-map, All-cons, All-nil}
+use Rattle.std.proofs.lemmas.List.Elements.{All-map, All-cons, All-nil, All-contains}
 use Rattle.json_text.specs.Limits.{most_together}
 use Rattle.json_text.specs.Tree.{Tree}
 use Rattle.event_time.specs.Time.{IsIso}
@@ -26,6 +26,7 @@ use Rattle.router_core.specs.declared.seen.SeenVerdict.TheVariants as verdict
 use Rattle.router_calls.specs.Accepted.{Given, Placed, ArePlaced, IsAcceptedAs, IsEventPlaced, IsPlaced, events_in, found_of, number_after}
 use Rattle.router_calls.specs.Answer.{Answer, Decided, HasPlaced, IsAnswer, decided, publication, written}
 use Rattle.router_calls.specs.Allowed.{IsAllowedEvent, IsAllowedEntry, IsPublishedBy, entries_in}
+use Rattle.router_calls.proofs.FormLemmas.{its_event}
 
 here : {X : Type 0} (x : X) (xs : List X) → Contains (x ∷ xs) x
 here x xs = (0, omega arith, refl)
@@ -125,13 +126,25 @@ other_one : (P Q : Type 0) → P ⊎ Q → ¬ P → Q
 other_one P Q (inl p) not_p = absurd (not_p p)
 other_one P Q (inr q) not_p = q
 
-pub stranger_publishes : (t : Tables) (r : Request) (k : ℕ) (set : RuleSet) (a : Answer) → IsAnswer t r k set a → ¬ (r.caller ≡ owner)
+-- a PutEvents writes only such events, whoever its caller is
+publishes_allowed : (t : Tables) (r : Request) (k : ℕ) (set : RuleSet) (a : Answer) → IsAnswer t r k set a → IsPublishing r.action
     → IsPublishedBy set r.caller (entries_in r.action) a.batch
-stranger_publishes t r k set a h stranger =
-    let publishes : IsPublishing r.action = other_one (r.caller ≡ owner) (IsPublishing r.action) h.entitled.allowed stranger in
+publishes_allowed t r k set a h publishes =
     let moment = moment_at t r.reading in
     let placed = subst (λ n. HasPlaced t n h.time h.seen r.action h.placed) (sym h.version) h.has_placed in
     let d = decided t h.seen h.placed h.policy r.action in
     let all = publishing_allowed t set moment h.time r.caller r.action h.policy h.seen h.placed publishes h.is_time h.is_seen placed in
     let own = written_allowed t set r.caller (entries_in r.action) moment d.entries d.reply all in
     subst (λ (x : Answer). IsPublishedBy set r.caller (entries_in r.action) x.batch) (sym h.answers) own
+
+pub stranger_publishes : (t : Tables) (r : Request) (k : ℕ) (set : RuleSet) (a : Answer) → IsAnswer t r k set a → ¬ (r.caller ≡ owner)
+    → IsPublishedBy set r.caller (entries_in r.action) a.batch
+stranger_publishes t r k set a h stranger =
+    publishes_allowed t r k set a h (other_one (r.caller ≡ owner) (IsPublishing r.action) h.entitled.allowed stranger)
+
+pub answer_allowed : (t : Tables) (r : Request) (k : ℕ) (set : RuleSet) (a : Answer) (b : batch.Batch) (e : batch.Accepted) → IsAnswer t r k set a
+    → a.batch ≡ Some b → Contains b.entries (batch.accepted e) → IsAllowedEvent set b.moment r.caller (entries_in r.action) e
+answer_allowed t r k set a b e h is has =
+    let all = publishes_allowed t r k set a h (its_event t r k set a b e h is has) in
+    All-contains (IsAllowedEntry set b.moment r.caller (entries_in r.action)) b.entries (batch.accepted e)
+    (subst (IsPublishedBy set r.caller (entries_in r.action)) is all) has

@@ -27,6 +27,7 @@ use Rattle.router_core.specs.Request.{Action, Request, create_event_bus, delete_
 use Rattle.router_core.specs.Request.{put_rule_state, describe_rule, list_rules, put_targets, remove_targets, list_targets_by_rule}
 use Rattle.router_core.specs.Request.{list_rule_names_by_target, put_policy, put_statement, remove_policy, remove_statement, put_events}
 use Rattle.router_core.specs.Request.{test_event_pattern, create_queue, delete_queue, peek_messages, delete_messages, duty_counts, deliver_due}
+use Rattle.router_core.specs.Request.{IsPublishing}
 use Rattle.router_core.specs.Tables.{Tables, is_full, moment_at}
 use Rattle.router_core.specs.declared.seen.SeenResult.{SeenResult}
 use Rattle.router_calls.specs.Accepted.{Placed}
@@ -39,10 +40,11 @@ use Rattle.router_calls.specs.Targets.{accepted_targets}
 use Rattle.router_calls.proofs.TargetLemmas.{accepted_within}
 use Rattle.router_calls.proofs.RemovalLemmas.{removed_within}
 
--- an operation that the action asks for on a rule set: of changes of the configuration its own, and no record of an attempt
+-- an operation that the action asks for on a rule set: of changes of the configuration its own, an event of a PutEvents, and no record of
+-- an attempt
 abbrev pub IsOf : RuleSet → Action → batch.Entry → Type 0
 IsOf set action (batch.control c) = MayMake set action c
-IsOf set action (batch.accepted e) = Unit {0}
+IsOf set action (batch.accepted e) = IsPublishing action
 IsOf set action (batch.attempt duty outcome) = ⊥
 IsOf set action (batch.messages_deleted queue through) = Unit {0}
 
@@ -109,9 +111,9 @@ some_changed set action (x ∷ xs) c r is may = one set action (batch.control c)
 
 -- ---- events and messages
 
-all_of : (set : RuleSet) (action : Action) (es : List batch.Accepted) → AreOf set action (map batch.accepted es)
-all_of set action [] = tt
-all_of set action (e ∷ es) = (tt, all_of set action es)
+all_of : (set : RuleSet) (action : Action) (es : List batch.Accepted) → IsPublishing action → AreOf set action (map batch.accepted es)
+all_of set action [] publishes = tt
+all_of set action (e ∷ es) publishes = (publishes, all_of set action es publishes)
 
 deletion : (set : RuleSet) (action : Action) (queue : List ℕ) (through : ℕ) (messages : List StoredMessage)
     → IsFormed set action (deletion_of queue through messages)
@@ -174,7 +176,7 @@ formed t seen became policy (remove_statement bus (Some sid)) is = at_bus t.set 
     (either t.set _ (has_statement sid policy) _ _ (changes t.set (remove_statement bus (Some sid)) _ _ (inl refl) (policy, is, refl))
     (refused t.set _ (cause.NoStatement sid)))
 formed t seen became policy (put_events entries size) is = either t.set _ (nat_lt most_together size) _ _ (refused t.set _ cause.TooLargeTogether)
-    (record { status = inl refl; writes = all_of t.set (put_events entries size) _ })
+    (record { status = inl refl; writes = all_of t.set (put_events entries size) _ tt })
 formed t seen became policy (test_event_pattern pattern event) is = alone t.set _ _ (inl refl)
 formed t seen became policy (create_queue name) is = changes t.set _ _ _ (inl refl) refl
 formed t seen became policy (delete_queue name) is = either t.set _ (has_queue name t.set && names_queue name t.duties) _ _
@@ -202,7 +204,7 @@ request_form {t} {r} {k} {set} {a} h =
     let d = formed t h.seen h.placed h.policy r.action h.is_policy in
     subst (HasForm t.set r.action) (sym h.answers) (batched t t.set r.action (moment_at t r.reading) _ _ d.status d.writes)
 
--- ---- a request writes no change of the configuration but its own
+-- ---- a request writes no change of the configuration but its own, and only a PutEvents writes events
 
 all_are : (set : RuleSet) (action : Action) (es : List batch.Entry) → AreOf set action es → All (IsOf set action) es
 all_are set action [] h = All-nil (IsOf set action)
@@ -213,3 +215,9 @@ pub its_change : (t : Tables) (r : Request) (k : ℕ) (set : RuleSet) (a : Answe
 its_change t r k set a b c h is has =
     let all = all_are t.set r.action b.entries (subst (WritesOf t.set r.action) is (request_form h).writes) in
     All-contains (IsOf t.set r.action) b.entries (batch.control c) all has
+
+pub its_event : (t : Tables) (r : Request) (k : ℕ) (set : RuleSet) (a : Answer) (b : batch.Batch) (e : batch.Accepted) → IsAnswer t r k set a
+    → a.batch ≡ Some b → Contains b.entries (batch.accepted e) → IsPublishing r.action
+its_event t r k set a b e h is has =
+    let all = all_are t.set r.action b.entries (subst (WritesOf t.set r.action) is (request_form h).writes) in
+    All-contains (IsOf t.set r.action) b.entries (batch.accepted e) all has

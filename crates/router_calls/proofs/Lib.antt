@@ -15,6 +15,6 @@ pub mod RemovalLemmas
 pub mod QueueLemmas
 pub mod PolicyLemmas
 pub mod OneLemmas
-pub mod AllowedLemmas
 pub mod FormLemmas
+pub mod AllowedLemmas
 pub mod JsonLemmas

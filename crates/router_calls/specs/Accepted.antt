@@ -1,15 +1,16 @@
 -- What the entries of a PutEvents become.
-use Rattle.std.specs.Prelude.{◌≡◌, ℕ, ◌+◌, Bool, false, List, [], ◌∷◌, map, Result, Ok, Err, None}
+use Rattle.std.specs.Prelude.{◌≡◌, ◌≤◌, ℕ, ◌+◌, Bool, false, List, [], ◌∷◌, map, All, Result, Ok, Err, None}
 use Rattle.json_text.specs.Tree.{Tree}
-use Rattle.json_text.specs.Compact.{compact_text}
+use Rattle.json_text.specs.Compact.{compact_text, tree_levels}
 use Rattle.event_shape.specs.Event.{IsEventAt, event_tree}
 use Rattle.event_shape.specs.Unnumbered.{Unnumbered, with_number}
 use Rattle.event_shape.specs.declared.entry.EntryFault.{EntryFault}
+use Rattle.input_transform.specs.Stored.{IsScene}
 use Rattle.api_replies.specs.declared.member.Member.TheVariants as member
 use Rattle.api_replies.specs.declared.cause.Cause.{Cause}
 use Rattle.api_replies.specs.declared.cause.Cause.TheVariants as cause
 use Rattle.router_core.specs.Batch as batch
-use Rattle.router_core.specs.Duties.{AreDuties}
+use Rattle.router_core.specs.Duties.{AreDuties, scene_at}
 use Rattle.router_core.specs.declared.seen.SeenEntry.{SeenEntry}
 use Rattle.router_core.specs.declared.seen.SeenResult.{SeenResult}
 use Rattle.router_core.specs.declared.seen.SeenResult.TheVariants.{Entries, Tested, Nothing}
@@ -72,6 +73,17 @@ pub record IsAcceptedAs (k n : ℕ) (time : List ℕ) (event : Unnumbered) (targ
   pub text : a.text ≡ numbered_text n event
   pub duties : AreDuties (numbered_tree n event) time targets a.duties
   pub is_event : IsEventAt event.moment (with_number n event.event)
+
+-- What the duties of an accepted event are filled from: the tree of an event, a JSON value of at most 100 levels; a time text; and for each
+-- target the ARN of its rule. The ARN, the name in it and the time are UTF-8.
+-- Shown by: law a_target_gets_one_json_text.
+pub record HasScenes (e : batch.Accepted) : Type 0 where
+  pub event : Unnumbered
+  pub time : List ℕ
+  pub targets : List SeenTarget
+  pub duties : AreDuties (numbered_tree e.number event) time targets e.duties
+  pub scenes : All (λ seen. IsScene (scene_at (numbered_tree e.number event) time seen)) targets
+  pub levels : tree_levels (numbered_tree e.number event) ≤ 100
 
 -- What becomes of an event with this verdict: an event without a bus is refused for `EventBusName`, a denied one by the statement that
 -- denies it, one that no statement allows as such. An allowed event is accepted.

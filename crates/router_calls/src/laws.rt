@@ -10,10 +10,12 @@ ghost use Rattle.input_transform.specs.Stored.{IsScene};
 ghost use Rattle.rule_targets.specs.declared.given.GivenInput.{GivenInput};
 ghost use Rattle.rule_table.specs.Control.{Control};
 ghost use Rattle.rule_table.specs.RuleSet.{RuleSet};
-ghost use Rattle.router_core.specs.Batch.{Batch, control};
+ghost use Rattle.delivery_duties.specs.declared.duty.NewDuty.{NewDuty};
+ghost use Rattle.router_core.specs.Batch.{Accepted, Batch, accepted, control};
 ghost use Rattle.router_core.specs.Duties.{IsTargetText};
 ghost use Rattle.router_core.specs.Request.{Request};
 ghost use Rattle.router_core.specs.Tables.{Tables};
+ghost use Rattle.router_calls.specs.Accepted.{HasScenes};
 ghost use Rattle.router_calls.specs.Answer.{Answer, IsAnswer};
 ghost use Rattle.router_calls.specs.Allowed.{IsPublishedBy, entries_in};
 ghost use Rattle.router_calls.specs.Changes.{MayMake};
@@ -23,10 +25,14 @@ pub fn one_answer()
     ensures { (t : Tables) (r : Request) (k : ℕ) (set : RuleSet) (a b : Answer) → IsAnswer t r k set a → IsAnswer t r k set b → a ≡ b }
 {}
 
-/// The text of a target is one JSON text of at most 200 levels, whatever the input is. The event is a JSON value of at most 100 levels,
-/// and the rule's ARN, the name in it and the time are UTF-8.
+/// What an accepted event owes a target is one JSON text of at most 200 levels, whatever the event, the rule and the target's input are.
+/// So is any text of a target that is filled from a JSON value of at most 100 levels and texts, and an accepted event's are.
 pub fn a_target_gets_one_json_text()
-    ensures { (scene : Scene) (input : Option GivenInput) (text : List ℕ) → IsScene scene → tree_levels scene.event ≤ 100
+    ensures owed { (t : Tables) (r : Request) (k : ℕ) (set : RuleSet) (a : Answer) (b : Batch) (e : Accepted) (d : NewDuty) → IsAnswer t r k set a
+        → a.batch ≡ Some b → Contains b.entries (accepted e) → Contains e.duties d → (n : Node) × IsText 200 d.text n }
+    ensures from { (t : Tables) (r : Request) (k : ℕ) (set : RuleSet) (a : Answer) (b : Batch) (e : Accepted) → IsAnswer t r k set a
+        → a.batch ≡ Some b → Contains b.entries (accepted e) → HasScenes e }
+    ensures filled { (scene : Scene) (input : Option GivenInput) (text : List ℕ) → IsScene scene → tree_levels scene.event ≤ 100
         → IsTargetText scene input text → (n : Node) × IsText 200 text n }
 {}
 

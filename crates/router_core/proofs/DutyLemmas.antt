@@ -2,6 +2,7 @@
 -- `duty_whole`). Other crates cite `duties_once` (the duties are determined), `duties_count` and `duties_short` (at most 1,048,576 bytes each).
 use Rattle.std.proofs.Common.{◌≡◌, ℕ, suc, ◌≤◌, Bool, true, false, not, cond, List, [], ◌∷◌, length, Option, Some, None, refl, sym, ap, ◌∙◌, subst, codes}
 use Rattle.std.specs.Prelude.{All, nat_le}
+use Rattle.std.specs.Str.{IsUtf8}
 use Rattle.std.proofs.lemmas.Bool.{leb-true}
 use Rattle.std.proofs.lemmas.List.Elements.{All-nil, All-cons}
 use Rattle.json_text.specs.Tree.{Tree}
@@ -117,19 +118,21 @@ duty_same row text sent of =
 
 -- the duty of a target with an input
 pub duty_filled : (event : Tree) (time : List ℕ) (seen : SeenTarget) (given : GivenInput) (arn : List ℕ) (sent : Sent) → seen.input ≡ Some given
-    → arn ≡ seen.row.rule_arn → IsInputSent (scene_of event arn time) given sent → IsDutyOf event time seen (duty_with seen.row sent)
-duty_filled event time seen given arn sent input same (text, is, of) = record {
+    → arn ≡ seen.row.rule_arn → IsUtf8 arn → IsInputSent (scene_of event arn time) given sent → IsDutyOf event time seen (duty_with seen.row sent)
+duty_filled event time seen given arn sent input same utf8 (text, is, of) = record {
   text = text;
   filled = subst (λ (o : Option GivenInput). IsTargetText (scene_at event time seen) o text) (sym input)
       (subst (λ (a : List ℕ). IsTextOf (scene_of event a time) given text) same is);
   is = duty_same seen.row text sent of;
+  arn = subst IsUtf8 same utf8;
 }
 
 -- and of one without
-pub duty_whole : (event : Tree) (time : List ℕ) (seen : SeenTarget) (sent whole : Sent) → seen.input ≡ None → sent ≡ whole
-    → IsSentOf (compact_text event) whole → IsDutyOf event time seen (duty_with seen.row sent)
-duty_whole event time seen sent whole input same of = record {
+pub duty_whole : (event : Tree) (time : List ℕ) (seen : SeenTarget) (arn : List ℕ) (sent whole : Sent) → seen.input ≡ None → arn ≡ seen.row.rule_arn
+    → IsUtf8 arn → sent ≡ whole → IsSentOf (compact_text event) whole → IsDutyOf event time seen (duty_with seen.row sent)
+duty_whole event time seen arn sent whole input named utf8 same of = record {
   text = compact_text event;
   filled = subst (λ (o : Option GivenInput). IsTargetText (scene_at event time seen) o (compact_text event)) (sym input) refl;
   is = duty_same seen.row (compact_text event) sent (subst (IsSentOf (compact_text event)) (sym same) of);
+  arn = subst IsUtf8 named utf8;
 }

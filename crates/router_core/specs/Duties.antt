@@ -1,6 +1,7 @@
 -- The duties of an event: one for each target of each rule that matches, with the text that this target gets.
 use Rattle.std.specs.Prelude.{◌≡◌, ℕ, Bool, true, false, not, nat_le, if◌then◌else◌, List, [], ◌∷◌, length, codes, Option, Some, None, unwrap_or}
 use Rattle.std.specs.List.{list_any}
+use Rattle.std.specs.Str.{IsUtf8}
 use Rattle.json_text.specs.Tree.{Tree, null}
 use Rattle.json_text.specs.Node.{Node, value_of}
 use Rattle.json_text.specs.Grammar.{IsText}
@@ -57,12 +58,13 @@ duty_of row text = record {
   too_long = is_too_long text;
 }
 
--- The duty of one target, of an event and with the time text of the batch's moment.
+-- The duty of one target, of an event and with the time text of the batch's moment. The rule's ARN is a text.
 -- Shown by: templates; the_first_target_fills_all.edit.
 pub record IsDutyOf (event : Tree) (time : List ℕ) (seen : SeenTarget) (duty : NewDuty) : Type 0 where
   pub text : List ℕ
   pub filled : IsTargetText (scene_at event time seen) seen.input text
   pub is : duty ≡ duty_of seen.row text
+  pub arn : IsUtf8 seen.row.rule_arn
 
 -- The duties of an event, one for each target, in their order.
 -- Shown by: templates; the_first_target_fills_all.edit; tables router_core.rows: a_text_is_made_with_its_event.

@@ -121,8 +121,9 @@ fn duty_of(
         → IsTreeOf event (option_copied tree.entry) → IsIso moment time → IsDutyOf event time seen duty) }
 {
     let SeenTarget { row, input } = seen;
+    let arn = row.rule_arn();
     let sent = match &input {
-        Some(input) => sent_to(alloc, input, tree, row.rule_arn(), moment)?,
+        Some(input) => sent_to(alloc, input, tree, arn, moment)?,
         None => whole.share()?,
     };
     let Sent { text, too_long } = sent;
