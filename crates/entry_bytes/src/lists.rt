@@ -1,0 +1,170 @@
+//! Lists as bytes: their length, and their items.
+ghost use Rattle.std.specs.Prelude.{◌≡◌, ◌<◌, ◌^◌, ◌++◌, ℕ, List, length, take, OnOk, OnErr, Option};
+ghost use Rattle.std.specs.List.{flat_map, AllByRecursion};
+ghost use Rattle.entry_bytes.specs.Fields.{four_bytes, text_bytes, list_bytes, IsText, IsList};
+ghost use Rattle.entry_bytes.specs.Change.{path_bytes, target_bytes, IsPath, IsTarget};
+ghost use Rattle.entry_bytes.specs.Duty.{duty_bytes, IsDuty};
+ghost use Rattle.entry_bytes.specs.Reading.{Gives, text_at, items_at, list_at, no_items_at};
+ghost use Rattle.entry_bytes.specs.ChangeReading.{path_at};
+
+use crate::duty::put_duty;
+use crate::fault::ReadFault;
+use crate::numbers::{put_len, take_u32};
+use crate::target::put_target;
+use crate::texts::{put_text, take_text};
+use delivery_duties::NewDuty;
+use json_text::{Bytes, NoMemory, Text};
+use rule_targets::Target;
+use std::alloc::Global;
+
+/// An item of a list that is written.
+pub(crate) trait Put {
+    ghost bytes_of: { Self → List ℕ };
+
+    ghost fits: { Self → Type 0 };
+
+    fn put(&self, out: &mut Bytes) -> Result<(), NoMemory>
+        ensures bytes { OnOk result (out.new ≡ out.old ++ bytes_of self.now) }
+        ensures fits { OnOk result (fits self.now) }
+        ensures err { OnErr result (take (length out.old) out.new ≡ out.old) };
+}
+
+/// An item of a list that is read.
+pub(crate) trait Take: Sized {
+    ghost at: { List ℕ → Option (Self × List ℕ) };
+
+    fn take(alloc: Global, bytes: &[u8]) -> Result<(Self, &[u8]), ReadFault>
+        ensures { Gives (λ x. (x.0, x.1.now)) result (at bytes.now) };
+}
+
+impl Put for Text {
+    ghost bytes_of = { text_bytes };
+
+    ghost fits = { IsText };
+
+    fn put(&self, out: &mut Bytes) -> Result<(), NoMemory> {
+        put_text(self.as_str(), out)
+    }
+}
+
+impl Take for Text {
+    ghost at = { text_at };
+
+    fn take(alloc: Global, bytes: &[u8]) -> Result<(Text, &[u8]), ReadFault> {
+        take_text(alloc, bytes)
+    }
+}
+
+impl Put for (Text, Text) {
+    ghost bytes_of = { path_bytes };
+
+    ghost fits = { IsPath };
+
+    fn put(&self, out: &mut Bytes) -> Result<(), NoMemory> {
+        put_text(self.0.as_str(), out)?;
+        put_text(self.1.as_str(), out)
+    }
+}
+
+impl Take for (Text, Text) {
+    ghost at = { path_at };
+
+    fn take(alloc: Global, bytes: &[u8]) -> Result<((Text, Text), &[u8]), ReadFault> {
+        let (key, rest) = take_text(alloc, bytes)?;
+        let (path, rest) = take_text(alloc, rest)?;
+        Ok(((key, path), rest))
+    }
+}
+
+impl Put for Target {
+    ghost bytes_of = { target_bytes };
+
+    ghost fits = { IsTarget };
+
+    fn put(&self, out: &mut Bytes) -> Result<(), NoMemory> {
+        put_target(self, out)
+    }
+}
+
+impl Put for NewDuty {
+    ghost bytes_of = { duty_bytes };
+
+    ghost fits = { IsDuty };
+
+    fn put(&self, out: &mut Bytes) -> Result<(), NoMemory> {
+        put_duty(self, out)
+    }
+}
+
+/// A list of 2^32 items or more is refused as out of memory.
+pub(crate) fn put_list<T: Put>(items: &[T], out: &mut Bytes) -> Result<(), NoMemory>
+    ensures bytes { OnOk result (out.new ≡ out.old ++ list_bytes T.bytes_of items.now) }
+    ensures fits { OnOk result (IsList T.fits items.now) }
+    ensures err { OnErr result (take (length out.old) out.new ≡ out.old) }
+{
+    put_len(items.len(), out)?;
+    put_items(items, out)
+}
+
+fn put_items<T: Put>(items: &[T], out: &mut Bytes) -> Result<(), NoMemory>
+    ensures bytes { OnOk result (out.new ≡ out.old ++ flat_map T.bytes_of items.now) }
+    ensures fits { OnOk result (AllByRecursion T.fits items.now) }
+    ensures err { OnErr result (take (length out.old) out.new ≡ out.old) }
+{
+    for item in items {
+        item.put(out)?;
+    }
+    Ok(())
+}
+
+/// A list without an item.
+pub fn put_no_items(out: &mut Bytes) -> Result<(), NoMemory>
+    ensures bytes { OnOk result (out.new ≡ out.old ++ four_bytes 0) }
+    ensures err { OnErr result (take (length out.old) out.new ≡ out.old) }
+{
+    put_len(0, out)
+}
+
+/// The bytes after a list without an item.
+pub fn take_no_items(bytes: &[u8]) -> Result<&[u8], ReadFault>
+    ensures { Gives (λ x. x.now) result (no_items_at bytes.now) }
+{
+    let (count, rest) = take_u32(bytes)?;
+    if count == 0 {
+        Ok(rest)
+    } else {
+        Err(ReadFault::NotSpelled)
+    }
+}
+
+pub(crate) fn take_list<T: Take + Drop>(
+    alloc: Global,
+    bytes: &[u8],
+) -> Result<(Vec<T>, &[u8]), ReadFault>
+    ensures { Gives (λ x. (x.0.items, x.1.now)) result (list_at T.at bytes.now) }
+{
+    let (count, rest) = take_u32(bytes)?;
+    take_items(alloc, count, rest)
+}
+
+/// Memory grows with the items that are found, not with the count.
+fn take_items<T: Take + Drop>(
+    alloc: Global,
+    count: u32,
+    bytes: &[u8],
+) -> Result<(Vec<T>, &[u8]), ReadFault>
+    ensures { Gives (λ x. (x.0.items, x.1.now)) result (items_at T.at count bytes.now) }
+{
+    let mut items = Vec::new(alloc);
+    let mut rest = bytes;
+    for _ in 0..count {
+        match T::take(alloc, rest) {
+            Ok((item, after)) => {
+                items.push(item)?;
+                rest = after;
+            }
+            Err(fault) => return Err(fault),
+        }
+    }
+    Ok((items, rest))
+}
