@@ -9,12 +9,12 @@ use Rattle.rule_table.specs.Control.{queue_created, queue_deleted}
 use Rattle.entry_bytes.specs.Fields.{two_bytes, four_bytes, text_bytes, flag_bytes, optional_bytes, list_bytes, IsText, IsOptional, IsList}
 
 -- An entry of an InputPathsMap: its key, and the text of its path.
--- Shown by: proofs alone.
+-- Shown by: table_tests test_duty_journal.rt: each_batch_has_its_bytes.
 abbrev pub path_bytes : List ℕ × List ℕ → List ℕ
 path_bytes entry = text_bytes entry.0 ++ text_bytes entry.1
 
 -- The input of a target: 0 if it has none, else the input's kind and texts.
--- Shown by: proofs alone.
+-- Shown by: table_tests test_duty_journal.rt: each_batch_has_its_bytes.
 abbrev pub input_bytes : Option GivenInput → List ℕ
 input_bytes None = 0 ∷ []
 input_bytes (Some (Input t)) = 1 ∷ text_bytes t
@@ -22,18 +22,18 @@ input_bytes (Some (InputPath t)) = 2 ∷ text_bytes t
 input_bytes (Some (InputTransformer t)) = 3 ∷ (list_bytes path_bytes t.paths ++ text_bytes t.template)
 
 -- A retry policy: attempts in two bytes, seconds in four.
--- Shown by: proofs alone.
+-- Shown by: table_tests test_duty_journal.rt: each_batch_has_its_bytes.
 abbrev pub retry_bytes : RetryPolicy → List ℕ
 retry_bytes policy = two_bytes policy.attempts ++ four_bytes policy.age
 
 -- A target: its id, its ARN, its input, its retry policy and its dead-letter queue.
--- Shown by: proofs alone.
+-- Shown by: table_tests test_duty_journal.rt: each_batch_has_its_bytes.
 abbrev pub target_bytes : Target → List ℕ
 target_bytes t =
     text_bytes t.id ++ (text_bytes t.arn ++ (input_bytes t.input ++ (optional_bytes retry_bytes t.retry ++ optional_bytes text_bytes t.dead_letter)))
 
 -- A change: its kind, from 1 to 10, and its fields.
--- Shown by: a_deletion_has_the_kind_of_a_creation.edit.
+-- Shown by: table_tests test_duty_journal.rt: each_batch_has_its_bytes; a_deletion_has_the_kind_of_a_creation.edit.
 abbrev pub change_bytes : Control → List ℕ
 change_bytes (bus_created name) = 1 ∷ text_bytes name
 change_bytes (bus_deleted name) = 2 ∷ text_bytes name

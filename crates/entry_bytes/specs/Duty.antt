@@ -8,14 +8,14 @@ use Rattle.entry_bytes.specs.Fields.{two_bytes, four_bytes, text_bytes, flag_byt
 
 -- A duty: the rule's ARN, the target's id, the endpoint, the text, the retry attempts in two bytes, the age in four, the dead-letter queue,
 -- and whether the text was too long. The rule's name is the end of its ARN.
--- Shown by: proofs alone.
+-- Shown by: table_tests test_duty_journal.rt: each_batch_has_its_bytes.
 abbrev pub duty_bytes : NewDuty → List ℕ
 duty_bytes d =
     text_bytes d.target.rule_arn ++ (text_bytes d.target.target_id ++ (text_bytes d.target.endpoint ++ (text_bytes d.text
     ++ (two_bytes d.target.attempts ++ (four_bytes d.target.age ++ (optional_bytes text_bytes d.target.dead_letter ++ flag_bytes d.too_long))))))
 
 -- An outcome: its kind, from 0 to 4, and the code in two bytes, which is 0 if there is none.
--- Shown by: an_outcome_without_a_code_has_any.edit.
+-- Shown by: table_tests test_duty_journal.rt: each_batch_has_its_bytes; an_outcome_without_a_code_has_any.edit.
 abbrev pub outcome_bytes : Outcome → List ℕ
 outcome_bytes Accepted = 0 ∷ two_bytes 0
 outcome_bytes (Code code) = 1 ∷ two_bytes code
@@ -31,7 +31,7 @@ IsDuty d =
     × ((d.target.attempts < 2 ^ 16) × ((d.target.age < 2 ^ 32) × (IsOptional IsText d.target.dead_letter × Unit {0}))))))
 
 -- The name of the duty's rule is the end of the rule's ARN: what follows the last `/`.
--- Shown by: proofs alone.
+-- Shown by: table_tests test_duty_journal.rt: each_batch_has_its_bytes.
 abbrev pub IsNamed : NewDuty → Type 0
 IsNamed d = d.target.rule_name ≡ after_slash d.target.rule_arn
 

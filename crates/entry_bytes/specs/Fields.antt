@@ -20,29 +20,29 @@ unfoldable pub eight_bytes : ℕ → List ℕ
 eight_bytes n = to_be_bytes w64 n
 
 -- A text: its length in four bytes, and its bytes. `q` is `00000001 71`.
--- Shown by: proofs alone.
+-- Shown by: table_tests test_duty_journal.rt: each_batch_has_its_bytes.
 abbrev pub text_bytes : List ℕ → List ℕ
 text_bytes t = four_bytes (length t) ++ t
 
 -- A truth value: 0 or 1.
--- Shown by: proofs alone.
+-- Shown by: table_tests test_duty_journal.rt: each_batch_has_its_bytes.
 abbrev pub flag_bytes : Bool → List ℕ
 flag_bytes false = 0 ∷ []
 flag_bytes true = 1 ∷ []
 
 -- What may be missing: 0, or 1 and what there is.
--- Shown by: proofs alone.
+-- Shown by: table_tests test_duty_journal.rt: each_batch_has_its_bytes.
 abbrev pub optional_bytes : {A : Type 0} → (A → List ℕ) → Option A → List ℕ
 optional_bytes bytes_of None = 0 ∷ []
 optional_bytes bytes_of (Some x) = 1 ∷ bytes_of x
 
 -- A list: its length in four bytes, and its items.
--- Shown by: proofs alone.
+-- Shown by: table_tests test_duty_journal.rt: each_batch_has_its_bytes.
 abbrev pub list_bytes : {A : Type 0} → (A → List ℕ) → List A → List ℕ
 list_bytes bytes_of xs = four_bytes (length xs) ++ flat_map bytes_of xs
 
 -- A text has bytes if its length fits in four bytes. It is UTF-8.
--- Shown by: proofs alone.
+-- Shown by: table_tests test_duty_journal.rt: other_bytes_are_no_batch.
 abbrev pub IsText : List ℕ → Type 0
 IsText t = (length t < 2 ^ 32) × (is_utf8 t ≡ true)
 

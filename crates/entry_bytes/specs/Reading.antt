@@ -116,7 +116,7 @@ pub record IsReadAs {A : Type 0} (bytes_of : A → List ℕ) (at : List ℕ → 
   pub again : (x : A) (rest : List ℕ) → fits x → at (bytes_of x ++ rest) ≡ Some (x, rest)
 
 -- The bytes after an empty list.
--- Shown by: proofs alone.
+-- Shown by: table_tests test_duty_journal.rt: other_bytes_are_no_batch.
 abbrev pub no_items_at : List ℕ → Option (List ℕ)
 no_items_at bytes = four_at bytes >>= λ n. if n.0 == 0 then Some n.1 else None
 

@@ -11,4 +11,6 @@ mod test_call_replies;
 #[cfg(test)]
 mod test_delivery_duties;
 #[cfg(test)]
+mod test_duty_journal;
+#[cfg(test)]
 mod test_rule_table;

@@ -1,0 +1,6 @@
+-- That a batch is read as it is spelled is `batch_format`; what `take_batch` and the law ensure follows from it (Readable). Finding has what
+-- readers with a condition return, and Entries the loop that writes operations.
+pub mod BatchFormats
+pub mod Readable
+pub mod Finding
+pub mod RecordLemmas

@@ -1,0 +1,81 @@
+-- Batches as bytes, and which batches have them: the payload of a journal's record. Numbers are big-endian. This project's own format.
+use Rattle.std.specs.Prelude.{◌≡◌, ℕ, ◌^◌, ◌<◌, ◌≤◌, List, ◌∷◌, ◌++◌, length}
+use Rattle.std.specs.List.{flat_map, AllByRecursion}
+use Rattle.rule_table.specs.WellFormed.{IsSpelled}
+use Rattle.delivery_duties.specs.declared.duty.NewDuty.{NewDuty}
+use Rattle.router_core.specs.Batch.{Accepted, Entry, control, accepted, attempt, messages_deleted, Batch}
+use Rattle.entry_bytes.specs.Fields.{two_bytes, four_bytes, eight_bytes, text_bytes, list_bytes, IsText, IsList}
+use Rattle.entry_bytes.specs.Change.{change_bytes, IsChange}
+use Rattle.entry_bytes.specs.Duty.{duty_bytes, outcome_bytes, IsDuty, IsNamed, IsOutcome}
+
+-- An accepted event: its number, its bus, the configuration version that it was matched on, its time, its text, no archive, its duties.
+-- Shown by: table_tests test_duty_journal.rt: each_batch_has_its_bytes.
+abbrev pub accepted_bytes : Accepted → List ℕ
+accepted_bytes e =
+    eight_bytes e.number ++ (text_bytes e.bus ++ (eight_bytes e.k ++ (eight_bytes e.time
+    ++ (text_bytes e.text ++ (four_bytes 0 ++ list_bytes duty_bytes e.duties)))))
+
+-- An operation: its kind, which is from 1 to 10 of a change, and its fields.
+-- Shown by: table_tests test_duty_journal.rt: each_batch_has_its_bytes.
+abbrev pub operation_bytes : Entry → List ℕ
+operation_bytes (control c) = change_bytes c
+operation_bytes (accepted e) = 14 ∷ accepted_bytes e
+operation_bytes (attempt duty outcome) = 15 ∷ (eight_bytes duty ++ outcome_bytes outcome)
+operation_bytes (messages_deleted queue through) = 19 ∷ (text_bytes queue ++ eight_bytes through)
+
+-- A batch: its moment in eight bytes, the number of its operations in two, and the operations. The batch that creates the queue `q` at the
+-- moment 1700000000 is `000000006553f100 0001 09 00000001 71`.
+-- Shown by: table_tests test_duty_journal.rt: each_batch_has_its_bytes.
+abbrev pub batch_bytes : Batch → List ℕ
+batch_bytes b = eight_bytes b.moment ++ (two_bytes (length b.entries) ++ flat_map operation_bytes b.entries)
+
+-- Each field of the event has bytes; of its duties this holds.
+-- Shown by: proofs alone.
+abbrev pub IsAccepted : (NewDuty → Type 0) → Accepted → Type 0
+IsAccepted is_duty e =
+    (e.number < 2 ^ 64) × (IsText e.bus × ((e.k < 2 ^ 64) × ((e.time < 2 ^ 64) × (IsText e.text × IsList is_duty e.duties))))
+
+-- Each field of the operation has bytes; of the duties of an event this holds.
+-- Shown by: proofs alone.
+abbrev pub IsOperation : (NewDuty → Type 0) → Entry → Type 0
+IsOperation is_duty (control c) = IsChange c
+IsOperation is_duty (accepted e) = IsAccepted is_duty e
+IsOperation is_duty (attempt duty outcome) = (duty < 2 ^ 64) × IsOutcome outcome
+IsOperation is_duty (messages_deleted queue through) = IsText queue × (through < 2 ^ 64)
+
+-- The numbers, texts and lists of the batch have bytes, and it has at least one operation.
+-- Shown by: proofs alone.
+pub record FitsBytes (b : Batch) : Type 0 where
+  pub moment : b.moment < 2 ^ 64
+  pub some : 1 ≤ length b.entries
+  pub few : length b.entries < 2 ^ 16
+  pub operations : AllByRecursion (IsOperation IsDuty) b.entries
+
+-- Each duty of an event names its rule by the end of the rule's ARN.
+-- Shown by: proofs alone.
+abbrev pub NamesRules : Entry → Type 0
+NamesRules (control c) = Unit {0}
+NamesRules (accepted e) = AllByRecursion IsNamed e.duties
+NamesRules (attempt duty outcome) = Unit {0}
+NamesRules (messages_deleted queue through) = Unit {0}
+
+-- The pattern, the policy and the inputs of a change are valid.
+-- Shown by: proofs alone.
+abbrev pub HasValidTexts : Entry → Type 0
+HasValidTexts (control c) = IsSpelled c
+HasValidTexts (accepted e) = Unit {0}
+HasValidTexts (attempt duty outcome) = Unit {0}
+HasValidTexts (messages_deleted queue through) = Unit {0}
+
+-- A batch that is read back from its bytes: they have room for its numbers, texts and lists, its duties name their rules, and the texts of
+-- its changes are valid.
+-- Shown by: proofs alone.
+pub record IsReadable (b : Batch) : Type 0 where
+  pub fits : FitsBytes b
+  pub named : AllByRecursion NamesRules b.entries
+  pub valid : AllByRecursion HasValidTexts b.entries
+
+-- The bytes are those of no batch that is read back.
+-- Shown by: table_tests test_duty_journal.rt: other_bytes_are_no_batch.
+abbrev pub IsNoBatch : List ℕ → Type 0
+IsNoBatch bytes = (b : Batch) → IsReadable b → bytes ≡ batch_bytes b → ⊥
