@@ -4,7 +4,7 @@ use Rattle.std.specs.Io.KnownBytes.{Appends, Keeps}
 use Rattle.router_disk.specs.Faults.{Rose}
 use Rattle.router_disk.specs.Sink.{AppendsPart}
 use Rattle.delivery_duties.specs.Duties.{delivered_of, dead_lettered_of, dropped_of}
-use Rattle.delivery_duties.specs.Queues.{message_count}
+use Rattle.delivery_queues.specs.Queues.{message_count}
 use Rattle.program_lines.specs.declared.printed.Summary.{Summary}
 use Rattle.program_lines.specs.declared.status.Status.{Status}
 use Rattle.program_lines.specs.declared.status.Status.TheVariants as statuses

@@ -2,10 +2,10 @@
 use Rattle.std.specs.Prelude.{ℕ, Bool, if◌then◌else◌, List, [], ◌∷◌, length, map, take, Option, Some, None, codes, decimal}
 use Rattle.json_text.specs.Tree.{Tree, truth, number, text, list, object, items_of, members_of}
 use Rattle.rule_table.specs.RuleSet.{RuleSet, has_queue}
-use Rattle.delivery_duties.specs.declared.message.QueueMessage.{QueueMessage}
-use Rattle.delivery_duties.specs.declared.message.DeadLetterAttributes.{DeadLetterAttributes}
-use Rattle.delivery_duties.specs.DeadLetter.{shown}
-use Rattle.delivery_duties.specs.Queues.{messages_of}
+use Rattle.delivery_queues.specs.declared.message.QueueMessage.{QueueMessage}
+use Rattle.delivery_queues.specs.declared.message.DeadLetterAttributes.{DeadLetterAttributes}
+use Rattle.delivery_queues.specs.DeadLetter.{shown}
+use Rattle.delivery_queues.specs.Queues.{messages_of}
 use Rattle.delivery_duties.specs.Duties.{Duties, delivered_of, dead_lettered_of, dropped_of}
 use Rattle.api_replies.specs.declared.kind.Kind.TheVariants as kind
 use Rattle.api_replies.specs.declared.cause.Cause.{Cause}

@@ -6,7 +6,8 @@ ghost use Rattle.call_replies.specs.Replies.{attribute_members, message_report, 
 
 use crate::replies::number_json;
 use api_replies::{Cause, Kind, Reply, refused_reply};
-use delivery_duties::{DeadLetterAttributes, Duties, QueueMessage};
+use delivery_duties::Duties;
+use delivery_queues::{DeadLetterAttributes, QueueMessage};
 use json_text::{Items, Json, Members, NoMemory, Text, push_member, push_text};
 use rule_table::RuleSet;
 use std::alloc::Global;

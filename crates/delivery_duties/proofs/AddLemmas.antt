@@ -7,7 +7,7 @@ use Rattle.std.proofs.lemmas.List.Elements.{All-tail}
 use Rattle.key_tree.specs.Entries.{value_at, placed}
 use Rattle.delivery_duties.specs.declared.duty.NewDuty.{NewDuty}
 use Rattle.delivery_duties.specs.declared.duty.DutyRow.{DutyRow}
-use Rattle.delivery_duties.specs.Queues.{Queue}
+use Rattle.delivery_queues.specs.Queues.{Queue}
 use Rattle.delivery_duties.specs.Retry.{begun, dead_letter_queue, too_long}
 use Rattle.delivery_duties.specs.Duties.{Duties, IsOut, added, added_one, failed, has_dead_letter_queue}
 use Rattle.delivery_duties.specs.Order.{IsOutIn}

@@ -4,8 +4,8 @@ use Rattle.std.specs.Prelude.{Any, MatchOption}
 use Rattle.std.specs.List.{list_any}
 use Rattle.std.proofs.lemmas.List.Folds.{list_any-from_Any, list_any_none}
 use Rattle.shared_text.specs.declared.row.TargetRow.{TargetRow}
-use Rattle.delivery_duties.specs.Queues.{Queue, has_arn}
-use Rattle.delivery_duties.specs.Places.{IsFirstAt, IsPlaceOf}
+use Rattle.delivery_queues.specs.Queues.{Queue, has_arn}
+use Rattle.delivery_queues.specs.Places.{IsFirstAt, IsPlaceOf}
 use Rattle.delivery_duties.specs.Retry.{dead_letter_queue}
 use Rattle.delivery_duties.specs.Duties.{has_dead_letter_queue, is_one_of}
 use Rattle.delivery_duties.proofs.AnyLemmas.{any_middle}

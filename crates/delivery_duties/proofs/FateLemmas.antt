@@ -16,7 +16,7 @@ use Rattle.delivery_duties.specs.declared.outcome.Fate.{Fate}
 use Rattle.delivery_duties.specs.declared.outcome.SettledDuty.{SettledDuty}
 use Rattle.delivery_duties.specs.declared.verdict.Verdict.{Verdict}
 use Rattle.delivery_duties.specs.declared.verdict.Verdict.TheVariants.{Deliver, Retry, Fail}
-use Rattle.delivery_duties.specs.Queues.{Queue}
+use Rattle.delivery_queues.specs.Queues.{Queue}
 use Rattle.delivery_duties.specs.Retry.{Attempt, State, waits, ended_with, begun, retried, verdict_of, state_by, after_attempt, after_attempts, first_state}
 use Rattle.delivery_duties.specs.Retry.{state_of, fate_of, failed_fate, dead_letter_queue, too_long}
 use Rattle.delivery_duties.specs.Duties.{Duties, HasEnded, no_duties, pending_row, replaced, ended_as, failed, dead_lettered, delivered, added, added_one}

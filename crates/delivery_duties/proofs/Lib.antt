@@ -5,7 +5,6 @@
 -- else; from
 -- it come "the other states stay" and the invariant (`AreNumbered`), so each act needs one lemma. Counts are a record beside the `Log`
 -- (`AreCounted`).
--- `iter().take_while(..).count()`: `count_from_yields_List` over `YieldsList-from_take_while`, and one induction (`through_front`).
 -- One list out of two trees (`by_number`): two entries with different keys are placed in either order (`placed_swap`), and removing one and
 -- placing
 -- another commute (`without_placed_other`). "No two have one number" is by cases on the list (`AreApart`).
@@ -15,9 +14,6 @@ mod RowsLemmas
 mod OrderLemmas
 mod PassLemmas
 mod FromLemmas
-mod MessageLemmas
-mod QueueLemmas
-mod PlaceLemmas
 mod AnyLemmas
 mod EndLemmas
 mod SoundLemmas

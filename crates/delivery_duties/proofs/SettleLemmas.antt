@@ -3,12 +3,12 @@ use Rattle.std.proofs.Common.{◌≡◌, ◌≢◌, ℕ, true, false, List, Opti
 use Rattle.key_tree.specs.Entries.{value_at, placed, without}
 use Rattle.key_tree.proofs.EntryLemmas.{value_at-without_same}
 use Rattle.delivery_duties.specs.declared.duty.DutyRow.{DutyRow}
-use Rattle.delivery_duties.specs.declared.failure.Failure.{Failure}
-use Rattle.delivery_duties.specs.Queues.{Queue, has_arn, with_next}
+use Rattle.delivery_queues.specs.declared.failure.Failure.{Failure}
+use Rattle.delivery_queues.specs.Queues.{Queue, has_arn, with_next}
 use Rattle.delivery_duties.specs.Duties.{dead_lettered, dead_letter_of}
 use Rattle.delivery_duties.specs.Order.{IsOutIn}
 use Rattle.delivery_duties.proofs.EntryLemmas.{placed_here, removed_kept}
-use Rattle.delivery_duties.proofs.PlaceLemmas.{names_changed}
+use Rattle.delivery_queues.proofs.PlaceLemmas.{names_changed}
 
 pub gone_keeps : (pending left : List (ℕ × DutyRow)) (n m : ℕ) → left ≡ without n pending → m ≢ n → IsOutIn m pending → IsOutIn m left
 gone_keeps pending left n m e ne (r, there, claimed) =

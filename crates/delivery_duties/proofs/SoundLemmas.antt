@@ -7,7 +7,7 @@ use Rattle.key_tree.proofs.EntryLemmas.{others, sorted_placed, sorted_without, v
 use Rattle.delivery_duties.specs.declared.duty.DutyRow.{DutyRow}
 use Rattle.delivery_duties.specs.declared.outcome.SettledDuty.{SettledDuty}
 use Rattle.delivery_duties.specs.declared.outcome.Fate.TheVariants.{Pending}
-use Rattle.delivery_duties.specs.Queues.{Queue}
+use Rattle.delivery_queues.specs.Queues.{Queue}
 use Rattle.delivery_duties.specs.Duties.{Duties, IsPending}
 use Rattle.delivery_duties.specs.Sound.{IsSound, IsQueueWithin}
 use Rattle.delivery_duties.proofs.EntryLemmas.{placed_here, placed_kept, by_placed, by_removed, removed_kept, length-removed}

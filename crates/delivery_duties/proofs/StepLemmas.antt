@@ -14,13 +14,13 @@ use Rattle.key_tree.proofs.EntryLemmas.{value_at-without_same, without_none, oth
 use Rattle.delivery_duties.specs.declared.duty.DutyRow.{DutyRow}
 use Rattle.delivery_duties.specs.declared.outcome.SettledDuty.{SettledDuty}
 use Rattle.delivery_duties.specs.declared.outcome.Fate.TheVariants.{Pending}
-use Rattle.delivery_duties.specs.Queues.{Queue, deleted_through, is_named, without_through, sent_to, name_of, keeping, empty_queue, has_queue, has_arn, with_next, changed_first, IsArnOfOne}
+use Rattle.delivery_queues.specs.Queues.{Queue, deleted_through, is_named, without_through, sent_to, name_of, keeping, empty_queue, has_queue, has_arn, with_next, changed_first, IsArnOfOne}
 use Rattle.delivery_duties.specs.Duties.{Duties, HasOneFate, replaced, dead_lettered, dead_letter_of, failed, added_one, has_dead_letter_queue}
 use Rattle.delivery_duties.specs.Retry.{failed_fate, begun, too_long, dead_letter_queue}
 use Rattle.delivery_duties.specs.declared.duty.NewDuty.{NewDuty}
 use Rattle.delivery_duties.specs.declared.outcome.Fate.{Fate}
-use Rattle.delivery_duties.specs.declared.stored.DeadLetter.{DeadLetter}
-use Rattle.delivery_duties.specs.declared.failure.Failure.{Failure}
+use Rattle.delivery_queues.specs.declared.stored.DeadLetter.{DeadLetter}
+use Rattle.delivery_queues.specs.declared.failure.Failure.{Failure}
 use Rattle.delivery_duties.specs.Order.{ClaimsIn, IsOutIn}
 use Rattle.delivery_duties.specs.Sound.{IsSound, IsQueueWithin}
 use Rattle.delivery_duties.proofs.AnyLemmas.{any_here, any_there, any_cases}

@@ -7,18 +7,18 @@ use Rattle.key_tree.specs.Entries.{placed, value_at, without, AreSorted}
 use Rattle.delivery_duties.specs.declared.duty.NewDuty.{NewDuty}
 use Rattle.delivery_duties.specs.declared.duty.DutyRow.{DutyRow}
 use Rattle.shared_text.specs.declared.row.TargetRow.{TargetRow}
-use Rattle.delivery_duties.specs.declared.stored.DeadLetter.{DeadLetter}
+use Rattle.delivery_queues.specs.declared.stored.DeadLetter.{DeadLetter}
 use Rattle.delivery_duties.specs.declared.outcome.Outcome.{Outcome}
 use Rattle.delivery_duties.specs.declared.outcome.Fate.{Fate}
 use Rattle.delivery_duties.specs.declared.outcome.Fate.TheVariants.{Pending, Delivered, DeadLettered, Dropped}
 use Rattle.delivery_duties.specs.declared.outcome.SettledDuty.{SettledDuty}
-use Rattle.delivery_duties.specs.declared.failure.Failure.{Failure}
+use Rattle.delivery_queues.specs.declared.failure.Failure.{Failure}
 use Rattle.delivery_duties.specs.declared.verdict.Verdict.{Verdict}
 use Rattle.delivery_duties.specs.declared.verdict.Verdict.TheVariants.{Deliver, Retry, Fail}
 use Rattle.delivery_duties.specs.Retry.{Attempt, begun, retried, verdict_of, too_long, dead_letter_queue, failed_fate}
 use Rattle.std.specs.List.{list_any}
 use Rattle.std.specs.Str.{bytes_eq}
-use Rattle.delivery_duties.specs.Queues.{Queue, has_arn, sent_to, messages_of, with_queue, without_queue, deleted_through}
+use Rattle.delivery_queues.specs.Queues.{Queue, has_arn, sent_to, messages_of, with_queue, without_queue, deleted_through}
 
 -- The pending duties by number; the duties that ended, in the order of their ends; the queues, in the byte order of their names; and the
 -- number of duties made so far.

@@ -7,10 +7,10 @@ use Rattle.delivery_duties.specs.declared.outcome.Outcome.{Outcome}
 use Rattle.delivery_duties.specs.declared.outcome.Outcome.TheVariants.{Accepted, Code, NoAnswer, NoQueue, TooOld}
 use Rattle.delivery_duties.specs.declared.outcome.Fate.{Fate}
 use Rattle.delivery_duties.specs.declared.outcome.Fate.TheVariants.{Pending, Delivered, DeadLettered, Dropped}
-use Rattle.delivery_duties.specs.declared.failure.Failure.{Failure}
-use Rattle.delivery_duties.specs.declared.failure.Cause.{Cause}
-use Rattle.delivery_duties.specs.declared.failure.Cause.TheVariants.{Answered, Unanswered, NotAttempted, TextTooLong, QueueMissing}
-use Rattle.delivery_duties.specs.declared.failure.RetryLimit.TheVariants.{MaximumAttempts, MaximumAge}
+use Rattle.delivery_queues.specs.declared.failure.Failure.{Failure}
+use Rattle.delivery_queues.specs.declared.failure.Cause.{Cause}
+use Rattle.delivery_queues.specs.declared.failure.Cause.TheVariants.{Answered, Unanswered, NotAttempted, TextTooLong, QueueMissing}
+use Rattle.delivery_queues.specs.declared.failure.RetryLimit.TheVariants.{MaximumAttempts, MaximumAge}
 use Rattle.delivery_duties.specs.declared.verdict.Verdict.{Verdict}
 use Rattle.delivery_duties.specs.declared.verdict.Verdict.TheVariants.{Deliver, Retry, Fail}
 

@@ -1,23 +1,11 @@
 -- For private clauses alone: the invariants of `Duties` and of its parts.
-use Rattle.std.specs.Prelude.{◌≡◌, ℕ, ◌+◌, ◌<◌, ◌≤◌, ◌^◌, ◌⊎◌, List, [], ◌∷◌, All, Contains, length, Some}
+use Rattle.std.specs.Prelude.{◌≡◌, ℕ, ◌+◌, ◌<◌, ◌≤◌, ◌^◌, ◌⊎◌, List, All, Contains, length, Some}
 use Rattle.key_tree.specs.Entries.{value_at, AreSorted}
 use Rattle.delivery_duties.specs.declared.duty.DutyRow.{DutyRow}
 use Rattle.delivery_duties.specs.declared.outcome.SettledDuty.{SettledDuty}
 use Rattle.delivery_duties.specs.declared.outcome.Fate.TheVariants.{Pending}
-use Rattle.delivery_duties.specs.declared.stored.StoredMessage.{StoredMessage}
-use Rattle.delivery_duties.specs.Queues.{Queue}
+use Rattle.delivery_queues.specs.Queues.{Queue}
 use Rattle.delivery_duties.specs.Duties.{Duties, IsPending, HasEnded, delivered_of, dead_lettered_of, dropped_of}
-
--- the numbers of the messages rise
-abbrev pub AreRising : List StoredMessage → Type 0
-AreRising [] = Unit {0}
-AreRising (m ∷ ms) = All (λ other. m.number < other.number) ms × AreRising ms
-
--- the numbers of the queue's messages rise, none is above that of the last message, and the queue has no more messages than it was sent
-pub record IsNumbered (m : Queue) : Type 0 where
-  pub rising : AreRising m.messages
-  pub by_last : All (λ other. other.number ≤ m.sent) m.messages
-  pub few : length m.messages ≤ m.sent
 
 -- the queue was sent at most this number of messages
 abbrev pub IsQueueWithin : ℕ → Queue → Type 0

@@ -4,28 +4,26 @@ ghost use Rattle.std.specs.Prelude.{[], None, Some, IfOk, IfSome, IfNone, IsTrue
 ghost use Rattle.json_text.specs.Moment.{IsMoment};
 ghost use Rattle.event_shape.specs.Names.{queue_arn};
 ghost use Rattle.delivery_duties.specs.declared.duty.DutyRow.{DutyRow};
-ghost use Rattle.delivery_duties.specs.DeadLetter.{shown};
+ghost use Rattle.delivery_queues.specs.DeadLetter.{shown};
 ghost use Rattle.delivery_duties.specs.Retry.{after_attempt, dead_letter_queue, failed_fate, fate_of, waits};
 ghost use Rattle.delivery_duties.specs.Fate.{AreNumbered};
-ghost use Rattle.delivery_duties.specs.Places.{IsFirstAt};
-ghost use Rattle.delivery_duties.specs.Queues.{IsArnOfOne, has_arn, has_queue, message_count, messages_of, messages_through};
+ghost use Rattle.delivery_queues.specs.Places.{IsFirstAt};
+ghost use Rattle.delivery_queues.specs.Queues.{IsArnOfOne, has_arn, has_queue, message_count, messages_of, messages_through};
 ghost use Rattle.delivery_duties.specs.Duties as spec;
 
 use crate::claim::Claim;
 use crate::counts::Counts;
 use crate::duty::DutyRow;
-use crate::failure::{Cause, Failure};
 use crate::history::History;
-use crate::message::QueueMessage;
 use crate::new_duties::NewDuties;
-use crate::new_queue::NewQueue;
 use crate::outcome::{Fate, Outcome, SettledDuty};
 use crate::owed::Owed;
-use crate::queues::Queues;
-use crate::removed::{DeletedMessages, RemovedQueue};
 use crate::retry::judge;
 use crate::schedule::Schedule;
 use crate::verdict::Verdict;
+use delivery_queues::{
+    Cause, DeletedMessages, Failure, NewQueue, QueueMessage, Queues, RemovedQueue,
+};
 use json_text::NoMemory;
 use key_tree::Node;
 use shared_text::SharedRow;

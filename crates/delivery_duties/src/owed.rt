@@ -5,9 +5,8 @@ ghost use Rattle.delivery_duties.specs.Duties.{dead_letter_of};
 ghost use Rattle.delivery_duties.specs.declared.duty.DutyRow.{DutyRow};
 
 use crate::duty::{DutyRow, NewDuty};
-use crate::failure::Failure;
 use crate::outcome::Outcome;
-use crate::stored::{DeadLetter, StoredMessage};
+use delivery_queues::{DeadLetter, Failure, StoredMessage};
 use json_text::NoMemory;
 use shared_text::SharedRow;
 use std::alloc::Global;

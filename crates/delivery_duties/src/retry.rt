@@ -5,9 +5,9 @@ ghost use Rattle.delivery_duties.specs.Retry as spec;
 ghost use Rattle.delivery_duties.specs.declared.verdict.Verdict.TheVariants.{Retry};
 
 use crate::duty::DutyRow;
-use crate::failure::{Cause, Failure, RetryLimit};
 use crate::outcome::Outcome;
 use crate::verdict::Verdict;
+use delivery_queues::{Cause, Failure, RetryLimit};
 
 /// The longest delay between two attempts, in seconds.
 const LONGEST_DELAY: u64 = 600;

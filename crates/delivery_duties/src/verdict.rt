@@ -1,6 +1,6 @@
 //! What an attempt makes of a pending duty.
 
-use crate::failure::Failure;
+use delivery_queues::Failure;
 
 /// What an attempt makes of a pending duty.
 #[derive(Clone, Copy, Debug, PartialEq, Eq)]

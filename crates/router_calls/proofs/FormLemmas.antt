@@ -12,8 +12,8 @@ use Rattle.rule_table.specs.Control.{Control}
 use Rattle.rule_table.specs.Refusal as table
 use Rattle.rule_table.specs.RuleSet.{Rule, Bus, RuleSet, has_bus, has_queue, rule_at}
 use Rattle.delivery_duties.specs.Duties.{names_queue}
-use Rattle.delivery_duties.specs.declared.stored.StoredMessage.{StoredMessage}
-use Rattle.delivery_duties.specs.Queues.{messages_of, messages_through}
+use Rattle.delivery_queues.specs.declared.stored.StoredMessage.{StoredMessage}
+use Rattle.delivery_queues.specs.Queues.{messages_of, messages_through}
 use Rattle.api_replies.specs.declared.kind.Kind.TheVariants as kind
 use Rattle.api_replies.specs.declared.member.Member.TheVariants as member
 use Rattle.api_replies.specs.declared.cause.Cause.{Cause}

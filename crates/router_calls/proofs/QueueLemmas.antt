@@ -2,9 +2,9 @@
 use Rattle.std.proofs.Common.{◌≡◌, ℕ, ◌<◌, Bool, true, false, List, [], ◌∷◌, length, refl, arith}
 use Rattle.std.specs.Prelude.{cond}
 use Rattle.std.specs.Str.{bytes_eq}
-use Rattle.delivery_duties.specs.declared.stored.StoredMessage.{StoredMessage}
-use Rattle.delivery_duties.specs.Queues as queues
-use Rattle.delivery_duties.specs.Queues.{Queue, messages_of, messages_through}
+use Rattle.delivery_queues.specs.declared.stored.StoredMessage.{StoredMessage}
+use Rattle.delivery_queues.specs.Queues as queues
+use Rattle.delivery_queues.specs.Queues.{Queue, messages_of, messages_through}
 use Rattle.call_replies.specs.Replies.{deletion_reply}
 use Rattle.router_core.specs.Batch.{messages_deleted}
 use Rattle.router_calls.specs.Answer.{deletion_of, shown, writes}

@@ -16,8 +16,8 @@ use Rattle.rule_table.specs.Control.{Control, bus_created, bus_deleted, rule_put
 use Rattle.rule_table.specs.Control.{targets_removed, policy_put, queue_created, queue_deleted}
 use Rattle.rule_table.specs.RuleSet.{Rule, RuleSet, has_bus, has_queue, rule_at}
 use Rattle.rule_table.specs.Refusal as table
-use Rattle.delivery_duties.specs.declared.stored.StoredMessage.{StoredMessage}
-use Rattle.delivery_duties.specs.Queues.{messages_of, messages_through}
+use Rattle.delivery_queues.specs.declared.stored.StoredMessage.{StoredMessage}
+use Rattle.delivery_queues.specs.Queues.{messages_of, messages_through}
 use Rattle.delivery_duties.specs.Duties.{names_queue}
 use Rattle.api_replies.specs.declared.kind.Kind.TheVariants as kind
 use Rattle.api_replies.specs.declared.cause.Cause.{Cause}

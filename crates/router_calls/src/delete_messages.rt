@@ -1,6 +1,6 @@
 //! DeleteMessages.
 ghost use Rattle.std.specs.Prelude.{◌≡◌, ◌<◌, ◌^◌, length, IfOk};
-ghost use Rattle.delivery_duties.specs.Queues.{messages_of, messages_through};
+ghost use Rattle.delivery_queues.specs.Queues.{messages_of, messages_through};
 ghost use Rattle.api_replies.specs.View.{reply_of};
 ghost use Rattle.router_core.specs.Batch.{messages_deleted};
 ghost use Rattle.router_calls.specs.Answer.{messages_deletion, writes};

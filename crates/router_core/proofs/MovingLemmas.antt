@@ -8,13 +8,13 @@ use Rattle.http_server.proofs.log.Log.TheSendSync as log
 use Rattle.json_text.proofs.base.Text.TheSendSync as text
 use Rattle.key_tree.proofs.subtree.Subtree.TheLaws.TheKnot as tree
 use Rattle.key_tree.specs.contracts.node.Node as node
-use Rattle.delivery_duties.proofs.stored.StoredMessage.TheSendSync as message
+use Rattle.delivery_queues.proofs.stored.StoredMessage.TheSendSync as message
 use Rattle.delivery_duties.proofs.duty.DutyRow.TheSendSync as row
 use Rattle.delivery_duties.specs.contracts.owed.Owed as owed
 use Rattle.delivery_duties.specs.contracts.schedule.Schedule as schedule
 use Rattle.delivery_duties.specs.contracts.history.History as history
-use Rattle.delivery_duties.specs.contracts.queue.Queue as queue
-use Rattle.delivery_duties.specs.contracts.queues.Queues as queues
+use Rattle.delivery_queues.specs.contracts.queue.Queue as queue
+use Rattle.delivery_queues.specs.contracts.queues.Queues as queues
 use Rattle.delivery_duties.specs.contracts.duties.Duties as duties
 use Rattle.delivery_duties.proofs.claim.Claim.TheSendSync as claim
 use Rattle.delivery_duties.proofs.outcome.Outcome.TheSendSync as outcome

@@ -17,7 +17,7 @@ use Rattle.rule_table.specs.RuleSet.{RuleSet, put_queue, without_queue, applied}
 use Rattle.rule_table.specs.Refusal.{IsAllowed}
 use Rattle.rule_table.proofs.AllowedLemmas.{queue_new}
 use Rattle.delivery_duties.specs.declared.duty.NewDuty.{NewDuty}
-use Rattle.delivery_duties.specs.Queues.{Queue, with_queue, without_queue as less_queue}
+use Rattle.delivery_queues.specs.Queues.{Queue, with_queue, without_queue as less_queue}
 use Rattle.delivery_duties.specs.Duties.{Duties, added, with_deleted}
 use Rattle.router_core.specs.Batch.{Entry, control, accepted, attempt, messages_deleted}
 use Rattle.router_core.specs.Tables.{Tables, duties_after, after_entry, number_limit, IsConsistent}

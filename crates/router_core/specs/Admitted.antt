@@ -12,7 +12,7 @@ use Rattle.delivery_duties.specs.declared.duty.DutyRow.{DutyRow}
 use Rattle.delivery_duties.specs.declared.duty.NewDuty.{NewDuty}
 use Rattle.delivery_duties.specs.declared.outcome.Outcome.{Outcome}
 use Rattle.delivery_duties.specs.declared.outcome.Outcome.TheVariants.{Accepted}
-use Rattle.delivery_duties.specs.Queues.{has_queue, messages_of, messages_through}
+use Rattle.delivery_queues.specs.Queues.{has_queue, messages_of, messages_through}
 use Rattle.delivery_duties.specs.Duties.{Duties, names_queue, pending_row}
 use Rattle.router_core.specs.Batch.{Accepted as AcceptedEvent, Entry, control, accepted, attempt, messages_deleted, Batch}
 use Rattle.router_core.specs.Tables.{Tables, after_entry, is_full}

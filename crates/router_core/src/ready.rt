@@ -11,7 +11,8 @@ ghost use Rattle.router_core.specs.declared.ready.Part.{Part as PartView};
 ghost use Rattle.router_core.specs.declared.ready.Part.TheVariants.{Configuration};
 
 use crate::batch::{AcceptedEvent, Batch, Entry};
-use delivery_duties::{NewDuties, NewDuty, NewQueue};
+use delivery_duties::{NewDuties, NewDuty};
+use delivery_queues::NewQueue;
 use json_text::NoMemory;
 use rule_table::{Control, ControlFault, RuleSet};
 use std::alloc::Global;

@@ -1,7 +1,7 @@
 //! What is left after a batch was applied.
 use crate::batch::Batch;
 use crate::ready::Part;
-use delivery_duties::{DeletedMessages, RemovedQueue};
+use delivery_queues::{DeletedMessages, RemovedQueue};
 use rule_table::RuleSet;
 use shared_text::{SharedRow, SharedText};
 use std::collections::VecDeque;

@@ -10,7 +10,7 @@ use Rattle.delivery_duties.specs.declared.duty.DutyRow.{DutyRow}
 use Rattle.delivery_duties.specs.declared.outcome.Outcome.{Outcome}
 use Rattle.delivery_duties.specs.declared.outcome.Outcome.TheVariants.{Accepted, NoQueue, TooOld}
 use Rattle.delivery_duties.specs.declared.outcome.Fate.{Fate}
-use Rattle.delivery_duties.specs.Queues.{Queue, has_queue}
+use Rattle.delivery_queues.specs.Queues.{Queue, has_queue}
 use Rattle.delivery_duties.specs.Duties.{Duties, IsNext, NoneDue, IsNoLater, pending_row, marked_row}
 use Rattle.router_core.specs.Batch.{Batch}
 use Rattle.router_core.specs.Tables.{Tables, moment_at, after_batch, is_full, number_limit}

@@ -8,7 +8,7 @@ use Rattle.delivery_duties.specs.declared.duty.DutyRow.{DutyRow}
 use Rattle.delivery_duties.specs.declared.outcome.Outcome.{Outcome}
 use Rattle.delivery_duties.specs.declared.outcome.Outcome.TheVariants.{Accepted, NoAnswer, TooOld}
 use Rattle.delivery_duties.specs.declared.outcome.Fate.{Fate}
-use Rattle.delivery_duties.specs.Queues.{Queue}
+use Rattle.delivery_queues.specs.Queues.{Queue}
 use Rattle.delivery_duties.specs.declared.claim.Claim.{Claim as DutyClaim}
 use Rattle.delivery_duties.specs.Duties.{pending_row, marked_row}
 use Rattle.rule_table.specs.RuleSet.{RuleSet}

@@ -6,7 +6,7 @@ use Rattle.rule_table.specs.RuleSet.{rule_set_at}
 use Rattle.delivery_duties.specs.declared.duty.DutyRow.{DutyRow}
 use Rattle.delivery_duties.specs.declared.outcome.Outcome.{Outcome}
 use Rattle.delivery_duties.specs.declared.outcome.Outcome.TheVariants.{Accepted, Code, NoAnswer, NoQueue, TooOld}
-use Rattle.delivery_duties.specs.Queues.{Queue, has_queue}
+use Rattle.delivery_queues.specs.Queues.{Queue, has_queue}
 use Rattle.delivery_duties.specs.Duties.{IsNext, pending_row}
 use Rattle.router_core.specs.Request.{Request}
 use Rattle.api_replies.specs.Reply.{Reply}

@@ -2,9 +2,8 @@
 ghost use Rattle.std.specs.Prelude.{◌≡◌, IfOk, length};
 
 use crate::changes::{names, number, optional_text};
-use delivery_duties::{
-    DeadLetterAttributes, Duties, Fate, NewDuties, NewDuty, NewQueue, Outcome, QueueMessage,
-};
+use delivery_duties::{Duties, Fate, NewDuties, NewDuty, Outcome};
+use delivery_queues::{DeadLetterAttributes, NewQueue, QueueMessage};
 use json_text::{NoMemory, Text};
 use shared_text::{SharedRow, SharedText, TargetRow};
 use std::alloc::Global;

@@ -1,6 +1,6 @@
 use Rattle.std.proofs.Common.{None, ap, ◌∙◌}
 use Rattle.delivery_duties.specs.declared.duty.DutyRow.{DutyRow}
-use Rattle.delivery_duties.specs.Queues.{has_arn, sent_to}
+use Rattle.delivery_queues.specs.Queues.{has_arn, sent_to}
 use Rattle.delivery_duties.proofs.duties.deliver.Goals as goal
 
 pub returns : goal.returns

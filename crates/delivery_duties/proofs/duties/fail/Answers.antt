@@ -1,6 +1,6 @@
 use Rattle.std.proofs.Common.{◌≡◌, Some, sym, ap, subst, ◌∙◌}
 use Rattle.delivery_duties.specs.declared.duty.DutyRow.{DutyRow}
-use Rattle.delivery_duties.specs.Queues.{has_arn}
+use Rattle.delivery_queues.specs.Queues.{has_arn}
 use Rattle.delivery_duties.specs.Retry.{dead_letter_queue, failed_fate}
 use Rattle.delivery_duties.specs.Duties.{dead_letter_of, dead_lettered, has_dead_letter_queue}
 use Rattle.delivery_duties.proofs.DeadLemmas.{dead_letter_found}

@@ -1,5 +1,5 @@
 use Rattle.std.proofs.Common.{ap, subst, ◌∙◌, map}
-use Rattle.delivery_duties.specs.Queues.{Queue}
+use Rattle.delivery_queues.specs.Queues.{Queue}
 use Rattle.delivery_duties.specs.Duties.{Duties}
 use Rattle.delivery_duties.proofs.AddLemmas.{IsLeft, added_created, added_names, left_done, left_next}
 use Rattle.delivery_duties.proofs.duties.Duties.add.Goals as goal

@@ -1,7 +1,7 @@
 use Rattle.std.proofs.Common.{Some, None, length, sym, ap, ◌∙◌}
-use Rattle.delivery_duties.specs.Queues.{messages_of, messages_through}
+use Rattle.delivery_queues.specs.Queues.{messages_of, messages_through}
 use Rattle.delivery_duties.specs.Duties.{Duties}
-use Rattle.delivery_duties.proofs.QueueLemmas.{messages_named}
+use Rattle.delivery_queues.proofs.QueueLemmas.{messages_named}
 use Rattle.delivery_duties.proofs.duties.Duties.count_through.Goals as goal
 
 pub returns-in-Some : goal.returns-in-Some

@@ -1,7 +1,7 @@
 use Rattle.std.proofs.Common.{map, refl, ap, ◌∙◌}
-use Rattle.delivery_duties.specs.Queues.{Queue, is_named, without_through}
+use Rattle.delivery_queues.specs.Queues.{Queue, is_named, without_through}
 use Rattle.delivery_duties.specs.Duties.{Duties}
-use Rattle.delivery_duties.proofs.PlaceLemmas.{names_changed}
+use Rattle.delivery_queues.proofs.PlaceLemmas.{names_changed}
 use Rattle.delivery_duties.proofs.StepLemmas.{sound_deleted}
 use Rattle.delivery_duties.proofs.duties.Duties.delete_through.Goals as goal
 

@@ -1,7 +1,7 @@
 use Rattle.std.proofs.Common.{◌==◌, not, length, Some, None, sym, ap, ◌∙◌}
-use Rattle.delivery_duties.specs.Queues.{messages_of}
+use Rattle.delivery_queues.specs.Queues.{messages_of}
 use Rattle.delivery_duties.specs.Duties.{Duties}
-use Rattle.delivery_duties.proofs.QueueLemmas.{messages_named, some_left}
+use Rattle.delivery_queues.proofs.QueueLemmas.{messages_named, some_left}
 use Rattle.delivery_duties.proofs.duties.Duties.has_messages.Goals as goal
 
 pub returns-in-Some : goal.returns-in-Some

@@ -1,6 +1,6 @@
 use Rattle.std.proofs.Common.{◌∙◌, ap}
 use Rattle.delivery_duties.specs.Duties.{Duties}
-use Rattle.delivery_duties.specs.Queues.{has_queue}
+use Rattle.delivery_queues.specs.Queues.{has_queue}
 use Rattle.delivery_duties.proofs.StepLemmas.{has_found, queue_decides}
 use Rattle.delivery_duties.proofs.duties.Duties.has_queue.Goals as goal
 

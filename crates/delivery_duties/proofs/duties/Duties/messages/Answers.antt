@@ -2,7 +2,7 @@ use Rattle.std.proofs.Common.{◌≡◌, ◌+◌, ◌≤◌, ◌^◌, ◌<◌, �
 use Rattle.std.specs.List.{sum_by}
 use Rattle.std.proofs.lemmas.List.Sums.{sum_by-le}
 use Rattle.std.proofs.lemmas.List.Elements.{All-weaker}
-use Rattle.delivery_duties.specs.Queues.{Queue}
+use Rattle.delivery_queues.specs.Queues.{Queue}
 use Rattle.delivery_duties.specs.Duties.{Duties}
 use Rattle.delivery_duties.specs.Sound.{IsQueueWithin}
 use Rattle.delivery_duties.proofs.duties.Duties.messages.Goals as goal

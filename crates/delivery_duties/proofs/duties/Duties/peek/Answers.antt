@@ -1,10 +1,10 @@
 use Rattle.std.proofs.Common.{◌≡◌, Some, None, sym, ap, ◌∙◌, subst, map, take}
 use Rattle.std.specs.Prelude.{IfOk}
 use Rattle.std.proofs.Math.Seq.{take-nil}
-use Rattle.delivery_duties.specs.DeadLetter.{shown}
-use Rattle.delivery_duties.specs.Queues.{messages_of}
+use Rattle.delivery_queues.specs.DeadLetter.{shown}
+use Rattle.delivery_queues.specs.Queues.{messages_of}
 use Rattle.delivery_duties.specs.Duties.{Duties}
-use Rattle.delivery_duties.proofs.QueueLemmas.{messages_named}
+use Rattle.delivery_queues.proofs.QueueLemmas.{messages_named}
 use Rattle.delivery_duties.proofs.duties.Duties.peek.Goals as goal
 
 pub returns-in-Some : goal.returns-in-Some

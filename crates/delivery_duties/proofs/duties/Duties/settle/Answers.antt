@@ -2,13 +2,13 @@ use Rattle.std.proofs.Common.{ℕ, ◌+◌, List, None, false, length, map, sym,
 use Rattle.std.specs.Prelude.{All}
 use Rattle.delivery_duties.specs.declared.duty.DutyRow.{DutyRow}
 use Rattle.delivery_duties.specs.declared.outcome.Fate.TheVariants.{Delivered}
-use Rattle.delivery_duties.specs.Queues.{Queue, has_arn, with_next}
+use Rattle.delivery_queues.specs.Queues.{Queue, has_arn, with_next}
 use Rattle.delivery_duties.specs.Retry.{dead_letter_queue}
 use Rattle.delivery_duties.specs.Duties.{Duties, IsOut, has_dead_letter_queue}
 use Rattle.delivery_duties.specs.Sound.{IsQueueWithin}
 use Rattle.delivery_duties.proofs.SoundLemmas.{sound_ended}
 use Rattle.delivery_duties.proofs.StepLemmas.{taken_free, sound_back, back_keeps, within_changed, within_failed, failed_ends}
-use Rattle.delivery_duties.proofs.PlaceLemmas.{names_changed}
+use Rattle.delivery_queues.proofs.PlaceLemmas.{names_changed}
 use Rattle.delivery_duties.proofs.SettleLemmas.{gone_keeps, gone_not_out, back_not_out, names_failed}
 use Rattle.delivery_duties.proofs.duties.Duties.settle.Goals as goal
 

@@ -1,6 +1,6 @@
 use Rattle.std.proofs.Common.{rules, ◌≡◌, false, inr, refl}
 use Rattle.event_shape.proofs.NameLemmas.{queue_named}
-use Rattle.delivery_duties.specs.Queues.{has_queue}
+use Rattle.delivery_queues.specs.Queues.{has_queue}
 use Rattle.router_core.proofs.tables.Tables.recorded.Goals as goal
 
 pub returns-else-has_queue : goal.returns-else-has_queue

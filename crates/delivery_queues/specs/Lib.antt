@@ -1,0 +1,4 @@
+pub mod DeadLetter
+pub mod Queues
+pub mod Places
+pub mod Sound
