@@ -1,8 +1,8 @@
 -- Which inputs of targets are valid, and what is read of them. The numbers are those of the Amazon EventBridge API Reference; what is a path
 -- or a template is input_transform's own rule.
 use Rattle.std.specs.Prelude.{◌≡◌, ◌≤◌, ℕ, Bool, true, ◌&&◌, not, nat_le, nat_eq, List, [], ◌∷◌, length, codes, Option, Some, None}
-use Rattle.std.specs.List.{starts_with}
-use Rattle.std.specs.Str.{chars}
+use Rattle.std.specs.List.{list_any, starts_with}
+use Rattle.std.specs.Str.{bytes_eq, chars}
 use Rattle.std.specs.Arc.{arc_value}
 use Rattle.json_text.specs.Node.{Node, value_of}
 use Rattle.json_text.specs.Grammar.{IsText}
@@ -41,13 +41,21 @@ pub record IsInputPath (t : List ℕ) : Type 0 where
 abbrev pub is_key : List ℕ → Bool
 is_key key = is_name_of is_letter 256 key && not (starts_with nat_eq key (codes "AWS"))
 
--- The entries of an InputPathsMap are these paths, of any length, under the same keys, which are valid (`is_key`). Two keys may be equal:
--- no request gives such a map, but a change may hold one.
--- Shown by: a_reserved_key_is_accepted.edit; tables rule_targets.rows: a_map_of_paths_has_its_keys.
+-- an entry has this key
+abbrev pub has_key : List ℕ → List (List ℕ × List ℕ) → Bool
+has_key key = list_any (λ entry. bytes_eq entry.0 key)
+
+-- The key is valid, and none of the other entries has it.
+-- Shown by: a_reserved_key_is_accepted.edit; a_key_is_accepted_twice.edit.
+abbrev pub is_new_key : List ℕ → List (List ℕ × List ℕ) → Bool
+is_new_key key others = is_key key && not (has_key key others)
+
+-- The entries of an InputPathsMap are these paths, of any length, under the same keys, which are valid (`is_key`) and distinct.
+-- Shown by: a_reserved_key_is_accepted.edit; a_key_is_accepted_twice.edit; tables rule_targets.rows: a_map_of_paths_has_its_keys.
 abbrev pub ArePaths : List (List ℕ × List ℕ) → Paths → Type 0
 ArePaths [] paths = paths ≡ []
 ArePaths (entry ∷ entries) paths = (steps : List Step) × (rest : Paths) × (paths ≡ (entry.0, steps) ∷ rest)
-    × (is_key entry.0 ≡ true) × IsPath entry.1 steps × ArePaths entries rest
+    × (is_new_key entry.0 entries ≡ true) × IsPath entry.1 steps × ArePaths entries rest
 
 -- An InputTransformer is this template, which names these paths.
 -- Shown by: tables rule_targets.rows: a_template_has_its_limit, a_map_of_paths_has_its_keys.

@@ -160,7 +160,7 @@ fn read_template(
     }
 }
 
-/// The paths of the entries, under their keys. `None` if a key is not valid, or a value is no path.
+/// The paths of the entries, under their keys. `None` if a key is not valid or comes twice, or a value is no path.
 fn read_paths(
     alloc: Global,
     entries: &[(Text, Text)],
@@ -177,7 +177,7 @@ fn read_paths(
     }
 }
 
-/// Adds the path of each entry, under its key. `false` if a key is not valid, or a value is no path.
+/// Adds the path of each entry, under its key. `false` if a key is not valid or comes twice, or a value is no path.
 fn push_paths(
     alloc: Global,
     entries: &[(Text, Text)],
@@ -188,7 +188,7 @@ fn push_paths(
         ((more : Paths) → ¬ spec.ArePaths entries.now more)) }
 {
     match entries {
-        [(key, text), rest @ ..] => match path_under(alloc, key, text)? {
+        [(key, text), rest @ ..] => match path_under(alloc, key, rest, text)? {
             Some(path) => {
                 paths.push(path)?;
                 push_paths(alloc, rest, paths)
@@ -199,19 +199,37 @@ fn push_paths(
     }
 }
 
-/// The path that the text is, with its key. `None` if the key is not valid, or the text is no path.
-fn path_under(alloc: Global, key: &Text, text: &Text) -> Result<Option<(Text, JsonPath)>, NoMemory>
+/// The path that the text is, with its key. `None` if the key is not valid, or one of the other entries has it, or the text is no path.
+fn path_under(
+    alloc: Global,
+    key: &Text,
+    others: &[(Text, Text)],
+    text: &Text,
+) -> Result<Option<(Text, JsonPath)>, NoMemory>
     ensures { IfOk result (λ found. MatchOption found
-        ((steps : List PathStep) → spec.is_key key.now ≡ true → ¬ IsPath text.now steps)
-        (λ path. (spec.is_key key.now ≡ true) × (path.0 ≡ key.now) × IsPath text.now path.1)) }
+        ((steps : List PathStep) → spec.is_new_key key.now others.now ≡ true → ¬ IsPath text.now steps)
+        (λ path. (spec.is_new_key key.now others.now ≡ true) × (path.0 ≡ key.now) × IsPath text.now path.1)) }
 {
-    if !is_key(key.as_str()) {
+    if !is_new_key(key.as_str(), others) {
         return Ok(None);
     }
     match path_of(alloc, text.as_str())? {
         Some(path) => Ok(Some((key.copy(alloc)?, path))),
         None => Ok(None),
     }
+}
+
+/// Whether the key is valid, and none of the other entries has it.
+fn is_new_key(key: &str, others: &[(Text, Text)]) -> bool
+    ensures { result ≡ spec.is_new_key key.now others.now }
+{
+    is_key(key) && !has_key(others, key)
+}
+
+fn has_key(entries: &[(Text, Text)], key: &str) -> bool
+    ensures { result ≡ spec.has_key key.now entries.now }
+{
+    entries.iter().any(|entry| entry.0.as_str() == key)
 }
 
 fn is_key(key: &str) -> bool
