@@ -1,5 +1,5 @@
 -- The tables after legal turns, claims set aside, are the fold of the batches that the turns wrote: `folds`, `folds_book`.
-use Rattle.std.proofs.Common.{◌≡◌, ℕ, ◌+◌, Bool, max, true, false, cond, eqb, ltb, List, [], ◌∷◌, map, Option, Some, None, refl, sym, ap, ◌∙◌, subst}
+use Rattle.std.proofs.Common.{◌≡◌, ℕ, ◌+◌, Bool, max, true, false, cond, eqb, ltb, List, [], ◌∷◌, map, Option, Some, None, refl, sym, ap, ◌∙◌}
 use Rattle.std.specs.Option.{option_map}
 use Rattle.rule_table.specs.Control.{Control, bus_created}
 use Rattle.key_tree.specs.Entries.{value_at, placed, without}
@@ -15,12 +15,13 @@ use Rattle.delivery_duties.specs.Duties.{Duties, pending_row, replaced, failed, 
 use Rattle.delivery_duties.specs.Duties.{settled, attempt_of}
 use Rattle.router_core.specs.Batch.{Batch, Entry, control, accepted, attempt, messages_deleted}
 use Rattle.router_core.specs.Tables.{Tables, first_tables, duties_after, after_entry, after_entries, after_batch, tables_after}
-use Rattle.router_sessions.specs.History.{Ask, asked, claims, records, puts_back, Turn, State, after_written, after_turn, state_after}
-use Rattle.router_sessions.specs.History.{IsTurnFor, IsLegal, batches_of, with_written, begun as state_begun}
+use Rattle.router_sessions.specs.History.{Ask, opens, asked, claims, records, puts_back, Turn, State, after_change, after_turn, state_after, state_of}
+use Rattle.router_sessions.specs.History.{IsTurnFor, AreTurnsFrom, batches_of, with_written, begun as state_begun}
 use Rattle.bus_server.specs.Folds.{unclaimed_entry, without_claims}
-use Rattle.router_sessions.specs.Book.{BookState, IsBook}
+use Rattle.router_sessions.specs.Book.{IsBook}
 use Rattle.router_sessions.proofs.PendingLemmas.{AreNumbered, row_number, restored}
-use Rattle.router_sessions.proofs.SteadyLemmas.{IsSteady, steady_turn, steady_begun}
+use Rattle.router_sessions.proofs.SteadyLemmas.{IsSteady, steady_ask, steady_begun}
+use Rattle.router_sessions.proofs.BookLemmas.{legal_later}
 
 -- the row, not claimed
 abbrev free : DutyRow → DutyRow
@@ -143,7 +144,7 @@ batch_freed b t =
     ap (λ (now : Tables). record now { batches = t.batches + 1; moment = max t.moment b.moment }) (entries_freed b.moment b.entries t)
 
 written_freed : (b : Option Batch) (s : State) (bs : List Batch)
-    → tables_after bs (without_claims (after_written b s).tables) ≡ tables_after (with_written b bs) (without_claims s.tables)
+    → tables_after bs (without_claims (after_change b s).tables) ≡ tables_after (with_written b bs) (without_claims s.tables)
 written_freed None s bs = refl
 written_freed (Some b) s bs = ap (tables_after bs) (batch_freed b s.tables)
 
@@ -157,20 +158,21 @@ unwritten_freed mark n b t bs none h =
 
 turn_freed : (turn : Turn) (ask : Ask) (s : State) (bs : List Batch) → turn.ask ≡ ask → IsSteady s → IsTurnFor s turn ask
     → tables_after bs (without_claims (after_turn turn s).tables) ≡ tables_after (with_written turn.batch bs) (without_claims s.tables)
+turn_freed turn (opens start found) s bs e h is = absurd is
 turn_freed turn (asked request) s bs e h is = rw e (written_freed turn.batch s bs)
-turn_freed turn (claims duty reading) s bs e h is = rw e (unwritten_freed true duty turn.batch s.tables bs is.unwritten h.numbered)
-turn_freed turn (records duty reading outcome) s bs e h is = rw e (written_freed turn.batch s bs)
-turn_freed turn (puts_back duty) s bs e h is = rw e (unwritten_freed false duty turn.batch s.tables bs is.0 h.numbered)
+turn_freed turn (claims c) s bs e h is = rw e (unwritten_freed true c.number turn.batch s.tables bs is.unwritten h.numbered)
+turn_freed turn (records a) s bs e h is = rw e (written_freed turn.batch s bs)
+turn_freed turn (puts_back c why) s bs e h is = rw e (unwritten_freed false c.number turn.batch s.tables bs is.0 h.numbered)
 
-pub folds : (s : State) (turns : List Turn) → IsLegal s turns → IsSteady s
+pub folds : (s : State) (turns : List Turn) → AreTurnsFrom s turns → IsSteady s
     → without_claims (state_after turns s).tables ≡ tables_after (batches_of turns) (without_claims s.tables)
 folds s [] legal h = refl
 folds s (turn ∷ turns) legal h =
-    folds (after_turn turn s) turns legal.1 (steady_turn turn s h) ∙ turn_freed turn turn.ask s (batches_of turns) refl h legal.0
+    folds (after_turn turn s) turns legal.1 (steady_ask turn turn.ask s legal.0 h) ∙ turn_freed turn turn.ask s (batches_of turns) refl h legal.0
 
--- a book since its first turn
-pub folds_book : (b : BookState) → b.opened ≡ state_begun first_tables → IsBook b → without_claims b.tables ≡ tables_after (batches_of b.turns) first_tables
-folds_book b first h =
-    ap without_claims (sym h.tables)
-    ∙ folds b.opened b.turns h.legal (subst IsSteady (sym first) steady_begun)
-    ∙ ap (λ (s : State). tables_after (batches_of b.turns) (without_claims s.tables)) first
+-- a book since it was opened
+pub folds_book : (turns : List Turn) → IsBook turns → without_claims (state_of turns).tables ≡ tables_after (batches_of turns) first_tables
+folds_book turns h =
+    ap (λ (ts : List Turn). without_claims (state_of ts).tables) h.opened
+    ∙ folds (state_begun first_tables) h.later (legal_later turns h) steady_begun
+    ∙ ap (λ (ts : List Turn). tables_after (batches_of ts) first_tables) (sym h.opened)

@@ -9,6 +9,7 @@
 -- to the next.
 pub mod FoldLemmas
 pub mod OnceLemmas
+pub mod QuietLemmas
 pub mod RecordedLemmas
 pub mod RunLemmas
 pub mod ServeLemmas

@@ -1,83 +1,91 @@
--- A history of one pass. Other files cite `only_pass`, `is_alone` and `none_open`.
-use Rattle.std.proofs.Common.{◌≡◌, ℕ, zero, suc, Bool, true, false, cond, List, [], ◌∷◌, ◌++◌, map, refl, sym, ap, ◌∙◌, subst, arith}
-use Rattle.std.specs.Prelude.{◌==◌, filter, not, All}
+-- A history of one pass. Other files cite `only_pass`, `all_own`, `none_open`, `others_none`, `all_front` and `all_back`.
+use Rattle.std.proofs.Common.{◌≡◌, ℕ, ◌≤◌, zero, suc, true, false, cond, List, [], ◌∷◌, ◌++◌, map, Option, Some, None, refl, sym, ap, ◌∙◌, subst, arith}
+use Rattle.std.specs.Prelude.{◌==◌, IsSome, All}
 use Rattle.std.proofs.lemmas.Bool.{eq-eqb}
-use Rattle.std.proofs.lemmas.List.Elements.{All-nil, All-cons, All-head, All-tail, All-filter}
+use Rattle.std.proofs.lemmas.List.Elements.{All-nil, All-cons, All-head, All-tail}
 use mathlib.Core.List.{IsPrefix}
-use Rattle.turn_book.specs.Rule.{IsUnmade}
+use Rattle.turn_book.specs.Rule.{IsUnmade, is_number}
+use Rattle.router_core.specs.Tables.{first_tables}
 use Rattle.router_sessions.specs.declared.history.Turn.{Turn as CodeTurn}
-use Rattle.router_sessions.specs.History.{Ask, asked, claims, records, puts_back, Turn, State, OpenClaim, claims_by, after_ask, after_turn, state_after}
-use Rattle.router_sessions.specs.Book.{turn_of}
-use Rattle.router_sessions.proofs.SteadyLemmas.{open_written}
-use Rattle.router_sessions.proofs.DeskLemmas.{maker}
+use Rattle.router_sessions.specs.History.{Ask, opens, asked, claims, records, puts_back, Turn, State, OpenClaim, claims_of, after_turn, state_of, turns_by, begun}
+use Rattle.router_sessions.specs.History.{IsTurnFor, AreTurnsFrom}
+use Rattle.router_sessions.specs.Book.{turn_of, opening, Rests}
+use Rattle.router_sessions.proofs.TurnLemmas.{first_other, none_of_mine}
+use Rattle.router_sessions.proofs.DeskLemmas.{maker, own_turns}
 
--- if only one pass was made, all turns are its own
-only_one : (turns : List CodeTurn) → IsUnmade maker 1 turns → All (λ t. t.pass ≡ 0) turns
-only_one [] none = All-nil (λ (t : CodeTurn). t.pass ≡ 0)
-only_one (t ∷ ts) none =
-    All-cons (λ (u : CodeTurn). u.pass ≡ 0) t ts (first t.pass refl)
-    (only_one ts (λ n most. rest_none (t.pass == n) (filter (λ u. u.pass == n) ts) (none n most)))
-  where
-    rest_none : (b : Bool) (us : List CodeTurn) → cond b (t ∷ us) us ≡ [] → us ≡ []
-    rest_none true us e = absurd (cc)
-    rest_none false us e = e
+pub all_front : (xs ys : List Turn) → All (λ t. t.pass ≡ Some 0) (xs ++ ys) → All (λ t. t.pass ≡ Some 0) xs
+all_front [] ys all = All-nil (λ (t : Turn). t.pass ≡ Some 0)
+all_front (x ∷ xs) ys all =
+    All-cons (λ (t : Turn). t.pass ≡ Some 0) x xs (All-head (λ (t : Turn). t.pass ≡ Some 0) x (xs ++ ys) all)
+    (all_front xs ys (All-tail (λ (t : Turn). t.pass ≡ Some 0) x (xs ++ ys) all))
 
-    first : (k : ℕ) → t.pass ≡ k → t.pass ≡ 0
-    first zero is = is
-    first (suc k) is =
-        let yes : (t.pass == suc k) ≡ true = eq-eqb t.pass (suc k) is in
-        let no : t ∷ filter (λ u. u.pass == suc k) ts ≡ [] =
-        ap (λ b. cond b (t ∷ filter (λ u. u.pass == suc k) ts) (filter (λ u. u.pass == suc k) ts)) (sym yes) ∙ none (suc k) (omega arith) in
-        absurd (cc)
+pub all_back : (xs ys : List Turn) → All (λ t. t.pass ≡ Some 0) (xs ++ ys) → All (λ t. t.pass ≡ Some 0) ys
+all_back [] ys all = all
+all_back (x ∷ xs) ys all = all_back xs ys (All-tail (λ (t : Turn). t.pass ≡ Some 0) x (xs ++ ys) all)
 
-all_mapped : (turns : List CodeTurn) → All (λ t. t.pass ≡ 0) turns → All (λ t. t.pass ≡ 0) (map turn_of turns)
-all_mapped [] all = All-nil (λ (t : Turn). t.pass ≡ 0)
-all_mapped (t ∷ ts) all =
-    All-cons (λ (u : Turn). u.pass ≡ 0) (turn_of t) (map turn_of ts) (All-head (λ (u : CodeTurn). u.pass ≡ 0) t ts all)
-    (all_mapped ts (All-tail (λ (u : CodeTurn). u.pass ≡ 0) t ts all))
+-- what the one pass has seen has no turns of others
+front_none : (n : ℕ) (ts us : List Turn) → turns_by n (ts ++ us) ≡ [] → turns_by n ts ≡ []
+front_none n [] us none = refl
+front_none n (t ∷ ts) us none =
+    let both = first_other n t (ts ++ us) none in
+    ap (λ b. cond b (t ∷ turns_by n ts) (turns_by n ts)) both.0 ∙ front_none n ts us both.1
 
-front : {X : Type 0} (P : X → Type 0) (xs ys : List X) → All P (xs ++ ys) → All P xs
-front P [] ys all = All-nil P
-front P (x ∷ xs) ys all = All-cons P x xs (All-head P x (xs ++ ys) all) (front P xs ys (All-tail P x (xs ++ ys) all))
+map_more : (xs ys : List CodeTurn) → map turn_of (xs ++ ys) ≡ map turn_of xs ++ map turn_of ys
+map_more [] ys = refl
+map_more (x ∷ xs) ys = ap (λ (ts : List Turn). turn_of x ∷ ts) (map_more xs ys)
 
-back : {X : Type 0} (P : X → Type 0) (xs ys : List X) → All P (xs ++ ys) → All P ys
-back P [] ys all = all
-back P (x ∷ xs) ys all = back P xs ys (All-tail P x (xs ++ ys) all)
+pub only_pass : (seen all : List CodeTurn) → IsPrefix seen all → IsUnmade maker 1 all → (n : ℕ) → 1 ≤ n → turns_by n (map turn_of seen) ≡ []
+only_pass seen all (rest, is) unmade n most =
+    front_none n (map turn_of seen) (map turn_of rest)
+    (ap (turns_by n) (sym (map_more seen rest) ∙ ap (map turn_of) is) ∙ own_turns n all ∙ ap (map turn_of) (unmade n most))
 
--- what the one pass has seen
-pub only_pass : (seen all : List CodeTurn) → IsPrefix seen all → IsUnmade maker 1 all → All (λ t. t.pass ≡ 0) (map turn_of seen)
-only_pass seen all (rest, is) unmade =
-    all_mapped seen (front (λ (t : CodeTurn). t.pass ≡ 0) seen rest (subst (All (λ (t : CodeTurn). t.pass ≡ 0)) (sym is) (only_one all unmade)))
+-- a turn after the first has a pass
+has_pass : (s : State) (turn : Turn) (ask : Ask) → IsTurnFor s turn ask → IsSome turn.pass
+has_pass s turn (opens start found) is = absurd is
+has_pass s turn (asked request) is = is.0
+has_pass s turn (claims c) is = subst (λ (p : Option ℕ). IsSome p) (sym is.by) refl
+has_pass s turn (records a) is = subst (λ (p : Option ℕ). IsSome p) (sym is.ends.by) refl
+has_pass s turn (puts_back c why) is = subst (λ (p : Option ℕ). IsSome p) (sym is.1.by) refl
 
--- turns that were added
-pub is_alone : (old new added : List Turn) → new ≡ old ++ added → All (λ t. t.pass ≡ 0) new → All (λ t. t.pass ≡ 0) added
-is_alone old new added is all = back (λ (t : Turn). t.pass ≡ 0) old added (subst (All (λ (t : Turn). t.pass ≡ 0)) is all)
-
--- the open claims of a history of one pass are its own
-claims_asked : (turn : Turn) (ask : Ask) (s : State) → turn.pass ≡ 0 → All (λ c. c.pass ≡ 0) s.open_claims
-    → All (λ c. c.pass ≡ 0) (after_ask turn ask s).open_claims
-claims_asked turn (asked request) s own all = subst (All (λ (c : OpenClaim). c.pass ≡ 0)) (sym (open_written turn.batch s)) all
-claims_asked turn (claims duty reading) s own all = All-cons (λ (c : OpenClaim). c.pass ≡ 0) _ s.open_claims own all
-claims_asked turn (records duty reading outcome) s own all = All-filter (λ (c : OpenClaim). not (c.duty == duty)) (λ (c : OpenClaim). c.pass ≡ 0) s.open_claims all
-claims_asked turn (puts_back duty) s own all = All-filter (λ (c : OpenClaim). not (c.duty == duty)) (λ (c : OpenClaim). c.pass ≡ 0) s.open_claims all
-
-claims_after : (turns : List Turn) (s : State) → All (λ t. t.pass ≡ 0) turns → All (λ c. c.pass ≡ 0) s.open_claims
-    → All (λ c. c.pass ≡ 0) (state_after turns s).open_claims
-claims_after [] s own all = all
-claims_after (t ∷ ts) s own all =
-    claims_after ts (after_turn t s) (All-tail (λ (u : Turn). u.pass ≡ 0) t ts own)
-    (claims_asked t t.ask s (All-head (λ (u : Turn). u.pass ≡ 0) t ts own) all)
-
-no_claims : (cs : List OpenClaim) → All (λ c. c.pass ≡ 0) cs → claims_by 0 cs ≡ [] → cs ≡ []
-no_claims [] all none = refl
-no_claims (c ∷ cs) all none =
-    let yes : (c.pass == 0) ≡ true = eq-eqb c.pass 0 (All-head (λ (x : OpenClaim). x.pass ≡ 0) c cs all) in
-    let no : c ∷ claims_by 0 cs ≡ [] = ap (λ b. cond b (c ∷ claims_by 0 cs) (claims_by 0 cs)) (sym yes) ∙ none in
+-- the one pass made it
+own_pass : (pass : Option ℕ) → IsSome pass → ((n : ℕ) → 1 ≤ n → is_number pass n ≡ false) → pass ≡ Some 0
+own_pass None some none = absurd (cc)
+own_pass (Some zero) some none = refl
+own_pass (Some (suc k)) some none =
+    let is : (suc k == suc k) ≡ true = eq-eqb (suc k) (suc k) refl in
+    let differs : (suc k == suc k) ≡ false = none (suc k) (omega arith) in
     absurd (cc)
 
--- no claim of the one pass is open, so none is
-pub none_open : (turns : List Turn) (s : State) → All (λ t. t.pass ≡ 0) turns → s.open_claims ≡ [] → claims_by 0 (state_after turns s).open_claims ≡ []
-    → (state_after turns s).open_claims ≡ []
-none_open turns s own none mine =
-    no_claims (state_after turns s).open_claims
-    (claims_after turns s own (subst (All (λ (c : OpenClaim). c.pass ≡ 0)) (sym none) (All-nil (λ (c : OpenClaim). c.pass ≡ 0)))) mine
+pub all_own : (s : State) (turns : List Turn) → AreTurnsFrom s turns → ((n : ℕ) → 1 ≤ n → turns_by n turns ≡ []) → All (λ t. t.pass ≡ Some 0) turns
+all_own s [] legal none = All-nil (λ (t : Turn). t.pass ≡ Some 0)
+all_own s (t ∷ ts) legal none =
+    All-cons (λ (u : Turn). u.pass ≡ Some 0) t ts
+    (own_pass t.pass (has_pass s t t.ask legal.0) (λ n most. (first_other n t ts (none n most)).0))
+    (all_own (after_turn t s) ts legal.1 (λ n most. (first_other n t ts (none n most)).1))
+
+-- the turns after the one that opened the book
+pub first_none : (n : ℕ) (turns : List Turn) → turns_by n (opening ∷ turns) ≡ [] → turns_by n turns ≡ []
+first_none n turns none = (first_other n opening turns none).1
+
+-- if no pass has a claim, none is open
+no_claims : (cs : List OpenClaim) → ((n : ℕ) → claims_of n cs ≡ []) → cs ≡ []
+no_claims [] none = refl
+no_claims (c ∷ cs) none =
+    let there : c ∷ claims_of c.pass cs ≡ [] =
+    ap (λ b. cond b (c ∷ claims_of c.pass cs) (claims_of c.pass cs)) (sym (eq-eqb c.pass c.pass refl)) ∙ none c.pass in
+    absurd (cc)
+
+pub none_open : (turns : List Turn) → Rests 0 turns → ((n : ℕ) → 1 ≤ n → turns_by n turns ≡ []) → (state_of turns).open_claims ≡ []
+none_open turns rests unmade = no_claims (state_of turns).open_claims each
+  where
+    each : (n : ℕ) → claims_of n (state_of turns).open_claims ≡ []
+    each zero = rests
+    each (suc n) = none_of_mine (suc n) turns (begun first_tables) (unmade (suc n) (omega arith)) refl
+
+-- turns of the one pass that are none of it are none
+pub others_none : (turns : List Turn) → All (λ t. t.pass ≡ Some 0) turns → turns_by 0 turns ≡ [] → turns ≡ []
+others_none [] own none = refl
+others_none (t ∷ ts) own none =
+    let mine : is_number t.pass 0 ≡ true = ap (λ (p : Option ℕ). is_number p 0) (All-head (λ (u : Turn). u.pass ≡ Some 0) t ts own) in
+    let other : is_number t.pass 0 ≡ false = (first_other 0 t ts none).0 in
+    absurd (cc)

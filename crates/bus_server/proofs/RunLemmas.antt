@@ -1,102 +1,84 @@
 -- The run of a program. Other files cite `runs_once`, `run_linked`, `run_still`, `run_clocked` and `unlinked` (its session), and `end_faults` and
 -- `no_door_fault` (its faults).
-use Rattle.std.proofs.Common.{◌≡◌, ◌≢◌, ℕ, ◌⊎◌, inl, inr, List, [], ◌∷◌, ◌++◌, Option, Some, None, refl, sym, ap, ◌∙◌, subst}
+use Rattle.std.proofs.Common.{◌≡◌, ◌≢◌, ℕ, ◌≤◌, ◌⊎◌, inl, inr, List, [], ◌∷◌, ◌++◌, Option, Some, None, refl, sym, ap, ◌∙◌, subst}
 use Rattle.std.specs.Prelude.{All}
-use Rattle.std.specs.Io.KnownBytes.{Keeps}
-use Rattle.router_disk.specs.Clock.{repeating}
 use Rattle.router_disk.specs.Faults.{Rose}
 use Rattle.router_disk.specs.Link.{Exchange}
-use Rattle.router_disk.proofs.ClockLemmas.{Gives-none}
 use Rattle.program_lines.specs.declared.status.Status.{Status}
 use Rattle.program_lines.specs.declared.status.Status.TheVariants as statuses
+use Rattle.router_core.specs.Tables.{first_tables}
 use Rattle.router_sessions.specs.declared.session.SessionEnd.{SessionEnd}
 use Rattle.router_sessions.specs.declared.session.SessionEnd.TheVariants as ends
-use Rattle.router_core.specs.Tables.{first_tables}
-use Rattle.router_sessions.specs.History.{State, begun, claims_by}
-use Rattle.router_sessions.specs.Book.{first_book, BookState, state_of, IsBook}
-use Rattle.router_sessions.specs.World.{World, world}
+use Rattle.router_sessions.specs.History.{Turn, AreTurnsFrom, state_of, turns_by, begun}
+use Rattle.router_sessions.specs.Book.{opening, IsBook, Rests}
+use Rattle.router_sessions.specs.Acts.{World, world}
 use Rattle.router_sessions.specs.Session.{IsSession}
+use Rattle.router_sessions.proofs.BookLemmas.{book_first, added_legal, legal_later}
 use Rattle.bus_server.specs.Run.{status_of, only_seat, RunsOnce, RunsBy, around, IsUnbegun, IsRun, FaultsMatch}
-use Rattle.router_sessions.specs.Exchanges.{IsAlone}
 use Rattle.bus_server.proofs.FoldLemmas.{folds_book}
-use Rattle.router_sessions.proofs.SteadyLemmas.{IsSteady, steady_begun}
-use Rattle.router_sessions.proofs.AloneLemmas.{added_alone}
-use Rattle.bus_server.proofs.RecordedLemmas.{all_recorded}
-use Rattle.bus_server.proofs.OnceLemmas.{is_alone, none_open}
+use Rattle.bus_server.proofs.RecordedLemmas.{session_recorded}
+use Rattle.bus_server.proofs.OnceLemmas.{all_own, none_open, first_none}
 
--- a session over the first book, whose pass made all turns
-pub runs_once : (old new : World) (end : SessionEnd) (status : Status) → old.book ≡ first_book → IsSession only_seat old new end → IsBook new.book
-    → (claims_by 0 (state_of old.book).open_claims ≡ [] → claims_by 0 (state_of new.book).open_claims ≡ []) → All (λ t. t.pass ≡ 0) new.book.turns
-    → status ≡ status_of end → RunsOnce old new status
-runs_once old new end status begins session book closed own ends =
-    let opened : new.book.opened ≡ begun first_tables = session.exchanges.opened ∙ ap (λ (b : BookState). b.opened) begins in
-    let none : new.book.opened.open_claims ≡ [] = ap (λ (s : State). s.open_claims) opened in
-    let alone : IsAlone only_seat session.exchanges.added = is_alone old.book.turns new.book.turns session.exchanges.added session.exchanges.turns own in
-    let were = added_alone only_seat old.book new.book session.course.exchanges session.exchanges alone book in
-    let steady : IsSteady (state_of old.book) = subst (λ (b : BookState). IsSteady (state_of b)) (sym begins) steady_begun in
+-- a session over the book that was just opened, whose pass made all turns after the first
+pub runs_once : (old new : World) (end : SessionEnd) (status : Status) → old.turns ≡ opening ∷ [] → IsSession only_seat old new end → IsBook new.turns
+    → Rests 0 new.turns → ((n : ℕ) → 1 ≤ n → turns_by n new.turns ≡ []) → status ≡ status_of end → RunsOnce old new status
+runs_once old new end status first session book rests unmade ends =
+    let (acts, ended, does) = session in
+    let old_book : IsBook old.turns = book_first old.turns first in
+    let legal : AreTurnsFrom (state_of old.turns) does.makes.added = added_legal old.turns new.turns does.makes.added old_book book does.makes.turns in
+    let later_unmade : (n : ℕ) → 1 ≤ n → turns_by n book.later ≡ [] = λ n most. first_none n book.later (ap (turns_by n) (sym book.opened) ∙ unmade n most) in
+    let own : All (λ t. t.pass ≡ Some 0) book.later = all_own (begun first_tables) book.later (legal_later new.turns book) later_unmade in
+    let added_unmade : (n : ℕ) → 1 ≤ n → turns_by n does.makes.added ≡ [] = λ n most.
+    first_none n does.makes.added (ap (λ (ts : List Turn). turns_by n (ts ++ does.makes.added)) (sym first) ∙ ap (turns_by n) (sym does.makes.turns) ∙ unmade n most) in
     record {
       end = end;
       session = session;
-      alone = alone;
-      recorded = all_recorded (state_of old.book) session.course.exchanges steady were.each were.legal were.looks;
-      first = begins;
+      recorded = session_recorded (state_of old.turns) does.makes.added end acts
+          (record { happens = does.makes.happens; legal = legal; own = all_own (state_of old.turns) does.makes.added legal added_unmade }) ended;
+      first = first;
       ends = ends;
       book = book;
-      none_open = none_open new.book.turns new.book.opened own none (closed (ap (λ (b : BookState). claims_by 0 (state_of b).open_claims) begins));
-      tables = folds_book new.book opened book;
+      alone = own;
+      none_open = none_open new.turns rests unmade;
+      tables = folds_book new.turns book;
     }
 
-keeps_same : (known : Option (List ℕ)) → Keeps known known
-keeps_same None = tt
-keeps_same (Some xs) = refl
-
 -- the host gave no link, or out of memory
-pub unlinked : {L : Type 0} (answered : L → Option (List Exchange)) (faults : L → ℕ) (now : Option ℕ) (left written : Option (List ℕ))
-    (ahead : Option (ℕ → ℕ)) (given given_new back back_new : List L) (status : Status) → (status ≡ statuses.NoMemory) ⊎ (status ≡ statuses.DoorFault)
-    → given_new ≡ given → back_new ≡ back → IsRun answered faults now (around left written ahead given back) (around left written ahead given_new back_new) status
-unlinked answered faults now left written ahead given given_new back back_new status is same_given same_back =
-    let old = around left written ahead given back in
-    let new = around left written ahead given_new back_new in
-    let none : IsUnbegun old new = record {
-      unread = keeps_same left;
-      unwritten = keeps_same written;
-      unclocked = Gives-none ahead;
-      none_given = same_given;
-      none_back = same_back;
-    } in
+pub unlinked : {L : Type 0} (answered : L → List Exchange) (faults : L → ℕ) (now : Option ℕ) (gave : List (List ℕ)) (written readings : List ℕ)
+    (given given_new back back_new : List L) (status : Status) → (status ≡ statuses.NoMemory) ⊎ (status ≡ statuses.DoorFault)
+    → given_new ≡ given → back_new ≡ back → IsRun answered faults now (around gave written readings given back) (around gave written readings given_new back_new) status
+unlinked answered faults now gave written readings given given_new back back_new status is same_given same_back =
+    let old = around gave written readings given back in
+    let new = around gave written readings given_new back_new in
+    let none : IsUnbegun old new = record { unread = refl; unwritten = refl; unclocked = refl; none_given = same_given; none_back = same_back } in
     inr (is, none)
 
 -- a link was given, had a session, and was taken back
-pub run_linked : {L : Type 0} (answered : L → Option (List Exchange)) (faults : L → ℕ) (now : Option ℕ)
-    (left left_new written written_new : Option (List ℕ)) (ahead ahead_new : Option (ℕ → ℕ)) (given middle given_new back between back_new : List L)
+pub run_linked : {L : Type 0} (answered : L → List Exchange) (faults : L → ℕ) (now : Option ℕ)
+    (gave gave_new : List (List ℕ)) (written written_new readings readings_new : List ℕ) (given middle given_new back between back_new : List L)
     (lent returned : L) (status : Status) → middle ≡ given ++ lent ∷ [] → given_new ≡ middle → between ≡ back → back_new ≡ between ++ returned ∷ []
-    → ((book : BookState) × RunsBy now (world first_book left written ahead (answered lent) (faults lent))
-    (world book left_new written_new ahead_new (answered returned) (faults returned)) status)
-    → IsRun answered faults now (around left written ahead given back) (around left_new written_new ahead_new given_new back_new) status
-run_linked answered faults now left left_new written written_new ahead ahead_new given middle given_new back between back_new lent returned status
-    gave kept same took (book, runs) = inl (record {
+    → ((turns : List Turn) × RunsBy now (world (opening ∷ []) gave written readings (answered lent) (faults lent))
+    (world turns gave_new written_new readings_new (answered returned) (faults returned)) status)
+    → IsRun answered faults now (around gave written readings given back) (around gave_new written_new readings_new given_new back_new) status
+run_linked answered faults now gave gave_new written written_new readings readings_new given middle given_new back between back_new lent returned status
+    got kept same took (turns, runs) = inl (record {
       lent = lent;
       returned = returned;
-      given = kept ∙ gave;
+      given = kept ∙ got;
       back = took ∙ ap (λ (xs : List _). xs ++ returned ∷ []) same;
-      book = book;
+      turns = turns;
       runs = runs;
     })
 
 -- a session by a clock whose every reading is the given one; the program's own clock is not read
-pub run_still : (now : Option ℕ) (moment : ℕ) (left left_new written written_new : Option (List ℕ)) (still later ahead : Option (ℕ → ℕ))
-    (answered answered_new : Option (List Exchange)) (faults faults_new : ℕ) (after : BookState) (status : Status)
-    → now ≡ Some moment → still ≡ Some (repeating moment [])
-    → RunsOnce (world first_book left written still answered faults) (world after left_new written_new later answered_new faults_new) status
-    → RunsBy now (world first_book left written ahead answered faults) (world after left_new written_new ahead answered_new faults_new) status
-run_still now moment left left_new written written_new still later ahead answered answered_new faults faults_new after status is always runs =
-    let ended = world after left_new written_new later answered_new faults_new in
-    subst (λ (n : Option ℕ). RunsBy n (world first_book left written ahead answered faults)
-    (world after left_new written_new ahead answered_new faults_new) status) (sym is) (
-      later,
-      subst (λ (a : Option (ℕ → ℕ)). RunsOnce (world first_book left written a answered faults) ended status) always runs,
-      Gives-none ahead,
-    )
+pub run_still : (now : Option ℕ) (moment : ℕ) (gave gave_new : List (List ℕ)) (written written_new readings still : List ℕ)
+    (answered answered_new : List Exchange) (faults faults_new : ℕ) (turns : List Turn) (status : Status)
+    → now ≡ Some moment → All (λ r. r ≡ moment) still
+    → RunsOnce (world (opening ∷ []) gave written [] answered faults) (world turns gave_new written_new still answered_new faults_new) status
+    → RunsBy now (world (opening ∷ []) gave written readings answered faults) (world turns gave_new written_new readings answered_new faults_new) status
+run_still now moment gave gave_new written written_new readings still answered answered_new faults faults_new turns status is each runs =
+    subst (λ (n : Option ℕ). RunsBy n (world (opening ∷ []) gave written readings answered faults)
+    (world turns gave_new written_new readings answered_new faults_new) status) (sym is) (still, each, runs, refl)
 
 -- a session by the program's own clock
 pub run_clocked : (now : Option ℕ) (old new : World) (status : Status) → now ≡ None → RunsOnce old new status → RunsBy now old new status

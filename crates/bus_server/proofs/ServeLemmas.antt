@@ -13,21 +13,16 @@ use Rattle.program_lines.specs.declared.status.Status.{Status}
 use Rattle.program_lines.specs.declared.status.Status.TheVariants as statuses
 use Rattle.program_lines.specs.Printed.{listening_text}
 use Rattle.shared_door.specs.Shown.{Shown}
-use Rattle.router_core.specs.Tables.{Tables, first_tables}
+use Rattle.router_core.specs.Tables.{Tables}
 use Rattle.door_workers.specs.declared.door.DoorEnd.{DoorEnd}
 use Rattle.door_workers.specs.declared.door.DoorEnd.TheVariants as ends
 use Rattle.door_workers.specs.Serving.{HasServed}
 use Rattle.door_workers.proofs.ServingLemmas.{served_later}
 use Rattle.router_sessions.specs.declared.book.Book.{Book}
 use Rattle.router_sessions.specs.declared.history.Turn.{Turn}
-use Rattle.router_sessions.specs.History.{begun}
-use Rattle.router_sessions.specs.Book.{BookState, IsBook, book_of, recorded_in, seen_book, turns_in}
+use Rattle.router_sessions.specs.Book.{IsKept, recorded_in}
 use Rattle.bus_server.specs.Serve.{AroundDoor, EndsServing, EndsUnserved, IsOpened, IsUnserved, IsServe, around_door}
 use Rattle.bus_server.specs.Opened.{status_of_host, CountsHost, IsUnopened, IsAnnounced, IsUnannounced, ServesBy, IsUnservedBy}
-
--- the book by its turns
-book_by_turns : (b : Book) → IsBook (book_of b) → book_of b ≡ seen_book (recorded_in b.history)
-book_by_turns b is = ap (λ (t : Tables). record { opened = begun first_tables; tables = t; turns = turns_in b.history }) (sym is.tables)
 
 appends_kept : (a b c : Option (List ℕ)) (bs : List ℕ) → Appends a b bs → Keeps b c → Appends a c bs
 appends_kept None b c bs p q = tt
@@ -43,22 +38,21 @@ module _ {D I O : Type 0} (show : D → Shown I O) (fits : ℕ → I × O → I 
       served_later fits lasts connections start now turns turns' end s pre
 
   opened : (connections : Option ℕ) (lent returned : D) (seen : List Turn) (b : Book) (end : DoorEnd) (old new : Option (List ℕ)) (status : Status)
-      → HasServed connections (show lent) (show returned) fits seen end → IsPrefix seen (recorded_in b.history) → IsBook (book_of b)
+      → HasServed connections (show lent) (show returned) fits seen end → IsPrefix seen (recorded_in b.history) → IsKept b
       → EndsServing end b.tables old new status → IsOpened show fits connections lent returned old new status
-  opened connections lent returned seen b end old new status served pre is ends =
-      let book = book_by_turns b is in record {
-        turns = recorded_in b.history;
-        book = subst IsBook book is;
-        end = end;
-        served = later connections (show lent) (show returned) seen (recorded_in b.history) end pre served;
-        ends = subst (λ (s : BookState). EndsServing end s.tables old new status) book ends;
-      }
+  opened connections lent returned seen b end old new status served pre is ends = record {
+    turns = recorded_in b.history;
+    book = is.book;
+    end = end;
+    served = later connections (show lent) (show returned) seen (recorded_in b.history) end pre served;
+    ends = subst (λ (t : Tables). EndsServing end t old new status) (sym is.tables) ends;
+  }
 
   -- the door was served, or there was no memory for its workers
   pub opens : {L Count : Type 0} (connections : Option ℕ) (lent returned : D) (links links_back : List L) (seen : List Turn) (b : Book) (end : DoorEnd)
       (old new : Option (List ℕ)) (status : Status) → (end ≢ ends.NoMemory → HasServed connections (show lent) (show returned) fits seen end)
       → (end ≡ ends.NoMemory → (returned ≡ lent) × (links_back ≡ links)) → Count
-      → IsPrefix seen (recorded_in b.history) → IsBook (book_of b) → (end ≢ ends.NoMemory → EndsServing end b.tables old new status)
+      → IsPrefix seen (recorded_in b.history) → IsKept b → (end ≢ ends.NoMemory → EndsServing end b.tables old new status)
       → (end ≡ ends.NoMemory → (status ≡ statuses.NoMemory) × Keeps old new)
       → (Count × IsOpened show fits connections lent returned old new status)
       ⊎ IsUnopened lent returned links links_back old new status

@@ -1,25 +1,23 @@
 -- The program: its session, its status, and the line that reports the status.
-use Rattle.std.specs.Prelude.{◌≡◌, ◌≢◌, ℕ, ◌⊎◌, List, [], ◌∷◌, ◌++◌, Option, Some, None, Result, map}
-use Rattle.std.specs.Io.KnownBytes.{Keeps}
-use Rattle.router_disk.specs.Clock.{repeating, Gives}
+use Rattle.std.specs.Prelude.{◌≡◌, ◌≢◌, ℕ, ◌⊎◌, List, [], ◌∷◌, ◌++◌, Option, Some, None, Result, All, Contains}
 use Rattle.router_disk.specs.Faults.{CountsFaults, Rose}
 use Rattle.router_disk.specs.Link.{Exchange}
 use Rattle.router_disk.specs.Sink.{WritesAll}
 use Rattle.router_disk.specs.declared.fault.Failed.{Failed}
+use Rattle.delivery_duties.specs.declared.outcome.Fate.{Fate}
 use Rattle.program_lines.specs.declared.status.Status.{Status}
 use Rattle.program_lines.specs.declared.status.Status.TheVariants as statuses
 use Rattle.program_lines.specs.Status.{fault_line}
 use Rattle.router_core.specs.Tables.{first_tables, tables_after}
+use Rattle.courier_run.specs.Claim.{NeedsSend}
+use Rattle.courier_run.specs.Act.{Try, makes, tries_in}
 use Rattle.router_sessions.specs.declared.book.Seat.{Seat}
 use Rattle.router_sessions.specs.declared.session.SessionEnd.{SessionEnd}
 use Rattle.router_sessions.specs.declared.session.SessionEnd.TheVariants as ends
-use Rattle.router_sessions.specs.History.{batches_of}
+use Rattle.router_sessions.specs.History.{Turn, Placed, records, state_of, batches_of}
 use Rattle.bus_server.specs.Folds.{without_claims}
-use Rattle.router_sessions.specs.Book.{BookState, first_book, state_of, IsBook}
-use Rattle.router_sessions.specs.World.{World, world}
-use Rattle.router_sessions.specs.Sent.{try_of}
-use Rattle.router_sessions.specs.Delivery.{attempts_of}
-use Rattle.router_sessions.specs.Exchanges.{turns_of, tries_of, IsAlone}
+use Rattle.router_sessions.specs.Book.{opening, IsBook}
+use Rattle.router_sessions.specs.Acts.{Act, World, world}
 use Rattle.router_sessions.specs.Session.{IsSession}
 
 -- The status of a session's end. `Closed` is `Done`; each other end has the status of its own name.
@@ -53,67 +51,74 @@ pub record FaultsMatch (status : Status) (reads reads_new writes writes_new : �
 abbrev pub only_seat : Seat
 only_seat = record { pass = 0; connection = Some 0 }
 
--- One session from the first book, with the status of its end. No other pass made a turn, and each attempt whose text was sent is recorded.
--- Its turns are a legal history (`IsBook`), no claim is open after them, and the tables, claims set aside, are the fold of their batches.
--- Shown by: first-run.
+-- Each attempt whose text was sent is recorded by a turn, with its outcome.
+-- Shown by: recorded_without_a_send.edit.
+abbrev pub AreRecorded : List Act → Type 0
+AreRecorded acts = (t : Try) → Contains (tries_in acts) t → NeedsSend t.claim
+    → (p : Placed) × (fate : Fate) × Contains acts (makes p) × (p.turn.ask ≡ records (record { claim = t.claim; outcome = t.outcome; fate = fate }))
+
+-- One session over a book that was just opened with the first tables, with the status of its end. No other pass made a turn, and each attempt
+-- whose text was sent is recorded. The history is legal (`IsBook`), no claim is open after it, and the tables, claims set aside, are the
+-- fold of its batches.
+-- Shown by: first-run; each_request_is_made_twice.edit.
 pub record RunsOnce (old new : World) (status : Status) : Type 0 where
   pub end : SessionEnd
   pub session : IsSession only_seat old new end
-  pub alone : IsAlone only_seat session.exchanges.added
-  pub recorded : tries_of session.course.exchanges ≡ map try_of (attempts_of (turns_of session.course.exchanges))
-  pub first : old.book ≡ first_book
+  pub recorded : AreRecorded session.0
+  pub first : old.turns ≡ opening ∷ []
   pub ends : status ≡ status_of end
-  pub book : IsBook new.book
-  pub none_open : (state_of new.book).open_claims ≡ []
-  pub tables : without_claims new.book.tables ≡ tables_after (batches_of new.book.turns) first_tables
+  pub book : IsBook new.turns
+  pub alone : All (λ t. t.pass ≡ Some 0) book.later
+  pub none_open : (state_of new.turns).open_claims ≡ []
+  pub tables : without_claims (state_of new.turns).tables ≡ tables_after (batches_of new.turns) first_tables
 
--- What is known around a run: the bytes left to read, the bytes written and the readings to come, each if it is known; the links that the
--- host gave, and those that it took back.
+-- What is known around a run: what the reads gave, the bytes written and the readings of the clock; the links that the host gave, and those
+-- that it took back.
 -- Shown by: program_tests program.rt: a_run_gives_its_link_back.
 pub record Around (L : Type 0) : Type 0 where
-  pub left : Option (List ℕ)
-  pub written : Option (List ℕ)
-  pub ahead : Option (ℕ → ℕ)
+  pub gave : List (List ℕ)
+  pub written : List ℕ
+  pub readings : List ℕ
   pub given : List L
   pub back : List L
 
 -- The `Around` with these parts.
 -- Shown by: program_tests program.rt: a_run_gives_its_link_back.
-abbrev pub around : {L : Type 0} → Option (List ℕ) → Option (List ℕ) → Option (ℕ → ℕ) → List L → List L → Around L
-around left written ahead given back = record { left = left; written = written; ahead = ahead; given = given; back = back }
+abbrev pub around : {L : Type 0} → List (List ℕ) → List ℕ → List ℕ → List L → List L → Around L
+around gave written readings given back = record { gave = gave; written = written; readings = readings; given = given; back = back }
 
--- Known input and output are as they were, no reading was taken, and no link was given or taken back.
+-- Nothing was read or written, no reading was taken, and no link was given or taken back.
 -- Shown by: bad-arguments.
 pub record IsUnbegun {L : Type 0} (old new : Around L) : Type 0 where
-  pub unread : Keeps old.left new.left
-  pub unwritten : Keeps old.written new.written
-  pub unclocked : Gives old.ahead new.ahead []
+  pub unread : new.gave ≡ old.gave
+  pub unwritten : new.written ≡ old.written
+  pub unclocked : new.readings ≡ old.readings
   pub none_given : new.given ≡ old.given
   pub none_back : new.back ≡ old.back
 
 -- `RunsOnce` by the clock, or with every reading the given one while the clock is not read.
--- Shown by: the_clock_is_read_beside_now.edit.
+-- Shown by: the_clock_stands_still.edit.
 abbrev pub RunsBy : Option ℕ → World → World → Status → Type 0
 RunsBy None old new status = RunsOnce old new status
-RunsBy (Some moment) old new status = (later : Option (ℕ → ℕ))
-    × RunsOnce (record old { ahead = Some (repeating moment []) }) (record new { ahead = later }) status × Gives old.ahead new.ahead []
+RunsBy (Some moment) old new status = (readings : List ℕ) × All (λ r. r ≡ moment) readings
+    × RunsOnce (record old { readings = [] }) (record new { readings = readings }) status × (new.readings ≡ old.readings)
 
 -- The host gave one link, a session had it (`RunsBy`), and the host took it back. `answered` and `faults` are what a link shows.
--- Shown by: program_tests program.rt: a_run_gives_its_link_back.
-pub record RunsLinked {L : Type 0} (answered : L → Option (List Exchange)) (faults : L → ℕ) (now : Option ℕ) (old new : Around L) (status : Status)
+-- Shown by: program_tests program.rt: a_run_gives_its_link_back; delivers_by_its_own_link.edit; a_text_is_sent_beside.edit.
+pub record RunsLinked {L : Type 0} (answered : L → List Exchange) (faults : L → ℕ) (now : Option ℕ) (old new : Around L) (status : Status)
     : Type 0 where
   -- the link as it was given, and as it was taken back
   pub lent : L
   pub returned : L
   pub given : new.given ≡ old.given ++ lent ∷ []
   pub back : new.back ≡ old.back ++ returned ∷ []
-  pub book : BookState
-  pub runs : RunsBy now (world first_book old.left old.written old.ahead (answered lent) (faults lent))
-      (world book new.left new.written new.ahead (answered returned) (faults returned)) status
+  pub turns : List Turn
+  pub runs : RunsBy now (world (opening ∷ []) old.gave old.written old.readings (answered lent) (faults lent))
+      (world turns new.gave new.written new.readings (answered returned) (faults returned)) status
 
 -- `RunsLinked`; or `NoMemory` or `DoorFault` and nothing begun.
 -- Shown by: first-run.
-abbrev pub IsRun : {L : Type 0} → (answered : L → Option (List Exchange)) (faults : L → ℕ) → Option ℕ → Around L → Around L → Status → Type 0
+abbrev pub IsRun : {L : Type 0} (answered : L → List Exchange) (faults : L → ℕ) → Option ℕ → Around L → Around L → Status → Type 0
 IsRun answered faults now old new status =
     RunsLinked answered faults now old new status ⊎ (((status ≡ statuses.NoMemory) ⊎ (status ≡ statuses.DoorFault)) × IsUnbegun old new)
 

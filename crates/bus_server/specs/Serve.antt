@@ -15,7 +15,8 @@ use Rattle.door_workers.specs.declared.door.DoorEnd.{DoorEnd}
 use Rattle.door_workers.specs.declared.door.DoorEnd.TheVariants as ends
 use Rattle.door_workers.specs.Serving.{HasServed}
 use Rattle.router_sessions.specs.declared.history.Turn.{Turn}
-use Rattle.router_sessions.specs.Book.{IsBook, seen_book}
+use Rattle.router_sessions.specs.History.{state_of}
+use Rattle.router_sessions.specs.Book.{turn_of, IsBook}
 
 -- What is known around a program that serves: the bytes written, if they are known; the doors, each after its port, and the links that the
 -- host gave, and those that it took back; and the host's counts of faults of doors and of links.
@@ -44,7 +45,7 @@ around_door written doors doors_back links links_back door_faults link_faults = 
 
 -- What the tables count: batches, their operations and configuration changes, events, deliveries by their states, and messages in queues.
 -- Archived events and replays are 0.
--- Shown by: program_tests serve.rt: two_workers_serve_the_first_run; the_summary_counts_all_duties_as_pending.edit.
+-- Shown by: program_tests serve.rt: two_workers_serve_the_first_run.
 abbrev pub summary_of : Tables → Summary
 summary_of t = record {
   records = t.batches;
@@ -62,7 +63,7 @@ summary_of t = record {
 }
 
 -- The summary was written, with `Done`; a first part of it, with `WriteFault`; or nothing, with `NoMemory`.
--- Shown by: program_tests serve.rt: a_rule_of_one_connection_holds_for_the_next; nothing_is_summed_up.edit.
+-- Shown by: program_tests serve.rt: a_rule_of_one_connection_holds_for_the_next.
 abbrev pub IsSummed : Tables → Option (List ℕ) → Option (List ℕ) → Status → Type 0
 IsSummed t old new status =
     ((status ≡ statuses.Done) × Appends old new (summary_lines (summary_of t)))
@@ -82,10 +83,10 @@ EndsServing ends.NoMemory t old new status = ⊥
 pub record IsOpened {D I O : Type 0} (show : D → Shown I O) (fits : ℕ → I × O → I × O → Bool → List Turn → List Turn → Type 0) (connections : Option ℕ)
     (lent returned : D) (old new : Option (List ℕ)) (status : Status) : Type 0 where
   pub turns : List Turn
-  pub book : IsBook (seen_book turns)
+  pub book : IsBook (map turn_of turns)
   pub end : DoorEnd
   pub served : HasServed connections (show lent) (show returned) fits turns end
-  pub ends : EndsServing end (seen_book turns).tables old new status
+  pub ends : EndsServing end (state_of (map turn_of turns)).tables old new status
 
 -- The host gave one door, at the port, and one link for each worker, and took back one door and as many links, with no fault. `listening`
 -- and the port were written, and then the workers served the door (`IsOpened`).
@@ -140,7 +141,7 @@ pub record IsUnserved {D L : Type 0} (port workers : ℕ) (old new : AroundDoor 
   pub faultless : status ≢ statuses.DoorFault → (new.door_faults ≡ old.door_faults) × (new.link_faults ≡ old.link_faults)
 
 -- The run of a program that serves: `Serves` or `IsUnserved`.
--- Shown by: program_tests serve.rt: two_workers_serve_the_first_run; serve_is_refused.edit.
+-- Shown by: program_tests serve.rt: two_workers_serve_the_first_run.
 abbrev pub IsServe : {D L I O : Type 0} → (D → Shown I O) → (ℕ → I × O → I × O → Bool → List Turn → List Turn → Type 0) → ℕ → ℕ → Option ℕ
     → AroundDoor D L → AroundDoor D L → Status → Type 0
 IsServe show fits port workers connections old new status =

@@ -1,12 +1,14 @@
 //! What the workers of a door do for the router.
-ghost use Rattle.std.specs.Prelude.{◌≡◌, None};
+ghost use Rattle.std.specs.Prelude.{◌≡◌, List, None};
 ghost use Rattle.turn_book.specs.Passes.{IsFree, IsSamePass};
-ghost use Rattle.router_sessions.specs.Book.{IsBook, HasNamed};
-ghost use Rattle.router_sessions.specs.Desk.{book_seen, seat_of, seen_by};
-ghost use Rattle.router_sessions.specs.Visit.{IsVisit};
+ghost use Rattle.router_sessions.specs.Book.{IsBook, Rests};
+ghost use Rattle.router_sessions.specs.Acts.{Act, Makes};
+ghost use Rattle.router_sessions.specs.Desk.{turns_seen, number_of, seat_of, seen_by};
+ghost use Rattle.router_sessions.specs.Visit.{IsVisit, OwesNothing};
 
 use crate::places::{Placed, Places};
 use bus_host::Gate;
+use courier_run::Stop;
 use door_workers::Work;
 use http_server::Log;
 use router_disk::{Clock, Link, Sink, Source};
@@ -35,7 +37,7 @@ impl<
 > Work<Book, I, O, L> for Clerk<S, M> {
     ghost use Rattle.bus_server.specs.Clerk.{IsClerk};
 
-    ghost works = { λ c. IsClerk I.left O.written I.faults O.faults S.Fn c.serve M.Fn c.meanwhile };
+    ghost works = { λ c. IsClerk I.gave O.wrote I.faults O.faults S.Fn c.serve M.Fn c.meanwhile };
 
     fn serve(
         &self,
@@ -71,8 +73,10 @@ pub(crate) fn converse<I: Source, O: Sink, Rt: Wait + Sync, L: Link, C: Clock, G
 ) -> bool
     requires here { pass.old.seat.table_id ≡ hall.now.table.shared.table_id }
     requires free { IsFree pass.old.seat }
+    requires rests { OwesNothing (number_of pass.old.seat) (seen_by pass.old.seat) }
     ensures pass { IsSamePass pass.old.seat pass.new.seat × IsFree pass.new.seat }
-    ensures visit { IsVisit I.left O.written I.faults O.faults number (input.old, output.old) (input.new, output.new) result (seen_by pass.old.seat) (seen_by pass.new.seat) }
+    ensures rests { OwesNothing (number_of pass.new.seat) (seen_by pass.new.seat) }
+    ensures visit { IsVisit I.gave O.wrote I.faults O.faults number (input.old, output.old) (input.new, output.new) result (seen_by pass.old.seat) (seen_by pass.new.seat) }
 {
     let mut clock = Reader {
         rt,
@@ -97,8 +101,10 @@ pub(crate) fn deliver_in_a_place<Rt: Wait + Sync, L: Link, C: Clock>(
 )
     requires here { pass.old.seat.table_id ≡ hall.now.table.shared.table_id }
     requires free { IsFree pass.old.seat }
+    requires rests { OwesNothing (number_of pass.old.seat) (seen_by pass.old.seat) }
     ensures pass { IsSamePass pass.old.seat pass.new.seat × IsFree pass.new.seat }
-    ensures named { HasNamed (seat_of None pass.old.seat) (book_seen pass.old.seat) (book_seen pass.new.seat) }
+    ensures rests { OwesNothing (number_of pass.new.seat) (seen_by pass.new.seat) }
+    ensures made { (acts : List Act) × Makes (seat_of None pass.old.seat) acts (turns_seen pass.old.seat) (turns_seen pass.new.seat) }
 {
     if places.enter() {
         let mut link = Placed { rt, places, link };
@@ -119,8 +125,10 @@ fn deliver_for_a_while<Rt: Wait + Sync, L: Link, C: Clock>(
 )
     requires here { pass.old.seat.table_id ≡ hall.now.table.shared.table_id }
     requires free { IsFree pass.old.seat }
+    requires rests { OwesNothing (number_of pass.old.seat) (seen_by pass.old.seat) }
     ensures pass { IsSamePass pass.old.seat pass.new.seat × IsFree pass.new.seat }
-    ensures named { HasNamed (seat_of None pass.old.seat) (book_seen pass.old.seat) (book_seen pass.new.seat) }
+    ensures rests { OwesNothing (number_of pass.new.seat) (seen_by pass.new.seat) }
+    ensures made { (acts : List Act) × Makes (seat_of None pass.old.seat) acts (turns_seen pass.old.seat) (turns_seen pass.new.seat) }
 {
     look(rt, alloc, hall, pass);
     let mut clock = Reader {
@@ -148,14 +156,17 @@ fn deliver_once<Rt: Wait + Sync, L: Link, C: Clock>(
 ) -> bool
     requires here { pass.old.seat.table_id ≡ hall.now.table.shared.table_id }
     requires free { IsFree pass.old.seat }
-    requires book { IsBook (book_seen pass.old.seat) }
+    requires book { IsBook (turns_seen pass.old.seat) }
+    requires rests { Rests (number_of pass.old.seat) (turns_seen pass.old.seat) }
     ensures pass { IsSamePass pass.old.seat pass.new.seat × IsFree pass.new.seat }
-    ensures book { IsBook (book_seen pass.new.seat) }
-    ensures named { HasNamed (seat_of None pass.old.seat) (book_seen pass.old.seat) (book_seen pass.new.seat) }
+    ensures book { IsBook (turns_seen pass.new.seat) }
+    ensures rests { Rests (number_of pass.old.seat) (turns_seen pass.new.seat) }
+    ensures made { (acts : List Act) × Makes (seat_of None pass.old.seat) acts (turns_seen pass.old.seat) (turns_seen pass.new.seat) }
 {
-    match serve_quiet(rt, alloc, hall, pass, link, clock, 1) {
-        Ok(turned) => turned.attempts != 0 && clock.now() == begun,
-        Err(_) => false,
+    let stepped = serve_quiet(rt, alloc, hall, pass, link, clock, 1);
+    match stepped.stop {
+        Stop::Spent | Stop::Idle => stepped.turned.attempts != 0 && clock.now() == begun,
+        Stop::Full | Stop::NoMemory => false,
     }
 }
 

@@ -1,12 +1,13 @@
 //! A door served by workers side by side.
-ghost use Rattle.std.specs.Prelude.{◌≡◌, ◌≢◌, ◌+◌, ◌<◌, ◌≤◌, All, None, [], vec_len};
+ghost use Rattle.std.specs.Prelude.{◌≡◌, ◌≢◌, ◌+◌, ◌<◌, ◌≤◌, All, List, None, [], vec_len};
 ghost use Rattle.router_disk.specs.Faults.{Rose};
 ghost use Rattle.turn_book.specs.Passes.{view, IsFree, IsSamePass};
 ghost use Rattle.shared_door.specs.Shown.{shown_by};
 ghost use Rattle.door_workers.specs.Serving.{IsIdlePass, HasServed};
-ghost use Rattle.router_sessions.specs.Book.{IsBook, HasNamed};
-ghost use Rattle.router_sessions.specs.Desk.{book_seen, number_of, seat_of, seen_by, SeesMore};
-ghost use Rattle.router_sessions.specs.Visit.{IsVisit};
+ghost use Rattle.router_sessions.specs.Book.{IsBook};
+ghost use Rattle.router_sessions.specs.Acts.{Act, Makes};
+ghost use Rattle.router_sessions.specs.Desk.{turns_seen, number_of, seat_of, seen_by, SeesMore};
+ghost use Rattle.router_sessions.specs.Visit.{IsVisit, OwesNothing};
 
 use crate::clerk::{Clerk, converse, deliver_in_a_place};
 use crate::places::Places;
@@ -44,8 +45,8 @@ pub fn serve_door<Rt: Wait + Threads + Sync, D: Door, L: Link, C: Clock, G: Gate
     ensures links { vec_len result.owns ≡ vec_len links }
     ensures served { result.end ≢ DoorEnd.NoMemory → HasServed connections (shown_by D.faults D.ahead D.given D.ended D.gave D.took_back D.closed door)
         (shown_by D.faults D.ahead D.given D.ended D.gave D.took_back D.closed result.door)
-        (IsVisit ⟦<D::In as Source>⟧.left ⟦<D::Out as Sink>⟧.written ⟦<D::In as Source>⟧.faults ⟦<D::Out as Sink>⟧.faults) (seen_by pass.new.seat) result.end }
-    ensures book { result.end ≢ DoorEnd.NoMemory → IsBook (book_seen pass.new.seat) }
+        (IsVisit ⟦<D::In as Source>⟧.gave ⟦<D::Out as Sink>⟧.wrote ⟦<D::In as Source>⟧.faults ⟦<D::Out as Sink>⟧.faults) (seen_by pass.new.seat) result.end }
+    ensures book { result.end ≢ DoorEnd.NoMemory → IsBook (turns_seen pass.new.seat) }
     ensures door_fault { result.end ≡ DoorEnd.DoorFault → Rose (D.faults door) (D.faults result.door) }
     ensures no_memory { result.end ≡ DoorEnd.NoMemory → (result.door ≡ door) × (result.owns.items ≡ links.items)
         × (result.passes.items ≡ []) × (pass.new ≡ pass.old) }
@@ -58,8 +59,10 @@ pub fn serve_door<Rt: Wait + Threads + Sync, D: Door, L: Link, C: Clock, G: Gate
         >, number: u64, input: &mut D::In, output: &mut D::Out|
             requires here { pass.old.seat.table_id ≡ hall.now.table.shared.table_id }
             requires free { IsFree pass.old.seat }
+            requires rests { OwesNothing (number_of pass.old.seat) (seen_by pass.old.seat) }
             ensures pass { IsSamePass pass.old.seat pass.new.seat × IsFree pass.new.seat }
-            ensures visit { IsVisit D.In.left D.Out.written D.In.faults D.Out.faults number (input.old, output.old) (input.new, output.new) result (seen_by pass.old.seat) (seen_by pass.new.seat) }
+            ensures rests { OwesNothing (number_of pass.new.seat) (seen_by pass.new.seat) }
+            ensures visit { IsVisit D.In.gave D.Out.wrote D.In.faults D.Out.faults number (input.old, output.old) (input.new, output.new) result (seen_by pass.old.seat) (seen_by pass.new.seat) }
         {
             converse(
                 rt, alloc, &clock, gate, link, hall, pass, number, input, output,
@@ -68,8 +71,10 @@ pub fn serve_door<Rt: Wait + Threads + Sync, D: Door, L: Link, C: Clock, G: Gate
         meanwhile: |link: &mut L, hall: &Hall<Book>, pass: &mut Pass<Book>|
             requires here { pass.old.seat.table_id ≡ hall.now.table.shared.table_id }
             requires free { IsFree pass.old.seat }
+            requires rests { OwesNothing (number_of pass.old.seat) (seen_by pass.old.seat) }
             ensures pass { IsSamePass pass.old.seat pass.new.seat × IsFree pass.new.seat }
-            ensures named { HasNamed (seat_of None pass.old.seat) (book_seen pass.old.seat) (book_seen pass.new.seat) }
+            ensures rests { OwesNothing (number_of pass.new.seat) (seen_by pass.new.seat) }
+            ensures made { (acts : List Act) × Makes (seat_of None pass.old.seat) acts (turns_seen pass.old.seat) (turns_seen pass.new.seat) }
         { deliver_in_a_place(rt, alloc, &clock, &places, link, hall, pass) },
     };
     let serving = door_workers::serve_door(rt, alloc, hall, pass, links, door, connections, &clerk);
@@ -88,7 +93,7 @@ fn look_after<Rt: Wait>(
     requires here { IsIdlePass hall.now.table.shared.table_id pass.old.seat }
     ensures pass { IsSamePass pass.old.seat pass.new.seat × IsFree pass.new.seat }
     ensures more { SeesMore pass.old.seat pass.new.seat }
-    ensures book { end ≢ DoorEnd.NoMemory → IsBook (book_seen pass.new.seat) }
+    ensures book { end ≢ DoorEnd.NoMemory → IsBook (turns_seen pass.new.seat) }
     ensures none { end ≡ DoorEnd.NoMemory → pass.new ≡ pass.old }
 {
     match end {

@@ -6,8 +6,9 @@ mod door;
 mod places;
 mod program;
 mod serve;
+mod still;
 
 pub use door::serve_door;
 pub use door_workers::{DoorEnd, Serving};
 pub use program::run;
-pub use router_sessions::{Book, SessionEnd, one_session, serve_quiet, serve_session};
+pub use router_sessions::{Book, SessionEnd, serve_quiet, serve_session};

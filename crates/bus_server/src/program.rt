@@ -1,28 +1,30 @@
 //! The program.
-ghost use Rattle.std.specs.Prelude.{◌≡◌, ◌≢◌, ℕ, List, [], Option, map, string_bytes};
-ghost use Rattle.std.specs.Io.KnownBytes.{Keeps};
+ghost use Rattle.std.specs.Prelude.{◌≡◌, ◌≢◌, ◌∷◌, ℕ, List, [], All, Option, map, string_bytes};
 ghost use Rattle.program_lines.specs.Command.{IsCommand};
 ghost use Rattle.program_lines.specs.declared.command.Command.{Command as Action};
 ghost use Rattle.program_lines.specs.declared.command.Command.TheVariants as commands;
 ghost use Rattle.program_lines.specs.declared.status.Status.TheVariants as statuses;
-ghost use Rattle.turn_book.specs.Rule.{opener};
 ghost use Rattle.turn_book.specs.Passes.{view, IsFree};
 ghost use Rattle.bus_server.specs.Run.{IsRun, RunsBy, RunsOnce, IsUnbegun, IsReported, FaultsMatch, HostMatches};
 ghost use Rattle.bus_server.specs.Run.{around, status_of};
-ghost use Rattle.router_sessions.specs.Book.{BookState, first_book};
+ghost use Rattle.router_sessions.specs.History.{Turn};
+ghost use Rattle.router_sessions.specs.Book.{opening};
+ghost use Rattle.router_sessions.specs.Desk.{turns_seen};
 ghost use Rattle.bus_host.specs.Host.{SameGiven};
 ghost use Rattle.shared_door.specs.Shown.{shown_by};
 ghost use Rattle.bus_server.specs.Serve.{around_door, IsServe};
 ghost use Rattle.router_sessions.specs.Visit.{IsVisit};
-ghost use Rattle.router_sessions.specs.World.{world};
+ghost use Rattle.router_sessions.specs.Acts.{world};
 
 use crate::serve::serve;
+use crate::still::{Moment, StillClock};
 use bus_host::{Host, HostFault, NoGate};
 use json_text::NoMemory;
 use program_lines::{Command, Status, read_command};
-use router_disk::{Clock, Link, MemClock, Sink, Source};
+use router_disk::{Clock, Link, Sink, Source};
 use router_sessions::{Book, SessionEnd, serve_session};
 use std::alloc::Global;
+use std::marker::Brand;
 use std::sync::Wait;
 use std::thread::Threads;
 use turn_book::{Hall, Pass};
@@ -44,20 +46,20 @@ pub fn run<Rt: Wait + Threads + Sync, S: Source, K: Sink, E: Sink, H: Host, C: C
     host: &mut H,
     clock: &mut C,
 ) -> Status
-    ensures run { (now : Option ℕ) → IsCommand (map string_bytes words.now) (commands.Once now) → IsRun H.Link.answered H.Link.faults now
-        (around (S.left input.old) (K.written output.old) (C.ahead clock.old) (H.links_given host.old) (H.links_back host.old))
-        (around (S.left input.new) (K.written output.new) (C.ahead clock.new) (H.links_given host.new) (H.links_back host.new)) result }
+    ensures run { (now : Option ℕ) → IsCommand (map string_bytes words.now) (commands.Once now) → IsRun H.Link.exchanges H.Link.faults now
+        (around (S.gave input.old) (K.wrote output.old) (C.gave clock.old) (H.links_given host.old) (H.links_back host.old))
+        (around (S.gave input.new) (K.wrote output.new) (C.gave clock.new) (H.links_given host.new) (H.links_back host.new)) result }
     ensures serve { (port workers : ℕ) (connections : Option ℕ) → IsCommand (map string_bytes words.now) (commands.Serve port workers connections)
-        → Keeps (S.left input.old) (S.left input.new) × IsServe (shown_by H.Door.faults H.Door.ahead H.Door.given H.Door.ended H.Door.gave H.Door.took_back H.Door.closed)
-        (IsVisit H.Door.In.left H.Door.Out.written H.Door.In.faults H.Door.Out.faults) port workers connections
+        → (S.gave input.new ≡ S.gave input.old) × IsServe (shown_by H.Door.faults H.Door.ahead H.Door.given H.Door.ended H.Door.gave H.Door.took_back H.Door.closed)
+        (IsVisit H.Door.In.gave H.Door.Out.wrote H.Door.In.faults H.Door.Out.faults) port workers connections
         (around_door (K.written output.old) (H.doors_given host.old) (H.doors_back host.old) (H.links_given host.old) (H.links_back host.old)
         (H.door_faults host.old) (H.link_faults host.old))
         (around_door (K.written output.new) (H.doors_given host.new) (H.doors_back host.new) (H.links_given host.new) (H.links_back host.new)
         (H.door_faults host.new) (H.link_faults host.new)) result }
     ensures usage { ((c : Action) → ¬ IsCommand (map string_bytes words.now) c)
         → (result ≡ statuses.Usage) × IsUnbegun
-        (around (S.left input.old) (K.written output.old) (C.ahead clock.old) (H.links_given host.old) (H.links_back host.old))
-        (around (S.left input.new) (K.written output.new) (C.ahead clock.new) (H.links_given host.new) (H.links_back host.new)) }
+        (around (S.gave input.old) (K.wrote output.old) (C.gave clock.old) (H.links_given host.old) (H.links_back host.old))
+        (around (S.gave input.new) (K.wrote output.new) (C.gave clock.new) (H.links_given host.new) (H.links_back host.new)) }
     ensures reported { IsReported result (E.written faults.old) (E.written faults.new) (E.faults faults.old) (E.faults faults.new) }
     ensures counts { FaultsMatch result (S.faults input.old) (S.faults input.new) (K.faults output.old) (K.faults output.new) }
     ensures disk { H.disk_faults host.new ≡ H.disk_faults host.old }
@@ -111,9 +113,9 @@ fn once<Rt: Wait, S: Source, K: Sink, H: Host, C: Clock>(
     host: &mut H,
     clock: &mut C,
 ) -> Status
-    ensures run { IsRun H.Link.answered H.Link.faults now
-        (around (S.left input.old) (K.written output.old) (C.ahead clock.old) (H.links_given host.old) (H.links_back host.old))
-        (around (S.left input.new) (K.written output.new) (C.ahead clock.new) (H.links_given host.new) (H.links_back host.new)) result }
+    ensures run { IsRun H.Link.exchanges H.Link.faults now
+        (around (S.gave input.old) (K.wrote output.old) (C.gave clock.old) (H.links_given host.old) (H.links_back host.old))
+        (around (S.gave input.new) (K.wrote output.new) (C.gave clock.new) (H.links_given host.new) (H.links_back host.new)) result }
     ensures counts { FaultsMatch result (S.faults input.old) (S.faults input.new) (K.faults output.old) (K.faults output.new) }
     ensures host { HostMatches H.disk_faults H.door_faults H.link_faults result host.old host.new }
     ensures doors { SameGiven H.doors_given H.doors_back host.old host.new }
@@ -140,11 +142,11 @@ fn linked<Rt: Wait, S: Source, K: Sink, H: Host, C: Clock>(
     clock: &mut C,
 ) -> Status
     requires here { pass.seat.table_id ≡ hall.table.shared.table_id }
-    requires opener { view pass.seat ≡ opener [] }
+    requires opener { ((view pass.seat).number ≡ 0) × ((view pass.seat).made ≡ 1) × (turns_seen pass.seat ≡ opening ∷ []) }
     requires free { IsFree pass.seat }
-    ensures run { IsRun H.Link.answered H.Link.faults now
-        (around (S.left input.old) (K.written output.old) (C.ahead clock.old) (H.links_given host.old) (H.links_back host.old))
-        (around (S.left input.new) (K.written output.new) (C.ahead clock.new) (H.links_given host.new) (H.links_back host.new)) result }
+    ensures run { IsRun H.Link.exchanges H.Link.faults now
+        (around (S.gave input.old) (K.wrote output.old) (C.gave clock.old) (H.links_given host.old) (H.links_back host.old))
+        (around (S.gave input.new) (K.wrote output.new) (C.gave clock.new) (H.links_given host.new) (H.links_back host.new)) result }
     ensures counts { FaultsMatch result (S.faults input.old) (S.faults input.new) (K.faults output.old) (K.faults output.new) }
     ensures host { HostMatches H.disk_faults H.door_faults H.link_faults result host.old host.new }
     ensures doors { SameGiven H.doors_given H.doors_back host.old host.new }
@@ -173,21 +175,67 @@ fn clocked<Rt: Wait, S: Source, K: Sink, L: Link, C: Clock>(
     clock: &mut C,
 ) -> Status
     requires here { pass.seat.table_id ≡ hall.table.shared.table_id }
-    requires opener { view pass.seat ≡ opener [] }
+    requires opener { ((view pass.seat).number ≡ 0) × ((view pass.seat).made ≡ 1) × (turns_seen pass.seat ≡ opening ∷ []) }
     requires free { IsFree pass.seat }
-    ensures run { (book : BookState) × RunsBy now
-        (world first_book (S.left input.old) (K.written output.old) (C.ahead clock.old) (L.answered link.old) (L.faults link.old))
-        (world book (S.left input.new) (K.written output.new) (C.ahead clock.new) (L.answered link.new) (L.faults link.new)) result }
+    ensures run { (turns : List Turn) × RunsBy now
+        (world (opening ∷ []) (S.gave input.old) (K.wrote output.old) (C.gave clock.old) (L.exchanges link.old) (L.faults link.old))
+        (world turns (S.gave input.new) (K.wrote output.new) (C.gave clock.new) (L.exchanges link.new) (L.faults link.new)) result }
     ensures counts { FaultsMatch result (S.faults input.old) (S.faults input.new) (K.faults output.old) (K.faults output.new) }
     ensures no_door_fault { result ≢ statuses.DoorFault }
 {
     match now {
-        Some(moment) => {
-            let mut still = MemClock::always(alloc, moment);
-            over(rt, alloc, hall, pass, input, output, link, &mut still)
-        }
+        Some(moment) => { stand_still(rt, alloc, hall, pass, input, output, link, moment) }
         None => over(rt, alloc, hall, pass, input, output, link, clock),
     }
+}
+
+/// One session with every reading the moment.
+fn stand_still<Rt: Wait, S: Source, K: Sink, L: Link>(
+    rt: &Rt,
+    alloc: Global,
+    hall: Hall<Book>,
+    pass: Pass<Book>,
+    input: &mut S,
+    output: &mut K,
+    link: &mut L,
+    moment: u64,
+) -> Status
+    requires here { pass.seat.table_id ≡ hall.table.shared.table_id }
+    requires opener { ((view pass.seat).number ≡ 0) × ((view pass.seat).made ≡ 1) × (turns_seen pass.seat ≡ opening ∷ []) }
+    requires free { IsFree pass.seat }
+    ensures run { (turns : List Turn) × (readings : List ℕ) × All (λ r. r ≡ moment) readings × RunsOnce
+        (world (opening ∷ []) (S.gave input.old) (K.wrote output.old) [] (L.exchanges link.old) (L.faults link.old))
+        (world turns (S.gave input.new) (K.wrote output.new) readings (L.exchanges link.new) (L.faults link.new)) result }
+    ensures counts { FaultsMatch result (S.faults input.old) (S.faults input.new) (K.faults output.old) (K.faults output.new) }
+    ensures no_door_fault { result ≢ statuses.DoorFault }
+{
+    still_by::<Brand, Rt, S, K, L>(rt, alloc, hall, pass, input, output, link, moment)
+}
+
+fn still_by<N: Moment + Send, Rt: Wait, S: Source, K: Sink, L: Link>(
+    rt: &Rt,
+    alloc: Global,
+    hall: Hall<Book>,
+    pass: Pass<Book>,
+    input: &mut S,
+    output: &mut K,
+    link: &mut L,
+    moment: u64,
+) -> Status
+    requires here { pass.seat.table_id ≡ hall.table.shared.table_id }
+    requires opener { ((view pass.seat).number ≡ 0) × ((view pass.seat).made ≡ 1) × (turns_seen pass.seat ≡ opening ∷ []) }
+    requires free { IsFree pass.seat }
+    requires moment { moment ≡ N.moment }
+    ensures run { (turns : List Turn) × (readings : List ℕ) × All (λ r. r ≡ N.moment) readings × RunsOnce
+        (world (opening ∷ []) (S.gave input.old) (K.wrote output.old) [] (L.exchanges link.old) (L.faults link.old))
+        (world turns (S.gave input.new) (K.wrote output.new) readings (L.exchanges link.new) (L.faults link.new)) result }
+    ensures counts { FaultsMatch result (S.faults input.old) (S.faults input.new) (K.faults output.old) (K.faults output.new) }
+    ensures no_door_fault { result ≢ statuses.DoorFault }
+{
+    let mut still: StillClock<N> = StillClock::new(moment);
+    let status = over(rt, alloc, hall, pass, input, output, link, &mut still);
+    still.always();
+    status
 }
 
 /// One session over the hall's book, whose only pass this is.
@@ -202,11 +250,11 @@ fn over<Rt: Wait, S: Source, K: Sink, L: Link, C: Clock>(
     clock: &mut C,
 ) -> Status
     requires here { pass.seat.table_id ≡ hall.table.shared.table_id }
-    requires opener { view pass.seat ≡ opener [] }
+    requires opener { ((view pass.seat).number ≡ 0) × ((view pass.seat).made ≡ 1) × (turns_seen pass.seat ≡ opening ∷ []) }
     requires free { IsFree pass.seat }
-    ensures run { (book : BookState) × RunsOnce
-        (world first_book (S.left input.old) (K.written output.old) (C.ahead clock.old) (L.answered link.old) (L.faults link.old))
-        (world book (S.left input.new) (K.written output.new) (C.ahead clock.new) (L.answered link.new) (L.faults link.new)) result }
+    ensures run { (turns : List Turn) × RunsOnce
+        (world (opening ∷ []) (S.gave input.old) (K.wrote output.old) (C.gave clock.old) (L.exchanges link.old) (L.faults link.old))
+        (world turns (S.gave input.new) (K.wrote output.new) (C.gave clock.new) (L.exchanges link.new) (L.faults link.new)) result }
     ensures counts { FaultsMatch result (S.faults input.old) (S.faults input.new) (K.faults output.old) (K.faults output.new) }
     ensures no_door_fault { result ≢ statuses.DoorFault }
 {

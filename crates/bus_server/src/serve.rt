@@ -2,7 +2,6 @@
 ghost use Rattle.std.specs.Prelude.{◌≡◌, ◌≢◌, ◌+◌, ◌<◌, ◌≤◌, ◌++◌, ◌⊎◌, ◌∷◌, [], IfOk, List, map, vec_len, vec_capacity};
 ghost use Rattle.std.specs.Io.KnownBytes.{Keeps};
 ghost use Rattle.router_disk.specs.Faults.{Rose};
-ghost use Rattle.turn_book.specs.Rule.{opener};
 ghost use Rattle.turn_book.specs.Passes.{view, IsFree};
 ghost use Rattle.bus_host.specs.Host.{SameFaults, SameGiven};
 ghost use Rattle.program_lines.specs.declared.status.Status.TheVariants as statuses;
@@ -46,7 +45,7 @@ pub(crate) fn serve<Rt: Wait + Threads + Sync, K: Sink, H: Host, C: Clock>(
     clock: &mut C,
 ) -> Status
     requires workers { (0 < workers) × (workers ≤ 1024) }
-    ensures serve { IsServe (shown_by H.Door.faults H.Door.ahead H.Door.given H.Door.ended H.Door.gave H.Door.took_back H.Door.closed) (IsVisit H.Door.In.left H.Door.Out.written H.Door.In.faults H.Door.Out.faults) port workers
+    ensures serve { IsServe (shown_by H.Door.faults H.Door.ahead H.Door.given H.Door.ended H.Door.gave H.Door.took_back H.Door.closed) (IsVisit H.Door.In.gave H.Door.Out.wrote H.Door.In.faults H.Door.Out.faults) port workers
         connections
         (around_door (K.written output.old) (H.doors_given host.old) (H.doors_back host.old) (H.links_given host.old) (H.links_back host.old)
         (H.door_faults host.old) (H.link_faults host.old))
@@ -164,12 +163,12 @@ fn at_port<Rt: Wait + Threads + Sync, K: Sink, H: Host, C: Clock>(
     clock: &mut C,
 ) -> Status
     requires here { pass.seat.table_id ≡ hall.table.shared.table_id }
-    requires opener { view pass.seat ≡ opener [] }
+    requires opener { (view pass.seat).made ≡ 1 }
     requires free { IsFree pass.seat }
     requires seats { vec_len links + 2 ≤ hall.seats }
     requires links { (0 < vec_len links) × (vec_len links ≤ 1024) }
     requires listening { listening.now ≡ listening_text port }
-    ensures served { ServesBy (shown_by H.Door.faults H.Door.ahead H.Door.given H.Door.ended H.Door.gave H.Door.took_back H.Door.closed) (IsVisit H.Door.In.left H.Door.Out.written H.Door.In.faults H.Door.Out.faults) port connections links.items
+    ensures served { ServesBy (shown_by H.Door.faults H.Door.ahead H.Door.given H.Door.ended H.Door.gave H.Door.took_back H.Door.closed) (IsVisit H.Door.In.gave H.Door.Out.wrote H.Door.In.faults H.Door.Out.faults) port connections links.items
         (around_door (K.written output.old) (H.doors_given host.old) (H.doors_back host.old) (H.links_given host.old) (H.links_back host.old)
         (H.door_faults host.old) (H.link_faults host.old))
         (around_door (K.written output.new) (H.doors_given host.new) (H.doors_back host.new) (H.links_given host.new) (H.links_back host.new)
@@ -229,12 +228,12 @@ fn announce<Rt: Wait + Threads + Sync, K: Sink, D: Door, L: Link, C: Clock>(
     clock: &mut C,
 ) -> Left<D, L>
     requires here { pass.seat.table_id ≡ hall.table.shared.table_id }
-    requires opener { view pass.seat ≡ opener [] }
+    requires opener { (view pass.seat).made ≡ 1 }
     requires free { IsFree pass.seat }
     requires seats { vec_len links + 2 ≤ hall.seats }
     requires links { (0 < vec_len links) × (vec_len links ≤ 1024) }
     requires listening { listening.now ≡ listening_text port }
-    ensures announced { IsAnnounced (shown_by D.faults D.ahead D.given D.ended D.gave D.took_back D.closed) (IsVisit ⟦<D::In as Source>⟧.left ⟦<D::Out as Sink>⟧.written ⟦<D::In as Source>⟧.faults ⟦<D::Out as Sink>⟧.faults) port connections door result.door
+    ensures announced { IsAnnounced (shown_by D.faults D.ahead D.given D.ended D.gave D.took_back D.closed) (IsVisit ⟦<D::In as Source>⟧.gave ⟦<D::Out as Sink>⟧.wrote ⟦<D::In as Source>⟧.faults ⟦<D::Out as Sink>⟧.faults) port connections door result.door
         links.items result.links.items (K.written output.old) (K.written output.new) result.status
         ⊎ IsUnannounced port door result.door links.items result.links.items (K.written output.old) (K.written output.new) result.status }
     ensures write_fault { result.status ≡ statuses.WriteFault → Rose (K.faults output.old) (K.faults output.new) }
@@ -273,12 +272,12 @@ fn open<Rt: Wait + Threads + Sync, K: Sink, D: Door, L: Link, C: Clock>(
     clock: &mut C,
 ) -> Left<D, L>
     requires here { pass.seat.table_id ≡ hall.table.shared.table_id }
-    requires opener { view pass.seat ≡ opener [] }
+    requires opener { (view pass.seat).made ≡ 1 }
     requires free { IsFree pass.seat }
     requires seats { vec_len links + 2 ≤ hall.seats }
     requires links { (0 < vec_len links) × (vec_len links ≤ 1024) }
     ensures opened { ((vec_len result.links ≡ vec_len links) × IsOpened (shown_by D.faults D.ahead D.given D.ended D.gave D.took_back D.closed)
-        (IsVisit ⟦<D::In as Source>⟧.left ⟦<D::Out as Sink>⟧.written ⟦<D::In as Source>⟧.faults ⟦<D::Out as Sink>⟧.faults) connections door result.door (K.written output.old) (K.written output.new) result.status)
+        (IsVisit ⟦<D::In as Source>⟧.gave ⟦<D::Out as Sink>⟧.wrote ⟦<D::In as Source>⟧.faults ⟦<D::Out as Sink>⟧.faults) connections door result.door (K.written output.old) (K.written output.new) result.status)
         ⊎ IsUnopened door result.door links.items result.links.items (K.written output.old) (K.written output.new) result.status }
     ensures write_fault { result.status ≡ statuses.WriteFault → Rose (K.faults output.old) (K.faults output.new) }
     ensures output_faultless { result.status ≢ statuses.WriteFault → K.faults output.new ≡ K.faults output.old }

@@ -1,6 +1,6 @@
 pub mod Claim
-pub mod Steps
-pub mod Link
 pub mod Turned
-pub mod Turn
-pub mod Progress
+pub mod Act
+pub mod Link
+pub mod Steps
+pub mod Book

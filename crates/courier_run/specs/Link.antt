@@ -1,12 +1,11 @@
--- What attempts do to the link: the exchanges with an answer, and the count of faults.
-use Rattle.std.specs.Prelude.{◌≡◌, ◌≤◌, ◌+◌, ℕ, min, Bool, true, false, List, [], ◌∷◌, ◌++◌}
-use Rattle.std.specs.List.{count_by}
-use Rattle.router_disk.specs.Faults.{Rose, last_count}
+-- What attempts do to the link, and what acts do to clock and link.
+use Rattle.std.specs.Prelude.{◌≡◌, ◌≤◌, ℕ, List, [], ◌∷◌, ◌++◌}
+use Rattle.router_disk.specs.Faults.{Rose}
 use Rattle.router_disk.specs.Link.{Exchange}
 use Rattle.delivery_duties.specs.declared.outcome.Outcome.{Outcome}
-use Rattle.delivery_duties.specs.declared.outcome.Outcome.TheVariants.{Accepted, Code, NoAnswer, NoQueue, TooOld}
+use Rattle.delivery_duties.specs.declared.outcome.Outcome.TheVariants.{Accepted, Code, NoAnswer, TooOld}
 use Rattle.courier_run.specs.Claim.{Claim, IsTooOld, IsForQueue, NeedsSend, IsSuccess}
-use Rattle.courier_run.specs.Steps.{Attempt}
+use Rattle.courier_run.specs.Act.{Act, Try, readings_in, tries_in}
 
 -- the duty's endpoint answered its text with this code
 abbrev pub exchange_with : Claim → ℕ → Exchange
@@ -19,31 +18,33 @@ exchange_with c code = record { endpoint = c.endpoint; text = c.text; code = cod
 pub data IsTried (c : Claim) (before : ℕ) : Outcome → List Exchange → ℕ → Type 0 where
   too_old : IsTooOld c → IsTried c before TooOld [] before
   queued : ¬ IsTooOld c → IsForQueue c → IsTried c before Accepted [] before
-  unqueued : ¬ IsTooOld c → IsForQueue c → IsTried c before NoQueue [] before
   success : NeedsSend c → (code : ℕ) → IsSuccess code → IsTried c before Accepted (exchange_with c code ∷ []) before
   refusal : NeedsSend c → (code : ℕ) → ¬ IsSuccess code → IsTried c before (Code code) (exchange_with c code ∷ []) before
   silence : NeedsSend c → (now : ℕ) → before ≤ now → Rose before now → IsTried c before NoAnswer [] now
 
 -- What several attempts did to the link (`IsTried` of each), in order.
 -- Shown by: sent_again_after_a_failure.edit.
-abbrev pub AreTried : ℕ → List Attempt → List Exchange → ℕ → Type 0
+abbrev pub AreTried : ℕ → List Try → List Exchange → ℕ → Type 0
 AreTried before [] answers now = (answers ≡ []) × (now ≡ before)
-AreTried before (a ∷ more) answers now = (between : ℕ) × (first rest : List Exchange)
-    × IsTried a.claim before a.outcome first between × AreTried between more rest now × (answers ≡ first ++ rest)
+AreTried before (t ∷ more) answers now = (between : ℕ) × (first rest : List Exchange)
+    × IsTried t.claim before t.outcome first between × AreTried between more rest now × (answers ≡ first ++ rest)
 
--- the endpoint gave no answer
-abbrev pub is_unanswered : Outcome → Bool
-is_unanswered Accepted = false
-is_unanswered (Code code) = false
-is_unanswered NoAnswer = true
-is_unanswered NoQueue = false
-is_unanswered TooOld = false
+-- What is known of a clock and a link: the readings, the exchanges that had an answer, and the link's count of faults.
+-- Shown by: as Goes.
+pub record Outside : Type 0 where
+  pub readings : List ℕ
+  pub answered : List Exchange
+  pub faults : ℕ
 
--- the number of these attempts whose endpoint gave no answer
-abbrev pub unanswered_in : List Attempt → ℕ
-unanswered_in attempts = count_by (λ a. is_unanswered a.outcome) attempts
+-- The `Outside` with these parts.
+-- Shown by: as Goes.
+abbrev pub outside : List ℕ → List Exchange → ℕ → Outside
+outside readings answered faults = record { readings = readings; answered = answered; faults = faults }
 
--- A count of faults rose by at least n, or is at its last value.
--- Shown by: outside_tests test_courier_run.rt: an_outcome_is_what_the_link_answered.
-abbrev pub RoseBy : ℕ → ℕ → ℕ → Type 0
-RoseBy n before now = min (before + n) last_count ≤ now
+-- These acts are all that the clock and the link did: the clock gave their readings, and the link answered their attempts.
+-- Shown by: sent_again_after_a_failure.edit.
+pub record Goes {Placed State : Type 0} (acts : List (Act Placed State)) (old new : Outside) : Type 0 where
+  pub readings : new.readings ≡ old.readings ++ readings_in acts
+  pub answers : List Exchange
+  pub answered : new.answered ≡ old.answered ++ answers
+  pub tried : AreTried old.faults (tries_in acts) answers new.faults

@@ -1,68 +1,67 @@
--- What a book of duties did, turn by turn. An attempt is a claim, at most one send, and a record.
-use Rattle.std.specs.Prelude.{◌≡◌, ◌⊎◌, List, [], ◌∷◌, ◌++◌, Option, Some, None, Result, Ok, Err, MatchResult}
-use Rattle.std.specs.List.{flat_map, filter_map}
+-- Delivery steps: each is a reading, a claim, at most one send, and a record.
+use Rattle.std.specs.Prelude.{◌≡◌, ◌<◌, ℕ, List, [], ◌∷◌, ◌++◌}
 use Rattle.delivery_duties.specs.declared.outcome.Outcome.{Outcome}
-use Rattle.delivery_duties.specs.declared.outcome.Outcome.TheVariants.{Accepted, NoQueue}
 use Rattle.delivery_duties.specs.declared.outcome.Fate.{Fate}
-use Rattle.courier_run.specs.declared.book.BookFault.{BookFault}
-use Rattle.courier_run.specs.declared.book.BookFault.TheVariants.{DiskFault, NumberLimit, NoMemory}
-use Rattle.courier_run.specs.Claim.{Claim, IsForQueue}
+use Rattle.courier_run.specs.declared.attempt.Ended.{Ended}
+use Rattle.courier_run.specs.declared.attempt.Ended.TheVariants.{Recorded, Stopped}
+use Rattle.courier_run.specs.declared.stepped.Stop.{Stop}
+use Rattle.courier_run.specs.declared.stepped.Stop.TheVariants.{Spent, Idle, Full, NoMemory}
+use Rattle.courier_run.specs.declared.turned.Turned.{Turned}
+use Rattle.courier_run.specs.Claim.{Claim, NeedsSend, FitsClaim, moment_of}
+use Rattle.courier_run.specs.Turned.{no_attempt, with_fate}
+use Rattle.courier_run.specs.Act.{Act, ticks, looks, makes, tries}
 
--- A recorded attempt: its claim, the outcome in the record, and the fate that the record gave the duty.
+-- A recorded attempt: its claim, the outcome that it had, and the fate that the record gave the duty.
 -- Shown by: outside_tests test_courier_run.rt: an_outcome_is_what_the_link_answered.
 pub record Attempt : Type 0 where
   pub claim : Claim
   pub outcome : Outcome
   pub fate : Fate
 
--- What one turn of a book did: a claim (`claims`), a record (`records`), a claim put back (`puts_back`), or anything else (`other`).
--- Shown by: outside_tests test_courier_run.rt: a_fault_leaves_no_claim_open.
-pub data Step : Type 0 where
-  claims : Claim → Step
-  records : Attempt → Step
-  puts_back : Claim → Step
-  other : Step
+-- Why a claim is put back: the link was out of memory before it sent anything, or the book was at its number limit.
+-- Shown by: put_back_after_a_send.edit; outside_tests test_courier_run.rt: a_refused_record_puts_its_claim_back.
+pub data Why : Type 0 where
+  unsent : Why
+  limited : Why
 
--- the steps of these attempts: each claim, then its record
-abbrev pub steps_of : List Attempt → List Step
-steps_of attempts = flat_map (λ a. claims a.claim ∷ records a ∷ []) attempts
+-- A book says of a turn that it claims a duty at a moment, records an attempt, or puts a claim back; and of a state that no duty is due at
+-- a moment, or that its number limit stops a claim.
+module _ {Placed State : Type 0} (claims : Placed → Claim → ℕ → Type 0) (records : Placed → Attempt → Type 0)
+    (puts_back : Placed → Claim → Why → Type 0) (idle full : State → ℕ → Type 0) where
+  -- One step: a reading of the clock, the claim at its moment, an attempt, and its record.
+  -- Shown by: outside_tests test_courier_run.rt: a_turn_makes_attempts_within_its_budget.
+  pub data IsStep : List (Act Placed State) → Fate → Type 0 where
+    attempted : (reading : ℕ) (p q : Placed) (c : Claim) (outcome : Outcome) (fate : Fate) → claims p c (moment_of reading) → FitsClaim c outcome
+        → records q (record { claim = c; outcome = outcome; fate = fate })
+        → IsStep (ticks reading ∷ makes p ∷ tries c outcome ∷ makes q ∷ []) fate
 
--- the attempt that a step records
-abbrev pub recorded_by : Step → Option Attempt
-recorded_by (claims c) = None
-recorded_by (records a) = Some a
-recorded_by (puts_back c) = None
-recorded_by other = None
+  -- Some steps, and their numbers.
+  -- Shown by: outside_tests test_courier_run.rt: a_turn_makes_attempts_within_its_budget.
+  pub data Stepping : List (Act Placed State) → Turned → Type 0 where
+    none : Stepping [] no_attempt
+    one_more : (acts step : List (Act Placed State)) (turned : Turned) (fate : Fate) → Stepping acts turned → IsStep step fate
+        → Stepping (acts ++ step) (with_fate turned fate)
 
--- the attempts that these steps record
-abbrev pub attempts_in : List Step → List Attempt
-attempts_in steps = filter_map recorded_by steps
+  -- What stops steps before their budget: no duty is due; the number limit; out of memory for the claim; the same for its send, of which
+  -- nothing was sent; and the number limit at the record, after the attempt. The last two put their claim back.
+  -- Shown by: stops_before_the_budget.edit; a_fault_ends_as_idle.edit; put_back_after_a_send.edit.
+  pub data IsStop : List (Act Placed State) → Stop → Type 0 where
+    idle_at : (reading : ℕ) (s : State) → idle s (moment_of reading) → IsStop (ticks reading ∷ looks s ∷ []) Idle
+    full_at : (reading : ℕ) (s : State) → full s (moment_of reading) → IsStop (ticks reading ∷ looks s ∷ []) Full
+    out_of_memory : (reading : ℕ) (s : State) → IsStop (ticks reading ∷ looks s ∷ []) NoMemory
+    unsent_at : (reading : ℕ) (p q : Placed) (c : Claim) → claims p c (moment_of reading) → NeedsSend c → puts_back q c unsent
+        → IsStop (ticks reading ∷ makes p ∷ makes q ∷ []) NoMemory
+    limited_at : (reading : ℕ) (p q : Placed) (c : Claim) (outcome : Outcome) → claims p c (moment_of reading) → FitsClaim c outcome
+        → puts_back q c limited → IsStop (ticks reading ∷ makes p ∷ tries c outcome ∷ makes q ∷ []) Full
 
--- The step of a call that claims: a claim if it found a duty, and else none.
--- Shown by: outside_tests test_courier_run.rt: a_fault_leaves_no_claim_open.
-abbrev pub claims_of : {H : Type 0} → (H → Claim) → Result (Option H) BookFault → List Step
-claims_of shows (Ok (Some held)) = claims (shows held) ∷ []
-claims_of shows (Ok None) = []
-claims_of shows (Err fault) = []
+  -- Delivery steps within a budget: as many as it allows, or fewer and then what stops them.
+  -- Shown by: stops_before_the_budget.edit; a_fault_ends_as_idle.edit.
+  pub data Steps (budget : ℕ) : List (Act Placed State) → Turned → Stop → Type 0 where
+    spent : (acts : List (Act Placed State)) (turned : Turned) → Stepping acts turned → turned.attempts ≡ budget → Steps budget acts turned Spent
+    stopped : (acts last : List (Act Placed State)) (turned : Turned) (stop : Stop) → Stepping acts turned → turned.attempts < budget
+        → IsStop last stop → Steps budget (acts ++ last) turned stop
 
--- the outcome in the record of an attempt: the one that the attempt had, but `NoQueue` for a text that a queue was to
--- accept if the queue does not exist
-abbrev pub IsOutcomeIn : Claim → Outcome → Outcome → Type 0
-IsOutcomeIn c had recorded = (recorded ≡ had) ⊎ (IsForQueue c × (had ≡ Accepted) × (recorded ≡ NoQueue))
-
--- The step of a call that records: a record if it returns `Ok`, and a put-back if it returns `Err`. The record has the outcome of the
--- attempt, but `NoQueue` in place of `Accepted` if the endpoint is a queue that does not exist.
--- Shown by: outside_tests test_courier_run.rt: only_a_young_duty_of_an_endpoint_is_sent.
-abbrev pub IsRecorded : List Step → List Step → Claim → Outcome → Result Fate BookFault → Type 0
-IsRecorded old new c had result = MatchResult result
-    (λ fate. (recorded : Outcome) × IsOutcomeIn c had recorded
-    × (new ≡ old ++ records (record { claim = c; outcome = recorded; fate = fate }) ∷ []))
-    (λ fault. new ≡ old ++ puts_back c ∷ [])
-
--- `DiskFault` only if the book is broken, `NumberLimit` only if the limit was reached, and `NoMemory` only if the call may run out of
--- memory.
--- Shown by: outside_tests test_courier_run.rt: a_fault_leaves_no_claim_open.
-abbrev pub HasCause : (broken full memory : Type 0) → BookFault → Type 0
-HasCause broken full memory DiskFault = broken
-HasCause broken full memory NumberLimit = full
-HasCause broken full memory NoMemory = memory
+  -- what one attempt did, by how it ended
+  abbrev pub IsAttempt : List (Act Placed State) → Ended → Type 0
+  IsAttempt acts (Recorded fate) = IsStep acts fate
+  IsAttempt acts (Stopped stop) = IsStop acts stop

@@ -1,10 +1,8 @@
 -- What attempts did, in numbers.
-use Rattle.std.specs.Prelude.{◌+◌, Bool, true, false, cond, List, length}
-use Rattle.std.specs.List.{count_by}
+use Rattle.std.specs.Prelude.{◌+◌, Bool, true, false, cond}
 use Rattle.delivery_duties.specs.declared.outcome.Fate.{Fate}
 use Rattle.delivery_duties.specs.declared.outcome.Fate.TheVariants.{Pending, Delivered, DeadLettered, Dropped}
 use Rattle.courier_run.specs.declared.turned.Turned.{Turned}
-use Rattle.courier_run.specs.Steps.{Attempt}
 
 abbrev pub is_delivered : Fate → Bool
 is_delivered Delivered = true
@@ -23,16 +21,6 @@ is_dropped Dropped = true
 is_dropped Pending = false
 is_dropped Delivered = false
 is_dropped DeadLettered = false
-
--- The number of attempts, and of those that delivered, dead-lettered or dropped their duty.
--- Shown by: outside_tests test_courier_run.rt: a_turn_makes_attempts_within_its_budget.
-abbrev pub turned_of : List Attempt → Turned
-turned_of attempts = record {
-  attempts = length attempts;
-  delivered = count_by (λ a. is_delivered a.fate) attempts;
-  dead = count_by (λ a. is_dead_lettered a.fate) attempts;
-  dropped = count_by (λ a. is_dropped a.fate) attempts;
-}
 
 -- No attempt: four zeros.
 -- Shown by: outside_tests test_courier_run.rt: a_turn_makes_attempts_within_its_budget.

@@ -1,14 +1,13 @@
 // One attempt: a claim, at most one send, a record.
 ghost use Rattle.std.specs.Prelude.{◌≡◌, ◌+◌, ◌<◌, ◌≤◌, ◌⊎◌, ◌↔◌, ℕ, List, [], ◌∷◌, ◌++◌, IsTrue, IfOk, MatchResult};
 ghost use Rattle.json_text.specs.Moment.{IsMoment};
-ghost use Rattle.router_disk.specs.Clock.{Gives};
-ghost use Rattle.router_disk.specs.Link.{Exchange, Answered};
+ghost use Rattle.router_disk.specs.Link.{Exchange};
 ghost use Rattle.courier_run.specs.Claim.{IsTooOld, NeedsSend, IsSuccess, FitsClaim, moment_of};
-ghost use Rattle.courier_run.specs.Link.{IsTried};
-ghost use Rattle.courier_run.specs.Turn.{outside};
-ghost use Rattle.courier_run.specs.Progress.{IsAttempt};
+ghost use Rattle.courier_run.specs.Act.{Act, book_acts_in};
+ghost use Rattle.courier_run.specs.Link.{IsTried, Goes, outside};
+ghost use Rattle.courier_run.specs.Steps.{IsAttempt};
 
-use crate::{BookFault, DutyBook, HeldDuty, Way};
+use crate::{BookFault, DutyBook, HeldDuty, Stop, Way};
 use delivery_duties::{Fate, Outcome};
 use json_text::{LAST_MOMENT, NoMemory};
 use router_disk::{Clock, Link, LinkFault};
@@ -18,10 +17,8 @@ use router_disk::{Clock, Link, LinkFault};
 pub(crate) enum Ended {
     /// It was recorded, and gave its duty this fate.
     Recorded(Fate),
-    /// No duty is due.
-    Idle,
     /// It was not recorded.
-    Stopped(BookFault),
+    Stopped(Stop),
 }
 
 /// Makes one attempt.
@@ -30,37 +27,38 @@ pub(crate) fn attempt<B: DutyBook, L: Link, C: Clock>(
     link: &mut L,
     clock: &mut C,
 ) -> Ended
-    requires { B.sound book.old }
+    requires sound { B.sound book.old }
+    requires rests { B.rests book.old }
     ensures sound { B.sound book.new }
+    ensures rests { B.rests book.new }
     ensures lender { B.lender book.new ≡ B.lender book.old }
-    ensures grows { (more : List B.Turn) × (B.turns book.new ≡ B.turns book.old ++ more) }
-    ensures made { IsAttempt
-        (outside (B.steps book.old) (C.ahead clock.old) (L.answered link.old) (L.faults link.old))
-        (outside (B.steps book.new) (C.ahead clock.new) (L.answered link.new) (L.faults link.new))
-        (B.idle book.new) (B.broken book.new) (B.full book.new) (B.limited book.new) result }
+    ensures made { (acts : List (Act B.Placed B.State)) × B.did book.old book.new (book_acts_in acts)
+        × IsAttempt B.claims B.records B.puts_back B.idle B.full acts result
+        × Goes acts (outside (C.gave clock.old) (L.exchanges link.old) (L.faults link.old))
+        (outside (C.gave clock.new) (L.exchanges link.new) (L.faults link.new)) }
 {
     let moment = read_clock(clock);
     match book.claim(moment) {
         Ok(Some(held)) => match outcome_of(link, &held) {
             Ok(outcome) => match book.record_of(held, outcome, moment) {
                 Ok(fate) => Ended::Recorded(fate),
-                Err(fault) => Ended::Stopped(fault),
+                Err(_) => Ended::Stopped(Stop::Full),
             },
             Err(NoMemory) => {
                 book.put_back(held);
-                Ended::Stopped(BookFault::NoMemory)
+                Ended::Stopped(Stop::NoMemory)
             }
         },
-        Ok(None) => Ended::Idle,
-        Err(fault) => Ended::Stopped(fault),
+        Ok(None) => Ended::Stopped(Stop::Idle),
+        Err(BookFault::NumberLimit) => Ended::Stopped(Stop::Full),
+        Err(BookFault::NoMemory) => Ended::Stopped(Stop::NoMemory),
     }
 }
 
 /// The moment of the clock's next reading.
 fn read_clock<C: Clock>(clock: &mut C) -> u64
     ensures moment { IsMoment result }
-    ensures reading { (reading : ℕ) × (result ≡ moment_of reading)
-        × Gives (C.ahead clock.old) (C.ahead clock.new) (reading ∷ []) }
+    ensures reading { (reading : ℕ) × (result ≡ moment_of reading) × (C.gave clock.new ≡ C.gave clock.old ++ reading ∷ []) }
 {
     clock.now().min(LAST_MOMENT)
 }
@@ -70,9 +68,9 @@ fn read_clock<C: Clock>(clock: &mut C) -> u64
 fn outcome_of<H: HeldDuty, L: Link>(link: &mut L, held: &H) -> Result<Outcome, NoMemory>
     ensures fits { IfOk result (λ outcome. FitsClaim (H.shows held.now) outcome) }
     ensures tried { MatchResult result
-        (λ outcome. (answers : List Exchange) × Answered (L.answered link.old) (L.answered link.new) answers
+        (λ outcome. (answers : List Exchange) × (L.exchanges link.new ≡ L.exchanges link.old ++ answers)
         × IsTried (H.shows held.now) (L.faults link.old) outcome answers (L.faults link.new))
-        (λ _. NeedsSend (H.shows held.now) × Answered (L.answered link.old) (L.answered link.new) []
+        (λ _. NeedsSend (H.shows held.now) × (L.exchanges link.new ≡ L.exchanges link.old)
         × (L.faults link.new ≡ L.faults link.old)) }
 {
     if is_too_old(held) {
@@ -97,9 +95,9 @@ fn send<H: HeldDuty, L: Link>(link: &mut L, held: &H) -> Result<Outcome, NoMemor
     requires { NeedsSend (H.shows held.now) }
     ensures fits { IfOk result (λ outcome. FitsClaim (H.shows held.now) outcome) }
     ensures tried { MatchResult result
-        (λ outcome. (answers : List Exchange) × Answered (L.answered link.old) (L.answered link.new) answers
+        (λ outcome. (answers : List Exchange) × (L.exchanges link.new ≡ L.exchanges link.old ++ answers)
         × IsTried (H.shows held.now) (L.faults link.old) outcome answers (L.faults link.new))
-        (λ _. NeedsSend (H.shows held.now) × Answered (L.answered link.old) (L.answered link.new) []
+        (λ _. NeedsSend (H.shows held.now) × (L.exchanges link.new ≡ L.exchanges link.old)
         × (L.faults link.new ≡ L.faults link.old)) }
 {
     match link.send(held.endpoint(), held.text()) {

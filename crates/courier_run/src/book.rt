@@ -1,10 +1,11 @@
 // A book of duties as a trait.
-ghost use Rattle.std.specs.Prelude.{◌≡◌, ◌++◌, ◌∷◌, [], ⊤, ℕ, List, IfOk, IsNone, MatchResult};
-ghost use Rattle.std.specs.Option.{IfSome};
+ghost use Rattle.std.specs.Prelude.{◌≡◌, ◌++◌, ◌∷◌, [], ℕ, List, IfOk, MatchOption};
 ghost use Rattle.std.specs.Result.{IfErr};
 ghost use Rattle.json_text.specs.Moment.{IsMoment};
-ghost use Rattle.courier_run.specs.Claim.{Claim, FitsClaim};
-ghost use Rattle.courier_run.specs.Steps.{Step, puts_back, claims_of, HasCause, IsRecorded};
+ghost use Rattle.courier_run.specs.Claim.{Claim, FitsClaim, NeedsSend};
+ghost use Rattle.courier_run.specs.Act.{Act, looks, makes};
+ghost use Rattle.courier_run.specs.Steps.{Attempt, Why, unsent, limited};
+ghost use Rattle.courier_run.specs.Book.{HasCause};
 
 use crate::HeldDuty;
 use delivery_duties::{Fate, Outcome};
@@ -13,9 +14,6 @@ use thiserror::Error;
 /// Why a book made no claim or no record.
 #[derive(Clone, Copy, Debug, PartialEq, Eq, Error)]
 pub enum BookFault {
-    /// The book's disk has failed.
-    #[error("the disk failed")]
-    DiskFault,
     /// The book is at its number limit.
     #[error("the number limit is reached")]
     NumberLimit,
@@ -29,49 +27,62 @@ pub trait DutyBook {
     /// A claimed duty. It has all memory that its record needs.
     type Held: HeldDuty;
 
-    /// A turn of the book, of any user.
-    type Turn;
+    /// A turn of the book with what contracts know of it.
+    ghost Placed: { Type 0 };
 
-    /// The turns of the book that are known, oldest first. They include those of other users.
-    ghost turns: { Self → List Self.Turn };
-
-    /// Every turn of the book's own so far, in order.
-    ghost steps: { Self → List Step };
-
-    /// No duty is pending, due at this moment and unclaimed.
-    ghost idle: { Self → ℕ → Type 0 };
+    /// What a look at the book shows.
+    ghost State: { Type 0 };
 
     /// What holds of the book before and after each call.
     ghost sound: { Self → Type 0 };
 
-    /// The claim is open: neither recorded nor put back.
-    ghost is_open: { Self → Claim → Type 0 };
+    /// No claim that the book gave out is open.
+    ghost rests: { Self → Type 0 };
 
-    /// The book's disk has failed.
-    ghost broken: { Self → Type 0 };
+    /// This claim is open, and no other that the book gave out.
+    ghost holds: { Self → Claim → Type 0 };
 
-    /// The book is at its number limit, which stops a call at this moment.
-    ghost full: { Self → ℕ → Type 0 };
+    /// What the book did from one value to another: its turns and its looks, in order.
+    ghost did: { Self → Self → List (Act Placed State) → Type 0 };
 
-    /// The book was at its number limit when its last turn put this claim back.
-    ghost limited: { Self → Claim → Type 0 };
+    /// At first nothing was done.
+    ghost begins: { (b : Self) → did b b [] };
+
+    /// What was done in two parts was done.
+    ghost joins: { (a b c : Self) (first second : List (Act Placed State)) → did a b first → did b c second → did a c (first ++ second) };
+
+    /// The turn claims this duty at the moment.
+    ghost claims: { Placed → Claim → ℕ → Type 0 };
+
+    /// The turn records this attempt.
+    ghost records: { Placed → Attempt → Type 0 };
+
+    /// The turn puts this claim back.
+    ghost puts_back: { Placed → Claim → Why → Type 0 };
+
+    /// No duty is pending, due at this moment and unclaimed.
+    ghost idle: { State → ℕ → Type 0 };
+
+    /// The number limit stops a claim at this moment.
+    ghost full: { State → ℕ → Type 0 };
 
     /// The ghost name of the value that the book borrows. No call changes it, so the lender of the book knows what it
     /// ends as.
     ghost lender: { Self → ℕ };
 
-    /// Claims the duty that is due first at `moment`.
+    /// Claims the duty that is due first at `moment`. If it gives none, the book was looked at.
     fn claim(&mut self, moment: u64) -> Result<Option<Self::Held>, BookFault>
         requires moment { IsMoment moment }
         requires sound { sound self.old }
+        requires rests { rests self.old }
         ensures sound { sound self.new }
         ensures lender { lender self.new ≡ lender self.old }
-        ensures grows { (more : List Self.Turn) × (turns self.new ≡ turns self.old ++ more) }
-        ensures steps { steps self.new ≡ steps self.old ++ claims_of Self.Held.shows result }
-        ensures reading { IfOk result (λ found. IfSome found (λ held. (Self.Held.shows held).reading ≡ moment)) }
-        ensures is_open { IfOk result (λ found. IfSome found (λ held. is_open self.new (Self.Held.shows held))) }
-        ensures idle { IfOk result (λ found. IsNone found → idle self.new moment) }
-        ensures cause { IfErr result (HasCause (broken self.new) (full self.new moment) ⊤) };
+        ensures claimed { IfOk result (λ found. MatchOption found
+            (rests self.new × ((s : State) × did self.old self.new (looks s ∷ []) × idle s moment))
+            (λ held. holds self.new (Self.Held.shows held)
+            × ((p : Placed) × did self.old self.new (makes p ∷ []) × claims p (Self.Held.shows held) moment))) }
+        ensures refused { IfErr result (λ fault. rests self.new
+            × ((s : State) × did self.old self.new (looks s ∷ []) × HasCause (full s moment) fault)) };
 
     /// Records an attempt at the claim's moment, and returns the duty's fate. The turn of the record decides whether a
     /// queue exists. An `Err` has put the claim back. It is never `NoMemory`.
@@ -81,22 +92,24 @@ pub trait DutyBook {
         outcome: Outcome,
         moment: u64,
     ) -> Result<Fate, BookFault>
-        requires moment { moment ≡ (Self.Held.shows held).reading }
         requires sound { sound self.old }
-        requires is_open { is_open self.old (Self.Held.shows held) }
+        requires holds { holds self.old (Self.Held.shows held) }
         requires fits { FitsClaim (Self.Held.shows held) outcome }
         ensures sound { sound self.new }
         ensures lender { lender self.new ≡ lender self.old }
-        ensures grows { (more : List Self.Turn) × (turns self.new ≡ turns self.old ++ more) }
-        ensures steps { IsRecorded (steps self.old) (steps self.new) (Self.Held.shows held) outcome result }
-        ensures cause { IfErr result (HasCause (broken self.new) (full self.new moment × limited self.new (Self.Held.shows held)) ⊥) };
+        ensures rests { rests self.new }
+        ensures recorded { IfOk result (λ fate. (q : Placed) × did self.old self.new (makes q ∷ [])
+            × records q (record { claim = Self.Held.shows held; outcome = outcome; fate = fate })) }
+        ensures refused { IfErr result (λ fault. (fault ≡ BookFault.NumberLimit)
+            × ((q : Placed) × did self.old self.new (makes q ∷ []) × puts_back q (Self.Held.shows held) limited)) };
 
-    /// Puts a claim back, so that the duty can be claimed again.
+    /// Puts a claim back of which nothing was sent, so that the duty can be claimed again.
     fn put_back(&mut self, held: Self::Held)
         requires sound { sound self.old }
-        requires is_open { is_open self.old (Self.Held.shows held) }
+        requires holds { holds self.old (Self.Held.shows held) }
+        requires needed { NeedsSend (Self.Held.shows held) }
         ensures sound { sound self.new }
         ensures lender { lender self.new ≡ lender self.old }
-        ensures grows { (more : List Self.Turn) × (turns self.new ≡ turns self.old ++ more) }
-        ensures steps { steps self.new ≡ steps self.old ++ puts_back (Self.Held.shows held) ∷ [] };
+        ensures rests { rests self.new }
+        ensures put_back { (q : Placed) × did self.old self.new (makes q ∷ []) × puts_back q (Self.Held.shows held) unsent };
 }

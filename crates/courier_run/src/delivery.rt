@@ -1,9 +1,11 @@
 // Attempts within a budget.
-ghost use Rattle.std.specs.Prelude.{◌≡◌, ◌++◌, List};
-ghost use Rattle.courier_run.specs.Turn.{IsTurn, outside};
+ghost use Rattle.std.specs.Prelude.{◌≡◌, List};
+ghost use Rattle.courier_run.specs.Act.{Act, book_acts_in};
+ghost use Rattle.courier_run.specs.Link.{Goes, outside};
+ghost use Rattle.courier_run.specs.Steps.{Steps};
 
 use crate::attempt::{Ended, attempt};
-use crate::{DutyBook, TurnFault, Turned};
+use crate::{DutyBook, Stepped, Stop, Turned};
 use router_disk::{Clock, Link};
 
 /// Makes attempts, each at a reading of its own, until no duty is due or `budget` attempts were made. Stops at the first
@@ -13,23 +15,26 @@ pub fn turn<B: DutyBook, L: Link, C: Clock>(
     link: &mut L,
     clock: &mut C,
     budget: u32,
-) -> Result<Turned, TurnFault>
-    requires { B.sound book.old }
+) -> Stepped
+    requires sound { B.sound book.old }
+    requires rests { B.rests book.old }
     ensures sound { B.sound book.new }
+    ensures rests { B.rests book.new }
     ensures lender { B.lender book.new ≡ B.lender book.old }
-    ensures grows { (more : List B.Turn) × (B.turns book.new ≡ B.turns book.old ++ more) }
-    ensures turned { IsTurn budget
-        (outside (B.steps book.old) (C.ahead clock.old) (L.answered link.old) (L.faults link.old))
-        (outside (B.steps book.new) (C.ahead clock.new) (L.answered link.new) (L.faults link.new))
-        (B.idle book.new) (B.broken book.new) (B.full book.new) (B.limited book.new) result }
+    ensures stepped { (acts : List (Act B.Placed B.State)) × B.did book.old book.new (book_acts_in acts)
+        × Steps B.claims B.records B.puts_back B.idle B.full budget acts result.turned result.stop
+        × Goes acts (outside (C.gave clock.old) (L.exchanges link.old) (L.faults link.old))
+        (outside (C.gave clock.new) (L.exchanges link.new) (L.faults link.new)) }
 {
     let mut turned = Turned::none();
     while turned.attempts < budget {
         match attempt(book, link, clock) {
             Ended::Recorded(fate) => turned.count(fate),
-            Ended::Idle => return Ok(turned),
-            Ended::Stopped(fault) => return Err(TurnFault::after(fault, turned)),
+            Ended::Stopped(stop) => return Stepped { turned, stop },
         }
     }
-    Ok(turned)
+    Stepped {
+        turned,
+        stop: Stop::Spent,
+    }
 }

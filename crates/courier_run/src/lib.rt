@@ -4,12 +4,12 @@
 mod attempt;
 mod book;
 mod delivery;
-mod fault;
 mod held;
+mod stepped;
 mod turned;
 
 pub use book::{BookFault, DutyBook};
 pub use delivery::turn;
-pub use fault::TurnFault;
 pub use held::{HeldDuty, Way};
+pub use stepped::{Stepped, Stop};
 pub use turned::Turned;

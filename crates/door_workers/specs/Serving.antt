@@ -19,9 +19,14 @@ use Rattle.door_workers.specs.declared.door.DoorEnd.TheVariants.{Done, DoorFault
 abbrev pub IsIdlePass : {V T : Type 0} → TableId → Seat (Option V) (View T) → Type 0
 IsIdlePass hall seat = (seat.table_id ≡ hall) × IsFree seat
 
+-- The same, of a pass that has nothing open in what it has seen.
+-- Shown by: outside_tests test_door_workers.rt: two_workers_serve_three_connections.
+abbrev pub IsRestingPass : {V T : Type 0} → (ℕ → List T → Type 0) → TableId → Seat (Option V) (View T) → Type 0
+IsRestingPass rests hall seat = IsIdlePass hall seat × rests seat.me.0.number seat.me.0.seen
+
 -- a worker that has not begun: its pass, and a front of the porch's acts
-abbrev pub IsHired : {V T A : Type 0} → TableId → ℕ → Seat (Option V) (View T) → Front A → Type 0
-IsHired hall name seat front = IsIdlePass hall seat × (front.name ≡ name)
+abbrev pub IsHired : {V T A : Type 0} → (ℕ → List T → Type 0) → TableId → ℕ → Seat (Option V) (View T) → Front A → Type 0
+IsHired rests hall name seat front = IsRestingPass rests hall seat × (front.name ≡ name)
 
 -- why the porch gives no more connections
 abbrev pub over_of : DoorEnd → Option Over

@@ -6,7 +6,7 @@ ghost use Rattle.turn_book.specs.Passes.{view};
 ghost use Rattle.shared_door.specs.Shown.{shown_by};
 ghost use Rattle.shared_door.specs.Acts.{IsOver};
 ghost use Rattle.shared_door.specs.Visits.{Gave, Visited};
-ghost use Rattle.door_workers.specs.Serving.{over_of, IsIdlePass, IsHired, HasServed};
+ghost use Rattle.door_workers.specs.Serving.{over_of, IsIdlePass, IsRestingPass, IsHired, HasServed};
 
 use crate::counts::Counts;
 use crate::site::{Site, attend};
@@ -72,6 +72,7 @@ pub fn serve_door<
     ensures more { Learns V.made_by (view pass.old.seat) (view pass.new.seat).seen }
     ensures made { (view pass.new.seat).made ≡ (view pass.old.seat).made + vec_len result.passes }
     ensures passes { All (λ p. IsIdlePass hall.now.table.shared.table_id p.seat) result.passes.items }
+    ensures rests { All (λ p. V.rests (view p.seat).number (view p.seat).seen) result.passes.items }
     ensures owns { vec_len result.owns ≡ vec_len owns }
     ensures served { result.end ≢ DoorEnd.NoMemory → HasServed connections (shown_by D.faults D.ahead D.given D.ended D.gave D.took_back D.closed door)
         (shown_by D.faults D.ahead D.given D.ended D.gave D.took_back D.closed result.door) V.fits (view pass.new.seat).seen result.end }
@@ -122,6 +123,7 @@ fn serve_in<
     ensures more { Learns V.made_by (view pass.old.seat) (view pass.new.seat).seen }
     ensures made { (view pass.new.seat).made ≡ (view pass.old.seat).made + vec_len result.passes }
     ensures passes { All (λ p. IsIdlePass hall.now.table.shared.table_id p.seat) result.passes.items }
+    ensures rests { All (λ p. V.rests (view p.seat).number (view p.seat).seen) result.passes.items }
     ensures owns { vec_len result.owns ≡ vec_len owns }
     ensures served { HasServed connections (shown_by D.faults D.ahead D.given D.ended D.gave D.took_back D.closed door)
         (shown_by D.faults D.ahead D.given D.ended D.gave D.took_back D.closed result.door) V.fits (view pass.new.seat).seen result.end }
@@ -136,7 +138,9 @@ fn serve_in<
     let mut owns = owns;
     let acts = GrowingList::new();
     let last = hall.another(pass);
-    let mut workers = hire(hall, pass, &mut owns, workers, &acts);
+    let mut workers = hire::<V, D::In, D::Out, Own, Act<D::In, D::Out, V::Turn>>(
+        hall, pass, &mut owns, workers, &acts,
+    );
     let parts = open_by::<Brand, V, Rt, D, Own, W>(
         rt,
         hall,
@@ -154,7 +158,14 @@ fn serve_in<
         standing,
         acts: _,
     } = parts;
-    gather(hall, pass, workers, last, &mut owns, &mut passes);
+    gather::<V, D::In, D::Out, Own, Act<D::In, D::Out, V::Turn>>(
+        hall,
+        pass,
+        workers,
+        last,
+        &mut owns,
+        &mut passes,
+    );
     Serving {
         door,
         owns,
@@ -197,16 +208,16 @@ fn open_by<
 ) -> Parts<V, D>
     requires works { W.works work.now }
     requires hall { hall.now.table.shared.table_id ≡ N.hall }
-    requires last { IsIdlePass N.hall last.seat }
+    requires last { IsRestingPass V.rests N.hall last.seat }
     requires tickets { (tickets.seat.table_id ≡ N.tickets) × (tickets.given ≡ 0) × (tickets.seat.me.0.back ≡ []) }
     requires acts { (acts.name ≡ N.acts) × (acts.items ≡ []) }
     requires door { shown_by D.faults D.ahead D.given D.ended D.gave D.took_back D.closed door ≡ N.start }
     requires most { connections ≡ N.most }
     requires some { 0 < length workers.old }
-    requires workers { All (λ w. IsHired N.hall N.acts w.pass.seat w.front) workers.old }
-    ensures workers { All (λ w. IsIdlePass N.hall w.pass.seat) workers.new }
+    requires workers { All (λ w. IsHired V.rests N.hall N.acts w.pass.seat w.front) workers.old }
+    ensures workers { All (λ w. IsRestingPass V.rests N.hall w.pass.seat) workers.new }
     ensures count { length workers.new ≡ length workers.old }
-    ensures pass { IsIdlePass N.hall result.pass.seat }
+    ensures pass { IsRestingPass V.rests N.hall result.pass.seat }
     ensures over { result.standing.over ≢ None }
     ensures gave { Gave N.most N.start (shown_by D.faults D.ahead D.given D.ended D.gave D.took_back D.closed result.door) result.standing result.acts.items }
     ensures visited { Visited N.start (shown_by D.faults D.ahead D.given D.ended D.gave D.took_back D.closed result.door)
@@ -239,8 +250,8 @@ fn work_all<
     requires works { W.works work.now }
     requires hall { hall.now.table.shared.table_id ≡ N.hall }
     requires some { 0 < length workers.old }
-    requires workers { All (λ w. IsHired N.hall N.acts w.pass.seat w.front) workers.old }
-    ensures workers { All (λ w. IsIdlePass N.hall w.pass.seat) workers.new }
+    requires workers { All (λ w. IsHired V.rests N.hall N.acts w.pass.seat w.front) workers.old }
+    ensures workers { All (λ w. IsRestingPass V.rests N.hall w.pass.seat) workers.new }
     ensures over { All (λ w. (w.front.name ≡ N.acts) × IsOver w.front.items) workers.new }
     ensures count { length workers.new ≡ length workers.old }
 {
@@ -252,8 +263,8 @@ fn work_all<
         &|_, worker: &mut Worker<V, Own, Act<D::In, D::Out, V::Turn>>|
             requires works { W.works work.now }
             requires hall { hall.now.table.shared.table_id ≡ N.hall }
-            requires idle { IsIdlePass N.hall worker.old.pass.seat }
-            ensures idle { IsIdlePass N.hall worker.new.pass.seat }
+            requires idle { IsRestingPass V.rests N.hall worker.old.pass.seat }
+            ensures idle { IsRestingPass V.rests N.hall worker.new.pass.seat }
             ensures over { (worker.new.front.name ≡ N.acts) × IsOver worker.new.front.items }
         {
             let site = Site {

@@ -50,7 +50,9 @@ pub(crate) fn attend<
     requires works { W.works site.work.now }
     requires hall { site.hall.now.table.shared.table_id ≡ N.hall }
     requires pass { (worker.old.pass.seat.table_id ≡ N.hall) × IsFree worker.old.pass.seat }
+    requires rests { V.rests (view worker.old.pass.seat).number (view worker.old.pass.seat).seen }
     ensures pass { IsSamePass worker.old.pass.seat worker.new.pass.seat × IsFree worker.new.pass.seat }
+    ensures rests { V.rests (view worker.new.pass.seat).number (view worker.new.pass.seat).seen }
     ensures over { (worker.new.front.name ≡ N.acts) × IsOver worker.new.front.items }
 {
     site.counts.begun.fetch_add(1, Ordering::SeqCst);
@@ -93,10 +95,12 @@ fn serve<
     requires works { W.works site.work.now }
     requires hall { site.hall.now.table.shared.table_id ≡ N.hall }
     requires pass { (worker.old.pass.seat.table_id ≡ N.hall) × IsFree worker.old.pass.seat }
+    requires rests { V.rests (view worker.old.pass.seat).number (view worker.old.pass.seat).seen }
     requires own { tickets_of connection ≡ N.tickets }
     requires came { came_of connection ≡ (connection.input, connection.output) }
     requires after { IsPrefix (seen_of connection) (view worker.old.pass.seat).seen }
     ensures pass { IsSamePass worker.old.pass.seat worker.new.pass.seat × IsFree worker.new.pass.seat }
+    ensures rests { V.rests (view worker.new.pass.seat).number (view worker.new.pass.seat).seen }
 {
     site.counts.out.fetch_add(1, Ordering::SeqCst);
     site.counts.busy.fetch_add(1, Ordering::SeqCst);
@@ -120,10 +124,12 @@ fn converse<
     requires works { W.works site.work.now }
     requires hall { site.hall.now.table.shared.table_id ≡ N.hall }
     requires pass { (worker.old.pass.seat.table_id ≡ N.hall) × IsFree worker.old.pass.seat }
+    requires rests { V.rests (view worker.old.pass.seat).number (view worker.old.pass.seat).seen }
     requires own { tickets_of connection ≡ N.tickets }
     requires came { came_of connection ≡ (connection.input, connection.output) }
     requires after { IsPrefix (seen_of connection) (view worker.old.pass.seat).seen }
     ensures pass { IsSamePass worker.old.pass.seat worker.new.pass.seat × IsFree worker.new.pass.seat }
+    ensures rests { V.rests (view worker.new.pass.seat).number (view worker.new.pass.seat).seen }
 {
     let mut connection = connection;
     let number = connection.number();
@@ -155,7 +161,9 @@ fn be_quiet<
     requires works { W.works site.work.now }
     requires hall { site.hall.now.table.shared.table_id ≡ N.hall }
     requires pass { (worker.old.pass.seat.table_id ≡ N.hall) × IsFree worker.old.pass.seat }
+    requires rests { V.rests (view worker.old.pass.seat).number (view worker.old.pass.seat).seen }
     ensures pass { IsSamePass worker.old.pass.seat worker.new.pass.seat × IsFree worker.new.pass.seat }
+    ensures rests { V.rests (view worker.new.pass.seat).number (view worker.new.pass.seat).seen }
 {
     let counts: &Counts = site.counts;
     let busy = counts.busy.fetch_add(1, Ordering::SeqCst).saturating_add(1);

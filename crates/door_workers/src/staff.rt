@@ -3,11 +3,11 @@ ghost use Rattle.std.specs.Prelude.{◌≡◌, ◌+◌, ◌<◌, ◌≤◌, All,
 ghost use mathlib.Core.List.{IsPrefix};
 ghost use Rattle.turn_book.specs.Rule.{Learns};
 ghost use Rattle.turn_book.specs.Passes.{view, IsFree, IsSamePass, HasSameTurn};
-ghost use Rattle.door_workers.specs.Serving.{IsIdlePass, IsHired};
+ghost use Rattle.door_workers.specs.Serving.{IsIdlePass, IsRestingPass, IsHired};
 
 use crate::worker::Worker;
 use growing_list::GrowingList;
-use shared_door::Tickets;
+use shared_door::{Served, Tickets};
 use std::alloc::Global;
 use turn_book::{Hall, NoMemory, Pass, Story};
 
@@ -50,7 +50,7 @@ pub(crate) fn room_for<V: Story, C, Own, A>(
 }
 
 /// A worker for each of `owns`, with a pass of its own and a front of the porch's acts.
-pub(crate) fn hire<V: Story, Own, A>(
+pub(crate) fn hire<V: Served<I, O>, I, O, Own, A>(
     hall: &Hall<V>,
     pass: &mut Pass<V>,
     owns: &mut Vec<Own>,
@@ -66,7 +66,7 @@ pub(crate) fn hire<V: Story, Own, A>(
     ensures more { Learns V.made_by (view pass.old.seat) (view pass.new.seat).seen }
     ensures made { (view pass.new.seat).made ≡ (view pass.old.seat).made + vec_len owns.old }
     ensures owns { (vec_len owns.new ≡ 0) × (vec_capacity owns.new ≡ vec_capacity owns.old) }
-    ensures workers { All (λ w. IsHired hall.now.table.shared.table_id acts.now.name w.pass.seat w.front) result.items }
+    ensures workers { All (λ w. IsHired V.rests hall.now.table.shared.table_id acts.now.name w.pass.seat w.front) result.items }
     ensures count { vec_len result ≡ vec_len owns.old }
 {
     let mut workers = workers;
@@ -82,7 +82,7 @@ pub(crate) fn hire<V: Story, Own, A>(
 }
 
 /// Takes what the workers had and their passes, and the pass of the door. The caller's pass has then seen what they saw.
-pub(crate) fn gather<V: Story, Own, A>(
+pub(crate) fn gather<V: Served<I, O>, I, O, Own, A>(
     hall: &Hall<V>,
     pass: &mut Pass<V>,
     workers: Vec<Worker<V, Own, A>>,
@@ -91,26 +91,26 @@ pub(crate) fn gather<V: Story, Own, A>(
     passes: &mut Vec<Pass<V>>,
 )
     requires here { IsIdlePass hall.now.table.shared.table_id pass.old.seat }
-    requires last { IsIdlePass hall.now.table.shared.table_id last.seat }
-    requires workers { All (λ w. IsIdlePass hall.now.table.shared.table_id w.pass.seat) workers.items }
+    requires last { IsRestingPass V.rests hall.now.table.shared.table_id last.seat }
+    requires workers { All (λ w. IsRestingPass V.rests hall.now.table.shared.table_id w.pass.seat) workers.items }
     requires passes { passes.old.items ≡ [] }
     requires owns_room { vec_len owns.old + vec_len workers ≤ vec_capacity owns.old }
     requires passes_room { vec_len workers + 1 ≤ vec_capacity passes.old }
     ensures pass { IsSamePass pass.old.seat pass.new.seat × IsFree pass.new.seat }
     ensures more { Learns V.made_by (view pass.old.seat) (view pass.new.seat).seen }
     ensures last { IsPrefix (view last.seat).seen (view pass.new.seat).seen }
-    ensures passes { All (λ p. IsIdlePass hall.now.table.shared.table_id p.seat) passes.new.items }
+    ensures passes { All (λ p. IsRestingPass V.rests hall.now.table.shared.table_id p.seat) passes.new.items }
     ensures count { vec_len passes.new ≡ vec_len workers + 1 }
     ensures owns { vec_len owns.new ≡ vec_len owns.old + vec_len workers }
 {
-    dismiss(hall, pass, workers, owns, passes);
+    dismiss::<V, I, O, Own, A>(hall, pass, workers, owns, passes);
     let mut last = last;
     hall.meet(pass, &mut last);
     passes.push_reserved(last);
 }
 
 /// Takes what the workers had and their passes. The caller's pass has then seen what they saw.
-fn dismiss<V: Story, Own, A>(
+fn dismiss<V: Served<I, O>, I, O, Own, A>(
     hall: &Hall<V>,
     pass: &mut Pass<V>,
     workers: Vec<Worker<V, Own, A>>,
@@ -118,13 +118,13 @@ fn dismiss<V: Story, Own, A>(
     passes: &mut Vec<Pass<V>>,
 )
     requires here { pass.old.seat.table_id ≡ hall.now.table.shared.table_id }
-    requires workers { All (λ w. IsIdlePass hall.now.table.shared.table_id w.pass.seat) workers.items }
-    requires passes { All (λ p. IsIdlePass hall.now.table.shared.table_id p.seat) passes.old.items }
+    requires workers { All (λ w. IsRestingPass V.rests hall.now.table.shared.table_id w.pass.seat) workers.items }
+    requires passes { All (λ p. IsRestingPass V.rests hall.now.table.shared.table_id p.seat) passes.old.items }
     requires owns_room { vec_len owns.old + vec_len workers ≤ vec_capacity owns.old }
     requires passes_room { vec_len passes.old + vec_len workers ≤ vec_capacity passes.old }
     ensures pass { IsSamePass pass.old.seat pass.new.seat × HasSameTurn pass.old.seat pass.new.seat }
     ensures more { Learns V.made_by (view pass.old.seat) (view pass.new.seat).seen }
-    ensures passes { All (λ p. IsIdlePass hall.now.table.shared.table_id p.seat) passes.new.items }
+    ensures passes { All (λ p. IsRestingPass V.rests hall.now.table.shared.table_id p.seat) passes.new.items }
     ensures count { vec_len passes.new ≡ vec_len passes.old + vec_len workers }
     ensures capacity { vec_capacity passes.new ≡ vec_capacity passes.old }
     ensures owns { vec_len owns.new ≡ vec_len owns.old + vec_len workers }

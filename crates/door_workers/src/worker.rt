@@ -25,7 +25,9 @@ pub trait Work<V: Served<I, O>, I, O, Own> {
         requires works { works self.now }
         requires here { pass.old.seat.table_id ≡ hall.now.table.shared.table_id }
         requires free { IsFree pass.old.seat }
+        requires rests { V.rests (view pass.old.seat).number (view pass.old.seat).seen }
         ensures pass { IsSamePass pass.old.seat pass.new.seat × IsFree pass.new.seat }
+        ensures rests { V.rests (view pass.new.seat).number (view pass.new.seat).seen }
         ensures fits { V.fits number (input.old, output.old) (input.new, output.new) result (view pass.old.seat).seen (view pass.new.seat).seen };
 
     /// Does for a while what there is to do without a connection.
@@ -33,7 +35,9 @@ pub trait Work<V: Served<I, O>, I, O, Own> {
         requires works { works self.now }
         requires here { pass.old.seat.table_id ≡ hall.now.table.shared.table_id }
         requires free { IsFree pass.old.seat }
-        ensures pass { IsSamePass pass.old.seat pass.new.seat × IsFree pass.new.seat };
+        requires rests { V.rests (view pass.old.seat).number (view pass.old.seat).seen }
+        ensures pass { IsSamePass pass.old.seat pass.new.seat × IsFree pass.new.seat }
+        ensures rests { V.rests (view pass.new.seat).number (view pass.new.seat).seen };
 }
 
 /// What a worker has: what is its own, its pass, and what it knows of the porch's acts.

@@ -40,6 +40,13 @@ impl<I, O> Served<I, O> for Ledger {
 
     ghost lasts = { λ n _ _ cut _ turns more h.
         ⊎_elim (λ e. inl e) (λ e. inr (list_any-append (λ t. t.1 == n) turns more ∙ ap (λ b. b || list_any (λ t. t.1 == n) more) e)) h };
+
+    // A pass never has anything open.
+    ghost rests = { λ _ _. Unit {0} };
+
+    ghost unturned = { λ _ _ _. tt };
+
+    ghost keeps = { λ _ _ _ _ _ _. tt };
 }
 
 /// Adds a turn. True: out of memory.

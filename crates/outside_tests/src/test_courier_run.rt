@@ -1,5 +1,7 @@
 //! Steps of delivery over a book, a link and a clock in memory. The rows are worked by hand.
-use courier_run::{BookFault, DutyBook, HeldDuty, TurnFault, Turned, Way, turn};
+ghost use Rattle.std.specs.Prelude.{◌≡◌, None};
+
+use courier_run::{BookFault, DutyBook, HeldDuty, Stepped, Turned, Way, turn};
 use delivery_duties::{Fate, Outcome};
 use event_shape::queue_of;
 use router_disk::{Clock, Link, LinkFault, MemClock, MemLink};
@@ -57,53 +59,70 @@ impl HeldDuty for PlainDuty {
     }
 }
 
-// What a turn of the plain book did.
+// What the plain book did.
 #[derive(Clone, Copy)]
 enum Did {
-    Claimed,
-    Recorded(Outcome, Fate),
-    PutBack,
+    // It was looked at, while this number of duties could be claimed, and this was special of it.
+    Looked(usize, u8),
+    Claimed(PlainDuty),
+    Recorded(PlainDuty, Outcome, Fate),
+    PutBack(PlainDuty),
     // The record was refused at the number limit, and the claim put back.
-    Refused,
+    Refused(PlainDuty),
 }
 
 // A book in memory. Each of its duties is due until it is claimed. What is special of it, by its first letter: if `full`, no duty can
-// be claimed; no attempt can be recorded if `broken`, nor if `refuses`, at the number limit; if `no queues`, no queue exists. It stops
-// the test if it is out of memory.
+// be claimed; if it `refuses`, no attempt can be recorded, at the number limit; if `no queues`, no queue exists. It stops the test if it
+// is out of memory.
 #[derive(Drop)]
 struct PlainBook<R: Abort> {
     rt: R,
     special: u8,
     duties: Vec<PlainDuty>,
-    log: Vec<(PlainDuty, Did)>,
+    // The duty that is claimed.
+    claimed: Option<PlainDuty>,
+    log: Vec<Did>,
 }
 
 impl<R: Abort> PlainBook<R> {
-    ghost use Rattle.std.specs.Prelude.{◌≡◌, ◌++◌, ◌∷◌, []};
-    ghost use Rattle.courier_run.specs.Steps.{IsOutcomeIn};
+    ghost use Rattle.std.specs.Prelude.{◌≡◌, ◌⊎◌, ◌++◌, ◌∷◌, [], vec_len};
+    ghost use Rattle.courier_run.specs.Claim.{IsForQueue};
 
-    fn note(&mut self, duty: PlainDuty, did: Did)
-        ensures { self.new.log.items ≡ self.old.log.items ++ (duty, did) ∷ [] }
+    fn note(&mut self, did: Did)
+        ensures log { self.new.log.items ≡ self.old.log.items ++ did ∷ [] }
+        ensures claimed { self.new.claimed ≡ self.old.claimed }
     {
-        match self.log.push((duty, did)) {
+        match self.log.push(did) {
             Ok(()) => (),
             Err(_) => panic!(self.rt; "out of memory"),
         }
     }
 
-    // Puts the duty back at the front, and notes what did so.
-    fn restore(&mut self, duty: PlainDuty, did: Did)
-        ensures { self.new.log.items ≡ self.old.log.items ++ (duty, did) ∷ [] }
+    // Notes a look.
+    fn look(&mut self)
+        ensures log { self.new.log.items ≡ self.old.log.items ++ Did.Looked (vec_len self.old.duties) self.old.special ∷ [] }
+        ensures claimed { self.new.claimed ≡ self.old.claimed }
     {
+        let (left, special) = (self.duties.len(), self.special);
+        self.note(Did::Looked(left, special));
+    }
+
+    // Puts the claimed duty back at the front, and notes what did so.
+    fn restore(&mut self, duty: PlainDuty, did: Did)
+        ensures log { self.new.log.items ≡ self.old.log.items ++ did ∷ [] }
+        ensures claimed { self.new.claimed ≡ None }
+    {
+        self.claimed = None;
         match self.duties.insert(0, duty) {
-            Ok(()) => self.note(duty, did),
+            Ok(()) => self.note(did),
             Err(_) => panic!(self.rt; "out of memory"),
         }
     }
 
     // The outcome in the record: a queue may be missing.
     fn recorded(&self, duty: &PlainDuty, outcome: Outcome) -> Outcome
-        ensures { IsOutcomeIn (⟦<PlainDuty as HeldDuty>⟧.shows duty.now) outcome result }
+        ensures { (result ≡ outcome)
+            ⊎ (IsForQueue (⟦<PlainDuty as HeldDuty>⟧.shows duty.now) × (outcome ≡ Outcome.Accepted) × (result ≡ Outcome.NoQueue)) }
     {
         match (duty.way(), outcome) {
             (Way::Queue, Outcome::Accepted) if self.special == b'n' => Outcome::NoQueue,
@@ -124,47 +143,77 @@ fn fate_of(outcome: Outcome) -> Fate {
 }
 
 impl<R: Abort> DutyBook for PlainBook<R> {
-    ghost use Rattle.std.specs.Prelude.{⊤, map};
-    ghost use Rattle.outside_tests.specs.declared.test_courier_run.Did.TheVariants.{Claimed, Recorded, PutBack, Refused};
-    ghost use Rattle.courier_run.specs.Steps.{claims, records, puts_back};
+    ghost use Rattle.std.specs.Prelude.{◌≡◌, ◌≢◌, ◌⊎◌, ◌++◌, ℕ, List, map, Some, None};
+    ghost use Rattle.std.proofs.Common.{sym, ap, ◌∙◌, append_assoc, append-nil};
+    ghost use Rattle.delivery_duties.specs.declared.outcome.Outcome.{Outcome};
+    ghost use Rattle.courier_run.specs.Claim.{IsForQueue};
+    ghost use Rattle.courier_run.specs.Act.{Act, looks, makes};
+    ghost use Rattle.courier_run.specs.Steps.{unsent, limited};
+    ghost use Rattle.outside_tests.specs.declared.test_courier_run.PlainDuty.{PlainDuty};
+    ghost use Rattle.outside_tests.specs.declared.test_courier_run.Did.{Did};
+    ghost use Rattle.outside_tests.specs.declared.test_courier_run.Did.TheVariants.{Looked, Claimed, Recorded, PutBack, Refused};
 
     type Held = PlainDuty;
 
-    type Turn = (PlainDuty, Did);
+    ghost Placed = { Did };
 
-    ghost turns = { λ b. b.log.items };
+    // How many duties can be claimed, and what is special of the book.
+    ghost State = { ℕ × ℕ };
 
-    ghost steps = { λ b. map (λ e. elim e.1 [
-      | Claimed ↦ claims (⟦<PlainDuty as HeldDuty>⟧.shows e.0)
-      | Recorded outcome fate ↦ records (record { claim = ⟦<PlainDuty as HeldDuty>⟧.shows e.0; outcome = outcome; fate = fate })
-      | PutBack ↦ puts_back (⟦<PlainDuty as HeldDuty>⟧.shows e.0)
-      | Refused ↦ puts_back (⟦<PlainDuty as HeldDuty>⟧.shows e.0)
-    ]) b.log.items };
+    ghost sound = { λ _. Unit {0} };
 
-    ghost idle = { λ _ _. ⊤ };
+    ghost rests = { λ b. b.claimed ≡ None };
 
-    ghost is_open = { λ _ _. ⊤ };
+    ghost holds = { λ b c. (d : PlainDuty) × (b.claimed ≡ Some d) × (⟦<PlainDuty as HeldDuty>⟧.shows d ≡ c) };
 
-    ghost broken = { λ _. ⊤ };
+    // The log has a look or a turn for each act.
+    ghost did = { λ a b acts. map (λ d. elim d [
+      | Looked left special ↦ looks (left, special)
+      | Claimed e ↦ makes (Claimed e)
+      | Recorded e outcome fate ↦ makes (Recorded e outcome fate)
+      | PutBack e ↦ makes (PutBack e)
+      | Refused e ↦ makes (Refused e)
+    ]) b.log.items ≡ map (λ d. elim d [
+      | Looked left special ↦ looks (left, special)
+      | Claimed e ↦ makes (Claimed e)
+      | Recorded e outcome fate ↦ makes (Recorded e outcome fate)
+      | PutBack e ↦ makes (PutBack e)
+      | Refused e ↦ makes (Refused e)
+    ]) a.log.items ++ acts };
 
-    ghost sound = { λ _. ⊤ };
+    ghost begins = { λ b. sym (append-nil _) };
 
-    ghost full = { λ _ _. ⊤ };
+    ghost joins = { λ a b c first second one two. two ∙ (ap (λ (l : List (Act Did (ℕ × ℕ))). l ++ second) one ∙ append_assoc _ first second) };
 
-    ghost limited = { λ _ _. ⊤ };
+    ghost claims = { λ p c moment. (d : PlainDuty) × (p ≡ Claimed d) × (⟦<PlainDuty as HeldDuty>⟧.shows d ≡ c) × (c.reading ≡ moment) };
+
+    // The record may find that a queue is missing.
+    ghost records = { λ p a. (d : PlainDuty) × (recorded : Outcome) × (p ≡ Recorded d recorded a.fate)
+        × (⟦<PlainDuty as HeldDuty>⟧.shows d ≡ a.claim)
+        × ((recorded ≡ a.outcome) ⊎ (IsForQueue a.claim × (a.outcome ≡ Outcome.Accepted) × (recorded ≡ Outcome.NoQueue))) };
+
+    ghost puts_back = { λ p c why. (d : PlainDuty) × (⟦<PlainDuty as HeldDuty>⟧.shows d ≡ c)
+        × (((why ≡ unsent) × (p ≡ PutBack d)) ⊎ ((why ≡ limited) × (p ≡ Refused d))) };
+
+    ghost idle = { λ s _. s.0 ≡ 0 };
+
+    ghost full = { λ s _. (s.0 ≢ 0) × (s.1 ≡ 102) };
 
     ghost lender = { λ _. 0 };
 
     fn claim(&mut self, moment: u64) -> Result<Option<PlainDuty>, BookFault> {
         if self.duties.is_empty() {
+            self.look();
             return Ok(None);
         }
         if self.special == b'f' {
+            self.look();
             return Err(BookFault::NumberLimit);
         }
         let mut duty = self.duties.remove(0);
         duty.moment = moment;
-        self.note(duty, Did::Claimed);
+        self.claimed = Some(duty);
+        self.note(Did::Claimed(duty));
         Ok(Some(duty))
     }
 
@@ -174,68 +223,64 @@ impl<R: Abort> DutyBook for PlainBook<R> {
         outcome: Outcome,
         _moment: u64,
     ) -> Result<Fate, BookFault> {
-        if self.special == b'b' {
-            self.restore(held, Did::PutBack);
-            return Err(BookFault::DiskFault);
-        }
         if self.special == b'r' {
-            self.restore(held, Did::Refused);
+            self.restore(held, Did::Refused(held));
             return Err(BookFault::NumberLimit);
         }
         let outcome = self.recorded(&held, outcome);
         let fate = fate_of(outcome);
-        self.note(held, Did::Recorded(outcome, fate));
+        self.claimed = None;
+        self.note(Did::Recorded(held, outcome, fate));
         Ok(fate)
     }
 
     fn put_back(&mut self, held: PlainDuty) {
-        self.restore(held, Did::PutBack);
+        self.restore(held, Did::PutBack(held));
     }
 }
 
 // A row has, apart by `|`: what is special of the book, its duties, each `q` of a queue or `u` of a URL and numbered from 1; the
-// results of the link, the readings of the clock, each with the last one repeated; and the budget. Then follow how the turn ends,
+// results of the link, the readings of the clock, each with the last one repeated; and the budget. Then follow why the turn ends,
 // with its attempts and how many of them delivered, dead-lettered and dropped; the numbers of answers and of faults of the link;
-// the next reading; and what the book did: `+1@1000` is a claim of duty 1 at 1000, and `-1` what followed for it.
+// the next reading; and what the book did: `+1@1000` is a claim of duty 1 at 1000, `-1` what followed for it, and `?4` a look while
+// four duties could be claimed.
 
 // The endpoint answers.
-const ANSWERS: &str = "|u|199|1000|5|Ok 1 0 1 0|1|0|1000| +1@1000 -1 Code(199) DeadLettered
-|u|200|1000|5|Ok 1 1 0 0|1|0|1000| +1@1000 -1 Accepted Delivered
-|u|299|1000|5|Ok 1 1 0 0|1|0|1000| +1@1000 -1 Accepted Delivered
-|u|300|1000|5|Ok 1 0 1 0|1|0|1000| +1@1000 -1 Code(300) DeadLettered
-|u|503|1000|5|Ok 1 0 0 0|1|0|1000| +1@1000 -1 Code(503) Pending
-|u|failed|1000|5|Ok 1 0 0 0|0|1|1000| +1@1000 -1 NoAnswer Pending
+const ANSWERS: &str = "|u|199|1000|5|Idle 1 0 1 0|1|0|1000| +1@1000 -1 Code(199) DeadLettered ?0
+|u|200|1000|5|Idle 1 1 0 0|1|0|1000| +1@1000 -1 Accepted Delivered ?0
+|u|299|1000|5|Idle 1 1 0 0|1|0|1000| +1@1000 -1 Accepted Delivered ?0
+|u|300|1000|5|Idle 1 0 1 0|1|0|1000| +1@1000 -1 Code(300) DeadLettered ?0
+|u|503|1000|5|Idle 1 0 0 0|1|0|1000| +1@1000 -1 Code(503) Pending ?0
+|u|failed|1000|5|Idle 1 0 0 0|0|1|1000| +1@1000 -1 NoAnswer Pending ?0
 ";
 
 // The duty is young enough, or a second too old.
-const AGES: &str = "|u|200|1060|1|Ok 1 1 0 0|1|0|1060| +1@1060 -1 Accepted Delivered
-|u|200|1061|1|Ok 1 0 0 1|0|0|1061| +1@1061 -1 TooOld Dropped
-|q|200|1060|1|Ok 1 1 0 0|0|0|1060| +1@1060 -1 Accepted Delivered
-|q|200|1061|1|Ok 1 0 0 1|0|0|1061| +1@1061 -1 TooOld Dropped
-no queues|q|200|1060|1|Ok 1 0 1 0|0|0|1060| +1@1060 -1 NoQueue DeadLettered
-no queues|q|200|1061|1|Ok 1 0 0 1|0|0|1061| +1@1061 -1 TooOld Dropped
+const AGES: &str = "|u|200|1060|1|Spent 1 1 0 0|1|0|1060| +1@1060 -1 Accepted Delivered
+|u|200|1061|1|Spent 1 0 0 1|0|0|1061| +1@1061 -1 TooOld Dropped
+|q|200|1060|1|Spent 1 1 0 0|0|0|1060| +1@1060 -1 Accepted Delivered
+|q|200|1061|1|Spent 1 0 0 1|0|0|1061| +1@1061 -1 TooOld Dropped
+no queues|q|200|1060|1|Spent 1 0 1 0|0|0|1060| +1@1060 -1 NoQueue DeadLettered
+no queues|q|200|1061|1|Spent 1 0 0 1|0|0|1061| +1@1061 -1 TooOld Dropped
 ";
 
-const BUDGETS: &str = "|ququ|503 404|1000 1001 1002 1003 1004 1005|0|Ok 0 0 0 0|0|0|1000|
-|ququ|503 404|1000 1001 1002 1003 1004 1005|1|Ok 1 1 0 0|0|0|1001| +1@1000 -1 Accepted Delivered
-|ququ|503 404|1000 1001 1002 1003 1004 1005|2|Ok 2 1 0 0|1|0|1002| +1@1000 -1 Accepted Delivered +2@1001 -2 Code(503) Pending
-|ququ|503 404|1000 1001 1002 1003 1004 1005|4|Ok 4 2 1 0|2|0|1004| +1@1000 -1 Accepted Delivered +2@1001 -2 Code(503) Pending +3@1002 -3 Accepted Delivered +4@1003 -4 Code(404) DeadLettered
-|ququ|503 404|1000 1001 1002 1003 1004 1005|9|Ok 4 2 1 0|2|0|1005| +1@1000 -1 Accepted Delivered +2@1001 -2 Code(503) Pending +3@1002 -3 Accepted Delivered +4@1003 -4 Code(404) DeadLettered
+const BUDGETS: &str = "|ququ|503 404|1000 1001 1002 1003 1004 1005|0|Spent 0 0 0 0|0|0|1000|
+|ququ|503 404|1000 1001 1002 1003 1004 1005|1|Spent 1 1 0 0|0|0|1001| +1@1000 -1 Accepted Delivered
+|ququ|503 404|1000 1001 1002 1003 1004 1005|2|Spent 2 1 0 0|1|0|1002| +1@1000 -1 Accepted Delivered +2@1001 -2 Code(503) Pending
+|ququ|503 404|1000 1001 1002 1003 1004 1005|4|Spent 4 2 1 0|2|0|1004| +1@1000 -1 Accepted Delivered +2@1001 -2 Code(503) Pending +3@1002 -3 Accepted Delivered +4@1003 -4 Code(404) DeadLettered
+|ququ|503 404|1000 1001 1002 1003 1004 1005|9|Idle 4 2 1 0|2|0|1005| +1@1000 -1 Accepted Delivered +2@1001 -2 Code(503) Pending +3@1002 -3 Accepted Delivered +4@1003 -4 Code(404) DeadLettered ?0
 ";
 
-const FAULTS: &str = "full|ququ|503 memory|1000|9|NumberLimit 0 0 0 0|0|0|1000|
-broken|ququ|503 memory|1000|9|DiskFault 0 0 0 0|0|0|1000| +1@1000 -1 back
+const FAULTS: &str = "full|ququ|503 memory|1000|9|Full 0 0 0 0|0|0|1000| ?4
 |ququ|503 memory|1000|9|NoMemory 3 2 0 0|1|0|1000| +1@1000 -1 Accepted Delivered +2@1000 -2 Code(503) Pending +3@1000 -3 Accepted Delivered +4@1000 -4 back
 ";
 
-const REFUSED: &str =
-    "refuses|ququ|503 200|1000|9|NumberLimit 0 0 0 0|0|0|1000| +1@1000 -1 refused";
+const REFUSED: &str = "refuses|ququ|503 200|1000|9|Full 0 0 0 0|0|0|1000| +1@1000 -1 refused";
 
 const READINGS: &str =
-    "|ququ|200|1000 990|2|Ok 2 2 0 0|1|0|990| +1@1000 -1 Accepted Delivered +2@990 -2 Accepted Delivered
-|ququ|200|1000 1000|2|Ok 2 2 0 0|1|0|1000| +1@1000 -1 Accepted Delivered +2@1000 -2 Accepted Delivered
-|ququ|200|250000000000 250000000001|2|Ok 2 0 0 2|0|0|250000000001| +1@250000000000 -1 TooOld Dropped +2@250000000000 -2 TooOld Dropped
-|ququ|200|18446744073709551615 0|2|Ok 2 1 0 1|1|0|0| +1@250000000000 -1 TooOld Dropped +2@0 -2 Accepted Delivered
+    "|ququ|200|1000 990|2|Spent 2 2 0 0|1|0|990| +1@1000 -1 Accepted Delivered +2@990 -2 Accepted Delivered
+|ququ|200|1000 1000|2|Spent 2 2 0 0|1|0|1000| +1@1000 -1 Accepted Delivered +2@1000 -2 Accepted Delivered
+|ququ|200|250000000000 250000000001|2|Spent 2 0 0 2|0|0|250000000001| +1@250000000000 -1 TooOld Dropped +2@250000000000 -2 TooOld Dropped
+|ququ|200|18446744073709551615 0|2|Spent 2 1 0 1|1|0|0| +1@250000000000 -1 TooOld Dropped +2@0 -2 Accepted Delivered
 ";
 
 fn duties_of<R: Abort + Drop>(rt: R, alloc: Global, letters: &str) -> Vec<PlainDuty> {
@@ -285,22 +330,15 @@ fn clock_of<R: Abort + Drop>(rt: R, alloc: Global, words: &str) -> MemClock {
     MemClock::new(first.parse::<u64>().expect(&rt, first), later)
 }
 
-fn ended(end: Result<Turned, TurnFault>) -> (&'static str, Turned) {
-    match end {
-        Ok(turned) => ("Ok", turned),
-        Err(TurnFault::DiskFault(turned)) => ("DiskFault", turned),
-        Err(TurnFault::NumberLimit(turned)) => ("NumberLimit", turned),
-        Err(TurnFault::NoMemory(turned)) => ("NoMemory", turned),
-    }
-}
-
-fn note<R: Abort + Drop>(rt: R, text: &mut String, duty: PlainDuty, did: Did) {
-    let PlainDuty { number, moment, .. } = duty;
+fn note<R: Abort + Drop>(rt: R, text: &mut String, did: Did) {
     match did {
-        Did::Claimed => write!(text, " +{number}@{moment}"),
-        Did::Recorded(outcome, fate) => write!(text, " -{number} {outcome:?} {fate:?}"),
-        Did::PutBack => write!(text, " -{number} back"),
-        Did::Refused => write!(text, " -{number} refused"),
+        Did::Looked(left, _) => write!(text, " ?{left}"),
+        Did::Claimed(duty) => write!(text, " +{}@{}", duty.number, duty.moment),
+        Did::Recorded(duty, outcome, fate) => {
+            write!(text, " -{} {outcome:?} {fate:?}", duty.number)
+        }
+        Did::PutBack(duty) => write!(text, " -{} back", duty.number),
+        Did::Refused(duty) => write!(text, " -{} refused", duty.number),
     }
     .expect(&rt, "a text");
 }
@@ -313,8 +351,10 @@ fn left<R: Abort + Copy + Drop>(
     link: &mut MemLink,
     clock: &mut MemClock,
     budget: u32,
-) -> String {
-    let (how, turned) = ended(turn(book, link, clock, budget));
+) -> String
+    requires rests { book.old.claimed ≡ None }
+{
+    let Stepped { turned, stop } = turn(book, link, clock, budget);
     let Turned {
         attempts,
         delivered,
@@ -323,10 +363,10 @@ fn left<R: Abort + Copy + Drop>(
     } = turned;
     let (answers, faults, next) = (link.answers.len(), link.faults(), clock.now());
     let mut text = format!(in alloc;
-        "{how} {attempts} {delivered} {dead} {dropped}|{answers}|{faults}|{next}|"
+        "{stop:?} {attempts} {delivered} {dead} {dropped}|{answers}|{faults}|{next}|"
     ).expect(&rt, "a text");
-    for (duty, did) in &book.log {
-        note(rt, &mut text, *duty, *did);
+    for did in &book.log {
+        note(rt, &mut text, *did);
     }
     text
 }
@@ -347,6 +387,7 @@ fn meet<R: Abort + Copy + Drop>(rt: R, alloc: Global, row: &str) {
         rt,
         special: special.bytes().next().unwrap_or(b' '),
         duties: duties_of(rt, alloc, duties),
+        claimed: None,
         log: Vec::new(alloc),
     };
     let mut link = link_of(rt, alloc, answers);
@@ -373,7 +414,7 @@ fn a_turn_makes_attempts_within_its_budget(rt: HostRuntime) {
 
 #[test]
 fn a_fault_leaves_no_claim_open(rt: HostRuntime) {
-    meet_all(rt, rt.alloc(), FAULTS, 3);
+    meet_all(rt, rt.alloc(), FAULTS, 2);
 }
 
 #[test]

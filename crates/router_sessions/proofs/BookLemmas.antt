@@ -1,94 +1,122 @@
--- The book after one more turn. Other files cite `steady_book`, `state_more`, `book_first`, `book_more`, `turn_of_ask`, `tables_of_ask`, and what is
--- known of a turn that was made: `IsMade`, `is_added`, `latest`, `made_book`, `made_state`, `turn_by`.
-use Rattle.std.proofs.Common.{◌≡◌, ℕ, List, [], ◌∷◌, ◌++◌, length, refl, sym, ap, ◌∙◌, subst}
+-- The book after one more turn. Other files cite `steady_of`, `added_legal`, `legal_later`, `book_first`, `IsMade`, `made_book`, `made_makes`, `made_state`, `latest`, `turn_by`.
+use Rattle.std.proofs.Common.{◌≡◌, ℕ, List, [], ◌∷◌, ◌++◌, length, Option, Some, None, refl, sym, ap, ◌∙◌, subst, arith}
 use Rattle.std.proofs.Math.Seq.{take-length}
 use Rattle.rule_table.specs.Control.{Control}
 use Rattle.rule_table.specs.RuleSet.{RuleSet, first_set, applied_all, rule_set_at}
-use Rattle.router_core.specs.Tables.{Tables, first_tables}
-use Rattle.router_sessions.specs.History.{Ask, Turn, State, IsTurnFor, IsTurnOf, IsLatest, IsLegal, after_ask, after_turn, state_after, begun}
-use Rattle.router_sessions.specs.Book.{first_book, BookState, state_of, IsBook}
-use Rattle.router_sessions.proofs.HistoryLemmas.{state_append, legal_append}
-use Rattle.router_sessions.proofs.SteadyLemmas.{IsSteady, steady_turn, steady_after, steady_begun}
-use Rattle.std.specs.Prelude.{Option}
 use Rattle.router_core.specs.Batch.{Batch}
+use Rattle.router_core.specs.Tables.{Tables, first_tables}
+use Rattle.courier_run.specs.Act.{makes}
+use Rattle.router_sessions.specs.declared.book.Book.{Book}
 use Rattle.router_sessions.specs.declared.book.Seat.{Seat}
-use Rattle.router_sessions.specs.Answered.{IsFrom}
-use Rattle.router_sessions.specs.Turns.{IsAdded}
+use Rattle.router_sessions.specs.History.{Ask, opens, Turn, State, Placed, IsTurnFor, IsLatest, IsLegal, AreTurnsFrom, after_ask, state_after, state_of, begun}
+use Rattle.router_sessions.specs.Book.{turns_of, opening, IsBook, IsKept}
+use Rattle.router_sessions.specs.Acts.{Makes}
+use Rattle.router_sessions.proofs.TurnLemmas.{state_append, turns_append, turns_back}
+use Rattle.router_sessions.proofs.SteadyLemmas.{IsSteady, steady_after, steady_begun}
+use Rattle.router_sessions.proofs.ActLemmas.{makes_one}
 
--- the state of a book that was opened with the first tables
-pub steady_book : (b : BookState) → b.opened ≡ begun first_tables → IsSteady (state_of b)
-steady_book b first = subst (λ (s : State). IsSteady (state_after b.turns s)) (sym first) (steady_after b.turns (begun first_tables) steady_begun)
+-- the turns after the one that opened the book
+pub legal_later : (turns : List Turn) (h : IsBook turns) → AreTurnsFrom (begun first_tables) h.later
+legal_later turns h = (subst IsLegal h.opened h.legal).1
 
-pub state_more : (old new : BookState) (turn : Turn) → new.opened ≡ old.opened → new.turns ≡ old.turns ++ turn ∷ []
-    → state_of new ≡ after_turn turn (state_of old)
-state_more old new turn opened turns =
-    ap (λ (ts : List Turn). state_after ts new.opened) turns
-    ∙ ap (λ (s : State). state_after (old.turns ++ turn ∷ []) s) opened
-    ∙ state_append old.opened old.turns (turn ∷ [])
+state_later : (turns : List Turn) (h : IsBook turns) → state_of turns ≡ state_after h.later (begun first_tables)
+state_later turns h = ap state_of h.opened
+
+-- the state of a book
+pub steady_of : (turns : List Turn) → IsBook turns → IsSteady (state_of turns)
+steady_of turns h = subst IsSteady (sym (state_later turns h)) (steady_after h.later (begun first_tables) (legal_later turns h) steady_begun)
+
+-- the turns that a book has beyond another one
+pub added_legal : (old new added : List Turn) → IsBook old → IsBook new → new ≡ old ++ added → AreTurnsFrom (state_of old) added
+added_legal old new added h h_new is =
+    let all : IsLegal (opening ∷ (h.later ++ added)) = subst IsLegal (is ∙ ap (λ (ts : List Turn). ts ++ added) h.opened) h_new.legal in
+    subst (λ (s : State). AreTurnsFrom s added) (sym (state_later old h)) (turns_back (begun first_tables) h.later added all.1).1
+
+-- a book with one turn more
+pub book_more : (old new : List Turn) (turn : Turn) → IsBook old → IsTurnFor (state_of old) turn turn.ask → new ≡ old ++ turn ∷ [] → IsBook new
+book_more old new turn h is turns =
+    let opened : new ≡ opening ∷ (h.later ++ turn ∷ []) = turns ∙ ap (λ (ts : List Turn). ts ++ turn ∷ []) h.opened in
+    let first : IsLegal (opening ∷ h.later) = subst IsLegal h.opened h.legal in
+    record {
+      later = h.later ++ turn ∷ [];
+      opened = opened;
+      legal = subst IsLegal (sym opened) (
+        first.0,
+        turns_append (begun first_tables) h.later (turn ∷ []) first.1
+            (subst (λ (s : State). IsTurnFor s turn turn.ask) (state_later old h) is, tt),
+      );
+    }
+
+-- the book that was just opened
+pub book_first : (turns : List Turn) → turns ≡ opening ∷ [] → IsBook turns
+book_first turns is = record {
+  later = [];
+  opened = is;
+  legal = subst IsLegal (sym is)
+      (record { start = first_tables; found = []; ask = refl; lawful = tt; no_pass = refl; no_connection = refl; k = refl; unwritten = refl }, tt);
+}
 
 latest_set : (controls : List Control) (set : RuleSet) → set ≡ applied_all controls first_set → set ≡ rule_set_at (length controls) controls
 latest_set controls set e = e ∙ ap (λ cs. applied_all cs first_set) (sym (take-length controls))
 
-pub is_book : (b : BookState) → IsSteady (state_of b) → IsLegal b.opened b.turns → (state_of b).tables ≡ b.tables → IsBook b
-is_book b h legal tables = record {
-  legal = legal;
-  tables = tables;
-  set = ap (λ (t : Tables). t.set) (sym tables) ∙ latest_set (state_of b).controls (state_of b).tables.set h.set;
-  version = ap (λ (t : Tables). t.set.count) (sym tables) ∙ h.version;
-}
+-- the rule set of a book's tables is that of the latest version
+pub set_of : (b : Book) (h : IsKept b) → b.tables.set ≡ rule_set_at (length (state_of (turns_of b)).controls) (state_of (turns_of b)).controls
+set_of b h =
+    ap (λ (t : Tables). t.set) (sym h.tables)
+    ∙ latest_set (state_of (turns_of b)).controls (state_of (turns_of b)).tables.set (steady_of (turns_of b) h.book).set
 
--- the book before any turn
-pub book_first : (b : BookState) → b ≡ first_book → IsBook b
-book_first b first = subst IsBook (sym first) (is_book first_book steady_begun tt refl)
-
--- a turn that was made for this
-pub turn_of_ask : (s : State) (turn : Turn) (ask : Ask) → turn.ask ≡ ask → IsTurnFor s turn ask → IsTurnOf s turn
-turn_of_ask s turn ask e is = subst (IsTurnFor s turn) (sym e) is
-
-pub book_more : (old new : BookState) (turn : Turn) → old.opened ≡ begun first_tables → IsBook old → IsTurnOf (state_of old) turn
-    → new.opened ≡ old.opened → new.turns ≡ old.turns ++ turn ∷ [] → new.tables ≡ (after_turn turn (state_of old)).tables → IsBook new
-book_more old new turn first h is opened turns tables =
-    let state = state_more old new turn opened turns in
-    is_book new
-    (subst IsSteady (sym state) (steady_turn turn (state_of old) (steady_book old first)))
-    (subst (λ (s : State). IsLegal s new.turns) (sym opened)
-    (subst (IsLegal old.opened) (sym turns) (legal_append old.opened old.turns (turn ∷ []) h.legal (is, tt))))
-    (ap (λ (s : State). s.tables) state ∙ sym tables)
-
--- the tables after a turn that was made for this
-pub tables_of_ask : (s : State) (turn : Turn) (ask : Ask) → turn.ask ≡ ask → (after_turn turn s).tables ≡ (after_ask turn ask s).tables
-tables_of_ask s turn ask e = ap (λ a. (after_ask turn a s).tables) e
-
--- one turn more of the seat, at the latest configuration version, in a book that was opened with the first tables
-pub record IsMade (seat : Seat) (ask : Ask) (written : Option Batch) (old new : BookState) (turn : Turn) : Type 0 where
-  pub first : old.opened ≡ begun first_tables
-  pub is_book : IsBook old
-  pub from : IsFrom seat ask turn
-  pub k : turn.k ≡ old.tables.set.count
-  pub batch : turn.batch ≡ written
-  pub opened : new.opened ≡ old.opened
-  pub turns : new.turns ≡ old.turns ++ turn ∷ []
-
-pub is_added : {seat : Seat} {ask : Ask} {batch : Option Batch} {old new : BookState} {turn : Turn} → IsMade seat ask batch old new turn
-    → IsAdded seat ask old new
-is_added {seat} {ask} {batch} {old} {new} {turn} m = record { turn = turn; from = m.from; turns = m.turns }
-
-pub latest : {seat : Seat} {ask : Ask} {batch : Option Batch} {old new : BookState} {turn : Turn} → IsMade seat ask batch old new turn
-    → IsLatest (state_of old) turn
-latest m = m.k ∙ m.is_book.version
-
-pub made_book : {seat : Seat} {ask : Ask} {batch : Option Batch} {old new : BookState} {turn : Turn} → IsMade seat ask batch old new turn
-    → IsTurnFor (state_of old) turn ask → new.tables ≡ (after_ask turn ask (state_of old)).tables → IsBook new
-made_book {seat} {ask} {batch} {old} {new} {turn} m is tables =
-    book_more old new turn m.first m.is_book (turn_of_ask (state_of old) turn ask m.from.made_for is) m.opened m.turns
-    (tables ∙ sym (tables_of_ask (state_of old) turn ask m.from.made_for))
-
--- the state after the turn
-pub made_state : {seat : Seat} {ask : Ask} {batch : Option Batch} {old new : BookState} {turn : Turn} → IsMade seat ask batch old new turn
-    → state_of new ≡ after_ask turn ask (state_of old)
-made_state {seat} {ask} {batch} {old} {new} {turn} m =
-    state_more old new turn m.opened m.turns ∙ ap (λ a. after_ask turn a (state_of old)) m.from.made_for
+pub version_of : (b : Book) (h : IsKept b) → b.tables.set.count ≡ length (state_of (turns_of b)).controls
+version_of b h = ap (λ (t : Tables). t.set.count) (sym h.tables) ∙ (steady_of (turns_of b) h.book).version
 
 -- a turn of the seat
 abbrev pub turn_by : Seat → Ask → ℕ → Option Batch → Turn
-turn_by seat ask k batch = record { pass = seat.pass; connection = seat.connection; ask = ask; k = k; batch = batch }
+turn_by seat ask k batch = record { pass = Some seat.pass; connection = seat.connection; ask = ask; k = k; batch = batch }
+
+-- one turn more of the seat, at the latest configuration version
+pub record IsMade (seat : Seat) (ask : Ask) (written : Option Batch) (old new : Book) (turn : Turn) : Type 0 where
+  pub kept : IsKept old
+  pub by : turn.pass ≡ Some seat.pass
+  pub connection : turn.connection ≡ seat.connection
+  pub made_for : turn.ask ≡ ask
+  pub k : turn.k ≡ old.tables.set.count
+  pub batch : turn.batch ≡ written
+  pub turns : turns_of new ≡ turns_of old ++ turn ∷ []
+
+pub latest : {seat : Seat} {ask : Ask} {batch : Option Batch} {old new : Book} {turn : Turn} → IsMade seat ask batch old new turn
+    → IsLatest (state_of (turns_of old)) turn
+latest {seat} {ask} {batch} {old} {new} {turn} m = m.k ∙ version_of old m.kept
+
+pub made_state : {seat : Seat} {ask : Ask} {batch : Option Batch} {old new : Book} {turn : Turn} → IsMade seat ask batch old new turn
+    → state_of (turns_of new) ≡ after_ask turn ask (state_of (turns_of old))
+made_state {seat} {ask} {batch} {old} {new} {turn} m =
+    ap state_of m.turns ∙ state_append (begun first_tables) (turns_of old) (turn ∷ [])
+    ∙ ap (λ a. after_ask turn a (state_of (turns_of old))) m.made_for
+
+pub made_book : {seat : Seat} {ask : Ask} {batch : Option Batch} {old new : Book} {turn : Turn} → IsMade seat ask batch old new turn
+    → IsTurnFor (state_of (turns_of old)) turn ask → new.tables ≡ (after_ask turn ask (state_of (turns_of old))).tables → IsKept new
+made_book {seat} {ask} {batch} {old} {new} {turn} m is tables = record {
+  book = book_more (turns_of old) (turns_of new) turn m.kept.book
+      (subst (λ (a : Ask). IsTurnFor (state_of (turns_of old)) turn a) (sym m.made_for) is) m.turns;
+  tables = ap (λ (s : State). s.tables) (made_state m) ∙ sym tables;
+}
+
+-- the turn with the state before it
+abbrev pub placed_on : Book → Turn → Placed
+placed_on b turn = record { before = state_of (turns_of b); turn = turn }
+
+pub made_makes : {seat : Seat} {ask : Ask} {batch : Option Batch} {old new : Book} {turn : Turn} → IsMade seat ask batch old new turn
+    → Makes seat (makes (placed_on old turn) ∷ []) (turns_of old) (turns_of new)
+made_makes {seat} {ask} {batch} {old} {new} {turn} m =
+    makes_one seat (turns_of old) (turns_of new) turn m.turns m.by m.connection (omega (arith, latest m))
+
+-- the turn that opens a book
+pub opened_with : (old new : List Turn) (start : Tables) (found : List Batch) → old ≡ [] → start ≡ first_tables → found ≡ []
+    → new ≡ old ++ record { pass = None; connection = None; ask = opens start found; k = 0; batch = None } ∷ [] → new ≡ opening ∷ []
+opened_with old new start found none is empty turns =
+    turns
+    ∙ ap (λ (ts : List Turn). ts ++ record { pass = None; connection = None; ask = opens start found; k = 0; batch = None } ∷ []) none
+    ∙ ap (λ (t : Tables). record { pass = None; connection = None; ask = opens t found; k = 0; batch = None } ∷ []) is
+    ∙ ap (λ (bs : List Batch). record { pass = None; connection = None; ask = opens first_tables bs; k = 0; batch = None } ∷ []) empty
+
+pub kept_first : (b : Book) → turns_of b ≡ opening ∷ [] → b.tables ≡ first_tables → IsKept b
+kept_first b turns tables = record { book = book_first (turns_of b) turns; tables = ap (λ (ts : List Turn). (state_of ts).tables) turns ∙ sym tables }

@@ -1,71 +1,157 @@
--- From the hall's clauses to what a pass knows of the book. Other files cite `seen_of`, `learned`, `after_learning`,
--- `learned_alone`, `extends`, `sees_more`, `sees_same`, `same_again`, `same_seat`,
--- `closed_again`, `sees_again`, `sees_none`,
--- `pass_of`, and `map_ok` and the others of results.
+-- From the hall's clauses to what a pass knows of the history. Other files cite `seen_of`, `learned`, `IsTaken`, `taken`, `answered_later`, `claimed_later`, `recorded_later`,
+-- `back_later`, `rests_there`, `holds_there`, `rests_more`, `looked`, `extends`, `sees_more`, `sees_same`, `same_again`, `same_seat`, `sees_again`, `sees_none`, `pass_of`, and
+-- `map_ok` and the others of results.
 use Rattle.std.proofs.Common.{◌≡◌, ℕ, true, false, cond, List, [], ◌∷◌, ◌++◌, map, Option, Some, None, Result, Ok, Err, refl, sym, ap, ◌∙◌, subst, append-nil, append_assoc}
-use Rattle.std.specs.Prelude.{◌==◌, filter, IfOk, IfErr, IfSome, IfNone, OnErr}
+use Rattle.std.specs.Prelude.{Bool, IfOk, IfErr, IfSome, IfNone, OnErr}
 use Rattle.std.proofs.lemmas.Bool.{eq-eqb}
 use Rattle.std.proofs.lemmas.List.{map-append, append_cancel_left}
-use Rattle.std.proofs.lemmas.List.Elements.{filter-append, All-weaker}
-use Rattle.turn_book.specs.Rule.{Learns}
+use Rattle.std.proofs.lemmas.List.Elements.{filter-append, All-weaker, All-nil}
+use Rattle.turn_book.specs.Rule.{is_number, names_only, Learns}
+use Rattle.turn_book.specs.Rule as book
 use Rattle.turn_book.specs.Passes.{view, Extends, IsSamePass}
-use Rattle.router_core.specs.Tables.{Tables, first_tables}
+use Rattle.delivery_duties.specs.declared.outcome.Outcome.{Outcome}
+use Rattle.delivery_duties.specs.declared.outcome.Fate.{Fate}
+use Rattle.router_core.specs.Request.{Request}
+use Rattle.courier_run.specs.Claim.{Claim}
+use Rattle.courier_run.specs.Act.{looks, makes}
+use Rattle.courier_run.specs.Steps.{Why}
 use Rattle.router_sessions.specs.declared.book.Book.{Book}
 use Rattle.router_sessions.specs.declared.book.Seat.{Seat}
+use Rattle.router_sessions.specs.declared.book.TurnReply.{TurnReply}
 use Rattle.router_sessions.specs.declared.history.Turn.{Turn}
-use Rattle.router_sessions.specs.History.{OpenClaim, begun, turns_by, claims_by}
+use Rattle.router_sessions.specs.History.{State, claims_of, state_of, turns_by, asked}
 use Rattle.router_sessions.specs.History as history
-use Rattle.router_sessions.specs.Book.{BookState, book_of, recorded_in, turns_in, turn_of, seen_book, IsBook, HasGrown, HasLearned}
-use Rattle.router_sessions.specs.Desk.{Known, seen_by, book_seen, number_of, seat_of, SeesMore, AfterLearning}
+use Rattle.router_sessions.specs.Book.{recorded_in, turns_of, turn_of, IsBook, IsKept, HasGrown, Rests, Holds}
+use Rattle.router_sessions.specs.Acts.{Act, Makes, IsNamed}
+use Rattle.router_sessions.specs.Answered.{IsAnswered, IsClaimed, IsRecorded, IsPutBack}
+use Rattle.router_sessions.specs.Desk.{Known, seen_by, turns_seen, number_of, seat_of, SeesMore}
+use Rattle.router_sessions.proofs.TurnLemmas.{none_of_mine, claims_stay}
+use Rattle.router_sessions.proofs.BookLemmas.{added_legal}
+use Rattle.router_sessions.proofs.ActLemmas.{makes_joined, makes_look, state_longer}
 
 -- the pass that made a turn
 abbrev pub maker : Turn → Option ℕ
-maker t = Some t.pass
+maker t = t.pass
 
 -- what a pass knows once it has seen all turns of the book
-pub seen_of : (b : Book) (known : Known) → IsBook (book_of b) → seen_by known ≡ recorded_in b.history → book_seen known ≡ book_of b
-seen_of b known h e =
-    ap seen_book e ∙ ap (λ (t : Tables). record { opened = begun first_tables; tables = t; turns = turns_in b.history }) h.tables
+pub seen_of : (b : Book) (known : Known) → seen_by known ≡ recorded_in b.history → turns_seen known ≡ turns_of b
+seen_of b known e = ap (map turn_of) e
 
-own_turns : (n : ℕ) (turns : List Turn) → turns_by n (map turn_of turns) ≡ map turn_of (filter (λ t. t.pass == n) turns)
+pub own_turns : (n : ℕ) (turns : List Turn) → turns_by n (map turn_of turns) ≡ map turn_of (book.turns_by maker n turns)
 own_turns n [] = refl
 own_turns n (t ∷ ts) =
-    elim (t.pass == n) as (λ b. cond b (turn_of t ∷ turns_by n (map turn_of ts)) (turns_by n (map turn_of ts))
-    ≡ map turn_of (cond b (t ∷ filter (λ u. u.pass == n) ts) (filter (λ u. u.pass == n) ts))) [
+    elim (is_number t.pass n) as (λ b. cond b (turn_of t ∷ turns_by n (map turn_of ts)) (turns_by n (map turn_of ts))
+    ≡ map turn_of (cond b (t ∷ book.turns_by maker n ts) (book.turns_by maker n ts))) [
       | true ↦ ap (λ (us : List history.Turn). turn_of t ∷ us) (own_turns n ts)
       | false ↦ own_turns n ts
     ]
 
--- the pass learned what the book has beyond what it had seen
-pub learned : (old : Known) (b : Book) → Learns maker (view old) (recorded_in b.history) → HasLearned (number_of old) (book_seen old) (book_of b)
-learned old b ((rest, is), same) =
-    let n : ℕ = number_of old in
-    let own : List Turn → List Turn = filter (λ t. t.pass == n) in
-    let none : own rest ≡ [] = append_cancel_left (own (seen_by old)) (own rest) []
-    (sym (filter-append (λ (t : Turn). t.pass == n) (seen_by old) rest) ∙ ap own is ∙ same ∙ sym (append-nil (own (seen_by old)))) in
-    record {
-      opened = refl;
-      more = map turn_of rest;
-      turns = sym (ap (map turn_of) is) ∙ map-append turn_of (seen_by old) rest;
-      by_others = own_turns n rest ∙ ap (map turn_of) none;
-    }
+-- turns that were added and left those of a pass as they were
+pub none_added : (n : ℕ) (seen rest later : List Turn) → seen ++ rest ≡ later → book.turns_by maker n later ≡ book.turns_by maker n seen
+    → turns_by n (map turn_of rest) ≡ []
+none_added n seen rest later is same =
+    let own : List Turn → List Turn = book.turns_by maker n in
+    own_turns n rest ∙ ap (map turn_of) (append_cancel_left (own seen) (own rest) []
+    (sym (filter-append (λ (t : Turn). is_number t.pass n) seen rest) ∙ ap own is ∙ same ∙ sym (append-nil (own seen))))
 
--- what was done to the book in the turn
-pub after_learning : {IsDone : BookState → BookState → Type 0} (old new : Known) (b b_new : Book) → Learns maker (view old) (recorded_in b.history)
-    → IsBook (book_of b) → IsBook (book_of b_new) → seen_by new ≡ recorded_in b_new.history → IsDone (book_of b) (book_of b_new)
-    → AfterLearning (number_of old) IsDone (book_seen old) (book_seen new)
-after_learning {IsDone} old new b b_new learns h h_new seen done = record {
-  mid = book_of b;
-  learned = learned old b learns;
-  book = h;
-  done = subst (IsDone (book_of b)) (sym (seen_of b_new new h_new seen)) done;
+-- the pass learned what the book has beyond what it had seen
+pub learned : (seat : Seat) (old : Known) (b : Book) → seat.pass ≡ number_of old → Learns maker (view old) (recorded_in b.history)
+    → Makes seat [] (turns_seen old) (turns_of b)
+learned seat old b number ((rest, is), same) = record {
+  added = map turn_of rest;
+  turns = sym (ap (map turn_of) is) ∙ map-append turn_of (seen_by old) rest;
+  happens = ap (λ (k : ℕ). turns_by k (map turn_of rest)) number ∙ none_added (number_of old) (seen_by old) rest (recorded_in b.history) is same;
+  named = All-nil (IsNamed seat.connection);
 }
 
--- the turn left the book as it was
-pub learned_alone : (old new : Known) (b b_new : Book) → Learns maker (view old) (recorded_in b.history) → IsBook (book_of b_new)
-    → seen_by new ≡ recorded_in b_new.history → book_of b_new ≡ book_of b → HasLearned (number_of old) (book_seen old) (book_seen new)
-learned_alone old new b b_new learns h_new seen same =
-    subst (HasLearned (number_of old) (book_seen old)) (sym (seen_of b_new new h_new seen ∙ same)) (learned old b learns)
+-- a turn of the seat's pass, from the book that it took to the one that it gave
+pub record IsTaken (seat : Seat) (old new : Known) (b b_new : Book) : Type 0 where
+  pub book : IsBook (turns_seen old)
+  pub learned : Makes seat [] (turns_seen old) (turns_of b)
+  pub kept : IsKept b
+  pub seen : turns_seen new ≡ turns_of b_new
+
+pub taken : (seat : Seat) (old new : Known) (b b_new : Book) → seat.pass ≡ number_of old → IsBook (turns_seen old)
+    → Learns maker (view old) (recorded_in b.history) → IsKept b → seen_by new ≡ recorded_in b_new.history → IsTaken seat old new b b_new
+taken seat old new b b_new number is learns kept seen =
+    record { book = is; learned = learned seat old b number learns; kept = kept; seen = seen_of b_new new seen }
+
+makes_later : (seat : Seat) (acts : List Act) (old new : Known) (b b_new : Book) → IsTaken seat old new b b_new → Makes seat acts (turns_of b) (turns_of b_new)
+    → Makes seat acts (turns_seen old) (turns_seen new)
+makes_later seat acts old new b b_new t m =
+    subst (λ (ts : List history.Turn). Makes seat acts (turns_seen old) ts) (sym t.seen)
+    (makes_joined seat [] acts (turns_seen old) (turns_of b) (turns_of b_new) t.learned
+    (added_legal (turns_seen old) (turns_of b) t.learned.added t.book t.kept.book t.learned.turns) m)
+
+pub answered_later : {seat : Seat} {old new : Known} {b b_new : Book} (request : Request) (close : Bool) (reply : TurnReply) → IsTaken seat old new b b_new
+    → IsAnswered seat (turns_of b) (turns_of b_new) request close reply → IsAnswered seat (turns_seen old) (turns_seen new) request close reply
+answered_later {seat} {old} {new} {b} {b_new} request close reply t a = record {
+  placed = a.placed;
+  makes = makes_later seat (makes a.placed ∷ []) old new b b_new t a.makes;
+  replied = a.replied;
+  replies = a.replies;
+  text = a.text;
+  unwritten = a.unwritten;
+  written = a.written;
+}
+
+pub claimed_later : {seat : Seat} {old new : Known} {b b_new : Book} (moment : ℕ) (c : Claim) → IsTaken seat old new b b_new
+    → IsClaimed seat moment (turns_of b) (turns_of b_new) c → IsClaimed seat moment (turns_seen old) (turns_seen new) c
+claimed_later {seat} {old} {new} {b} {b_new} moment c t a = record {
+  placed = a.placed;
+  makes = makes_later seat (makes a.placed ∷ []) old new b b_new t a.makes;
+  claims = a.claims;
+  holds = subst (λ (ts : List history.Turn). Holds seat.pass ts c) (sym t.seen) a.holds;
+}
+
+pub recorded_later : {seat : Seat} {old new : Known} {b b_new : Book} (c : Claim) (had : Outcome) (fate : Fate) → IsTaken seat old new b b_new
+    → IsRecorded seat c had fate (turns_of b) (turns_of b_new) → IsRecorded seat c had fate (turns_seen old) (turns_seen new)
+recorded_later {seat} {old} {new} {b} {b_new} c had fate t a =
+    record { placed = a.placed; makes = makes_later seat (makes a.placed ∷ []) old new b b_new t a.makes; records = a.records }
+
+pub back_later : {seat : Seat} {old new : Known} {b b_new : Book} (c : Claim) (why : Why) → IsTaken seat old new b b_new
+    → IsPutBack seat c why (turns_of b) (turns_of b_new) → IsPutBack seat c why (turns_seen old) (turns_seen new)
+back_later {seat} {old} {new} {b} {b_new} c why t a =
+    record { placed = a.placed; makes = makes_later seat (makes a.placed ∷ []) old new b b_new t a.makes; puts_back = a.puts_back }
+
+-- turns of others make no claim of this pass
+pub rests_more : (seat : Seat) (old new : List history.Turn) → Makes seat [] old new → Rests seat.pass old → Rests seat.pass new
+rests_more seat old new m rests =
+    ap (λ (s : State). claims_of seat.pass s.open_claims) (state_longer old m.added new m.turns)
+    ∙ none_of_mine seat.pass m.added (state_of old) m.happens rests
+
+-- they end none either
+holds_more : (seat : Seat) (old new : List history.Turn) (c : Claim) → IsBook old → IsBook new → Makes seat [] old new → Holds seat.pass old c
+    → Holds seat.pass new c
+holds_more seat old new c h h_new m holds =
+    ap (λ (s : State). claims_of seat.pass s.open_claims) (state_longer old m.added new m.turns)
+    ∙ claims_stay seat.pass m.added (state_of old) (added_legal old new m.added h h_new m.turns) m.happens ∙ holds
+
+-- in the book that was taken the pass has no claim, or its claim
+pub rests_there : (seat : Seat) (old : Known) (b : Book) → seat.pass ≡ number_of old → Learns maker (view old) (recorded_in b.history)
+    → Rests (number_of old) (turns_seen old) → Rests seat.pass (turns_of b)
+rests_there seat old b number learns rests =
+    rests_more seat (turns_seen old) (turns_of b) (learned seat old b number learns)
+    (subst (λ (n : ℕ). Rests n (turns_seen old)) (sym number) rests)
+
+pub holds_there : (seat : Seat) (old : Known) (b : Book) (c : Claim) → seat.pass ≡ number_of old → IsBook (turns_seen old) → IsKept b
+    → Learns maker (view old) (recorded_in b.history) → Holds (number_of old) (turns_seen old) c → Holds seat.pass (turns_of b) c
+holds_there seat old b c number h kept learns holds =
+    holds_more seat (turns_seen old) (turns_of b) c h kept.book (learned seat old b number learns)
+    (subst (λ (n : ℕ). Holds n (turns_seen old) c) (sym number) holds)
+
+-- the turn left the history as it was
+pub learned_alone : (seat : Seat) (old new : Known) (b b_new : Book) → seat.pass ≡ number_of old → Learns maker (view old) (recorded_in b.history)
+    → seen_by new ≡ recorded_in b_new.history → turns_of b_new ≡ turns_of b → Makes seat [] (turns_seen old) (turns_seen new)
+learned_alone seat old new b b_new number learns seen same =
+    subst (λ (ts : List history.Turn). Makes seat [] (turns_seen old) ts) (sym (seen_of b_new new seen ∙ same)) (learned seat old b number learns)
+
+-- the same as a look
+pub looked : (seat : Seat) (old new : Known) (b b_new : Book) → seat.pass ≡ number_of old → Learns maker (view old) (recorded_in b.history)
+    → seen_by new ≡ recorded_in b_new.history → turns_of b_new ≡ turns_of b
+    → Makes seat (looks (state_of (turns_seen new)) ∷ []) (turns_seen old) (turns_seen new)
+looked seat old new b b_new number learns seen same =
+    makes_look seat (turns_seen old) (turns_seen new) (learned_alone seat old new b b_new number learns seen same)
 
 -- the turns that the seat added are those of its pass
 pub extends : (seat : Seat) (mid : Known) (b b_new : Book) → HasGrown seat b b_new → seen_by mid ≡ recorded_in b.history → seat.pass ≡ number_of mid
@@ -73,7 +159,8 @@ pub extends : (seat : Seat) (mid : Known) (b b_new : Book) → HasGrown seat b b
 extends seat mid b b_new (more, is, own) seen number = (
   more,
   is ∙ ap (λ (ts : List Turn). ts ++ more) (sym seen),
-  All-weaker _ _ (λ t e. eq-eqb t.pass (number_of mid) (e ∙ number)) more own,
+  All-weaker (λ (t : Turn). t.pass ≡ Some seat.pass) (λ (t : Turn). names_only (number_of mid) t.pass ≡ true)
+      (λ t e. ap (names_only (number_of mid)) {x = t.pass} {y = Some seat.pass} e ∙ eq-eqb seat.pass (number_of mid) number) more own,
 )
 
 -- what the pass had seen, then what others made, then its own turns
@@ -94,14 +181,6 @@ same_again first mid last (t, n, p, m) (t2, n2, p2, m2) = (t2 ∙ t, n2 ∙ n, p
 
 pub same_seat : (connection : Option ℕ) (first last : Known) → IsSamePass first last → seat_of connection last ≡ seat_of connection first
 same_seat connection first last (t, n, p, m) = ap (λ (k : ℕ). record { pass = k; connection = connection }) n
-
--- the claims of the pass, whose number is the same
-pub closed_again : (first mid last : Known) (open_first open_mid open_last : List OpenClaim) → IsSamePass first mid
-    → (claims_by (number_of first) open_first ≡ [] → claims_by (number_of first) open_mid ≡ [])
-    → (claims_by (number_of mid) open_mid ≡ [] → claims_by (number_of mid) open_last ≡ [])
-    → claims_by (number_of first) open_first ≡ [] → claims_by (number_of first) open_last ≡ []
-closed_again first mid last open_first open_mid open_last (t, n, p, m) one two none =
-    subst (λ (k : ℕ). claims_by k open_mid ≡ [] → claims_by k open_last ≡ []) n two (one none)
 
 -- the pass saw more, and then more
 pub sees_again : (first mid last : Known) → SeesMore first mid → SeesMore mid last → SeesMore first last
@@ -134,6 +213,9 @@ map_none (Ok (Some a)) P Q f p = tt
 map_none (Ok None) P Q f p = f p
 map_none (Err e) P Q f p = tt
 
--- the seat of the pass, which has the turn
+-- the seat of the pass, before its turn and while it has it
+pub own_number : (connection : Option ℕ) (old : Known) (seat : Seat) → seat ≡ seat_of connection old → seat.pass ≡ number_of old
+own_number connection old seat is = ap (λ (s : Seat). s.pass) is
+
 pub pass_of : (connection : Option ℕ) (old mid : Known) (seat : Seat) → seat ≡ seat_of connection old → IsSamePass old mid → seat.pass ≡ number_of mid
 pass_of connection old mid seat is (t, n, p, m) = ap (λ (s : Seat). s.pass) is ∙ sym n

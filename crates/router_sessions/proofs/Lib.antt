@@ -1,43 +1,29 @@
--- What a session promises is one record (`IsSession`): `Appends` and `Consumes` of sink and source are in an `Option`, and the record keeps
--- the witnesses.
--- What holds after any turns (`IsSteady`) is proved of all turns, legal or not, in one induction; each clause takes it from the first
--- state.
--- What a part of the outside did through all exchanges (`AreSent`) is one record over values before and after: one lemma for none, one for
--- two in turn.
--- Exchanges are in order among turns of others by a recursion that cuts the added turns, from the state after the parts before
--- (`AreInOrder`). Places in
--- one list took three lemmas more, and did not order the looks. That the book's last turn is the last one added: `last_added`.
--- A ghost field has to be a proposition, so a borrowed book's law is a ghost member of the trait (`sound`), which each method requires and
--- ensures.
--- A book that is passed as `&mut` is dropped in one place; by value each arm that ends early drops it, and goals are named after the drops.
--- In `deliver` over a borrowed `&mut` the final book is in `given` of the lender: a pair of it and an equation that needs the ghost name.
--- A lemma that returns a record does not unfold for its caller: an argument that names a field of its result becomes a function of any row.
--- What a connection owes (`IsVisit`) shows neither clock nor link; `visit_lasts`, that a longer history keeps it, is in the definition's
--- file.
--- Four clauses that a caller only passes on: one record, and one lemma by cases on the end.
-pub mod AloneLemmas
+-- Each relation over acts is a loop's invariant, since its list grows at the end; there is one lemma for each kind of step.
+-- The order: turns (`TurnLemmas`), what holds of a legal history's state (`SteadyLemmas`), a book (`BookLemmas`), acts among turns (`ActLemmas`), the book's
+-- functions (`AnsweredLemmas`, `ClaimLemmas`, `RecordLemmas`), the desk (`DeskLemmas`), deliveries (`DidLemmas`, `SeatedLemmas`), the world around (`DoesLemmas`),
+-- messages (`ReplyLemmas`, `IncomingLemmas`) and sessions (`SessionLemmas`).
+-- A pass's claims change only at its own turns, whatever others do (`claims_stay`); that a claim's duty waits for it is in the state of each legal history.
+-- A law in a trait that needs lemmas cannot be stated in specs: `Did` says what was done beside all that was done before, so its laws are `append-nil` and
+-- `append_assoc`. `OwesNothing` speaks of all longer histories for the same reason.
+-- A ghost field has to be a proposition, so a borrowed book's law is a ghost member of the trait (`sound`), which each method requires and ensures.
+-- In `deliver_by` over a borrowed `&mut` the final book is in `given` of the lender: a pair of it and an equation that needs the ghost name.
+-- A pass whose history is not known to be legal looks first (`makes_looked`): a look needs no bound on versions.
+pub mod ActLemmas
 pub mod AnsweredLemmas
 pub mod BookLemmas
 pub mod BoundLemmas
 pub mod ClaimLemmas
-pub mod DeliveryLemmas
 pub mod DeskLemmas
-pub mod ExchangeLemmas
-pub mod HistoryLemmas
+pub mod DidLemmas
+pub mod DoesLemmas
 pub mod IncomingLemmas
-pub mod MadeLemmas
+pub mod KeptLemmas
 pub mod MovingLemmas
-pub mod OneDeliveryLemmas
-pub mod OneExchangeLemmas
-pub mod OneSessionLemmas
-pub mod OneStepLemmas
-pub mod PassLemmas
+pub mod OwesLemmas
 pub mod PendingLemmas
-pub mod PlacedLemmas
-pub mod ReadingLemmas
 pub mod RecordLemmas
-pub mod RunningLemmas
+pub mod ReplyLemmas
 pub mod SeatedLemmas
-pub mod SentLemmas
-pub mod StaysOpenLemmas
+pub mod SessionLemmas
 pub mod SteadyLemmas
+pub mod TurnLemmas

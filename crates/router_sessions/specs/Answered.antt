@@ -1,22 +1,27 @@
--- A request of one turn, answered.
-use Rattle.std.specs.Prelude.{◌≡◌, ℕ, Bool, List, [], ◌∷◌, ◌++◌, Option, None, IfSome}
+-- What one turn of a seat adds to a history.
+use Rattle.std.specs.Prelude.{◌≡◌, ℕ, Bool, List, [], ◌∷◌, Option, None, IfSome}
 use Rattle.api_replies.specs.View.{reply_of}
 use Rattle.api_replies.specs.Reply.{Reply}
 use Rattle.api_replies.specs.Written.{IsServedStatus, reply_text}
-use Rattle.json_text.specs.Moment.{IsMoment}
-use Rattle.router_core.specs.Request.{Request, IsOneTurn, IsEntitled}
+use Rattle.delivery_duties.specs.declared.outcome.Outcome.{Outcome}
+use Rattle.delivery_duties.specs.declared.outcome.Fate.{Fate}
+use Rattle.router_core.specs.Request.{Request}
 use Rattle.router_core.specs.Tables.{Tables}
 use Rattle.router_core.specs.Ready.{IsReadyFor}
 use Rattle.router_core.specs.declared.ready.Ready.{Ready}
 use Rattle.api_replies.specs.declared.reply.Reply.{Reply as CodeReply}
-use Rattle.router_core.specs.Bounds.{IsBounded}
 use Rattle.router_calls.specs.Decided.{answer_of}
 use Rattle.router_calls.specs.Answer.{IsAnswer}
+use Rattle.courier_run.specs.Claim.{Claim}
+use Rattle.courier_run.specs.Act.{makes}
+use Rattle.courier_run.specs.Steps.{Why}
 use Rattle.router_sessions.specs.declared.book.Seat.{Seat}
 use Rattle.router_sessions.specs.declared.book.TurnReply.{TurnReply}
 use Rattle.router_sessions.specs.declared.book.TurnReply.TheVariants.{Rendered, Unrendered}
-use Rattle.router_sessions.specs.History.{Turn, Ask, asked, IsLatest, IsAnsweredBy}
-use Rattle.router_sessions.specs.Book.{BookState, state_of}
+use Rattle.router_sessions.specs.History.{Turn, Placed}
+use Rattle.router_sessions.specs.Book.{Holds}
+use Rattle.router_sessions.specs.Acts.{Claims, Records, PutsBack, Makes}
+use Rattle.router_sessions.specs.Session.{Replies}
 
 -- The bytes of a turn's reply, made already or to be made.
 -- Shown by: the_reply_is_not_written.edit.
@@ -36,34 +41,39 @@ abbrev pub IsRenderable : TurnReply → Type 0
 IsRenderable (Rendered bytes) = Unit {0}
 IsRenderable (Unrendered reply) = IsServedStatus reply.status
 
--- A turn was made from a seat (a pass, and the connection that it serves), for an ask.
--- Shown by: a_turn_names_another_pass.edit.
-pub record IsFrom (seat : Seat) (ask : Ask) (turn : Turn) : Type 0 where
-  pub pass : turn.pass ≡ seat.pass
-  pub connection : turn.connection ≡ seat.connection
-  pub made_for : turn.ask ≡ ask
-
--- One turn was added for the request, by the latest configuration version, and the bytes are those of its reply. They were made before the
--- turn exactly if it wrote a batch.
+-- One turn from a seat answers the request, and the bytes are those of its reply. They were made before the turn exactly if it wrote a
+-- batch.
 -- Shown by: the_history_lacks_a_turn_without_a_batch.edit.
-pub record IsAnswered (seat : Seat) (old new : BookState) (request : Request) (close : Bool) (reply : TurnReply) : Type 0 where
-  pub turn : Turn
-  pub from : IsFrom seat (asked request) turn
-  pub turns : new.turns ≡ old.turns ++ turn ∷ []
-  pub latest : IsLatest (state_of old) turn
+pub record IsAnswered (seat : Seat) (old new : List Turn) (request : Request) (close : Bool) (reply : TurnReply) : Type 0 where
+  pub placed : Placed
+  pub makes : Makes seat (makes placed ∷ []) old new
   pub replied : Reply
-  pub answer : IsAnsweredBy (state_of old) turn request replied
+  pub replies : Replies placed request replied
   pub text : turn_text reply close ≡ reply_text replied close
-  pub unwritten : IsUnrendered reply → turn.batch ≡ None
-  pub written : turn.batch ≡ None → IsUnrendered reply
+  pub unwritten : IsUnrendered reply → placed.turn.batch ≡ None
+  pub written : placed.turn.batch ≡ None → IsUnrendered reply
 
--- A request that one turn answers: within its bounds, one that its caller may make, at a reading that is a moment.
--- Shown by: callers.
-pub record IsAskable (request : Request) : Type 0 where
-  pub bounded : IsBounded request.action
-  pub entitled : IsEntitled request
-  pub one_turn : IsOneTurn request.action
-  pub reading : IsMoment request.reading
+-- One turn from a seat claims a duty at this moment of the clock, and the claim is the pass's one open claim.
+-- Shown by: proofs alone.
+pub record IsClaimed (seat : Seat) (moment : ℕ) (old new : List Turn) (c : Claim) : Type 0 where
+  pub placed : Placed
+  pub makes : Makes seat (makes placed ∷ []) old new
+  pub claims : Claims placed c moment
+  pub holds : Holds seat.pass new c
+
+-- One turn from a seat records the attempt of a claim, which had this outcome, and gave the duty this fate.
+-- Shown by: a_step_is_recorded_twice.edit.
+pub record IsRecorded (seat : Seat) (c : Claim) (had : Outcome) (fate : Fate) (old new : List Turn) : Type 0 where
+  pub placed : Placed
+  pub makes : Makes seat (makes placed ∷ []) old new
+  pub records : Records placed (record { claim = c; outcome = had; fate = fate })
+
+-- One turn from a seat puts a claim back.
+-- Shown by: put_back_without_a_reason.edit.
+pub record IsPutBack (seat : Seat) (c : Claim) (why : Why) (old new : List Turn) : Type 0 where
+  pub placed : Placed
+  pub makes : Makes seat (makes placed ∷ []) old new
+  pub puts_back : PutsBack placed c why
 
 -- for private clauses: the batch that a request writes on the tables, if any, and the reply, by the tables' own rule set
 pub record IsDecided (t : Tables) (request : Request) (p : Option Ready × CodeReply) : Type 0 where

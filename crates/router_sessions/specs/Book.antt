@@ -1,11 +1,14 @@
 -- The views of the router's guarded state in contracts, and what holds of it.
-use Rattle.std.specs.Prelude.{◌≡◌, ℕ, ◌++◌, List, [], map, length, Option, Some, None, All}
-use Rattle.rule_table.specs.RuleSet.{rule_set_at}
-use Rattle.router_core.specs.Tables.{Tables, first_tables}
+use Rattle.std.specs.Prelude.{◌≡◌, ℕ, ◌++◌, ◌∷◌, List, [], map, Option, Some, None, All}
+use Rattle.router_core.specs.Tables.{first_tables}
 use Rattle.router_core.specs.Batch.{Batch}
 use Rattle.router_core.specs.View.{request_of, batch_of}
+use Rattle.courier_run.specs.Steps as steps
+use Rattle.courier_run.specs.Claim.{Claim}
 use Rattle.router_sessions.specs.declared.history.Ask.{Ask}
-use Rattle.router_sessions.specs.declared.history.Ask.TheVariants.{Asked, Claims, Records, PutsBack}
+use Rattle.router_sessions.specs.declared.history.Ask.TheVariants.{Opens, Asked, Claims, Records, PutsBack}
+use Rattle.router_sessions.specs.declared.history.Why.{Why}
+use Rattle.router_sessions.specs.declared.history.Why.TheVariants.{Unsent, Limited}
 use Rattle.router_sessions.specs.declared.history.Written.{Written}
 use Rattle.router_sessions.specs.declared.history.Written.TheVariants.{Nothing, Changes}
 use Rattle.router_sessions.specs.declared.history.Turn.{Turn}
@@ -13,22 +16,24 @@ use Rattle.router_sessions.specs.declared.history.History.{History}
 use Rattle.router_sessions.specs.declared.book.Book.{Book}
 use Rattle.router_sessions.specs.declared.book.Seat.{Seat}
 use Rattle.router_sessions.specs.Firsts.{firsts}
+use Rattle.router_sessions.specs.Held.{held_claim}
 use Rattle.router_sessions.specs.History as view
+use Rattle.router_sessions.specs.History.{state_of, IsLegal, claims_of}
 
--- The state in which a book was opened, its tables, and all turns since, oldest first.
--- Shown by: the_batch_is_not_entered.edit.
-pub record BookState : Type 0 where
-  pub opened : view.State
-  pub tables : Tables
-  pub turns : List view.Turn
+-- Why a claim was put back.
+-- Shown by: put_back_without_a_reason.edit.
+abbrev pub why_of : Why → steps.Why
+why_of Unsent = steps.unsent
+why_of Limited = steps.limited
 
--- What contracts see of the code's `Ask`, with the view of its request.
+-- What contracts see of the code's `Ask`, with the views of its request or its claim.
 -- Shown by: session_tests tests.rt: an_event_has_the_reading_of_its_own_request.
 abbrev pub ask_of : Ask → view.Ask
+ask_of (Opens start found) = view.opens start.value (map batch_of (firsts found.items))
 ask_of (Asked request) = view.asked (request_of request.value)
-ask_of (Claims duty reading) = view.claims duty reading
-ask_of (Records duty reading outcome) = view.records duty reading outcome
-ask_of (PutsBack duty) = view.puts_back duty
+ask_of (Claims held) = view.claims (held_claim held.value)
+ask_of (Records held outcome fate) = view.records (record { claim = held_claim held.value; outcome = outcome; fate = fate })
+ask_of (PutsBack held why) = view.puts_back (held_claim held.value) (why_of why)
 
 -- The batch that a turn wrote, if any.
 -- Shown by: the_batch_is_not_entered.edit.
@@ -51,55 +56,40 @@ recorded_in history = firsts history.log.items
 abbrev pub turns_in : History → List view.Turn
 turns_in history = map turn_of (recorded_in history)
 
--- The book before any turn: opened with the first tables.
--- Shown by: first-run.
-abbrev pub first_book : BookState
-first_book = record { opened = view.begun first_tables; tables = first_tables; turns = [] }
-
--- What contracts see of the code's `Book`, which is opened with the first tables.
+-- A book is its turns.
 -- Shown by: the_batch_is_not_entered.edit.
-abbrev pub book_of : Book → BookState
-book_of b = record { opened = view.begun first_tables; tables = b.tables; turns = turns_in b.history }
+abbrev pub turns_of : Book → List view.Turn
+turns_of b = turns_in b.history
 
--- The book as a pass knows it that has seen these turns: opened with the first tables, and its tables are those after them.
--- Shown by: session_tests tests.rt: two_passes_go_on_from_what_the_other_did.
-abbrev pub seen_book : List Turn → BookState
-seen_book turns = record {
-  opened = view.begun first_tables;
-  tables = (view.state_after (map turn_of turns) (view.begun first_tables)).tables;
-  turns = map turn_of turns;
-}
+-- The turn that opens a book with the first tables, on which no batch was found.
+-- Shown by: first-run.
+abbrev pub opening : view.Turn
+opening = record { pass = None; connection = None; ask = view.opens first_tables []; k = 0; batch = None }
+
+-- A legal history of a router that was opened with the first tables.
+-- Shown by: the_batch_is_not_entered.edit.
+pub record IsBook (turns : List view.Turn) : Type 0 where
+  pub later : List view.Turn
+  pub opened : turns ≡ opening ∷ later
+  pub legal : IsLegal turns
+
+-- What holds of a book between turns: its turns are a legal history, and its tables are those after them.
+-- Shown by: the_batch_is_not_entered.edit.
+pub record IsKept (b : Book) : Type 0 where
+  pub book : IsBook (turns_of b)
+  pub tables : (state_of (turns_of b)).tables ≡ b.tables
+
+-- A pass has no open claim.
+-- Shown by: proofs alone.
+abbrev pub Rests : ℕ → List view.Turn → Type 0
+Rests n turns = claims_of n (state_of turns).open_claims ≡ []
+
+-- A pass has this open claim and no other.
+-- Shown by: proofs alone.
+abbrev pub Holds : ℕ → List view.Turn → Claim → Type 0
+Holds n turns c = claims_of n (state_of turns).open_claims ≡ record { pass = n; claim = c } ∷ []
 
 -- To the history of a book turns of the seat's pass were added, and no others.
 -- Shown by: a_step_is_recorded_twice.edit.
 abbrev pub HasGrown : Seat → Book → Book → Type 0
-HasGrown seat old new = (more : List Turn) × (recorded_in new.history ≡ recorded_in old.history ++ more) × All (λ t. t.pass ≡ seat.pass) more
-
--- The state after all turns of a book.
--- Shown by: the_batch_is_not_entered.edit.
-abbrev pub state_of : BookState → view.State
-state_of b = view.state_after b.turns b.opened
-
--- A pass learned turns that other passes made, and no others.
--- Shown by: session_tests tests.rt: two_passes_go_on_from_what_the_other_did.
-pub record HasLearned (n : ℕ) (old new : BookState) : Type 0 where
-  pub opened : new.opened ≡ old.opened
-  pub more : List view.Turn
-  pub turns : new.turns ≡ old.turns ++ more
-  pub by_others : view.turns_by n more ≡ []
-
--- Turns were added, and those of the seat's pass name the seat's connection.
--- Shown by: a_quiet_step_names_a_connection.edit.
-pub record HasNamed (seat : Seat) (old new : BookState) : Type 0 where
-  pub more : List view.Turn
-  pub turns : new.turns ≡ old.turns ++ more
-  pub named : All (λ t. t.pass ≡ seat.pass → t.connection ≡ seat.connection) more
-
--- What holds of a book: its turns are a legal history since it was opened, its tables are those after them, and its rule set is that of the
--- latest configuration version.
--- Shown by: the_batch_is_not_entered.edit.
-pub record IsBook (b : BookState) : Type 0 where
-  pub legal : view.IsLegal b.opened b.turns
-  pub tables : (state_of b).tables ≡ b.tables
-  pub set : b.tables.set ≡ rule_set_at (length (state_of b).controls) (state_of b).controls
-  pub version : b.tables.set.count ≡ length (state_of b).controls
+HasGrown seat old new = (more : List Turn) × (recorded_in new.history ≡ recorded_in old.history ++ more) × All (λ t. t.pass ≡ Some seat.pass) more

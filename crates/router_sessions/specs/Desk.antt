@@ -1,5 +1,5 @@
--- What a pass knows of the book, and the turns that it makes at a desk.
-use Rattle.std.specs.Prelude.{◌≡◌, ℕ, List, [], ◌++◌, Option, None}
+-- What a pass knows of the history.
+use Rattle.std.specs.Prelude.{◌≡◌, ℕ, List, [], ◌++◌, map, Option, None}
 use Rattle.atomic_table.specs.Seated.{TableId}
 use Rattle.atomic_table.specs.declared.shared.Seat.{Seat as PassSeat}
 use Rattle.turn_book.specs.declared.view.View.{View}
@@ -7,7 +7,8 @@ use Rattle.turn_book.specs.Passes.{view}
 use Rattle.router_sessions.specs.declared.book.Book.{Book}
 use Rattle.router_sessions.specs.declared.book.Seat.{Seat}
 use Rattle.router_sessions.specs.declared.history.Turn.{Turn}
-use Rattle.router_sessions.specs.Book.{BookState, IsBook, HasLearned, seen_book}
+use Rattle.router_sessions.specs.History as history
+use Rattle.router_sessions.specs.Book.{turn_of}
 
 -- What is known of a pass: its seat at the table of the hall.
 -- Shown by: session_tests tests.rt: two_passes_go_on_from_what_the_other_did.
@@ -19,10 +20,10 @@ Known = PassSeat (Option Book) (View Turn)
 abbrev pub seen_by : Known → List Turn
 seen_by known = (view known).seen
 
--- The book as a pass knows it: `seen_book` of the turns that it has seen.
+-- The same as contracts see them.
 -- Shown by: as Known.
-abbrev pub book_seen : Known → BookState
-book_seen known = seen_book (seen_by known)
+abbrev pub turns_seen : Known → List history.Turn
+turns_seen known = map turn_of (seen_by known)
 
 -- The number of a pass.
 -- Shown by: a_turn_names_another_pass.edit.
@@ -45,10 +46,3 @@ no_seat = record { pass = 0; connection = None }
 -- Shown by: as Known.
 abbrev pub SeesMore : Known → Known → Type 0
 SeesMore old new = (more : List Turn) × (seen_by new ≡ seen_by old ++ more)
-
--- the pass learned what others had made, and from then on this was done
-pub record AfterLearning (n : ℕ) (IsDone : BookState → BookState → Type 0) (old new : BookState) : Type 0 where
-  pub mid : BookState
-  pub learned : HasLearned n old mid
-  pub book : IsBook mid
-  pub done : IsDone mid new

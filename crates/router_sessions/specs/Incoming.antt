@@ -1,13 +1,11 @@
 -- What reading the next message returns.
-use Rattle.std.specs.Prelude.{◌≡◌, ℕ, ◌⊎◌, true, false, ◌<◌, List, [], ◌++◌, length, Option, Some, None, unwrap_or}
-use Rattle.std.specs.Io.KnownBytes.{Appends, Consumes, IsAtEnd}
-use Rattle.router_disk.specs.Sink.{AppendsPart}
+use Rattle.std.specs.Prelude.{◌≡◌, ◌≢◌, ℕ, ◌⊎◌, true, false, List, [], ◌∷◌, ◌++◌, Option, Some, None}
 use Rattle.api_replies.specs.Reply.{no_memory}
 use Rattle.api_messages.specs.declared.message.Refusal.{Refusal}
 use Rattle.api_messages.specs.Messages.{HoldsMessage, IsAwaited, IsRefused}
 use Rattle.api_messages.specs.Between.{AreEmptyLines, HasHead}
 use Rattle.api_replies.specs.Written.{reply_text}
-use Rattle.router_sessions.specs.Session.{IsLastRead, IsWholeNow, refusal_reply, piece_size}
+use Rattle.router_sessions.specs.Session.{refusal_reply, IsWhole}
 use Rattle.router_sessions.specs.declared.incoming.Incoming.{Incoming}
 use Rattle.router_sessions.specs.declared.incoming.Incoming.TheVariants as incoming
 use Rattle.router_sessions.specs.declared.incoming.Lack.{Lack}
@@ -15,20 +13,35 @@ use Rattle.router_sessions.specs.declared.incoming.Lack.TheVariants as lacks
 use Rattle.router_sessions.specs.declared.session.SessionEnd.{SessionEnd}
 use Rattle.router_sessions.specs.declared.session.SessionEnd.TheVariants as ends
 
--- why these bytes give no message
-abbrev pub LackOf : List ℕ → Option (List ℕ) → Lack → Type 0
-LackOf bytes left lacks.Closed = IsAtEnd left × AreEmptyLines bytes × IsAwaited bytes
-LackOf bytes left lacks.Cut = IsAtEnd left × IsAwaited bytes × (¬ AreEmptyLines bytes)
-LackOf bytes left (lacks.Refused why) = IsRefused bytes why × IsLastRead bytes
-LackOf bytes left lacks.ReadFault = IsAwaited bytes
-LackOf bytes left (lacks.NoMemory head) = (IsAwaited bytes ⊎ IsWholeNow bytes)
-    × (((head ≡ true) × HasHead bytes) ⊎ ((head ≡ false) × (¬ HasHead bytes)))
+-- the pieces that were read while the buffered bytes were awaited, and what was buffered then
+pub data AreRead (first : List ℕ) : List (List ℕ) → List ℕ → Type 0 where
+  none : AreRead first [] first
+  one_more : (pieces : List (List ℕ)) (held piece : List ℕ) → AreRead first pieces held → IsAwaited held → piece ≢ []
+      → AreRead first (pieces ++ piece ∷ []) (held ++ piece)
 
--- the buffered bytes and those read are the message and the rest, or give no message
-abbrev pub NextOf : Option (List ℕ) → Option (List ℕ) → List ℕ → List ℕ → Incoming → Type 0
-NextOf left left_new rest rest_new (incoming.Message m) = (taken : List ℕ) × Consumes left left_new taken × HoldsMessage (rest ++ taken) m rest_new
-    × (length rest_new < piece_size)
-NextOf left left_new rest rest_new (incoming.Lack lack) = (taken : List ℕ) × Consumes left left_new taken × LackOf (rest ++ taken) left_new lack
+-- why these bytes give no message
+abbrev pub LackOf : List ℕ → Lack → Type 0
+LackOf held lacks.Closed = AreEmptyLines held × IsAwaited held
+LackOf held lacks.Cut = IsAwaited held × (¬ AreEmptyLines held)
+LackOf held (lacks.Refused why) = IsRefused held why
+LackOf held lacks.ReadFault = IsAwaited held
+LackOf held (lacks.NoMemory true) = (IsAwaited held ⊎ IsWhole held) × HasHead held
+LackOf held (lacks.NoMemory false) = IsAwaited held × (¬ HasHead held)
+
+-- the piece of a read that gave the end of the input, if there was one
+abbrev pub end_piece : Lack → List (List ℕ)
+end_piece lacks.Closed = [] ∷ []
+end_piece lacks.Cut = [] ∷ []
+end_piece (lacks.Refused why) = []
+end_piece lacks.ReadFault = []
+end_piece (lacks.NoMemory head) = []
+
+-- the buffered bytes and the pieces read are the message and the rest, or give no message
+abbrev pub NextOf : List (List ℕ) → List (List ℕ) → List ℕ → List ℕ → Incoming → Type 0
+NextOf gave gave_new rest rest_new (incoming.Message m) = (pieces : List (List ℕ)) × (held : List ℕ) × (gave_new ≡ gave ++ pieces)
+    × AreRead rest pieces held × HoldsMessage held m rest_new
+NextOf gave gave_new rest rest_new (incoming.Lack lack) = (pieces : List (List ℕ)) × (held : List ℕ) × (gave_new ≡ gave ++ (pieces ++ end_piece lack))
+    × AreRead rest pieces held × LackOf held lack
 
 -- after a message no bytes are refused yet
 abbrev pub StaysOpen : Incoming → Option Refusal → Type 0
@@ -53,7 +66,10 @@ end_of lacks.ReadFault = ends.ReadFault
 end_of (lacks.NoMemory head) = ends.NoMemory
 
 -- the end that the lack gives once the closing is written, or a write that failed
-abbrev pub IsFinish : Lack → Option (List ℕ) → Option (List ℕ) → SessionEnd → Type 0
-IsFinish lack written written_new end =
-    ((end ≡ end_of lack) × Appends written written_new (unwrap_or (closing_of lack) []))
-    ⊎ ((end ≡ ends.WriteFault) × ((text : List ℕ) × (closing_of lack ≡ Some text) × AppendsPart written written_new text))
+abbrev pub IsClosed : Lack → Option (List ℕ) → List ℕ → List ℕ → SessionEnd → Type 0
+IsClosed lack None written written_new end = (end ≡ end_of lack) × (written_new ≡ written)
+IsClosed lack (Some text) written written_new end = ((end ≡ end_of lack) × (written_new ≡ written ++ text))
+    ⊎ ((end ≡ ends.WriteFault) × ((part rest : List ℕ) × (text ≡ part ++ rest) × (written_new ≡ written ++ part)))
+
+abbrev pub IsFinish : Lack → List ℕ → List ℕ → SessionEnd → Type 0
+IsFinish lack written written_new end = IsClosed lack (closing_of lack) written written_new end

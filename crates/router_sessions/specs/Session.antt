@@ -1,83 +1,103 @@
--- A session: which bytes are written for which bytes read, with which turns, and how it ends.
-use Rattle.std.specs.Prelude.{◌≡◌, ℕ, ◌+◌, ◌<◌, ◌≤◌, ◌⊎◌, Bool, true, false, ◌==◌, ◌||◌, List, [], ◌∷◌, ◌++◌, length, map, Option, Some, None, unwrap_or}
-use Rattle.std.specs.Io.KnownBytes.{Appends, Consumes, IsAtEnd}
-use Rattle.router_disk.specs.Clock.{Gives}
-use Rattle.api_replies.specs.Reply.{Reply, no_memory, bad_head, length_required, too_large, head_too_large}
+-- A session as one list of acts.
+use Rattle.std.specs.Prelude.{◌≡◌, ◌≢◌, ◌+◌, ◌==◌, ◌||◌, ◌⊎◌, ℕ, Bool, true, false, List, [], ◌∷◌, ◌++◌, None}
+use Rattle.router_core.specs.Request.{deliver_due, Request}
+use Rattle.api_replies.specs.declared.cause.Cause.{Cause}
+use Rattle.api_replies.specs.Reply.{Reply, Counts, counted, refused as refusal_of, not_post, limit_reply, no_memory, bad_head, length_required, too_large, head_too_large}
+use Rattle.api_replies.specs.Written.{reply_text, reply_head}
 use Rattle.api_messages.specs.declared.message.Message.{Message}
 use Rattle.api_messages.specs.declared.message.Refusal.{Refusal}
 use Rattle.api_messages.specs.declared.message.Refusal.TheVariants as refusals
-use Rattle.api_messages.specs.Messages.{HoldsMessage, IsStream, IsAwaited, IsRefused}
+use Rattle.api_messages.specs.declared.method.Method.{Method}
+use Rattle.api_messages.specs.declared.method.Method.TheVariants.{Post, Head, Other}
+use Rattle.api_messages.specs.Fields.{is_post}
+use Rattle.api_messages.specs.Messages.{HoldsMessage, IsAwaited, IsRefused}
 use Rattle.api_messages.specs.Between.{AreEmptyLines, HasHead}
-use Rattle.api_replies.specs.Written.{reply_text}
-use Rattle.router_sessions.specs.declared.session.SessionEnd.{SessionEnd}
-use Rattle.router_sessions.specs.declared.session.SessionEnd.TheVariants.{Closed, Cut, Refused, Long, ReadFault, WriteFault, NoMemory}
+use Rattle.api_wire.specs.Call.{IsAsked, IsCallRefused}
 use Rattle.courier_run.specs.Claim.{moment_of}
+use Rattle.courier_run.specs.Act.{reads, ticks, looks, makes, writes}
+use Rattle.courier_run.specs.declared.turned.Turned.{Turned}
+use Rattle.courier_run.specs.declared.stepped.Stop.{Stop}
+use Rattle.courier_run.specs.declared.stepped.Stop.TheVariants.{Spent, Idle, Full, NoMemory}
 use Rattle.router_sessions.specs.declared.book.Seat.{Seat}
-use Rattle.router_sessions.specs.History.{asked_readings, turns_by}
-use Rattle.router_sessions.specs.Sublist.{IsSublist}
-use Rattle.router_sessions.specs.Sent.{AreSent}
-use Rattle.router_sessions.specs.Exchange.{Exchange, exchange_text}
-use Rattle.router_sessions.specs.Exchanges.{tries_of, readings_of, messages_of, AreAdded}
-use Rattle.router_sessions.specs.World.{World}
+use Rattle.router_sessions.specs.declared.session.SessionEnd.{SessionEnd}
+use Rattle.router_sessions.specs.declared.session.SessionEnd.TheVariants as ends
+use Rattle.router_sessions.specs.History.{State, Placed, asked, IsAnsweredBy}
+use Rattle.router_sessions.specs.Acts.{Act, Steps, World, Does}
+
+-- The counts of a DeliverDue's reply, from those of the delivery steps.
+-- Shown by: dead-letters.
+abbrev pub counts_of : Turned → Counts
+counts_of turned = record { attempts = turned.attempts; delivered = turned.delivered; dead_lettered = turned.dead; dropped = turned.dropped }
+
+-- The reply to a DeliverDue, by why its steps ended: the counts, `limit_reply`, or `no_memory`.
+-- Shown by: first-run; out_of_memory_is_reported_as_the_limit.edit.
+abbrev pub steps_reply : Turned → Stop → Reply
+steps_reply turned Spent = counted (counts_of turned)
+steps_reply turned Idle = counted (counts_of turned)
+steps_reply turned Full = limit_reply
+steps_reply turned NoMemory = no_memory
+
+-- The turn answers the request with this reply (`IsAnsweredBy`).
+-- Shown by: first-run.
+abbrev pub Replies : Placed → Request → Reply → Type 0
+Replies p request reply = (p.turn.ask ≡ asked request) × IsAnsweredBy p.before p.turn request reply
+
+-- What is done for a message, with its reply. A message that is no POST, one that is refused, and one for which memory ran out take a
+-- reading; so does a request, and then its turn, or the steps of a DeliverDue. If memory runs out for the reply to a request that changed
+-- nothing, the reply says so. Out of memory is allowed for any POST.
+-- Shown by: first-run; refusals; get-is-refused.
+pub data Answers (m : Message) : List Act → Reply → Type 0 where
+  unposted : (reading : ℕ) → is_post m.method ≡ false → Answers m (ticks reading ∷ []) not_post
+  refused : (reading : ℕ) (c : Cause) → is_post m.method ≡ true → IsCallRefused m c → Answers m (ticks reading ∷ []) (refusal_of c)
+  out_of_memory : (reading : ℕ) → is_post m.method ≡ true → Answers m (ticks reading ∷ []) no_memory
+  served : (reading : ℕ) (request : Request) (p : Placed) (reply : Reply) → is_post m.method ≡ true → IsAsked m (moment_of reading) request
+      → Replies p request reply → Answers m (ticks reading ∷ makes p ∷ []) reply
+  unrendered : (reading : ℕ) (request : Request) (p : Placed) (reply : Reply) → is_post m.method ≡ true → IsAsked m (moment_of reading) request
+      → Replies p request reply → p.turn.batch ≡ None → Answers m (ticks reading ∷ makes p ∷ []) no_memory
+  stepped : (reading : ℕ) (request : Request) (budget : ℕ) (acts : List Act) (turned : Turned) (stop : Stop) → is_post m.method ≡ true
+      → IsAsked m (moment_of reading) request → request.action ≡ deliver_due budget → Steps budget acts turned stop
+      → Answers m (ticks reading ∷ acts) (steps_reply turned stop)
+
+-- What is written for a reply: all of it, or `reply_head` for a HEAD.
+-- Shown by: head-request.
+abbrev pub sent_text : Method → Reply → Bool → List ℕ
+sent_text Post reply close = reply_text reply close
+sent_text Head reply close = reply_head reply close
+sent_text Other reply close = reply_text reply close
 
 -- The number of messages that one session serves: 1,048,576 (this project's own limit).
 -- Shown by: .ci/checks/limits.sh.
 abbrev pub request_limit : ℕ
 request_limit = 1048576
 
--- Whether the session ends after the reply to this exchange, with `before` exchanges before it: its message asks to close, or it is the
--- 1,048,576th.
+-- Whether the session ends after a message, the n-th: the message asks for it, or it is the last that a session serves.
 -- Shown by: close-is-asked.
-abbrev pub closes : ℕ → Exchange → Bool
-closes before e = e.message.close || (before + 1 == request_limit)
+abbrev pub closes : ℕ → Message → Bool
+closes n m = m.close || (n == request_limit)
 
--- the replies of the exchanges as they are written, with `before` exchanges before them
-abbrev pub texts_from : ℕ → List Exchange → List ℕ
-texts_from before [] = []
-texts_from before (e ∷ es) = exchange_text e (closes before e) ++ texts_from (before + 1) es
-
--- The bytes of the replies, in order.
+-- A session that goes on: the messages answered, the bytes that were read and not yet taken, and its acts. It begins with a look. It reads
+-- only if the bytes are the beginning of a message, and answers each message as soon as it is whole.
 -- Shown by: session_tests tests.rt: the_first_run_has_its_replies.
-abbrev pub texts_of : List Exchange → List ℕ
-texts_of es = texts_from 0 es
+pub data Serving : ℕ → List ℕ → List Act → Type 0 where
+  begun : (s : State) → Serving 0 [] (looks s ∷ [])
+  reads_on : (n : ℕ) (held piece : List ℕ) (acts : List Act) → Serving n held acts → IsAwaited held → piece ≢ []
+      → Serving n (held ++ piece) (acts ++ reads piece ∷ [])
+  answers : (n : ℕ) (held rest : List ℕ) (acts done : List Act) (m : Message) (reply : Reply) → Serving n held acts → HoldsMessage held m rest
+      → Answers m done reply → closes (n + 1) m ≡ false → Serving (n + 1) rest (acts ++ (done ++ writes (sent_text m.method reply false) ∷ []))
 
--- No message asks to close.
+-- The last message of a session: it was answered after n others, and its text is this.
 -- Shown by: close-is-asked.
-abbrev pub NoneCloses : List Exchange → Type 0
-NoneCloses [] = Unit {0}
-NoneCloses (e ∷ es) = (e.message.close ≡ false) × NoneCloses es
-
--- Only the last message asks to close.
--- Shown by: close-is-asked.
-abbrev pub LastCloses : List Exchange → Type 0
-LastCloses es = (before : List Exchange) × (last : Exchange) × (es ≡ before ++ last ∷ []) × NoneCloses before × (last.message.close ≡ true)
-
--- No message before the last asks to close.
--- Shown by: close-is-asked.
-abbrev pub OpenBefore : List Exchange → Type 0
-OpenBefore es = NoneCloses es ⊎ LastCloses es
-
--- 16,384 bytes, the most that one read takes (this project's own choice).
--- Shown by: proofs alone.
-abbrev pub piece_size : ℕ
-piece_size = 16384
-
--- The bytes are less than a message and then at most 16,384 bytes. It bounds bytes; contracts do not see single reads.
--- Shown by: session_tests tests.rt: a_failed_first_write_ends_the_session_before_the_next_read.
-abbrev pub IsLastRead : List ℕ → Type 0
-IsLastRead bytes = (held more : List ℕ) × (bytes ≡ held ++ more) × IsAwaited held × (length more ≤ piece_size)
-
--- A session: its exchanges, the bytes taken after their messages (`rest`), and what is written after the replies, if anything (`closing`).
--- Shown by: session_tests tests.rt: the_first_run_has_its_replies.
-pub record Course : Type 0 where
-  pub exchanges : List Exchange
+pub record IsLast (n : ℕ) (m : Message) (acts : List Act) (text : List ℕ) : Type 0 where
+  pub held : List ℕ
   pub rest : List ℕ
-  pub closing : Option (List ℕ)
-
--- Fewer exchanges than 1,048,576.
--- Shown by: .ci/checks/limits.sh.
-abbrev pub IsBelowLimit : Course → Type 0
-IsBelowLimit c = length c.exchanges < request_limit
+  pub before : List Act
+  pub done : List Act
+  pub reply : Reply
+  pub serving : Serving n held before
+  pub whole : HoldsMessage held m rest
+  pub answers : Answers m done reply
+  pub acts_are : acts ≡ before ++ done
+  pub text_is : text ≡ sent_text m.method reply (closes (n + 1) m)
 
 -- The reply to refused bytes, by the reason: 400, 411, 413 or 431.
 -- Shown by: no-length.
@@ -87,83 +107,45 @@ refusal_reply refusals.LengthRequired = length_required
 refusal_reply refusals.TooLarge = too_large
 refusal_reply refusals.HeadTooLarge = head_too_large
 
--- No message begins with the rest, and the closing is the reply that says why. It has its body, whatever the method.
--- Shown by: bad-head.
-abbrev pub IsRefusedAt : Course → Type 0
-IsRefusedAt c = NoneCloses c.exchanges × IsBelowLimit c × IsLastRead c.rest
-    × ((why : Refusal) × IsRefused c.rest why × (c.closing ≡ Some (reply_text (refusal_reply why) true)))
-
--- A message is whole at the front, and was not before the last read.
+-- A message is whole at the front of the bytes.
 -- Shown by: .ci/checks/limits.sh.
-abbrev pub IsWholeNow : List ℕ → Type 0
-IsWholeNow bytes = IsLastRead bytes × ((m : Message) × (after : List ℕ) × HoldsMessage bytes m after)
+abbrev pub IsWhole : List ℕ → Type 0
+IsWhole held = (m : Message) × (rest : List ℕ) × HoldsMessage held m rest
 
--- Memory ran out while a message was read, for the bytes after the buffered ones or for the message that is whole in them. The closing is
--- `no_memory` if a whole head is in the rest, and else none.
--- Shown by: .ci/checks/limits.sh.
-abbrev pub IsStarvedAt : Course → Type 0
-IsStarvedAt c = NoneCloses c.exchanges × IsBelowLimit c × (IsAwaited c.rest ⊎ IsWholeNow c.rest)
-    × ((HasHead c.rest × (c.closing ≡ Some (reply_text no_memory true))) ⊎ ((¬ HasHead c.rest) × (c.closing ≡ None)))
+-- What is written once no message follows: the reply to a refusal; or out of memory, if a whole head is there. It has its body, whatever the
+-- method.
+-- Shown by: bad-head; .ci/checks/limits.sh.
+pub data IsFarewell (held : List ℕ) : List ℕ → SessionEnd → Type 0 where
+  refused : (why : Refusal) → IsRefused held why → IsFarewell held (reply_text (refusal_reply why) true) ends.Refused
+  starved : (IsAwaited held ⊎ IsWhole held) → HasHead held → IsFarewell held (reply_text no_memory true) ends.NoMemory
 
--- Why the session ended, a case for each `SessionEnd`. `at_end` says that the input has no further byte.
--- Shown by: session_tests tests.rt: input_cut_inside_a_message_gets_the_replies_before_it.
-abbrev pub EndsWith : SessionEnd → Course → Type 0 → Type 0
-EndsWith Closed c at_end = IsBelowLimit c × (c.closing ≡ None)
-    × ((NoneCloses c.exchanges × at_end × AreEmptyLines c.rest × IsAwaited c.rest) ⊎ (LastCloses c.exchanges × (length c.rest < piece_size)))
-EndsWith Cut c at_end = IsBelowLimit c × NoneCloses c.exchanges × at_end × IsAwaited c.rest × (¬ AreEmptyLines c.rest) × (c.closing ≡ None)
-EndsWith Refused c at_end = IsRefusedAt c
-EndsWith Long c at_end = (length c.exchanges ≡ request_limit) × OpenBefore c.exchanges × (length c.rest < piece_size) × (c.closing ≡ None)
-EndsWith ReadFault c at_end = IsBelowLimit c × NoneCloses c.exchanges × IsAwaited c.rest × (c.closing ≡ None)
-EndsWith WriteFault c at_end =
-    ((length c.exchanges ≤ request_limit) × OpenBefore c.exchanges × (length c.rest < piece_size) × (c.closing ≡ None))
-    ⊎ (IsRefusedAt c ⊎ (IsStarvedAt c × (c.closing ≡ Some (reply_text no_memory true))))
-EndsWith NoMemory c at_end = IsStarvedAt c
+-- A session that ended, by why.
+-- Shown by: session_tests tests.rt: input_cut_inside_a_message_gets_the_replies_before_it, a_failed_third_write_leaves_two_replies.
+pub data Ended : SessionEnd → List Act → Type 0 where
+  -- the input ended between two messages
+  closed_by_end : (n : ℕ) (held : List ℕ) (acts : List Act) → Serving n held acts → AreEmptyLines held → IsAwaited held
+      → Ended ends.Closed (acts ++ reads [] ∷ [])
+  -- the input ended inside a message
+  cut : (n : ℕ) (held : List ℕ) (acts : List Act) → Serving n held acts → (¬ AreEmptyLines held) → IsAwaited held → Ended ends.Cut (acts ++ reads [] ∷ [])
+  -- a message asked to close
+  closed_by_message : (n : ℕ) (m : Message) (acts : List Act) (text : List ℕ) → IsLast n m acts text → m.close ≡ true → n + 1 ≢ request_limit
+      → Ended ends.Closed (acts ++ writes text ∷ [])
+  -- the last message that a session serves
+  long : (n : ℕ) (m : Message) (acts : List Act) (text : List ℕ) → IsLast n m acts text → n + 1 ≡ request_limit
+      → Ended ends.Long (acts ++ writes text ∷ [])
+  -- no message begins with the bytes, or memory ran out
+  farewell : (n : ℕ) (held : List ℕ) (acts : List Act) (text : List ℕ) (end : SessionEnd) → Serving n held acts → IsFarewell held text end
+      → Ended end (acts ++ writes text ∷ [])
+  -- memory ran out, and no whole head is there
+  starved_early : (n : ℕ) (held : List ℕ) (acts : List Act) → Serving n held acts → IsAwaited held → (¬ HasHead held) → Ended ends.NoMemory acts
+  -- a read failed
+  read_fault : (n : ℕ) (held : List ℕ) (acts : List Act) → Serving n held acts → IsAwaited held → Ended ends.ReadFault acts
+  -- a write failed: a first part of its text was written
+  unwritten : (n : ℕ) (m : Message) (acts : List Act) (part rest : List ℕ) → IsLast n m acts (part ++ rest) → Ended ends.WriteFault (acts ++ writes part ∷ [])
+  farewell_unwritten : (n : ℕ) (held : List ℕ) (acts : List Act) (part rest : List ℕ) (end : SessionEnd) → Serving n held acts
+      → IsFarewell held (part ++ rest) end → Ended ends.WriteFault (acts ++ writes part ∷ [])
 
--- All replies and the closing were written.
+-- A session from a seat: acts that end so, and are all that happened.
 -- Shown by: session_tests tests.rt: the_first_run_has_its_replies.
-abbrev pub WritesWhole : List Exchange → Option (List ℕ) → Option (List ℕ) → Option (List ℕ) → Type 0
-WritesWhole es closing old new = Appends old new (texts_of es ++ unwrap_or closing [])
-
--- These bytes were written, and a first part of the text after them.
--- Shown by: session_tests tests.rt: a_failed_third_write_leaves_two_replies.
-abbrev pub WritesPart : List ℕ → List ℕ → Option (List ℕ) → Option (List ℕ) → Type 0
-WritesPart bytes text old new = (part after : List ℕ) × (text ≡ part ++ after) × Appends old new (bytes ++ part)
-
--- all texts before the last were written, and a first part of the last
-abbrev pub WritesNotLast : List Exchange → Option (List ℕ) → Option (List ℕ) → Option (List ℕ) → Type 0
-WritesNotLast es None old new = (before : List Exchange) × (last : Exchange) × (es ≡ before ++ last ∷ [])
-    × WritesPart (texts_of before) (exchange_text last (closes (length before) last)) old new
-WritesNotLast es (Some text) old new = WritesPart (texts_of es) text old new
-
--- All replies and the closing were written; if a write failed, all texts before the last one, and a first part of the last one.
--- Shown by: session_tests tests.rt: a_failed_third_write_leaves_two_replies.
-abbrev pub IsWritten : SessionEnd → Course → Option (List ℕ) → Option (List ℕ) → Type 0
-IsWritten Closed c old new = WritesWhole c.exchanges c.closing old new
-IsWritten Cut c old new = WritesWhole c.exchanges c.closing old new
-IsWritten Refused c old new = WritesWhole c.exchanges c.closing old new
-IsWritten Long c old new = WritesWhole c.exchanges c.closing old new
-IsWritten ReadFault c old new = WritesWhole c.exchanges c.closing old new
-IsWritten WriteFault c old new = WritesNotLast c.exchanges c.closing old new
-IsWritten NoMemory c old new = WritesWhole c.exchanges c.closing old new
-
--- A session from a seat, from the world before it to the world after it, where the book is what the seat's pass knows of it: the bytes
--- taken are the exchanges' messages and a rest; the pass added the turns of the exchanges and no others; no other reading was taken; the
--- link did what the tries of the exchanges did and nothing else (`AreSent`); the replies are written and nothing else; and the end has its
--- cause.
--- Shown by: session_tests tests.rt: the_first_run_has_its_replies.
-pub record IsSession (seat : Seat) (old new : World) (end : SessionEnd) : Type 0 where
-  pub course : Course
-  -- the bytes read are the messages of the exchanges, and the rest
-  pub taken : List ℕ
-  pub takes : Consumes old.left new.left taken
-  pub stream : IsStream taken (messages_of course.exchanges) course.rest
-  -- each exchange is one of the router machine, by the states before its turns; these turns the pass added to the history, and no others
-  pub exchanges : AreAdded seat old.book new.book course.exchanges
-  -- the clock gave these readings only; the readings of the turns are some of them, in order, each as a moment
-  pub readings : Gives old.ahead new.ahead (readings_of course.exchanges)
-  pub asked_at : IsSublist (asked_readings (turns_by seat.pass exchanges.added)) (map moment_of (readings_of course.exchanges))
-  -- the link answered the tries of the exchanges, in their order, and nothing else
-  pub sent : AreSent old.answered new.answered old.link_faults new.link_faults (tries_of course.exchanges)
-  -- the replies are written, and nothing else
-  pub written_are : IsWritten end course old.written new.written
-  pub ends : EndsWith end course (IsAtEnd new.left)
+abbrev pub IsSession : Seat → World → World → SessionEnd → Type 0
+IsSession seat old new end = (acts : List Act) × Ended end acts × Does seat acts old new

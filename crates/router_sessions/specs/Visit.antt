@@ -1,14 +1,16 @@
 -- A connection that ended, and the history that its session fits.
-use Rattle.std.specs.Prelude.{◌≡◌, ◌≢◌, ℕ, Bool, true, false, List, ◌++◌, Option, Some}
-use Rattle.std.proofs.Common.{ap, ◌∙◌, append_assoc}
+use Rattle.std.specs.Prelude.{◌≡◌, ◌≢◌, ◌⊎◌, ℕ, Bool, true, false, List, [], ◌++◌, Some, map}
+use Rattle.std.proofs.Common.{inl, ap, sym, ◌∙◌, append_assoc}
+use mathlib.Core.List.{IsPrefix}
+use Rattle.turn_book.specs.Rule.{turns_by}
 use Rattle.router_disk.specs.Faults.{Rose}
 use Rattle.router_disk.specs.Link.{Exchange}
 use Rattle.router_sessions.specs.declared.history.Turn.{Turn}
 use Rattle.router_sessions.specs.declared.session.SessionEnd.{SessionEnd}
 use Rattle.router_sessions.specs.declared.session.SessionEnd.TheVariants.{Closed, Cut, Refused, Long, ReadFault, WriteFault, NoMemory}
-use Rattle.router_sessions.specs.Book.{seen_book}
+use Rattle.router_sessions.specs.Book.{turn_of, Rests}
+use Rattle.router_sessions.specs.Acts.{world}
 use Rattle.router_sessions.specs.Session.{IsSession}
-use Rattle.router_sessions.specs.World.{world}
 
 -- Out of memory ended the session.
 -- Shown by: proofs alone.
@@ -21,12 +23,25 @@ is_cut ReadFault = false
 is_cut WriteFault = false
 is_cut NoMemory = true
 
-module _ {I O : Type 0} (left : I → Option (List ℕ)) (written : O → Option (List ℕ)) (reads : I → ℕ) (writes : O → ℕ) where
+-- A pass that made no turn, or has no open claim, and so in each longer history to which it added none.
+-- Shown by: a_claim_is_kept.edit.
+abbrev pub OwesNothing : ℕ → List Turn → Type 0
+OwesNothing n turns = (later : List Turn) → IsPrefix turns later → turns_by (λ t. t.pass) n later ≡ turns_by (λ t. t.pass) n turns
+    → (turns_by (λ t. t.pass) n later ≡ []) ⊎ Rests n (map turn_of later)
+
+pub owes_unturned : (n : ℕ) (turns : List Turn) → turns_by (λ t. t.pass) n turns ≡ [] → OwesNothing n turns
+owes_unturned n turns none = λ later longer same. inl (same ∙ none)
+
+pub owes_later : (n : ℕ) (seen turns : List Turn) → IsPrefix seen turns → turns_by (λ t. t.pass) n turns ≡ turns_by (λ t. t.pass) n seen
+    → OwesNothing n seen → OwesNothing n turns
+owes_later n seen turns (xs, one) kept owes = λ later (ys, two) same.
+    owes later (xs ++ ys, sym (append_assoc seen xs ys) ∙ ap (λ (ts : List Turn). ts ++ ys) one ∙ two) (same ∙ kept)
+
+module _ {I O : Type 0} (gave : I → List (List ℕ)) (wrote : O → List ℕ) (reads : I → ℕ) (writes : O → ℕ) where
   -- A connection with this number came with these streams and ended with those. Its session (`IsSession`) began after the turns `before`
   -- and is in these turns, by one pass whose turns name the connection, beside turns of other passes. `cut` says whether out of memory
-  -- ended it. `reads` and `writes`
-  -- are the counts of faults of the streams: a fault ends a session only if it was counted. The clock's readings and the link's answers are
-  -- any that the session allows.
+  -- ended it. `gave` and `wrote` are what the streams show, `reads` and `writes` their counts of faults: a fault ends a session only if it
+  -- was counted. The clock's readings and the link's answers are any that the session allows.
   -- Shown by: program_tests serve.rt: two_workers_serve_the_first_run, a_held_reply_holds_no_other_connection.
   pub record IsVisit (n : ℕ) (came went : I × O) (cut : Bool) (before turns : List Turn) : Type 0 where
     pub pass : ℕ
@@ -35,15 +50,15 @@ module _ {I O : Type 0} (left : I → Option (List ℕ)) (written : O → Option
     pub turns_are : turns ≡ before ++ (during ++ after)
     pub end : SessionEnd
     pub cut_is : cut ≡ is_cut end
-    pub ahead : Option (ℕ → ℕ)
-    pub ahead_new : Option (ℕ → ℕ)
-    pub answered : Option (List Exchange)
-    pub answered_new : Option (List Exchange)
+    pub readings : List ℕ
+    pub readings_new : List ℕ
+    pub answered : List Exchange
+    pub answered_new : List Exchange
     pub faults : ℕ
     pub faults_new : ℕ
     pub session : IsSession (record { pass = pass; connection = Some n })
-        (world (seen_book before) (left came.0) (written came.1) ahead answered faults)
-        (world (seen_book (before ++ during)) (left went.0) (written went.1) ahead_new answered_new faults_new) end
+        (world (map turn_of before) (gave came.0) (wrote came.1) readings answered faults)
+        (world (map turn_of (before ++ during)) (gave went.0) (wrote went.1) readings_new answered_new faults_new) end
     pub read_fault : end ≡ ReadFault → Rose (reads came.0) (reads went.0)
     pub input_faultless : end ≢ ReadFault → reads went.0 ≡ reads came.0
     pub write_fault : end ≡ WriteFault → Rose (writes came.1) (writes went.1)
@@ -60,8 +75,8 @@ module _ {I O : Type 0} (left : I → Option (List ℕ)) (written : O → Option
         ∙ ap (λ (ts : List Turn). before ++ ts) (append_assoc v.during v.after more));
     end = v.end;
     cut_is = v.cut_is;
-    ahead = v.ahead;
-    ahead_new = v.ahead_new;
+    readings = v.readings;
+    readings_new = v.readings_new;
     answered = v.answered;
     answered_new = v.answered_new;
     faults = v.faults;

@@ -1,21 +1,24 @@
 //! The router's guarded state: its tables, and the history of its turns.
-ghost use Rattle.std.specs.Prelude.{◌≡◌, ◌++◌, ◌∷◌, [], Bool, Some, None, IsSome, IfOk, IfSome, IfNone, IfErr, OnErr, true};
+ghost use Rattle.std.specs.Prelude.{◌≡◌, ◌∷◌, [], ℕ, Bool, Some, None, IsSome, IfOk, IfSome, IfNone, IfErr, OnErr};
 ghost use Rattle.json_text.specs.Moment.{IsMoment};
+ghost use Rattle.turn_book.specs.Rule.{turns_by};
 ghost use Rattle.router_core.specs.View.{request_of};
 ghost use Rattle.router_core.specs.Tables.{moment_at};
-ghost use Rattle.router_core.specs.Steps.{putting_back};
 ghost use Rattle.courier_run.specs.Claim.{FitsClaim};
-ghost use Rattle.router_sessions.specs.History.{puts_back};
-ghost use Rattle.router_sessions.specs.Book.{book_of, first_book, state_of, recorded_in, IsBook, HasGrown};
-ghost use Rattle.router_sessions.specs.Answered.{IsAskable, IsDecided, IsAnswered, IsRenderable};
-ghost use Rattle.router_sessions.specs.Delivery.{held_claim, IsOpen, IsIdle};
-ghost use Rattle.router_sessions.specs.Turns.{IsLimited, IsAdded, IsClaimedBy, IsPutBackAtLimit, IsUnclaimed, IsRecordedBy};
+ghost use Rattle.courier_run.specs.Book.{HasCause};
+ghost use Rattle.courier_run.specs.Steps.{limited};
+ghost use Rattle.router_sessions.specs.History.{state_of, IsAskable, IsReason};
+ghost use Rattle.router_sessions.specs.Held.{held_claim};
+ghost use Rattle.router_sessions.specs.Book.{why_of, recorded_in, turns_of, opening, Holds, Rests, IsKept, HasGrown};
+ghost use Rattle.router_sessions.specs.Acts.{IsIdle, IsFullAt};
+ghost use Rattle.router_sessions.specs.Answered.{IsDecided, IsAnswered, IsRenderable, IsClaimed, IsRecorded, IsPutBack};
 
 use crate::held::Held;
-use crate::history::{Ask, History, Turn, Written};
+use crate::history::{Ask, History, Turn, Why, Written};
 use crate::text::reply_bytes;
 use courier_run::BookFault;
 use delivery_duties::{Fate, Outcome};
+use http_server::Log;
 use json_text::{Bytes, NoMemory};
 use router_calls::decide;
 use router_core::{Ready, Released, Reply, Request, Tables, see_plain};
@@ -70,34 +73,42 @@ impl MadeTurn {
 }
 
 impl Story for Book {
-    ghost use Rattle.std.specs.Prelude.{Some};
-    ghost use Rattle.router_sessions.specs.Book.{book_of, recorded_in, IsBook};
+    ghost use Rattle.router_sessions.specs.Book.{recorded_in, IsKept};
 
     type Turn = Turn;
 
     ghost turns = { λ b. recorded_in b.history };
 
-    ghost made_by = { λ t. Some t.pass };
+    ghost made_by = { λ t. t.pass };
 
-    ghost sound = { λ b. IsBook (book_of b) };
+    ghost sound = { λ b. IsKept b };
 }
 
 impl Book {
-    /// The book before any turn.
+    /// The book that was just opened with the first tables: one turn, which no pass made.
     pub fn first(alloc: Global) -> Result<Book, NoMemory>
-        ensures first { IfOk result (λ b. book_of b ≡ first_book) }
-        ensures unturned { IfOk result (λ b. recorded_in b.history ≡ []) }
-        ensures book { IfOk result (λ b. IsBook (book_of b)) }
+        ensures first { IfOk result (λ b. turns_of b ≡ opening ∷ []) }
+        ensures unmade { IfOk result (λ b. (n : ℕ) → turns_by (λ t. t.pass) n (recorded_in b.history) ≡ []) }
+        ensures book { IfOk result (λ b. IsKept b) }
     {
-        Ok(Book {
-            tables: Tables::first(alloc)?,
-            history: History::new(),
-        })
+        let tables = Tables::first(alloc)?;
+        let mut history = History::new();
+        history.push(&Turn {
+            pass: None,
+            connection: None,
+            ask: Ask::Opens {
+                start: Snapshot::of(&tables),
+                found: Log::new(),
+            },
+            k: 0,
+            written: Written::Nothing,
+        });
+        Ok(Book { tables, history })
     }
 
     /// The tables after all turns.
     pub fn tables(&self) -> &Tables
-        ensures { result.now ≡ (book_of self.now).tables }
+        ensures { result.now ≡ self.now.tables }
     {
         &self.tables
     }
@@ -111,14 +122,14 @@ impl Book {
         request: &Request,
         close: bool,
     ) -> Result<MadeTurn, NoMemory>
-        requires book { IsBook (book_of self.old) }
+        requires book { IsKept self.old }
         requires askable { IsAskable (request_of request.now) }
         requires named { IsSome seat.connection }
-        ensures book { IsBook (book_of self.new) }
+        ensures book { IsKept self.new }
         ensures grows { HasGrown seat self.old self.new }
-        ensures answered { IfOk result (λ made. IsAnswered seat (book_of self.old) (book_of self.new) (request_of request.now) close made.reply) }
+        ensures answered { IfOk result (λ made. IsAnswered seat (turns_of self.old) (turns_of self.new) (request_of request.now) close made.reply) }
         ensures renderable { IfOk result (λ made. IsRenderable made.reply) }
-        ensures unchanged { OnErr result (book_of self.new ≡ book_of self.old) }
+        ensures unchanged { OnErr result (turns_of self.new ≡ turns_of self.old) }
     {
         let (ready, reply) = self.decided(alloc, request)?;
         match ready {
@@ -137,18 +148,19 @@ impl Book {
         reply: Reply,
         close: bool,
     ) -> Result<MadeTurn, NoMemory>
-        requires book { IsBook (book_of self.old) }
+        requires book { IsKept self.old }
+        requires askable { IsAskable (request_of request.now) }
         requires decided { IsDecided self.old.tables (request_of request.now) (Some ready, reply) }
         requires named { IsSome seat.connection }
-        ensures book { IsBook (book_of self.new) }
+        ensures book { IsKept self.new }
         ensures grows { HasGrown seat self.old self.new }
-        ensures answered { IfOk result (λ made. IsAnswered seat (book_of self.old) (book_of self.new) (request_of request.now) close made.reply) }
+        ensures answered { IfOk result (λ made. IsAnswered seat (turns_of self.old) (turns_of self.new) (request_of request.now) close made.reply) }
         ensures renderable { IfOk result (λ made. IsRenderable made.reply) }
-        ensures unchanged { OnErr result (book_of self.new ≡ book_of self.old) }
+        ensures unchanged { OnErr result (turns_of self.new ≡ turns_of self.old) }
     {
         let bytes = reply_bytes(alloc, &reply, close)?;
         self.history.push(&Turn {
-            pass: seat.pass,
+            pass: Some(seat.pass),
             connection: seat.connection,
             ask: Ask::Asked(Snapshot::of(request)),
             k: self.tables.set().control_count(),
@@ -163,16 +175,17 @@ impl Book {
 
     /// Makes the turn of a request that changes nothing.
     fn show(&mut self, seat: Seat, request: &Request, reply: Reply) -> MadeTurn
-        requires book { IsBook (book_of self.old) }
+        requires book { IsKept self.old }
+        requires askable { IsAskable (request_of request.now) }
         requires decided { IsDecided self.old.tables (request_of request.now) (None, reply) }
         requires named { IsSome seat.connection }
-        ensures book { IsBook (book_of self.new) }
+        ensures book { IsKept self.new }
         ensures grows { HasGrown seat self.old self.new }
-        ensures answered { (close : Bool) → IsAnswered seat (book_of self.old) (book_of self.new) (request_of request.now) close result.reply }
+        ensures answered { (close : Bool) → IsAnswered seat (turns_of self.old) (turns_of self.new) (request_of request.now) close result.reply }
         ensures renderable { IsRenderable result.reply }
     {
         self.history.push(&Turn {
-            pass: seat.pass,
+            pass: Some(seat.pass),
             connection: seat.connection,
             ask: Ask::Asked(Snapshot::of(request)),
             k: self.tables.set().control_count(),
@@ -205,13 +218,15 @@ impl Book {
         seat: Seat,
         reading: u64,
     ) -> Result<Option<Held>, BookFault>
-        requires book { IsBook (book_of self.old) }
+        requires book { IsKept self.old }
         requires reading { IsMoment reading }
-        ensures book { IsBook (book_of self.new) }
+        requires rests { Rests seat.pass (turns_of self.old) }
+        ensures book { IsKept self.new }
         ensures grows { HasGrown seat self.old self.new }
-        ensures held { IfOk result (λ found. IfSome found (λ held. IsClaimedBy seat reading (book_of self.old) (book_of self.new) (held_claim held))) }
-        ensures idle { IfOk result (λ found. IfNone found (IsIdle (state_of (book_of self.old)) reading × (book_of self.new ≡ book_of self.old))) }
-        ensures refused { IfErr result (λ fault. IsUnclaimed (book_of self.old) reading fault × (book_of self.new ≡ book_of self.old)) }
+        ensures held { IfOk result (λ found. IfSome found (λ held. IsClaimed seat reading (turns_of self.old) (turns_of self.new) (held_claim held))) }
+        ensures idle { IfOk result (λ found. IfNone found (IsIdle (state_of (turns_of self.old)) reading × (turns_of self.new ≡ turns_of self.old))) }
+        ensures refused { IfErr result (λ fault. HasCause (IsFullAt (state_of (turns_of self.old)) reading) fault
+            × (turns_of self.new ≡ turns_of self.old)) }
     {
         let moment = turn_moment(&self.tables, reading);
         let full = self.tables.full();
@@ -224,17 +239,15 @@ impl Book {
             self.tables.put_back(errand);
             return Err(BookFault::NumberLimit);
         }
+        let held = Held { errand, reading };
         self.history.push(&Turn {
-            pass: seat.pass,
+            pass: Some(seat.pass),
             connection: seat.connection,
-            ask: Ask::Claims {
-                duty: errand.number(),
-                reading,
-            },
+            ask: Ask::Claims(Snapshot::of(&held)),
             k: self.tables.set().control_count(),
             written: Written::Nothing,
         });
-        Ok(Some(Held { errand, reading }))
+        Ok(Some(held))
     }
 
     /// Records the outcome of an attempt of the held duty: one turn, and one batch. If a queue accepted the text, the turn decides whether the queue
@@ -245,58 +258,65 @@ impl Book {
         held: Held,
         outcome: Outcome,
     ) -> Result<(Fate, Released), BookFault>
-        requires book { IsBook (book_of self.old) }
-        requires is_open { IsOpen (state_of (book_of self.old)) seat.pass (held_claim held) }
+        requires book { IsKept self.old }
+        requires holds { Holds seat.pass (turns_of self.old) (held_claim held) }
         requires fits { FitsClaim (held_claim held) outcome }
-        ensures book { IsBook (book_of self.new) }
+        ensures book { IsKept self.new }
         ensures grows { HasGrown seat self.old self.new }
-        ensures recorded { IfOk result (λ made. IsRecordedBy seat (held_claim held) outcome made.0 (book_of self.old) (book_of self.new)) }
-        ensures refused { IfErr result (λ fault. (fault ≡ BookFault.NumberLimit) × IsLimited (book_of self.new) held.reading
-            × IsPutBackAtLimit seat (held_claim held) (book_of self.old) (book_of self.new)) }
+        ensures rests { Rests seat.pass (turns_of self.new) }
+        ensures recorded { IfOk result (λ made. IsRecorded seat (held_claim held) outcome made.0 (turns_of self.old) (turns_of self.new)) }
+        ensures refused { IfErr result (λ fault. (fault ≡ BookFault.NumberLimit)
+            × IsPutBack seat (held_claim held) limited (turns_of self.old) (turns_of self.new)) }
     {
         if self.tables.full() {
-            self.put_back(seat, held);
+            self.put_back(seat, held, Why::Limited);
             return Err(BookFault::NumberLimit);
         }
+        let about = Snapshot::of(&held);
         let Held {
             mut errand,
             reading,
         } = held;
         let moment = turn_moment(&self.tables, reading);
+        let k = self.tables.set().control_count();
         let outcome = self.tables.record_outcome(&mut errand, outcome, moment);
+        let written = Written::Changes(Snapshot::of(errand.batch()));
+        let (fate, released) = self.tables.finish(errand);
         self.history.push(&Turn {
-            pass: seat.pass,
+            pass: Some(seat.pass),
             connection: seat.connection,
             ask: Ask::Records {
-                duty: errand.number(),
-                reading,
+                held: about,
                 outcome,
+                fate,
             },
-            k: self.tables.set().control_count(),
-            written: Written::Changes(Snapshot::of(errand.batch())),
+            k,
+            written,
         });
-        Ok(self.tables.finish(errand))
+        Ok((fate, released))
     }
 
     /// Releases the claim of the held duty: one turn.
-    pub fn put_back(&mut self, seat: Seat, held: Held)
-        requires book { IsBook (book_of self.old) }
-        requires is_open { IsOpen (state_of (book_of self.old)) seat.pass (held_claim held) }
-        ensures book { IsBook (book_of self.new) }
+    pub fn put_back(&mut self, seat: Seat, held: Held, why: Why)
+        requires book { IsKept self.old }
+        requires holds { Holds seat.pass (turns_of self.old) (held_claim held) }
+        requires reason { IsReason (state_of (turns_of self.old)) (held_claim held) (why_of why) }
+        ensures book { IsKept self.new }
         ensures grows { HasGrown seat self.old self.new }
-        ensures added { IsAdded seat (puts_back (held_claim held).number) (book_of self.old) (book_of self.new) }
-        ensures tables { (book_of self.new).tables ≡ putting_back (held_claim held).number (book_of self.old).tables }
+        ensures rests { Rests seat.pass (turns_of self.new) }
+        ensures put_back { IsPutBack seat (held_claim held) (why_of why) (turns_of self.old) (turns_of self.new) }
     {
-        let Held { errand, reading: _ } = held;
         self.history.push(&Turn {
-            pass: seat.pass,
+            pass: Some(seat.pass),
             connection: seat.connection,
             ask: Ask::PutsBack {
-                duty: errand.number(),
+                held: Snapshot::of(&held),
+                why,
             },
             k: self.tables.set().control_count(),
             written: Written::Nothing,
         });
+        let Held { errand, reading: _ } = held;
         self.tables.put_back(errand);
     }
 }

@@ -1,17 +1,15 @@
 //! The steps of one DeliverDue, by the courier.
-ghost use Rattle.std.specs.Prelude.{◌≡◌, [], Err};
+ghost use Rattle.std.specs.Prelude.{◌≡◌};
 ghost use Rattle.turn_book.specs.Passes.{IsFree, IsSamePass};
-ghost use Rattle.router_sessions.specs.History.{claims_by};
-ghost use Rattle.router_sessions.specs.Book.{state_of, seen_book, IsBook};
-ghost use Rattle.courier_run.specs.declared.turned.Turned.{Turned as Counted};
+ghost use Rattle.courier_run.specs.Link.{outside};
+ghost use Rattle.router_sessions.specs.Book.{Rests, IsBook};
 ghost use Rattle.router_sessions.specs.Delivery.{Delivers};
-ghost use Rattle.router_sessions.specs.Desk.{book_seen, number_of, seat_of, seen_by, SeesMore};
+ghost use Rattle.router_sessions.specs.Desk.{turns_seen, number_of, seat_of, SeesMore};
 
 use crate::book::Book;
 use crate::desk::Desk;
 use crate::held::Held;
-use crate::history::Turn;
-use courier_run::{BookFault, DutyBook, TurnFault, Turned, turn};
+use courier_run::{BookFault, DutyBook, Stepped, turn};
 use delivery_duties::{Fate, Outcome};
 use router_disk::{Clock, Link};
 use std::marker::{Brand, PhantomData};
@@ -20,10 +18,9 @@ use turn_book::Pass;
 
 /// Names what the steps of one call go by. Each call of a program picks it.
 pub(crate) trait Naming {
-    ghost use Rattle.std.specs.Prelude.{ℕ, List};
+    ghost use Rattle.std.specs.Prelude.{ℕ};
     ghost use Rattle.atomic_table.specs.Seated.{TableId};
     ghost use Rattle.router_sessions.specs.declared.book.Seat.{Seat};
-    ghost use Rattle.router_sessions.specs.declared.history.Turn.{Turn};
 
     // The hall.
     ghost hall: { TableId };
@@ -35,13 +32,9 @@ pub(crate) trait Naming {
     ghost passes: { ℕ };
 
     ghost made: { ℕ };
-
-    // What the pass had seen before the first step.
-    ghost before: { List Turn };
 }
 
 impl Naming for Brand {
-    ghost use Rattle.std.specs.Prelude.{[]};
     ghost use Rattle.router_sessions.specs.Desk.{no_hall, no_seat};
 
     ghost hall = { no_hall };
@@ -51,8 +44,6 @@ impl Naming for Brand {
     ghost passes = { 0 };
 
     ghost made = { 0 };
-
-    ghost before = { [] };
 }
 
 /// The book as the courier sees it, through a pass.
@@ -65,32 +56,41 @@ struct Seated<'a, Rt, N> {
 
 impl<Rt: Wait, N: Naming> DutyBook for Seated<'_, Rt, N> {
     ghost use Rattle.turn_book.specs.Passes.{IsFree};
-    ghost use Rattle.router_sessions.specs.Book.{state_of, seen_book, IsBook, HasNamed};
-    ghost use Rattle.router_sessions.specs.Delivery.{IsOpen, IsIdle, IsFullAt, EndsAtLimit, steps_in};
-    ghost use Rattle.router_sessions.specs.Desk.{book_seen, seat_of, seen_by};
+    ghost use Rattle.router_sessions.specs.History as history;
+    ghost use Rattle.router_sessions.specs.Book.{Rests, Holds, IsBook};
+    ghost use Rattle.router_sessions.specs.Acts.{Claims, Records, PutsBack, IsIdle, IsFullAt};
+    ghost use Rattle.router_sessions.specs.Delivery.{Did, did_none, did_joined};
+    ghost use Rattle.router_sessions.specs.Desk.{turns_seen, seat_of};
 
     type Held = Held;
 
-    type Turn = Turn;
+    ghost Placed = { history.Placed };
 
-    ghost turns = { λ s. seen_by s.pass.now.seat };
-
-    ghost steps = { λ s. steps_in N.seat.pass (book_seen s.pass.now.seat) };
+    ghost State = { history.State };
 
     ghost sound = { λ s. (s.desk.hall.now.table.shared.table_id ≡ N.hall) × (s.pass.now.seat.table_id ≡ N.hall) × IsFree s.pass.now.seat
         × (seat_of s.desk.connection s.pass.now.seat ≡ N.seat) × (s.pass.now.seat.me.0.passes ≡ N.passes) × (s.pass.now.seat.me.0.made ≡ N.made)
-        × IsBook (book_seen s.pass.now.seat)
-        × HasNamed N.seat (seen_book N.before) (book_seen s.pass.now.seat) };
+        × IsBook (turns_seen s.pass.now.seat) };
 
-    ghost idle = { λ s reading. IsIdle (state_of (book_seen s.pass.now.seat)) reading };
+    ghost rests = { λ s. Rests N.seat.pass (turns_seen s.pass.now.seat) };
 
-    ghost is_open = { λ s c. IsOpen (state_of (book_seen s.pass.now.seat)) N.seat.pass c };
+    ghost holds = { λ s c. Holds N.seat.pass (turns_seen s.pass.now.seat) c };
 
-    ghost broken = { λ s. ⊥ };
+    ghost did = { λ a b acts. Did N.seat a.pass.now.seat b.pass.now.seat acts };
 
-    ghost full = { λ s reading. IsFullAt (state_of (book_seen s.pass.now.seat)) reading };
+    ghost begins = { λ b. did_none N.seat b.pass.now.seat };
 
-    ghost limited = { λ s c. EndsAtLimit N.seat.pass c (book_seen s.pass.now.seat) };
+    ghost joins = { λ a b c first second one two. did_joined N.seat a.pass.now.seat b.pass.now.seat c.pass.now.seat first second one two };
+
+    ghost claims = { Claims };
+
+    ghost records = { Records };
+
+    ghost puts_back = { PutsBack };
+
+    ghost idle = { IsIdle };
+
+    ghost full = { IsFullAt };
 
     ghost lender = { λ s. s.pass.ghost_name };
 
@@ -115,18 +115,18 @@ pub(crate) fn deliver<Rt: Wait, L: Link, C: Clock>(
     link: &mut L,
     clock: &mut C,
     budget: u32,
-) -> Result<Turned, TurnFault>
+) -> Stepped
     requires here { pass.old.seat.table_id ≡ desk.hall.now.table.shared.table_id }
     requires free { IsFree pass.old.seat }
-    requires book { IsBook (book_seen pass.old.seat) }
+    requires book { IsBook (turns_seen pass.old.seat) }
+    requires rests { Rests (number_of pass.old.seat) (turns_seen pass.old.seat) }
     ensures pass { IsSamePass pass.old.seat pass.new.seat × IsFree pass.new.seat }
-    ensures book { IsBook (book_seen pass.new.seat) }
+    ensures book { IsBook (turns_seen pass.new.seat) }
     ensures more { SeesMore pass.old.seat pass.new.seat }
-    ensures delivers { Delivers (seat_of desk.entry.connection pass.old.seat) budget (book_seen pass.old.seat) (book_seen pass.new.seat)
-        (C.ahead clock.old) (C.ahead clock.new) (L.answered link.old) (L.answered link.new) (L.faults link.old) (L.faults link.new) result }
-    ensures no_disk { (turned : Counted) → ¬ (result ≡ Err (TurnFault.DiskFault turned)) }
-    ensures closed { claims_by (number_of pass.old.seat) (state_of (book_seen pass.old.seat)).open_claims ≡ []
-        → claims_by (number_of pass.old.seat) (state_of (book_seen pass.new.seat)).open_claims ≡ [] }
+    ensures rests { Rests (number_of pass.old.seat) (turns_seen pass.new.seat) }
+    ensures delivers { Delivers (seat_of desk.entry.connection pass.old.seat) budget (turns_seen pass.old.seat) (turns_seen pass.new.seat)
+        (outside (C.gave clock.old) (L.exchanges link.old) (L.faults link.old))
+        (outside (C.gave clock.new) (L.exchanges link.new) (L.faults link.new)) result }
 {
     deliver_by::<Brand, Rt, L, C>(desk, pass, link, clock, budget)
 }
@@ -137,21 +137,21 @@ fn deliver_by<N: Naming, Rt: Wait, L: Link, C: Clock>(
     link: &mut L,
     clock: &mut C,
     budget: u32,
-) -> Result<Turned, TurnFault>
+) -> Stepped
     requires hall { (desk.hall.now.table.shared.table_id ≡ N.hall) × (pass.old.seat.table_id ≡ N.hall) }
     requires free { IsFree pass.old.seat }
     requires seat { seat_of desk.connection pass.old.seat ≡ N.seat }
     requires passes { (pass.old.seat.me.0.passes ≡ N.passes) × (pass.old.seat.me.0.made ≡ N.made) }
-    requires before { seen_by pass.old.seat ≡ N.before }
-    requires book { IsBook (book_seen pass.old.seat) }
-    ensures hall { pass.new.seat.table_id ≡ N.hall }
+    requires book { IsBook (turns_seen pass.old.seat) }
+    requires rests { Rests N.seat.pass (turns_seen pass.old.seat) }
     ensures free { IsFree pass.new.seat }
     ensures pass { IsSamePass pass.old.seat pass.new.seat }
-    ensures book { IsBook (book_seen pass.new.seat) }
+    ensures book { IsBook (turns_seen pass.new.seat) }
     ensures more { SeesMore pass.old.seat pass.new.seat }
-    ensures delivers { Delivers N.seat budget (seen_book N.before) (book_seen pass.new.seat)
-        (C.ahead clock.old) (C.ahead clock.new) (L.answered link.old) (L.answered link.new) (L.faults link.old) (L.faults link.new) result }
-    ensures no_disk { (turned : Counted) → ¬ (result ≡ Err (TurnFault.DiskFault turned)) }
+    ensures rests { Rests N.seat.pass (turns_seen pass.new.seat) }
+    ensures delivers { Delivers N.seat budget (turns_seen pass.old.seat) (turns_seen pass.new.seat)
+        (outside (C.gave clock.old) (L.exchanges link.old) (L.faults link.old))
+        (outside (C.gave clock.new) (L.exchanges link.new) (L.faults link.new)) result }
 {
     let mut seated: Seated<'_, Rt, N> = Seated {
         desk,

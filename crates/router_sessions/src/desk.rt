@@ -1,19 +1,22 @@
 //! Turns of a pass: each takes the book from the hall, makes at most one turn, and gives the book back.
-ghost use Rattle.std.specs.Prelude.{◌≡◌, IsSome, IfOk, IfErr, IfSome, IfNone, OnErr};
+ghost use Rattle.std.specs.Prelude.{◌≡◌, ◌∷◌, [], IsSome, IfOk, IfErr, IfSome, IfNone, OnErr};
 ghost use Rattle.json_text.specs.Moment.{IsMoment};
 ghost use Rattle.turn_book.specs.Passes.{IsFree, IsSamePass};
 ghost use Rattle.router_core.specs.View.{request_of};
-ghost use Rattle.courier_run.specs.declared.book.BookFault.TheVariants as faults;
-ghost use Rattle.courier_run.specs.Claim.{FitsClaim};
-ghost use Rattle.router_sessions.specs.History.{puts_back};
-ghost use Rattle.router_sessions.specs.Book.{state_of, IsBook, HasLearned};
-ghost use Rattle.router_sessions.specs.Answered.{IsAskable, IsAnswered, IsRenderable};
-ghost use Rattle.router_sessions.specs.Delivery.{held_claim, IsOpen, IsIdle};
-ghost use Rattle.router_sessions.specs.Turns.{IsLimited, IsAdded, IsClaimedBy, IsPutBackAtLimit, IsUnclaimed, IsRecordedBy};
-ghost use Rattle.router_sessions.specs.Desk.{book_seen, number_of, seat_of, SeesMore, AfterLearning};
+ghost use Rattle.courier_run.specs.Act.{looks};
+ghost use Rattle.courier_run.specs.Claim.{FitsClaim, NeedsSend};
+ghost use Rattle.courier_run.specs.Book.{HasCause};
+ghost use Rattle.courier_run.specs.Steps.{unsent, limited};
+ghost use Rattle.router_sessions.specs.History.{state_of, IsAskable};
+ghost use Rattle.router_sessions.specs.Held.{held_claim};
+ghost use Rattle.router_sessions.specs.Book.{Holds, Rests, IsBook};
+ghost use Rattle.router_sessions.specs.Acts.{IsIdle, IsFullAt, Makes};
+ghost use Rattle.router_sessions.specs.Answered.{IsAnswered, IsRenderable, IsClaimed, IsRecorded, IsPutBack};
+ghost use Rattle.router_sessions.specs.Desk.{turns_seen, number_of, seat_of, SeesMore};
 
 use crate::book::{Book, MadeTurn, Seat, TurnReply};
 use crate::held::Held;
+use crate::history::Why;
 use courier_run::BookFault;
 use delivery_duties::{Fate, Outcome};
 use json_text::NoMemory;
@@ -54,9 +57,11 @@ impl<Rt: Wait> Desk<'_, Rt> {
         requires here { pass.old.seat.table_id ≡ self.hall.now.table.shared.table_id }
         requires free { IsFree pass.old.seat }
         ensures pass { IsSamePass pass.old.seat pass.new.seat × IsFree pass.new.seat }
-        ensures book { IsBook (book_seen pass.new.seat) }
+        ensures book { IsBook (turns_seen pass.new.seat) }
         ensures more { SeesMore pass.old.seat pass.new.seat }
-        ensures learned { HasLearned (number_of pass.old.seat) (book_seen pass.old.seat) (book_seen pass.new.seat) }
+        ensures looked { Makes (seat_of self.entry.connection pass.old.seat) (looks (state_of (turns_seen pass.new.seat)) ∷ [])
+            (turns_seen pass.old.seat) (turns_seen pass.new.seat) }
+        ensures rests { Rests (number_of pass.old.seat) (turns_seen pass.old.seat) → Rests (number_of pass.old.seat) (turns_seen pass.new.seat) }
     {
         let book = self.hall.take(self.rt, pass);
         self.hall.give(pass, book);
@@ -71,16 +76,16 @@ impl<Rt: Wait> Desk<'_, Rt> {
     ) -> Result<TurnReply, NoMemory>
         requires here { pass.old.seat.table_id ≡ self.hall.now.table.shared.table_id }
         requires free { IsFree pass.old.seat }
+        requires book { IsBook (turns_seen pass.old.seat) }
         requires askable { IsAskable (request_of request) }
         requires named { IsSome self.connection }
         ensures pass { IsSamePass pass.old.seat pass.new.seat × IsFree pass.new.seat }
-        ensures book { IsBook (book_seen pass.new.seat) }
+        ensures book { IsBook (turns_seen pass.new.seat) }
         ensures more { SeesMore pass.old.seat pass.new.seat }
-        ensures answered { IfOk result (λ reply. AfterLearning (number_of pass.old.seat)
-            (λ old new. IsAnswered (seat_of self.entry.connection pass.old.seat) old new (request_of request) close reply)
-            (book_seen pass.old.seat) (book_seen pass.new.seat)) }
+        ensures answered { IfOk result (λ reply. IsAnswered (seat_of self.entry.connection pass.old.seat)
+            (turns_seen pass.old.seat) (turns_seen pass.new.seat) (request_of request) close reply) }
         ensures renderable { IfOk result (λ reply. IsRenderable reply) }
-        ensures unchanged { OnErr result (HasLearned (number_of pass.old.seat) (book_seen pass.old.seat) (book_seen pass.new.seat)) }
+        ensures unchanged { OnErr result (Makes (seat_of self.entry.connection pass.old.seat) [] (turns_seen pass.old.seat) (turns_seen pass.new.seat)) }
     {
         match self.make_turn(pass, &request, close) {
             Ok(made) => Ok(made.into_reply()),
@@ -97,16 +102,16 @@ impl<Rt: Wait> Desk<'_, Rt> {
     ) -> Result<MadeTurn, NoMemory>
         requires here { pass.old.seat.table_id ≡ self.hall.now.table.shared.table_id }
         requires free { IsFree pass.old.seat }
+        requires book { IsBook (turns_seen pass.old.seat) }
         requires askable { IsAskable (request_of request.now) }
         requires named { IsSome self.connection }
         ensures pass { IsSamePass pass.old.seat pass.new.seat × IsFree pass.new.seat }
-        ensures book { IsBook (book_seen pass.new.seat) }
+        ensures book { IsBook (turns_seen pass.new.seat) }
         ensures more { SeesMore pass.old.seat pass.new.seat }
-        ensures answered { IfOk result (λ made. AfterLearning (number_of pass.old.seat)
-            (λ old new. IsAnswered (seat_of self.entry.connection pass.old.seat) old new (request_of request.now) close made.reply)
-            (book_seen pass.old.seat) (book_seen pass.new.seat)) }
+        ensures answered { IfOk result (λ made. IsAnswered (seat_of self.entry.connection pass.old.seat)
+            (turns_seen pass.old.seat) (turns_seen pass.new.seat) (request_of request.now) close made.reply) }
         ensures renderable { IfOk result (λ made. IsRenderable made.reply) }
-        ensures unchanged { OnErr result (HasLearned (number_of pass.old.seat) (book_seen pass.old.seat) (book_seen pass.new.seat)) }
+        ensures unchanged { OnErr result (Makes (seat_of self.entry.connection pass.old.seat) [] (turns_seen pass.old.seat) (turns_seen pass.new.seat)) }
     {
         let seat = self.seat(pass);
         let mut book = self.hall.take(self.rt, pass);
@@ -123,17 +128,20 @@ impl<Rt: Wait> Desk<'_, Rt> {
     ) -> Result<Option<Held>, BookFault>
         requires here { pass.old.seat.table_id ≡ self.hall.now.table.shared.table_id }
         requires free { IsFree pass.old.seat }
+        requires book { IsBook (turns_seen pass.old.seat) }
         requires reading { IsMoment reading }
+        requires rests { Rests (number_of pass.old.seat) (turns_seen pass.old.seat) }
         ensures pass { IsSamePass pass.old.seat pass.new.seat × IsFree pass.new.seat }
-        ensures book { IsBook (book_seen pass.new.seat) }
+        ensures book { IsBook (turns_seen pass.new.seat) }
         ensures more { SeesMore pass.old.seat pass.new.seat }
-        ensures held { IfOk result (λ found. IfSome found (λ held. AfterLearning (number_of pass.old.seat)
-            (λ old new. IsClaimedBy (seat_of self.entry.connection pass.old.seat) reading old new (held_claim held))
-            (book_seen pass.old.seat) (book_seen pass.new.seat))) }
-        ensures idle { IfOk result (λ found. IfNone found (IsIdle (state_of (book_seen pass.new.seat)) reading
-            × HasLearned (number_of pass.old.seat) (book_seen pass.old.seat) (book_seen pass.new.seat))) }
-        ensures refused { IfErr result (λ fault. IsUnclaimed (book_seen pass.new.seat) reading fault
-            × HasLearned (number_of pass.old.seat) (book_seen pass.old.seat) (book_seen pass.new.seat)) }
+        ensures held { IfOk result (λ found. IfSome found (λ held. IsClaimed (seat_of self.entry.connection pass.old.seat) reading
+            (turns_seen pass.old.seat) (turns_seen pass.new.seat) (held_claim held))) }
+        ensures idle { IfOk result (λ found. IfNone found (IsIdle (state_of (turns_seen pass.new.seat)) reading
+            × Makes (seat_of self.entry.connection pass.old.seat) (looks (state_of (turns_seen pass.new.seat)) ∷ [])
+            (turns_seen pass.old.seat) (turns_seen pass.new.seat) × Rests (number_of pass.old.seat) (turns_seen pass.new.seat))) }
+        ensures refused { IfErr result (λ fault. HasCause (IsFullAt (state_of (turns_seen pass.new.seat)) reading) fault
+            × Makes (seat_of self.entry.connection pass.old.seat) (looks (state_of (turns_seen pass.new.seat)) ∷ [])
+            (turns_seen pass.old.seat) (turns_seen pass.new.seat) × Rests (number_of pass.old.seat) (turns_seen pass.new.seat)) }
     {
         let seat = self.seat(pass);
         let mut book = self.hall.take(self.rt, pass);
@@ -151,19 +159,18 @@ impl<Rt: Wait> Desk<'_, Rt> {
     ) -> Result<Fate, BookFault>
         requires here { pass.old.seat.table_id ≡ self.hall.now.table.shared.table_id }
         requires free { IsFree pass.old.seat }
-        requires book { IsBook (book_seen pass.old.seat) }
-        requires is_open { IsOpen (state_of (book_seen pass.old.seat)) (number_of pass.old.seat) (held_claim held) }
+        requires book { IsBook (turns_seen pass.old.seat) }
+        requires holds { Holds (number_of pass.old.seat) (turns_seen pass.old.seat) (held_claim held) }
         requires fits { FitsClaim (held_claim held) outcome }
         ensures pass { IsSamePass pass.old.seat pass.new.seat × IsFree pass.new.seat }
-        ensures book { IsBook (book_seen pass.new.seat) }
+        ensures book { IsBook (turns_seen pass.new.seat) }
         ensures more { SeesMore pass.old.seat pass.new.seat }
-        ensures recorded { IfOk result (λ fate. AfterLearning (number_of pass.old.seat)
-            (λ old new. IsRecordedBy (seat_of self.entry.connection pass.old.seat) (held_claim held) outcome fate old new)
-            (book_seen pass.old.seat) (book_seen pass.new.seat)) }
-        ensures refused { IfErr result (λ fault. (fault ≡ BookFault.NumberLimit) × IsLimited (book_seen pass.new.seat) held.reading
-            × AfterLearning (number_of pass.old.seat)
-            (λ old new. IsPutBackAtLimit (seat_of self.entry.connection pass.old.seat) (held_claim held) old new)
-            (book_seen pass.old.seat) (book_seen pass.new.seat)) }
+        ensures rests { Rests (number_of pass.old.seat) (turns_seen pass.new.seat) }
+        ensures recorded { IfOk result (λ fate. IsRecorded (seat_of self.entry.connection pass.old.seat) (held_claim held) outcome fate
+            (turns_seen pass.old.seat) (turns_seen pass.new.seat)) }
+        ensures refused { IfErr result (λ fault. (fault ≡ BookFault.NumberLimit)
+            × IsPutBack (seat_of self.entry.connection pass.old.seat) (held_claim held) limited
+            (turns_seen pass.old.seat) (turns_seen pass.new.seat)) }
     {
         let seat = self.seat(pass);
         let mut book = self.hall.take(self.rt, pass);
@@ -176,22 +183,23 @@ impl<Rt: Wait> Desk<'_, Rt> {
         }
     }
 
-    /// Releases the claim of the held duty, as `Book::put_back`.
+    /// Releases the claim of the held duty, of which nothing was sent, as `Book::put_back`.
     pub(crate) fn put_back(self, pass: &mut Pass<Book>, held: Held)
         requires here { pass.old.seat.table_id ≡ self.hall.now.table.shared.table_id }
         requires free { IsFree pass.old.seat }
-        requires book { IsBook (book_seen pass.old.seat) }
-        requires is_open { IsOpen (state_of (book_seen pass.old.seat)) (number_of pass.old.seat) (held_claim held) }
+        requires book { IsBook (turns_seen pass.old.seat) }
+        requires holds { Holds (number_of pass.old.seat) (turns_seen pass.old.seat) (held_claim held) }
+        requires needed { NeedsSend (held_claim held) }
         ensures pass { IsSamePass pass.old.seat pass.new.seat × IsFree pass.new.seat }
-        ensures book { IsBook (book_seen pass.new.seat) }
+        ensures book { IsBook (turns_seen pass.new.seat) }
         ensures more { SeesMore pass.old.seat pass.new.seat }
-        ensures added { AfterLearning (number_of pass.old.seat)
-            (λ old new. IsAdded (seat_of self.entry.connection pass.old.seat) (puts_back (held_claim held).number) old new)
-            (book_seen pass.old.seat) (book_seen pass.new.seat) }
+        ensures rests { Rests (number_of pass.old.seat) (turns_seen pass.new.seat) }
+        ensures put_back { IsPutBack (seat_of self.entry.connection pass.old.seat) (held_claim held) unsent
+            (turns_seen pass.old.seat) (turns_seen pass.new.seat) }
     {
         let seat = self.seat(pass);
         let mut book = self.hall.take(self.rt, pass);
-        book.put_back(seat, held);
+        book.put_back(seat, held, Why::Unsent);
         self.hall.give(pass, book);
     }
 }

@@ -1,20 +1,17 @@
 //! One message and its reply.
-ghost use Rattle.std.specs.Prelude.{◌≡◌, ℕ, List, [], Option, IsSome, IfOk, MatchOption};
+ghost use Rattle.std.specs.Prelude.{◌≡◌, ℕ, List, IsSome, IfOk, MatchOption};
 ghost use Rattle.api_replies.specs.Reply as replies;
 ghost use Rattle.router_core.specs.Request.{deliver_due, IsOneTurn};
 ghost use Rattle.router_core.specs.View.{action_of};
 ghost use Rattle.router_disk.specs.Faults.{CountsFaults};
-ghost use Rattle.router_disk.specs.Sink.{WritesAll};
+ghost use Rattle.router_disk.specs.Sink.{AddsBytes};
 ghost use Rattle.api_replies.specs.Written.{reply_text};
 ghost use Rattle.turn_book.specs.Passes.{IsFree, IsSamePass};
-ghost use Rattle.router_sessions.specs.History.{claims_by};
-ghost use Rattle.router_sessions.specs.Book.{state_of, IsBook};
-ghost use Rattle.router_sessions.specs.Desk.{book_seen, number_of, seat_of, SeesMore};
-ghost use Rattle.router_sessions.specs.Exchange.{IsDeliveryReply};
-ghost use Rattle.router_sessions.specs.Responses.{text_or, IsFaultText, AnswersDelivery};
-ghost use Rattle.router_sessions.specs.Running.{ExchangeOf};
-ghost use Rattle.courier_run.specs.declared.turned.Turned.{Turned as Counted};
-ghost use Rattle.router_sessions.specs.World.{world};
+ghost use Rattle.router_sessions.specs.Book.{Rests, IsBook};
+ghost use Rattle.router_sessions.specs.Desk.{turns_seen, number_of, seat_of, SeesMore};
+ghost use Rattle.router_sessions.specs.Acts.{world};
+ghost use Rattle.router_sessions.specs.Session.{steps_reply};
+ghost use Rattle.router_sessions.specs.Reply.{text_or, IsFaultText, HasAnswered, HasDelivered};
 
 use crate::book::Book;
 use crate::delivery::deliver;
@@ -27,7 +24,7 @@ use api_wire::{
     read_call,
 };
 use bus_host::Gate;
-use courier_run::{TurnFault, Turned};
+use courier_run::{Stepped, Stop};
 use json_text::{Bytes, LAST_MOMENT, NoMemory};
 use router_core::{Action, limit_reply};
 use router_disk::{Clock, Failed, Link, Sink};
@@ -50,15 +47,15 @@ pub(crate) fn answer_message<Rt: Wait, K: Sink, L: Link, C: Clock, G: Gate>(
     requires here { pass.old.seat.table_id ≡ desk.hall.now.table.shared.table_id }
     requires named { IsSome desk.connection }
     requires free { IsFree pass.old.seat }
-    requires book { IsBook (book_seen pass.old.seat) }
+    requires book { IsBook (turns_seen pass.old.seat) }
+    requires rests { Rests (number_of pass.old.seat) (turns_seen pass.old.seat) }
     ensures pass { IsSamePass pass.old.seat pass.new.seat × IsFree pass.new.seat }
-    ensures book { IsBook (book_seen pass.new.seat) }
+    ensures book { IsBook (turns_seen pass.new.seat) }
     ensures more { SeesMore pass.old.seat pass.new.seat }
-    ensures closed { claims_by (number_of pass.old.seat) (state_of (book_seen pass.old.seat)).open_claims ≡ []
-        → claims_by (number_of pass.old.seat) (state_of (book_seen pass.new.seat)).open_claims ≡ [] }
-    ensures exchange { (left : Option (List ℕ)) → ExchangeOf (seat_of desk.entry.connection pass.old.seat) message.now close
-        (world (book_seen pass.old.seat) left (K.written output.old) (C.ahead clock.old) (L.answered link.old) (L.faults link.old))
-        (world (book_seen pass.new.seat) left (K.written output.new) (C.ahead clock.new) (L.answered link.new) (L.faults link.new)) result }
+    ensures rests { Rests (number_of pass.old.seat) (turns_seen pass.new.seat) }
+    ensures answered { (gave : List (List ℕ)) → HasAnswered (seat_of desk.entry.connection pass.old.seat) message.now close
+        (world (turns_seen pass.old.seat) gave (K.wrote output.old) (C.gave clock.old) (L.exchanges link.old) (L.faults link.old))
+        (world (turns_seen pass.new.seat) gave (K.wrote output.new) (C.gave clock.new) (L.exchanges link.new) (L.faults link.new)) result }
     ensures count { CountsFaults (K.faults output.old) (K.faults output.new) result }
 {
     let reading = clock.now();
@@ -137,7 +134,7 @@ fn respond<K: Sink>(
     close: bool,
     output: &mut K,
 ) -> Result<(), Failed>
-    ensures writes { WritesAll (K.written output.old) (K.written output.new) result (text_or bytes close) }
+    ensures writes { AddsBytes (K.wrote output.old) (K.wrote output.new) result (text_or bytes close) }
     ensures count { CountsFaults (K.faults output.old) (K.faults output.new) result }
 {
     match bytes {
@@ -176,15 +173,15 @@ fn answer_delivery<Rt: Wait, K: Sink, L: Link, C: Clock, G: Gate>(
 ) -> Result<(), Failed>
     requires here { pass.old.seat.table_id ≡ desk.hall.now.table.shared.table_id }
     requires free { IsFree pass.old.seat }
-    requires book { IsBook (book_seen pass.old.seat) }
+    requires book { IsBook (turns_seen pass.old.seat) }
+    requires rests { Rests (number_of pass.old.seat) (turns_seen pass.old.seat) }
     ensures pass { IsSamePass pass.old.seat pass.new.seat × IsFree pass.new.seat }
-    ensures book { IsBook (book_seen pass.new.seat) }
+    ensures book { IsBook (turns_seen pass.new.seat) }
     ensures more { SeesMore pass.old.seat pass.new.seat }
-    ensures closed { claims_by (number_of pass.old.seat) (state_of (book_seen pass.old.seat)).open_claims ≡ []
-        → claims_by (number_of pass.old.seat) (state_of (book_seen pass.new.seat)).open_claims ≡ [] }
-    ensures delivered { (left : Option (List ℕ)) → AnswersDelivery (seat_of desk.entry.connection pass.old.seat) budget close
-        (world (book_seen pass.old.seat) left (K.written output.old) (C.ahead clock.old) (L.answered link.old) (L.faults link.old))
-        (world (book_seen pass.new.seat) left (K.written output.new) (C.ahead clock.new) (L.answered link.new) (L.faults link.new)) result }
+    ensures rests { Rests (number_of pass.old.seat) (turns_seen pass.new.seat) }
+    ensures delivered { (gave : List (List ℕ)) → HasDelivered (seat_of desk.entry.connection pass.old.seat) budget close
+        (world (turns_seen pass.old.seat) gave (K.wrote output.old) (C.gave clock.old) (L.exchanges link.old) (L.faults link.old))
+        (world (turns_seen pass.new.seat) gave (K.wrote output.new) (C.gave clock.new) (L.exchanges link.new) (L.faults link.new)) result }
     ensures count { CountsFaults (K.faults output.old) (K.faults output.new) result }
 {
     match delivery_room(desk.alloc, close) {
@@ -204,30 +201,27 @@ fn answer_delivery<Rt: Wait, K: Sink, L: Link, C: Clock, G: Gate>(
 fn write_delivery<K: Sink>(
     mut room: CountsReply,
     limit: &[u8],
-    made: Result<Turned, TurnFault>,
+    made: Stepped,
     close: bool,
     output: &mut K,
 ) -> Result<(), Failed>
     requires limit { limit.now ≡ reply_text replies.limit_reply close }
-    requires no_disk { (turned : Counted) → ¬ (made ≡ Err (TurnFault.DiskFault turned)) }
-    ensures writes { (reply : replies.Reply) × IsDeliveryReply made reply
-        × WritesAll (K.written output.old) (K.written output.new) result (reply_text reply close) }
+    ensures writes { AddsBytes (K.wrote output.old) (K.wrote output.new) result (reply_text (steps_reply made.turned made.stop) close) }
     ensures count { CountsFaults (K.faults output.old) (K.faults output.new) result }
 {
-    match made {
-        Ok(turned) => {
+    match made.stop {
+        Stop::Spent | Stop::Idle => {
             let text = room.fill(
-                turned.attempts,
-                turned.delivered,
-                turned.dead,
-                turned.dropped,
+                made.turned.attempts,
+                made.turned.delivered,
+                made.turned.dead,
+                made.turned.dropped,
                 close,
             );
             output.write_all(text)
         }
-        Err(TurnFault::NumberLimit(_)) => output.write_all(limit),
-        Err(TurnFault::NoMemory(_)) => output.write_all(no_memory_reply(close)),
-        Err(TurnFault::DiskFault(_)) => unreachable!(),
+        Stop::Full => output.write_all(limit),
+        Stop::NoMemory => output.write_all(no_memory_reply(close)),
     }
 }
 

@@ -13,7 +13,7 @@ pub struct Held {
 }
 
 impl HeldDuty for Held {
-    ghost use Rattle.router_sessions.specs.Delivery.{held_claim};
+    ghost use Rattle.router_sessions.specs.Held.{held_claim};
 
     ghost shows = { held_claim };
 

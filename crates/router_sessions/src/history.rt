@@ -2,27 +2,40 @@
 ghost use Rattle.std.specs.Prelude.{◌≡◌, ◌++◌, ◌∷◌, []};
 ghost use Rattle.router_sessions.specs.Book.{turn_of, turns_in, recorded_in};
 
-use delivery_duties::Outcome;
+use crate::held::Held;
+use delivery_duties::{Fate, Outcome};
 use http_server::Log;
-use router_core::{Batch, Request};
+use router_core::{Batch, Request, Tables};
 use std::snapshot::Snapshot;
 
 /// What a turn was made for.
 #[derive(Drop)]
 pub enum Ask {
-    Asked(Snapshot<Request>),
-    Claims {
-        duty: u64,
-        reading: u64,
+    /// To open a book with these tables, on which these batches were found.
+    Opens {
+        start: Snapshot<Tables>,
+        found: Log<Batch, ()>,
     },
+    Asked(Snapshot<Request>),
+    Claims(Snapshot<Held>),
     Records {
-        duty: u64,
-        reading: u64,
+        held: Snapshot<Held>,
         outcome: Outcome,
+        fate: Fate,
     },
     PutsBack {
-        duty: u64,
+        held: Snapshot<Held>,
+        why: Why,
     },
+}
+
+/// Why a claim is put back.
+#[derive(Clone, Copy, Debug, PartialEq, Eq)]
+pub enum Why {
+    /// The link was out of memory before it sent anything.
+    Unsent,
+    /// The number limit is reached.
+    Limited,
 }
 
 /// What a turn wrote.
@@ -35,8 +48,8 @@ pub enum Written {
 /// One turn.
 #[derive(Drop)]
 pub struct Turn {
-    /// The number of the pass that made it.
-    pub pass: u64,
+    /// The number of the pass that made it. None opens a book.
+    pub pass: Option<u64>,
     /// The number of the connection that it served, if it served one.
     pub connection: Option<u64>,
     pub ask: Ask,

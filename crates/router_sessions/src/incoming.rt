@@ -1,12 +1,10 @@
 //! The next message of an input.
-ghost use Rattle.std.specs.Prelude.{◌≡◌, ◌≢◌, ◌<◌, ◌≤◌, None, length};
-ghost use Rattle.router_disk.specs.Faults.{CountsFaults, Rose};
-ghost use Rattle.std.specs.Prelude.{ℕ, List, Option};
+ghost use Rattle.std.specs.Prelude.{◌≡◌, ◌≢◌, ◌<◌, ◌∷◌, [], None, length};
 ghost use Rattle.std.specs.Io.{ReadsAtMost};
-ghost use Rattle.std.specs.Io.KnownBytes.{IsAtEnd, ReadConsumes};
+ghost use Rattle.router_disk.specs.Faults.{CountsFaults, Rose};
+ghost use Rattle.router_disk.specs.Source.{GivesPiece};
 ghost use Rattle.api_messages.specs.Messages.{IsAwaited};
-ghost use Rattle.router_sessions.specs.Session.{piece_size};
-ghost use Rattle.router_sessions.specs.Incoming.{LackOf, NextOf, StaysOpen};
+ghost use Rattle.router_sessions.specs.Incoming.{LackOf, NextOf, StaysOpen, end_piece};
 
 use api_wire::{Message, Refusal, WireFault, WireIn, awaited_is_short};
 use json_text::NoMemory;
@@ -39,10 +37,8 @@ pub(crate) fn next_message<S: Source>(
     piece: &mut [u8],
 ) -> Incoming
     requires room { 0 < length piece.old }
-    requires one_piece { length piece.old ≤ piece_size }
-    requires few { length wire.old.rest ≤ piece_size }
     requires open { wire.old.refused ≡ None }
-    ensures next { NextOf (S.left input.old) (S.left input.new) wire.old.rest wire.new.rest result }
+    ensures next { NextOf (S.gave input.old) (S.gave input.new) wire.old.rest wire.new.rest result }
     ensures open { StaysOpen result wire.new.refused }
     ensures read_fault { result ≡ Incoming.Lack Lack.ReadFault → Rose (S.faults input.old) (S.faults input.new) }
     ensures faultless { result ≢ Incoming.Lack Lack.ReadFault → S.faults input.new ≡ S.faults input.old }
@@ -75,7 +71,7 @@ pub(crate) fn next_message<S: Source>(
 fn read_piece<S: Source>(wire: &WireIn, input: &mut S, piece: &mut [u8]) -> Result<usize, Failed>
     requires room { 0 < length piece.old }
     ensures within { ReadsAtMost result piece.new }
-    ensures bytes { ReadConsumes (S.left input.old) (S.left input.new) result piece.new }
+    ensures piece { GivesPiece (S.gave input.old) (S.gave input.new) result piece.new }
     ensures count { CountsFaults (S.faults input.old) (S.faults input.new) result }
 {
     if wire.is_between() {
@@ -87,7 +83,8 @@ fn read_piece<S: Source>(wire: &WireIn, input: &mut S, piece: &mut [u8]) -> Resu
 /// Why there is no message if the input ends here.
 fn lack_at_end(wire: &WireIn) -> Lack
     requires { IsAwaited wire.now.rest }
-    ensures lack { (left : Option (List ℕ)) → IsAtEnd left → LackOf wire.now.rest left result }
+    ensures lack { LackOf wire.now.rest result }
+    ensures end { end_piece result ≡ [] ∷ [] }
     ensures no_fault { result ≢ Lack.ReadFault }
 {
     if wire.is_between() {

@@ -9,7 +9,6 @@ mod gated;
 mod held;
 mod history;
 mod incoming;
-mod laws;
 mod quiet;
 mod refused;
 mod session;
@@ -18,7 +17,6 @@ mod visit;
 
 pub use book::{Book, MadeTurn, Seat, TurnReply};
 pub use held::Held;
-pub use laws::one_session;
 pub use quiet::{look, serve_quiet};
 pub use session::{SessionEnd, serve_session};
 pub use visit::was_cut;

@@ -1,13 +1,13 @@
 //! Sessions.
-ghost use Rattle.std.specs.Prelude.{◌≡◌, ◌≢◌, ◌||◌, [], Some, IsSome};
+ghost use Rattle.std.specs.Prelude.{◌≡◌, ◌≢◌, ◌||◌, Some, IsSome, List, ℕ};
 ghost use Rattle.router_disk.specs.Faults.{Rose};
 ghost use Rattle.turn_book.specs.Passes.{IsFree, IsSamePass};
-ghost use Rattle.router_sessions.specs.History.{claims_by};
-ghost use Rattle.router_sessions.specs.Book.{state_of, IsBook};
-ghost use Rattle.router_sessions.specs.Desk.{book_seen, number_of, seat_of, SeesMore};
-ghost use Rattle.router_sessions.specs.World.{world};
+ghost use Rattle.router_sessions.specs.Book.{Rests, IsBook};
+ghost use Rattle.router_sessions.specs.Desk.{turns_seen, number_of, seat_of, SeesMore};
+ghost use Rattle.router_sessions.specs.Acts.{world};
 ghost use Rattle.router_sessions.specs.Session.{IsSession};
 ghost use Rattle.router_sessions.specs.Incoming.{IsFinish};
+ghost use Rattle.router_sessions.specs.Conversing.{HasEnded};
 
 use crate::book::Book;
 use crate::desk::Desk;
@@ -63,14 +63,14 @@ pub fn serve_session<Rt: Wait, S: Source, K: Sink, L: Link, C: Clock, G: Gate>(
 ) -> SessionEnd
     requires here { pass.old.seat.table_id ≡ hall.now.table.shared.table_id }
     requires free { IsFree pass.old.seat }
+    requires rests { Rests (number_of pass.old.seat) (turns_seen pass.old.seat) }
     ensures pass { IsSamePass pass.old.seat pass.new.seat × IsFree pass.new.seat }
-    ensures book { IsBook (book_seen pass.new.seat) }
+    ensures book { IsBook (turns_seen pass.new.seat) }
     ensures more { SeesMore pass.old.seat pass.new.seat }
-    ensures closed { claims_by (number_of pass.old.seat) (state_of (book_seen pass.old.seat)).open_claims ≡ []
-        → claims_by (number_of pass.old.seat) (state_of (book_seen pass.new.seat)).open_claims ≡ [] }
+    ensures rests { Rests (number_of pass.old.seat) (turns_seen pass.new.seat) }
     ensures session { IsSession (seat_of (Some connection) pass.old.seat)
-        (world (book_seen pass.old.seat) (S.left input.old) (K.written output.old) (C.ahead clock.old) (L.answered link.old) (L.faults link.old))
-        (world (book_seen pass.new.seat) (S.left input.new) (K.written output.new) (C.ahead clock.new) (L.answered link.new) (L.faults link.new)) result }
+        (world (turns_seen pass.old.seat) (S.gave input.old) (K.wrote output.old) (C.gave clock.old) (L.exchanges link.old) (L.faults link.old))
+        (world (turns_seen pass.new.seat) (S.gave input.new) (K.wrote output.new) (C.gave clock.new) (L.exchanges link.new) (L.faults link.new)) result }
     ensures read_fault { result ≡ SessionEnd.ReadFault → Rose (S.faults input.old) (S.faults input.new) }
     ensures input_faultless { result ≢ SessionEnd.ReadFault → S.faults input.new ≡ S.faults input.old }
     ensures write_fault { result ≡ SessionEnd.WriteFault → Rose (K.faults output.old) (K.faults output.new) }
@@ -100,15 +100,15 @@ fn converse<Rt: Wait, S: Source, K: Sink, L: Link, C: Clock, G: Gate>(
     requires here { pass.old.seat.table_id ≡ desk.hall.now.table.shared.table_id }
     requires named { IsSome desk.connection }
     requires free { IsFree pass.old.seat }
-    requires book { IsBook (book_seen pass.old.seat) }
+    requires book { IsBook (turns_seen pass.old.seat) }
+    requires rests { Rests (number_of pass.old.seat) (turns_seen pass.old.seat) }
     ensures pass { IsSamePass pass.old.seat pass.new.seat × IsFree pass.new.seat }
-    ensures book { IsBook (book_seen pass.new.seat) }
+    ensures book { IsBook (turns_seen pass.new.seat) }
     ensures more { SeesMore pass.old.seat pass.new.seat }
-    ensures closed { claims_by (number_of pass.old.seat) (state_of (book_seen pass.old.seat)).open_claims ≡ []
-        → claims_by (number_of pass.old.seat) (state_of (book_seen pass.new.seat)).open_claims ≡ [] }
-    ensures session { IsSession (seat_of desk.entry.connection pass.old.seat)
-        (world (book_seen pass.old.seat) (S.left input.old) (K.written output.old) (C.ahead clock.old) (L.answered link.old) (L.faults link.old))
-        (world (book_seen pass.new.seat) (S.left input.new) (K.written output.new) (C.ahead clock.new) (L.answered link.new) (L.faults link.new)) result }
+    ensures rests { Rests (number_of pass.old.seat) (turns_seen pass.new.seat) }
+    ensures ended { HasEnded (seat_of desk.entry.connection pass.old.seat)
+        (world (turns_seen pass.old.seat) (S.gave input.old) (K.wrote output.old) (C.gave clock.old) (L.exchanges link.old) (L.faults link.old))
+        (world (turns_seen pass.new.seat) (S.gave input.new) (K.wrote output.new) (C.gave clock.new) (L.exchanges link.new) (L.faults link.new)) result }
     ensures read_fault { result ≡ SessionEnd.ReadFault → Rose (S.faults input.old) (S.faults input.new) }
     ensures input_faultless { result ≢ SessionEnd.ReadFault → S.faults input.new ≡ S.faults input.old }
     ensures write_fault { result ≡ SessionEnd.WriteFault → Rose (K.faults output.old) (K.faults output.new) }
@@ -157,7 +157,7 @@ fn finish<Rt: Wait, K: Sink, G: Gate>(
     gated: Gated<'_, Rt, G>,
     output: &mut K,
 ) -> SessionEnd
-    ensures finish { IsFinish lack (K.written output.old) (K.written output.new) result }
+    ensures finish { IsFinish lack (K.wrote output.old) (K.wrote output.new) result }
     ensures write_fault { result ≡ SessionEnd.WriteFault → Rose (K.faults output.old) (K.faults output.new) }
     ensures output_faultless { result ≢ SessionEnd.WriteFault → K.faults output.new ≡ K.faults output.old }
     ensures read_fault { result ≡ SessionEnd.ReadFault → lack ≡ Lack.ReadFault }

@@ -8,11 +8,17 @@ use router_disk::{Sink, Source};
 use shared_door::Served;
 
 impl<I: Source, O: Sink> Served<I, O> for Book {
-    ghost use Rattle.router_sessions.specs.Visit.{IsVisit, visit_lasts};
+    ghost use Rattle.router_sessions.specs.Visit.{IsVisit, visit_lasts, OwesNothing, owes_unturned, owes_later};
 
-    ghost fits = { IsVisit I.left O.written I.faults O.faults };
+    ghost fits = { IsVisit I.gave O.wrote I.faults O.faults };
 
-    ghost lasts = { visit_lasts I.left O.written I.faults O.faults };
+    ghost lasts = { visit_lasts I.gave O.wrote I.faults O.faults };
+
+    ghost rests = { OwesNothing };
+
+    ghost unturned = { owes_unturned };
+
+    ghost keeps = { owes_later };
 }
 
 /// Whether out of memory ended the session.

@@ -1,7 +1,8 @@
 //! Tests of sessions over the first book.
-ghost use Rattle.std.specs.Prelude.{◌≡◌, []};
-ghost use Rattle.turn_book.specs.Rule.{opener};
+ghost use Rattle.std.specs.Prelude.{◌≡◌};
 ghost use Rattle.turn_book.specs.Passes.{view, IsFree, IsSamePass};
+ghost use Rattle.router_sessions.specs.Desk.{number_of, seen_by};
+ghost use Rattle.router_sessions.specs.Visit.{OwesNothing};
 
 use bus_host::NoGate;
 use router_disk::{Clock, Failing, LinkFault, MemClock, MemLink, MemSink, MemSource, Sink, Source};
@@ -19,6 +20,7 @@ fn first_hall<R: Abort>(rt: &R, alloc: Global, seats: u32) -> (Hall<Book>, Pass<
     ensures free { IsFree result.1.seat }
     ensures seats { result.0.seats ≡ seats }
     ensures first { (view result.1.seat).made ≡ 1 }
+    ensures owes { OwesNothing (number_of result.1.seat) (seen_by result.1.seat) }
 {
     let book = Book::first(alloc).expect(rt, "a book");
     match Hall::make(alloc, book, seats) {
@@ -40,7 +42,9 @@ fn session<Rt: Wait, S: Source, K: Sink, C: Clock>(
 ) -> SessionEnd
     requires here { pass.old.seat.table_id ≡ hall.now.table.shared.table_id }
     requires free { IsFree pass.old.seat }
+    requires owes { OwesNothing (number_of pass.old.seat) (seen_by pass.old.seat) }
     ensures pass { IsSamePass pass.old.seat pass.new.seat × IsFree pass.new.seat }
+    ensures owes { OwesNothing (number_of pass.new.seat) (seen_by pass.new.seat) }
 {
     let mut link = MemLink::always(alloc, Err(LinkFault::Failed));
     serve_session(
@@ -184,7 +188,9 @@ fn send<R: Wait + Abort>(
 )
     requires here { pass.old.seat.table_id ≡ hall.now.table.shared.table_id }
     requires free { IsFree pass.old.seat }
+    requires owes { OwesNothing (number_of pass.old.seat) (seen_by pass.old.seat) }
     ensures pass { IsSamePass pass.old.seat pass.new.seat × IsFree pass.new.seat }
+    ensures owes { OwesNothing (number_of pass.new.seat) (seen_by pass.new.seat) }
 {
     let messages = messages(alloc, names).expect(rt, "messages");
     let mut input = MemSource::new(messages.into_bytes());

@@ -10,4 +10,5 @@
 -- `rt check --generated DIR --start FN`. `IsSync` of a closure's captures: `three_sync`, by `recorded_sync` and `struct_sync`.
 pub mod Steps
 pub mod Keeping
+pub mod RestLemmas
 pub mod CrossingLemmas

@@ -43,7 +43,7 @@ impl<'a, V: Served<D::In, D::Out>, D: Door, N: Naming<D::In, D::Out>> Model for 
     ghost view = { λ p. record { standing = p.standing; acts = p.acts.items; seen = p.pass.seat.me.0.seen } };
 
     ghost invariant = { λ p.
-        ((p.hall.now.table.shared.table_id ≡ N.hall) × (p.pass.seat.table_id ≡ N.hall) × IsFree p.pass.seat)
+        ((p.hall.now.table.shared.table_id ≡ N.hall) × (p.pass.seat.table_id ≡ N.hall) × IsFree p.pass.seat × V.rests p.pass.seat.me.0.number p.pass.seat.me.0.seen)
         × ((p.tickets.seat.table_id ≡ N.tickets) × (p.tickets.given ≡ p.standing.gave) × (p.acts.name ≡ N.acts))
         × Keeps N.most N.start (shown_by D.faults D.ahead D.given D.ended D.gave D.took_back D.closed p.door)
         V.fits (record { standing = p.standing; acts = p.acts.items; seen = p.pass.seat.me.0.seen }) p.tickets.seat.me.0.given p.tickets.seat.me.0.back };
@@ -60,6 +60,7 @@ impl<'a, V: Served<D::In, D::Out>, D: Door, N: Naming<D::In, D::Out>> Porch<'a, 
         connections: Option<u64>,
     ) -> Porch<'a, V, D, N>
         requires here { (hall.now.table.shared.table_id ≡ N.hall) × (pass.seat.table_id ≡ N.hall) × IsFree pass.seat }
+        requires rests { V.rests (view pass.seat).number (view pass.seat).seen }
         requires tickets { (tickets.seat.table_id ≡ N.tickets) × (tickets.given ≡ 0) × (tickets.seat.me.0.back ≡ []) }
         requires acts { (acts.name ≡ N.acts) × (acts.items ≡ []) }
         requires most { connections ≡ N.most }
@@ -222,6 +223,7 @@ impl<'a, V: Served<D::In, D::Out>, D: Door, N: Naming<D::In, D::Out>> Porch<'a, 
         ensures acts { (result.acts.items ≡ self.entry.acts) × IsPrefix over.items result.acts.items }
         ensures over { result.standing.over ≢ None }
         ensures pass { (result.pass.seat.table_id ≡ N.hall) × IsFree result.pass.seat }
+        ensures rests { V.rests (view result.pass.seat).number (view result.pass.seat).seen }
         ensures gave { Gave N.most N.start (shown_by D.faults D.ahead D.given D.ended D.gave D.took_back D.closed result.door) result.standing result.acts.items }
         ensures visited { Visited N.start (shown_by D.faults D.ahead D.given D.ended D.gave D.took_back D.closed result.door)
             V.fits (view result.pass.seat).seen result.acts.items }

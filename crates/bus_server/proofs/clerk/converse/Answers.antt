@@ -1,16 +1,27 @@
-use Rattle.std.proofs.Common.{Bool, None, sym, subst}
-use Rattle.router_sessions.specs.Desk.{seen_by}
+use Rattle.std.proofs.Common.{Bool, ℕ, sym, subst}
+use Rattle.router_sessions.specs.Book.{Rests}
+use Rattle.router_sessions.specs.Desk.{seen_by, turns_seen, number_of}
 use Rattle.router_sessions.specs.Visit.{IsVisit}
+use Rattle.router_sessions.proofs.OwesLemmas.{owes_rests, rests_owes}
 use Rattle.bus_server.proofs.VisitLemmas.{visit_of}
 use Rattle.bus_server.proofs.clerk.converse.Goals as goal
+
+pub serve_session-end-requires-clause-rests : goal.serve_session-end-requires-clause-rests
+serve_session-end-requires-clause-rests g c κs lives = owes_rests (number_of c.args.pass.now.seat) (seen_by c.args.pass.now.seat) c.requires.rests
+
+pub returns-clause-rests : goal.returns-clause-rests
+returns-clause-rests g c =
+    let after = c.serve_session-end in
+    rests_owes (number_of after.new.pass.seat) (seen_by after.new.pass.seat)
+    (subst (λ (n : ℕ). Rests n (turns_seen after.new.pass.seat)) (sym after.ensures.pass.0.1) after.ensures.rests)
 
 pub returns-clause-visit : goal.returns-clause-visit
 returns-clause-visit g c =
     let after = c.serve_session-end in let link = c.args.link.now in
-    let left = g.I.Source.left in let written = g.O.Sink.written in let reads = g.I.Source.faults in let writes = g.O.Sink.faults in
+    let gave = g.I.Source.gave in let wrote = g.O.Sink.wrote in let reads = g.I.Source.faults in let writes = g.O.Sink.faults in
     let came : g.row.I.Denot × g.row.O.Denot = (c.args.input.now, c.args.output.now) in
     let went : g.row.I.Denot × g.row.O.Denot = (after.new.input, after.new.output) in
-    subst (λ (b : Bool). IsVisit left written reads writes c.args.number came went b (seen_by c.args.pass.now.seat) (seen_by after.new.pass.seat)) (sym c.was_cut.ensures)
-    (visit_of left written reads writes c.args.number came went c.args.pass.now.seat after.new.pass.seat after.result None None
-    (g.L.Link.answered link) (g.L.Link.answered after.new.link) (g.L.Link.faults link) (g.L.Link.faults after.new.link) after.ensures.more after.ensures.session
+    subst (λ (b : Bool). IsVisit gave wrote reads writes c.args.number came went b (seen_by c.args.pass.now.seat) (seen_by after.new.pass.seat)) (sym c.was_cut.ensures)
+    (visit_of gave wrote reads writes c.args.number came went c.args.pass.now.seat after.new.pass.seat after.result _ _
+    (g.L.Link.exchanges link) (g.L.Link.exchanges after.new.link) (g.L.Link.faults link) (g.L.Link.faults after.new.link) after.ensures.more after.ensures.session
     after.ensures.read_fault after.ensures.input_faultless after.ensures.write_fault after.ensures.output_faultless)

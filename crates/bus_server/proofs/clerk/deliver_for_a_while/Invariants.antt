@@ -1,9 +1,16 @@
+use Rattle.std.specs.Prelude.{List, None}
 use Rattle.turn_book.specs.Passes.{IsFree, IsSamePass}
-use Rattle.std.specs.Prelude.{None}
-use Rattle.router_sessions.specs.Book.{IsBook, HasNamed}
-use Rattle.router_sessions.specs.Desk.{book_seen, seat_of}
+use Rattle.router_sessions.specs.Book.{IsBook, Rests}
+use Rattle.router_sessions.specs.Acts.{Act, Makes}
+use Rattle.router_sessions.specs.Desk.{turns_seen, number_of, seat_of}
 use Rattle.bus_server.proofs.clerk.deliver_for_a_while.Given as goal
 
 abbrev pub invariant-loop : goal.invariant-loop
-invariant-loop g l = IsSamePass l.initial.pass.seat l.pass.seat × IsFree l.pass.seat × IsBook (book_seen l.pass.seat)
-    × HasNamed (seat_of None l.fn.pass.seat) (book_seen l.fn.pass.seat) (book_seen l.pass.seat)
+invariant-loop g l = record {
+  same : IsSamePass l.initial.pass.seat l.pass.seat;
+  free : IsFree l.pass.seat;
+  first_book : IsBook (turns_seen l.initial.pass.seat);
+  book : IsBook (turns_seen l.pass.seat);
+  rests : Rests (number_of l.initial.pass.seat) (turns_seen l.pass.seat);
+  made : (acts : List Act) × Makes (seat_of None l.initial.pass.seat) acts (turns_seen l.initial.pass.seat) (turns_seen l.pass.seat);
+}

@@ -1,19 +1,10 @@
-use Rattle.std.proofs.Common.{None}
-use Rattle.router_sessions.specs.Desk.{book_seen, seat_of}
-use Rattle.router_sessions.proofs.SeatedLemmas.{delivers_named}
 use Rattle.bus_server.proofs.clerk.deliver_once.Goals as goal
 
-pub returns-then-turned-ne0-clause-named : goal.returns-then-turned-ne0-clause-named
-returns-then-turned-ne0-clause-named g c =
-    delivers_named (seat_of None c.args.pass.now.seat) 1 (book_seen c.args.pass.now.seat) (book_seen c.serve_quiet.new.pass.seat) _ _ _ _ _ _ _
-    c.serve_quiet.ensures.delivers
+pub returns-then-stepped-ne0-clause-made : goal.returns-then-stepped-ne0-clause-made
+returns-then-stepped-ne0-clause-made g c = let delivers = c.serve_quiet-stepped.ensures.delivers in (delivers.acts, delivers.makes)
 
-pub returns-else-turned-ne0-clause-named : goal.returns-else-turned-ne0-clause-named
-returns-else-turned-ne0-clause-named g c =
-    delivers_named (seat_of None c.args.pass.now.seat) 1 (book_seen c.args.pass.now.seat) (book_seen c.serve_quiet.new.pass.seat) _ _ _ _ _ _ _
-    c.serve_quiet.ensures.delivers
+pub returns-else-stepped-ne0-clause-made : goal.returns-else-stepped-ne0-clause-made
+returns-else-stepped-ne0-clause-made g c = let delivers = c.serve_quiet-stepped.ensures.delivers in (delivers.acts, delivers.makes)
 
-pub returns-in-Err-clause-named : goal.returns-in-Err-clause-named
-returns-in-Err-clause-named g c =
-    delivers_named (seat_of None c.args.pass.now.seat) 1 (book_seen c.args.pass.now.seat) (book_seen c.serve_quiet.new.pass.seat) _ _ _ _ _ _ _
-    c.serve_quiet.ensures.delivers
+pub returns-in-Full-clause-made : goal.returns-in-Full-clause-made
+returns-in-Full-clause-made g c = let delivers = c.serve_quiet-stepped.ensures.delivers in (delivers.acts, delivers.makes)

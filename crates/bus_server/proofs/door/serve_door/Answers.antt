@@ -19,7 +19,7 @@ returns-clause-more g c =
 pub returns-clause-served : goal.returns-clause-served
 returns-clause-served g c = λ h.
     let (rest, is) = c.look_after.ensures.more in
-    served_later (IsVisit g.D.In.Source.left g.D.Out.Sink.written g.D.In.Source.faults g.D.Out.Sink.faults) (visit_lasts g.D.In.Source.left g.D.Out.Sink.written g.D.In.Source.faults g.D.Out.Sink.faults) c.args.connections
+    served_later (IsVisit g.D.In.Source.gave g.D.Out.Sink.wrote g.D.In.Source.faults g.D.Out.Sink.faults) (visit_lasts g.D.In.Source.gave g.D.Out.Sink.wrote g.D.In.Source.faults g.D.Out.Sink.faults) c.args.connections
     (shown_by g.D.Door.faults g.D.Door.ahead g.D.Door.given g.D.Door.ended g.D.Door.gave g.D.Door.took_back g.D.Door.closed c.args.door)
     (shown_by g.D.Door.faults g.D.Door.ahead g.D.Door.given g.D.Door.ended g.D.Door.gave g.D.Door.took_back g.D.Door.closed c.serve_door-serving.result.door)
     (seen_by c.serve_door-serving.new.pass.seat) (seen_by c.look_after.new.pass.seat) c.serve_door-serving.result.end

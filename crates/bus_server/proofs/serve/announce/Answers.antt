@@ -10,7 +10,7 @@ pub returns-in-Ok-clause-announced : goal.returns-in-Ok-clause-announced
 returns-in-Ok-clause-announced g c =
     let old = g.K.Sink.written c.args.output.now in
     let left = c.open.result in
-    announced (shown_by g.D.Door.faults g.D.Door.ahead g.D.Door.given g.D.Door.ended g.D.Door.gave g.D.Door.took_back g.D.Door.closed) (IsVisit g.D.In.Source.left g.D.Out.Sink.written g.D.In.Source.faults g.D.Out.Sink.faults) c.args.port
+    announced (shown_by g.D.Door.faults g.D.Door.ahead g.D.Door.given g.D.Door.ended g.D.Door.gave g.D.Door.took_back g.D.Door.closed) (IsVisit g.D.In.Source.gave g.D.Out.Sink.wrote g.D.In.Source.faults g.D.Out.Sink.faults) c.args.port
     c.args.connections c.args.door left.door c.args.links.items left.links.items old (g.K.Sink.written c.write_all.new.self)
     (g.K.Sink.written c.open.new.output) left.status
     (subst (Appends old (g.K.Sink.written c.write_all.new.self)) (c.as_slice.ensures ∙ c.requires.listening) c.in-Ok.ensures.bytes)
@@ -19,6 +19,6 @@ returns-in-Ok-clause-announced g c =
 pub returns-in-Err-clause-announced : goal.returns-in-Err-clause-announced
 returns-in-Err-clause-announced g c =
     let old = g.K.Sink.written c.args.output.now in
-    unannounced (shown_by g.D.Door.faults g.D.Door.ahead g.D.Door.given g.D.Door.ended g.D.Door.gave g.D.Door.took_back g.D.Door.closed) (IsVisit g.D.In.Source.left g.D.Out.Sink.written g.D.In.Source.faults g.D.Out.Sink.faults) c.args.port
+    unannounced (shown_by g.D.Door.faults g.D.Door.ahead g.D.Door.given g.D.Door.ended g.D.Door.gave g.D.Door.took_back g.D.Door.closed) (IsVisit g.D.In.Source.gave g.D.Out.Sink.wrote g.D.In.Source.faults g.D.Out.Sink.faults) c.args.port
     c.args.connections c.args.door c.args.links.items old (g.K.Sink.written c.write_all.new.self) _ refl
     (subst (AppendsPart old (g.K.Sink.written c.write_all.new.self)) (c.as_slice.ensures ∙ c.requires.listening) c.in-Err.ensures.bytes)

@@ -11,7 +11,7 @@ returns-in-Ok-clause-served g c =
     let left = c.announce-left.result in
     let d = c.door.ensures in let b = c.back_door.ensures in let l = c.give_links.ensures in
     let old = c.args.host.now in let new = c.give_links.new.host in
-    serves_by (shown_by g.H.Door.Door.faults g.H.Door.Door.ahead g.H.Door.Door.given g.H.Door.Door.ended g.H.Door.Door.gave g.H.Door.Door.took_back g.H.Door.Door.closed) (IsVisit g.H.Door.In.Source.left g.H.Door.Out.Sink.written g.H.Door.In.Source.faults g.H.Door.Out.Sink.faults)
+    serves_by (shown_by g.H.Door.Door.faults g.H.Door.Door.ahead g.H.Door.Door.given g.H.Door.Door.ended g.H.Door.Door.gave g.H.Door.Door.took_back g.H.Door.Door.closed) (IsVisit g.H.Door.In.Source.gave g.H.Door.Out.Sink.wrote g.H.Door.In.Source.faults g.H.Door.Out.Sink.faults)
     c.args.port c.args.connections c.in-Ok.door left.door c.args.links.items left.links.items
     (around_door (g.K.Sink.written c.args.output.now) (h.doors_given old) (h.doors_back old) (h.links_given old) (h.links_back old) (h.door_faults old) (h.link_faults old))
     (around_door (g.K.Sink.written c.announce-left.new.output) (h.doors_given new) (h.doors_back new) (h.links_given new) (h.links_back new) (h.door_faults new)

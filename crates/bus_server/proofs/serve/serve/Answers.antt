@@ -1,5 +1,7 @@
 use Rattle.std.proofs.Common.{◌++◌, ap, arith, inr, refl, ◌∙◌}
+use Rattle.turn_book.specs.declared.view.View.{View}
 use Rattle.shared_door.specs.Shown.{shown_by}
+use Rattle.router_sessions.specs.declared.history.Turn.{Turn}
 use Rattle.router_sessions.specs.Visit.{IsVisit}
 use Rattle.bus_server.specs.Serve.{around_door}
 use Rattle.bus_server.proofs.ServeLemmas.{counted_host, no_links, no_room, serves}
@@ -8,13 +10,16 @@ use Rattle.bus_server.proofs.serve.serve.Goals as goal
 pub returns-then-is_err-clause-serve : goal.returns-then-is_err-clause-serve
 returns-then-is_err-clause-serve g c = inr (no_room c.args.port c.args.workers _ _ refl)
 
+pub at_port-requires-clause-opener : goal.at_port-requires-clause-opener
+at_port-requires-clause-opener g c κs lives = ap (λ (v : View Turn). v.made) c.in-Ok-make.ensures.ok.3
+
 pub returns-in-Ok-take_links-clause-serve : goal.returns-in-Ok-take_links-clause-serve
 returns-in-Ok-take_links-clause-serve g c =
     let h = g.H.Host in
     let t = c.take_links.ensures in
     let old = c.args.host.now in let mid = c.take_links.new.host in let new = c.at_port.new.host in
     let links = c.take_links.new.links in
-    serves (shown_by g.H.Door.Door.faults g.H.Door.Door.ahead g.H.Door.Door.given g.H.Door.Door.ended g.H.Door.Door.gave g.H.Door.Door.took_back g.H.Door.Door.closed) (IsVisit g.H.Door.In.Source.left g.H.Door.Out.Sink.written g.H.Door.In.Source.faults g.H.Door.Out.Sink.faults)
+    serves (shown_by g.H.Door.Door.faults g.H.Door.Door.ahead g.H.Door.Door.given g.H.Door.Door.ended g.H.Door.Door.gave g.H.Door.Door.took_back g.H.Door.Door.closed) (IsVisit g.H.Door.In.Source.gave g.H.Door.Out.Sink.wrote g.H.Door.In.Source.faults g.H.Door.Out.Sink.faults)
     c.args.port c.args.workers c.args.connections links.items
     (around_door (g.K.Sink.written c.args.output.now) (h.doors_given old) (h.doors_back old) (h.links_given old) (h.links_back old) (h.door_faults old) (h.link_faults old))
     (around_door (g.K.Sink.written c.args.output.now) (h.doors_given mid) (h.doors_back mid) (h.links_given mid) (h.links_back mid) (h.door_faults mid) (h.link_faults mid))

@@ -3,7 +3,7 @@ use Rattle.router_disk.specs.Faults.{Rose}
 use Rattle.delivery_duties.specs.declared.outcome.Outcome.TheVariants.{Accepted, Code}
 use Rattle.courier_run.specs.Claim.{accepted, refused, unanswered}
 use Rattle.courier_run.specs.Link.{IsTried, exchange_with, success, refusal, silence}
-use Rattle.courier_run.proofs.LinkLemmas.{answered_by}
+use Rattle.courier_run.proofs.ActLemmas.{sent_by}
 use Rattle.courier_run.proofs.attempt.send.Goals as goal
 
 pub returns-then-is_success-clause-tried : goal.returns-then-is_success-clause-tried
@@ -12,7 +12,7 @@ returns-then-is_success-clause-tried g c =
     let same : g.L.Link.faults c.send.new.self ≡ g.L.Link.faults c.args.link.now = c.in-Ok.ensures.count.same in
     let P : ℕ → Type 0 = λ n. IsTried claim (g.L.Link.faults c.args.link.now) Accepted (exchange_with claim c.in-Ok.code ∷ []) n in (
       exchange_with claim c.in-Ok.code ∷ [],
-      answered_by claim _ _ c.endpoint.result.now c.text.result.now c.in-Ok.code c.endpoint.ensures c.text.ensures c.in-Ok.ensures.answers,
+      sent_by claim _ _ c.endpoint.result.now c.text.result.now c.in-Ok.code c.endpoint.ensures c.text.ensures c.in-Ok.ensures.exchanges,
       subst P (sym same) (success c.requires c.in-Ok.code (search rules)),
     )
 
@@ -22,7 +22,7 @@ returns-else-is_success-clause-tried g c =
     let same : g.L.Link.faults c.send.new.self ≡ g.L.Link.faults c.args.link.now = c.in-Ok.ensures.count.same in
     let P : ℕ → Type 0 = λ n. IsTried claim (g.L.Link.faults c.args.link.now) (Code c.in-Ok.code) (exchange_with claim c.in-Ok.code ∷ []) n in (
       exchange_with claim c.in-Ok.code ∷ [],
-      answered_by claim _ _ c.endpoint.result.now c.text.result.now c.in-Ok.code c.endpoint.ensures c.text.ensures c.in-Ok.ensures.answers,
+      sent_by claim _ _ c.endpoint.result.now c.text.result.now c.in-Ok.code c.endpoint.ensures c.text.ensures c.in-Ok.ensures.exchanges,
       subst P (sym same) (refusal c.requires c.in-Ok.code (search rules)),
     )
 
@@ -31,7 +31,7 @@ returns-in-Err-Failed-clause-tried g c =
     let claim = g.H.HeldDuty.shows c.args.held.now in
     let rose : Rose (g.L.Link.faults c.args.link.now) (g.L.Link.faults c.send.new.self) = search rules in (
       [],
-      c.in-Err-Failed.ensures.answers,
+      c.in-Err-Failed.ensures.exchanges,
       silence c.requires (g.L.Link.faults c.send.new.self) c.in-Err-Failed.ensures.count.later rose,
     )
 

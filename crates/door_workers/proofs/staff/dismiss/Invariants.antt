@@ -2,7 +2,7 @@ use Rattle.std.proofs.Common.{◌≡◌, ◌+◌, All}
 use Rattle.std.specs.Prelude.{vec_len, vec_capacity}
 use Rattle.turn_book.specs.Rule.{Learns}
 use Rattle.turn_book.specs.Passes.{view, HasSameTurn, IsSamePass}
-use Rattle.door_workers.specs.Serving.{IsIdlePass}
+use Rattle.door_workers.specs.Serving.{IsRestingPass}
 use Rattle.door_workers.proofs.staff.dismiss.Given as goal
 
 abbrev pub invariant-loop-worker : goal.invariant-loop-worker
@@ -10,8 +10,8 @@ invariant-loop-worker g l = record {
   same : IsSamePass l.initial.pass.seat l.pass.seat;
   turn : HasSameTurn l.initial.pass.seat l.pass.seat;
   more : Learns g.V.Story.made_by (view l.initial.pass.seat) (view l.pass.seat).seen;
-  workers : All (λ w. IsIdlePass l.initial.hall.table.shared.table_id w.pass.seat) l.workers.items;
-  passes : All (λ p. IsIdlePass l.initial.hall.table.shared.table_id p.seat) l.passes.items;
+  workers : All (λ w. IsRestingPass g.V.Served.rests l.initial.hall.table.shared.table_id w.pass.seat) l.workers.items;
+  passes : All (λ p. IsRestingPass g.V.Served.rests l.initial.hall.table.shared.table_id p.seat) l.passes.items;
   count : vec_len l.passes + vec_len l.workers ≡ vec_len l.initial.passes + vec_len l.initial.workers;
   owns_count : vec_len l.owns + vec_len l.workers ≡ vec_len l.initial.owns + vec_len l.initial.workers;
   room : vec_capacity l.passes ≡ vec_capacity l.initial.passes;

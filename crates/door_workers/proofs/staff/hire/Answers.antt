@@ -2,7 +2,7 @@ use Rattle.std.proofs.Common.{All, sym, ◌∙◌, subst, arith, List}
 use Rattle.std.proofs.lemmas.List.Elements.{All-push}
 use Rattle.door_workers.specs.declared.worker.Worker.{Worker}
 use Rattle.door_workers.specs.Serving.{IsHired}
-use Rattle.door_workers.proofs.ServingLemmas.{learns_again}
+use Rattle.door_workers.proofs.ServingLemmas.{learns_again, newcomer_rests}
 use Rattle.door_workers.proofs.staff.hire.Goals as goal
 
 pub loop-own-preserved : goal.loop-own-preserved
@@ -10,7 +10,7 @@ loop-own-preserved g c =
     let i = c.loop-own.invariant in let a = c.another-fresh.ensures in let p = c.push_reserved.ensures in let o = c.in-Some.ensures in
     let (there, (stage, ticket, held), number) = a.pass in let (stage0, ticket0, held0) = i.turn in let (fresh, free, new) = a.new in
     let W : Type 0 = Worker g.row.V.Denot g.row.Own.Denot g.row.A.Denot g.row.V-Turn.Denot g.V.Story in
-    let P : W → Type 0 = λ w. IsHired c.args.hall.now.table.shared.table_id c.args.acts.now.name w.pass.seat w.front in
+    let P : W → Type 0 = λ w. IsHired g.V.Served.rests c.args.hall.now.table.shared.table_id c.args.acts.now.name w.pass.seat w.front in
     record {
       here = there ∙ i.here;
       turn = (stage ∙ stage0, ticket ∙ ticket0, held ∙ held0);
@@ -20,5 +20,9 @@ loop-own-preserved g c =
       count = omega (arith, p.len, o.len, o.cases, i.count);
       room = p.capacity ∙ i.room;
       owns_room = o.capacity ∙ i.owns_room;
-      hired = subst (λ (ws : List W). All P ws) (sym p.items) (All-push P c.loop-own.workers.items _ i.hired ((fresh ∙ (i.here ∙ c.requires.here), free), c.front.ensures.0));
+      hired = subst (λ (ws : List W). All P ws) (sym p.items) (All-push P c.loop-own.workers.items _ i.hired (
+        newcomer_rests g.V.Story.made_by g.V.Served.rests g.met.V.Served.unturned c.args.hall.now.table.shared.table_id c.another-fresh.result.seat
+            c.loop-own.pass.seat.me.0.made c.another-fresh.new.pass.seat.me.0.seen (fresh ∙ (i.here ∙ c.requires.here), free) new a.no_turn,
+        c.front.ensures.0,
+      ));
     }

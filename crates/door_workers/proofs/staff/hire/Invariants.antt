@@ -15,7 +15,7 @@ invariant-loop-own g l = record {
   count : vec_len l.workers + vec_len l.owns ≡ vec_len l.initial.owns;
   room : vec_capacity l.workers ≡ vec_capacity l.initial.workers;
   owns_room : vec_capacity l.owns ≡ vec_capacity l.initial.owns;
-  hired : All (λ w. IsHired l.initial.hall.table.shared.table_id l.initial.acts.name w.pass.seat w.front) l.workers.items;
+  hired : All (λ w. IsHired g.V.Served.rests l.initial.hall.table.shared.table_id l.initial.acts.name w.pass.seat w.front) l.workers.items;
 }
 
 abbrev pub decreases-loop-own : goal.decreases-loop-own

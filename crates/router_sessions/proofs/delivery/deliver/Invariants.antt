@@ -1,4 +1,4 @@
-use Rattle.router_sessions.specs.Desk.{seat_of, seen_by}
+use Rattle.router_sessions.specs.Desk.{seat_of}
 use Rattle.router_sessions.proofs.delivery.deliver.Given as goal
 
 abbrev pub ghosts-deliver_by : goal.ghosts-deliver_by
@@ -7,5 +7,4 @@ ghosts-deliver_by g a = record {
   seat = seat_of a.desk.connection a.pass.now.seat;
   passes = a.pass.now.seat.me.0.passes;
   made = a.pass.now.seat.me.0.made;
-  before = seen_by a.pass.now.seat;
 }

@@ -1,18 +1,17 @@
-use Rattle.std.proofs.Common.{◌≡◌, List, sym, ap, ◌∙◌, refl, subst}
+use Rattle.std.proofs.Common.{[], sym, ap, ◌∙◌, subst}
+use Rattle.courier_run.specs.Act.{book_acts_in}
+use Rattle.courier_run.specs.Link.{outside}
 use Rattle.router_sessions.specs.declared.book.Seat.{Seat}
-use Rattle.router_sessions.specs.declared.history.Turn.{Turn}
-use Rattle.router_sessions.specs.Book.{BookState, state_of, seen_book}
-use Rattle.courier_run.specs.Turn.{outside, IsTurn}
-use Rattle.router_sessions.specs.Delivery.{Delivers, steps_in, IsIdle, IsFullAt, EndsAtLimit}
-use Rattle.router_sessions.specs.Desk.{book_seen}
-use Rattle.router_sessions.proofs.DeliveryLemmas.{delivers}
+use Rattle.router_sessions.specs.Desk.{Known, turns_seen, SeesMore}
+use Rattle.router_sessions.specs.Delivery.{Made, Delivers}
+use Rattle.router_sessions.proofs.DidLemmas.{made_start, delivers}
 use Rattle.router_sessions.proofs.delivery.deliver_by.Goals as goal
 
 pub returns-clause-pass : goal.returns-clause-pass
 returns-clause-pass g c =
     let (new, ended) = c.pass-1.given in
     let is = ended (sym c.turn.ensures.lender) in
-    let (hall, here, free, seat, passes, made, book, named) = c.turn.ensures.sound in
+    let (hall, here, free, seat, passes, made, book) = c.turn.ensures.sound in
     let old_seat = c.requires.seat in (
       ap (λ p. p.seat.table_id) is ∙ here ∙ sym c.requires.hall.1,
       ap (λ p. p.seat.me.0.number) is ∙ ap (λ (s : Seat). s.pass) seat ∙ sym (ap (λ (s : Seat). s.pass) old_seat),
@@ -20,21 +19,24 @@ returns-clause-pass g c =
       ap (λ p. p.seat.me.0.made) is ∙ made ∙ sym c.requires.passes.1,
     )
 
+pub returns-clause-more : goal.returns-clause-more
+returns-clause-more g c =
+    let (new, ended) = c.pass-1.given in
+    let is = ended (sym c.turn.ensures.lender) in
+    let (acts, did, steps, goes) = c.turn.ensures.stepped in
+    let done : Made g.N.Naming.seat c.args.pass.now.seat c.turn.new.book.pass.now.seat (book_acts_in acts) =
+    did c.args.pass.now.seat [] (made_start g.N.Naming.seat c.args.pass.now.seat c.requires.book) in
+    subst (λ (known : Known). SeesMore c.args.pass.now.seat known) (sym (ap (λ p. p.seat) is)) done.more
+
 pub returns-clause-delivers : goal.returns-clause-delivers
 returns-clause-delivers g c =
     let (new, ended) = c.pass-1.given in
     let is = ended (sym c.turn.ensures.lender) in
-    let (hall, here, free, seat, passes, made, book, named) = c.turn.ensures.sound in
-    let before : book_seen c.args.pass.now.seat ≡ seen_book g.N.Naming.before = ap (λ (ts : List Turn). seen_book ts) c.requires.before in
-    let now : book_seen c.turn.new.book.pass.now.seat ≡ book_seen new.seat = ap (λ p. book_seen p.seat) (sym is) in
-    subst (λ (b : BookState). Delivers g.N.Naming.seat c.args.budget (seen_book g.N.Naming.before) b (g.C.Clock.ahead c.args.clock.now)
-    (g.C.Clock.ahead c.turn.new.clock) (g.L.Link.answered c.args.link.now) (g.L.Link.answered c.turn.new.link) (g.L.Link.faults c.args.link.now)
-    (g.L.Link.faults c.turn.new.link) c.turn.result) now
-    (delivers g.N.Naming.seat (seen_book g.N.Naming.before) (book_seen c.turn.new.book.pass.now.seat) refl named
-    (subst (λ (b : BookState). IsTurn c.args.budget
-    (outside (steps_in g.N.Naming.seat.pass b) (g.C.Clock.ahead c.args.clock.now) (g.L.Link.answered c.args.link.now) (g.L.Link.faults c.args.link.now))
-    (outside (steps_in g.N.Naming.seat.pass (book_seen c.turn.new.book.pass.now.seat)) (g.C.Clock.ahead c.turn.new.clock)
-    (g.L.Link.answered c.turn.new.link) (g.L.Link.faults c.turn.new.link))
-    (IsIdle (state_of (book_seen c.turn.new.book.pass.now.seat))) ⊥ (IsFullAt (state_of (book_seen c.turn.new.book.pass.now.seat)))
-    (λ claim. EndsAtLimit g.N.Naming.seat.pass claim (book_seen c.turn.new.book.pass.now.seat)) c.turn.result)
-    before c.turn.ensures.turned))
+    let (acts, did, steps, goes) = c.turn.ensures.stepped in
+    let done : Made g.N.Naming.seat c.args.pass.now.seat c.turn.new.book.pass.now.seat (book_acts_in acts) =
+    did c.args.pass.now.seat [] (made_start g.N.Naming.seat c.args.pass.now.seat c.requires.book) in
+    subst (λ (known : Known). Delivers g.N.Naming.seat c.args.budget (turns_seen c.args.pass.now.seat) (turns_seen known)
+    (outside (g.C.Clock.gave c.args.clock.now) (g.L.Link.exchanges c.args.link.now) (g.L.Link.faults c.args.link.now))
+    (outside (g.C.Clock.gave c.turn.new.clock) (g.L.Link.exchanges c.turn.new.link) (g.L.Link.faults c.turn.new.link)) c.turn.result)
+    (sym (ap (λ p. p.seat) is))
+    (delivers g.N.Naming.seat c.args.budget (turns_seen c.args.pass.now.seat) (turns_seen c.turn.new.book.pass.now.seat) _ _ c.turn.result acts done.makes steps goes)

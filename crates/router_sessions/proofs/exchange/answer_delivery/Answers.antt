@@ -1,22 +1,16 @@
-use Rattle.std.proofs.Common.{inl, inr, refl, subst}
-use Rattle.router_disk.proofs.ClockLemmas.{Gives-none}
-use Rattle.router_disk.specs.Sink.{WritesAll}
-use Rattle.router_sessions.proofs.SentLemmas.{sent_none}
+use Rattle.std.proofs.Common.{subst}
+use Rattle.router_disk.specs.Sink.{AddsBytes}
+use Rattle.router_sessions.specs.Desk.{seat_of, turns_seen}
+use Rattle.router_sessions.proofs.ReplyLemmas.{was_delivered, undelivered}
 use Rattle.router_sessions.proofs.exchange.answer_delivery.Goals as goal
 
 pub returns-in-Err-clause-delivered : goal.returns-in-Err-clause-delivered
-returns-in-Err-clause-delivered g c = λ left. inr (record {
-  book = refl;
-  readings = Gives-none _;
-  unsent = sent_none _ _;
-  writes = subst (WritesAll _ _ c.write_all.result) c.no_memory_reply.ensures c.write_all.ensures.bytes;
-})
+returns-in-Err-clause-delivered g c = λ gave.
+    undelivered (seat_of c.args.desk.connection c.args.pass.now.seat) c.args.budget c.args.close (turns_seen c.args.pass.now.seat) gave _ _ _ _ _ c.write_all.result
+    c.requires.book (subst (AddsBytes _ _ c.write_all.result) c.no_memory_reply.ensures c.write_all.ensures.wrote)
 
 pub returns-in-Ok-clause-delivered : goal.returns-in-Ok-clause-delivered
-returns-in-Ok-clause-delivered g c = λ left. inl (record {
-  made = c.deliver-made.result;
-  steps = c.deliver-made.ensures.delivers;
-  reply = c.write_delivery.ensures.writes.0;
-  replies = c.write_delivery.ensures.writes.1;
-  writes = c.write_delivery.ensures.writes.2;
-})
+returns-in-Ok-clause-delivered g c = λ gave.
+    was_delivered (seat_of c.args.desk.connection c.args.pass.now.seat) c.args.budget c.args.close (turns_seen c.args.pass.now.seat)
+    (turns_seen c.deliver-made.new.pass.seat) gave _ _ _ _ _ _ _ _ c.deliver-made.result c.write_delivery.result c.requires.book c.deliver-made.ensures.book
+    c.deliver-made.ensures.delivers c.write_delivery.ensures.writes

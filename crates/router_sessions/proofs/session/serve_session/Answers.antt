@@ -1,17 +1,19 @@
-use Rattle.std.proofs.Common.{Some}
-use Rattle.router_sessions.specs.Desk.{book_seen, number_of}
-use Rattle.router_sessions.proofs.DeskLemmas.{closed_again}
-use Rattle.router_sessions.proofs.ExchangeLemmas.{learned_closes}
-use Rattle.router_sessions.proofs.RunningLemmas.{session_later, session_at}
+use Rattle.std.proofs.Common.{ℕ, Some, sym, subst}
+use Rattle.router_sessions.specs.Book.{Rests}
+use Rattle.router_sessions.specs.Desk.{seat_of, turns_seen}
+use Rattle.router_sessions.proofs.SessionLemmas.{session_looked, unlooked, ended_at}
 use Rattle.router_sessions.proofs.session.serve_session.Goals as goal
 
-pub returns-clause-closed : goal.returns-clause-closed
-returns-clause-closed g c =
-    closed_again c.args.pass.now.seat c.look.new.pass.seat c.converse.new.pass.seat _ _ _ c.look.ensures.pass.0
-    (learned_closes (number_of c.args.pass.now.seat) (book_seen c.args.pass.now.seat) (book_seen c.look.new.pass.seat) c.look.ensures.learned)
-    c.converse.ensures.closed
+pub converse-requires-clause-rests : goal.converse-requires-clause-rests
+converse-requires-clause-rests g c κs lives =
+    subst (λ (n : ℕ). Rests n (turns_seen c.look.new.pass.seat)) (sym c.look.ensures.pass.0.1) (c.look.ensures.rests c.requires.rests)
+
+pub returns-clause-rests : goal.returns-clause-rests
+returns-clause-rests g c = subst (λ (n : ℕ). Rests n (turns_seen c.converse.new.pass.seat)) c.look.ensures.pass.0.1 c.converse.ensures.rests
 
 pub returns-clause-session : goal.returns-clause-session
 returns-clause-session g c =
-    session_later _ _ (book_seen c.look.new.pass.seat) _ c.converse.result c.look.ensures.learned
-    (session_at (Some c.args.connection) c.args.pass.now.seat c.look.new.pass.seat c.look.ensures.pass.0 c.converse.ensures.session)
+    session_looked (seat_of (Some c.args.connection) c.args.pass.now.seat) (turns_seen c.args.pass.now.seat) (turns_seen c.look.new.pass.seat)
+    (turns_seen c.converse.new.pass.seat) _ _ _ _ _ _ _ _ _ _ c.converse.result
+    (unlooked (seat_of (Some c.args.connection) c.args.pass.now.seat) (turns_seen c.args.pass.now.seat) (turns_seen c.look.new.pass.seat) _ c.look.ensures.looked)
+    (ended_at (Some c.args.connection) c.args.pass.now.seat c.look.new.pass.seat _ _ c.converse.result c.look.ensures.pass.0 c.converse.ensures.ended)

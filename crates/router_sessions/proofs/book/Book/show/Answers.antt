@@ -1,50 +1,21 @@
-use Rattle.std.proofs.Common.{refl, ap, ◌∙◌}
+use Rattle.std.proofs.Common.{refl}
 use Rattle.std.specs.Prelude.{None}
-use Rattle.rule_table.specs.RuleSet.{RuleSet}
-use Rattle.router_core.specs.View.{request_of}
-use Rattle.router_core.specs.Tables.{first_tables}
+use Rattle.router_sessions.specs.declared.book.Book.{Book}
 use Rattle.router_sessions.specs.declared.book.TurnReply.TheVariants.{Unrendered}
-use Rattle.router_sessions.specs.History.{Turn, asked, begun}
-use Rattle.router_sessions.specs.Book.{BookState, book_of, turns_in}
-use Rattle.router_sessions.proofs.AnsweredLemmas.{answered, answered_book}
+use Rattle.router_sessions.proofs.AnsweredLemmas.{answer_made, answered, answered_book}
 use Rattle.router_sessions.proofs.book.Book.show.Goals as goal
 
 pub returns-clause-book : goal.returns-clause-book
 returns-clause-book c =
-    let new : BookState = record { opened = begun first_tables; tables = c.args.self.now.tables; turns = turns_in c.push.new.self } in
-    let turn : Turn = record {
-      pass = c.args.seat.pass;
-      connection = c.args.seat.connection;
-      ask = asked (request_of c.of.result.value);
-      k = c.control_count.result;
-      batch = None;
-    } in
-    answered_book c.args.seat (book_of c.args.self.now) new (request_of c.args.request.now) (None, c.args.reply) turn refl c.requires.named
-    c.requires.book c.requires.decided
-    (record {
-      from = record { pass = refl; connection = refl; made_for = ap (λ r. asked (request_of r)) c.of.ensures };
-      k = c.control_count.ensures.count ∙ ap (λ (set : RuleSet). set.count) c.set.ensures;
-      batch = refl;
-      turns = c.push.ensures.turns;
-    })
-    refl refl
+    answered_book (None, c.args.reply)
+    (answer_made c.args.seat c.args.self.now _ c.args.request.now c.of.result.value None None c.control_count.result c.set.result.now c.requires.book c.of.ensures
+    c.control_count.ensures.count c.set.ensures refl c.push.ensures.turns)
+    c.requires.askable c.requires.decided c.requires.named refl
 
 pub returns-clause-answered : goal.returns-clause-answered
 returns-clause-answered c = λ close.
-    let new : BookState = record { opened = begun first_tables; tables = c.args.self.now.tables; turns = turns_in c.push.new.self } in
-    let turn : Turn = record {
-      pass = c.args.seat.pass;
-      connection = c.args.seat.connection;
-      ask = asked (request_of c.of.result.value);
-      k = c.control_count.result;
-      batch = None;
-    } in
-    answered c.args.seat (book_of c.args.self.now) new (request_of c.args.request.now) close (None, c.args.reply) turn (Unrendered c.args.reply)
-    c.requires.book c.requires.decided
-    (record {
-      from = record { pass = refl; connection = refl; made_for = ap (λ r. asked (request_of r)) c.of.ensures };
-      k = c.control_count.ensures.count ∙ ap (λ (set : RuleSet). set.count) c.set.ensures;
-      batch = refl;
-      turns = c.push.ensures.turns;
-    })
-    refl (λ is. refl) (λ none. tt)
+    let new : Book = record { tables = c.args.self.now.tables; history = c.push.new.self } in
+    answered close (None, c.args.reply) (Unrendered c.args.reply)
+    (answer_made c.args.seat c.args.self.now new c.args.request.now c.of.result.value None None c.control_count.result c.set.result.now c.requires.book c.of.ensures
+    c.control_count.ensures.count c.set.ensures refl c.push.ensures.turns)
+    c.requires.askable c.requires.decided refl (λ is. refl) (λ none. tt)

@@ -1,29 +1,24 @@
-use Rattle.std.proofs.Common.{refl, ap, ◌∙◌}
+use Rattle.std.proofs.Common.{ap, ◌∙◌}
 use Rattle.std.specs.Prelude.{Some}
-use Rattle.rule_table.specs.RuleSet.{RuleSet}
-use Rattle.router_core.specs.View.{request_of, batch_of}
-use Rattle.router_core.specs.Tables.{first_tables}
-use Rattle.router_sessions.specs.History.{Turn, asked, begun}
-use Rattle.router_sessions.specs.Book.{BookState, book_of, turns_in}
-use Rattle.router_sessions.proofs.AnsweredLemmas.{answered_book}
+use Rattle.router_core.specs.View.{batch_of}
+use Rattle.router_sessions.specs.declared.book.Book.{Book}
+use Rattle.router_sessions.specs.declared.book.TurnReply.TheVariants.{Rendered}
+use Rattle.router_sessions.proofs.AnsweredLemmas.{answer_made, answered, answered_book}
 use Rattle.router_sessions.proofs.book.Book.write.Goals as goal
 
 pub returns-clause-book : goal.returns-clause-book
 returns-clause-book c =
-    let new : BookState = record { opened = begun first_tables; tables = c.apply-released.new.self; turns = turns_in c.push.new.self } in
-    let turn : Turn = record {
-      pass = c.args.seat.pass;
-      connection = c.args.seat.connection;
-      ask = asked (request_of c.of.result.value);
-      k = c.control_count.result;
-      batch = Some (batch_of c.of-2.result.value);
-    } in
-    answered_book c.args.seat (book_of c.args.self.now) new (request_of c.args.request.now) (Some c.args.ready, c.args.reply) turn refl
-    c.requires.named c.requires.book c.requires.decided
-    (record {
-      from = record { pass = refl; connection = refl; made_for = ap (λ r. asked (request_of r)) c.of.ensures };
-      k = c.control_count.ensures.count ∙ ap (λ (set : RuleSet). set.count) c.set.ensures;
-      batch = ap (λ b. Some (batch_of b)) (c.of-2.ensures ∙ c.batch.ensures);
-      turns = c.push.ensures.turns;
-    })
-    refl c.apply-released.ensures
+    answered_book (Some c.args.ready, c.args.reply)
+    (answer_made c.args.seat c.args.self.now _ c.args.request.now c.of.result.value (Some (batch_of c.of-2.result.value)) (Some (batch_of c.args.ready.batch))
+    c.control_count.result c.set.result.now c.requires.book c.of.ensures c.control_count.ensures.count c.set.ensures
+    (ap (λ b. Some (batch_of b)) (c.of-2.ensures ∙ c.batch.ensures)) c.push.ensures.turns)
+    c.requires.askable c.requires.decided c.requires.named c.apply-released.ensures
+
+pub returns-clause-answered : goal.returns-clause-answered
+returns-clause-answered c =
+    let new : Book = record { tables = c.apply-released.new.self; history = c.push.new.self } in
+    answered c.args.close (Some c.args.ready, c.args.reply) (Rendered c.in_ok-bytes.bytes)
+    (answer_made c.args.seat c.args.self.now new c.args.request.now c.of.result.value (Some (batch_of c.of-2.result.value)) (Some (batch_of c.args.ready.batch))
+    c.control_count.result c.set.result.now c.requires.book c.of.ensures c.control_count.ensures.count c.set.ensures
+    (ap (λ b. Some (batch_of b)) (c.of-2.ensures ∙ c.batch.ensures)) c.push.ensures.turns)
+    c.requires.askable c.requires.decided c.in_ok-bytes.ensures (λ is. absurd is) (λ none. absurd (cc))

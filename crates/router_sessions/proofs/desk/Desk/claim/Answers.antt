@@ -1,10 +1,20 @@
-use Rattle.std.proofs.Common.{sym, subst, ◌∙◌}
+use Rattle.std.proofs.Common.{ℕ, List, [], ◌∷◌, sym, ◌∙◌, subst}
+use Rattle.courier_run.specs.Act.{looks}
+use Rattle.courier_run.specs.Book.{HasCause}
 use Rattle.router_sessions.specs.declared.book.Seat.{Seat}
-use Rattle.router_sessions.specs.Book.{BookState, book_of, state_of}
-use Rattle.router_sessions.specs.Delivery.{held_claim, IsIdle}
-use Rattle.router_sessions.specs.Turns.{IsClaimedBy, IsUnclaimed}
-use Rattle.router_sessions.proofs.DeskLemmas.{seen_of, after_learning, learned_alone, extends, pass_of, map_some, map_none, map_err}
+use Rattle.router_sessions.specs.History.{Turn, state_of}
+use Rattle.router_sessions.specs.Held.{held_claim}
+use Rattle.router_sessions.specs.Book.{Rests}
+use Rattle.router_sessions.specs.Acts.{Makes, IsIdle, IsFullAt}
+use Rattle.router_sessions.specs.Answered.{IsClaimed}
+use Rattle.router_sessions.specs.Desk.{turns_seen}
+use Rattle.router_sessions.proofs.DeskLemmas.{seen_of, taken, claimed_later, looked, learned_alone, rests_there, rests_more, extends, own_number, pass_of, map_some, map_none, map_err}
 use Rattle.router_sessions.proofs.desk.Desk.claim.Goals as goal
+
+pub claim-held-requires-clause-rests : goal.claim-held-requires-clause-rests
+claim-held-requires-clause-rests g c =
+    rests_there c.seat-seat.result c.args.pass.now.seat c.take-book.result
+    (own_number c.args.self.connection c.args.pass.now.seat c.seat-seat.result c.seat-seat.ensures) c.take-book.ensures.history c.requires.rests
 
 pub give-requires-clause-longer : goal.give-requires-clause-longer
 give-requires-clause-longer g c =
@@ -13,27 +23,45 @@ give-requires-clause-longer g c =
 
 pub returns-clause-held : goal.returns-clause-held
 returns-clause-held g c = map_some c.claim-held.result _ _
-    (λ held is. after_learning c.args.pass.now.seat c.give.new.pass.seat c.take-book.result c.claim-held.new.self c.take-book.ensures.history
-    c.take-book.ensures.sound c.claim-held.ensures.book c.give.ensures.seen
-    (subst (λ (s : Seat). IsClaimedBy s c.args.reading (book_of c.take-book.result) (book_of c.claim-held.new.self) (held_claim held)) c.seat-seat.ensures is))
+    (λ held is. subst (λ (s : Seat). IsClaimed s c.args.reading (turns_seen c.args.pass.now.seat) (turns_seen c.give.new.pass.seat) (held_claim held)) c.seat-seat.ensures
+    (claimed_later c.args.reading (held_claim held)
+    (taken c.seat-seat.result c.args.pass.now.seat c.give.new.pass.seat c.take-book.result c.claim-held.new.self
+    (own_number c.args.self.connection c.args.pass.now.seat c.seat-seat.result c.seat-seat.ensures) c.requires.book c.take-book.ensures.history
+    c.take-book.ensures.sound c.give.ensures.seen) is))
     c.claim-held.ensures.held
 
 pub returns-clause-idle : goal.returns-clause-idle
 returns-clause-idle g c = map_none c.claim-held.result _ _
-    (λ is. (
-      subst (λ (b : BookState). IsIdle (state_of b) c.args.reading)
-          (sym (seen_of c.claim-held.new.self c.give.new.pass.seat c.claim-held.ensures.book c.give.ensures.seen ∙ is.1)) is.0,
-      learned_alone c.args.pass.now.seat c.give.new.pass.seat c.take-book.result c.claim-held.new.self c.take-book.ensures.history
-          c.claim-held.ensures.book c.give.ensures.seen is.1,
+    (λ is.
+    let number = own_number c.args.self.connection c.args.pass.now.seat c.seat-seat.result c.seat-seat.ensures in
+    let alone = learned_alone c.seat-seat.result c.args.pass.now.seat c.give.new.pass.seat c.take-book.result c.claim-held.new.self number
+    c.take-book.ensures.history c.give.ensures.seen is.1 in (
+      subst (λ (ts : List Turn). IsIdle (state_of ts) c.args.reading)
+          (sym (seen_of c.claim-held.new.self c.give.new.pass.seat c.give.ensures.seen ∙ is.1)) is.0,
+      subst (λ (s : Seat). Makes s (looks (state_of (turns_seen c.give.new.pass.seat)) ∷ []) (turns_seen c.args.pass.now.seat) (turns_seen c.give.new.pass.seat))
+          c.seat-seat.ensures
+          (looked c.seat-seat.result c.args.pass.now.seat c.give.new.pass.seat c.take-book.result c.claim-held.new.self number
+          c.take-book.ensures.history c.give.ensures.seen is.1),
+      subst (λ (n : ℕ). Rests n (turns_seen c.give.new.pass.seat)) number
+          (rests_more c.seat-seat.result (turns_seen c.args.pass.now.seat) (turns_seen c.give.new.pass.seat) alone
+          (subst (λ (n : ℕ). Rests n (turns_seen c.args.pass.now.seat)) (sym number) c.requires.rests)),
     ))
     c.claim-held.ensures.idle
 
 pub returns-clause-refused : goal.returns-clause-refused
 returns-clause-refused g c = map_err c.claim-held.result _ _
-    (λ fault is. (
-      subst (λ (b : BookState). IsUnclaimed b c.args.reading fault)
-          (sym (seen_of c.claim-held.new.self c.give.new.pass.seat c.claim-held.ensures.book c.give.ensures.seen ∙ is.1)) is.0,
-      learned_alone c.args.pass.now.seat c.give.new.pass.seat c.take-book.result c.claim-held.new.self c.take-book.ensures.history
-          c.claim-held.ensures.book c.give.ensures.seen is.1,
+    (λ fault is.
+    let number = own_number c.args.self.connection c.args.pass.now.seat c.seat-seat.result c.seat-seat.ensures in
+    let alone = learned_alone c.seat-seat.result c.args.pass.now.seat c.give.new.pass.seat c.take-book.result c.claim-held.new.self number
+    c.take-book.ensures.history c.give.ensures.seen is.1 in (
+      subst (λ (ts : List Turn). HasCause (IsFullAt (state_of ts) c.args.reading) fault)
+          (sym (seen_of c.claim-held.new.self c.give.new.pass.seat c.give.ensures.seen ∙ is.1)) is.0,
+      subst (λ (s : Seat). Makes s (looks (state_of (turns_seen c.give.new.pass.seat)) ∷ []) (turns_seen c.args.pass.now.seat) (turns_seen c.give.new.pass.seat))
+          c.seat-seat.ensures
+          (looked c.seat-seat.result c.args.pass.now.seat c.give.new.pass.seat c.take-book.result c.claim-held.new.self number
+          c.take-book.ensures.history c.give.ensures.seen is.1),
+      subst (λ (n : ℕ). Rests n (turns_seen c.give.new.pass.seat)) number
+          (rests_more c.seat-seat.result (turns_seen c.args.pass.now.seat) (turns_seen c.give.new.pass.seat) alone
+          (subst (λ (n : ℕ). Rests n (turns_seen c.args.pass.now.seat)) (sym number) c.requires.rests)),
     ))
     c.claim-held.ensures.refused

@@ -1,8 +1,15 @@
 use Rattle.std.proofs.Common.{refl}
-use Rattle.router_sessions.proofs.DeskLemmas.{learned_alone}
+use Rattle.router_sessions.specs.Desk.{seat_of, turns_seen}
+use Rattle.router_sessions.proofs.DeskLemmas.{looked, learned_alone, rests_more}
 use Rattle.router_sessions.proofs.desk.Desk.look.Goals as goal
 
-pub returns-clause-learned : goal.returns-clause-learned
-returns-clause-learned g c =
-    learned_alone c.args.pass.now.seat c.give.new.pass.seat c.take-book.result c.take-book.result c.take-book.ensures.history c.take-book.ensures.sound
-    c.give.ensures.seen refl
+pub returns-clause-looked : goal.returns-clause-looked
+returns-clause-looked g c =
+    looked (seat_of c.args.self.connection c.args.pass.now.seat) c.args.pass.now.seat c.give.new.pass.seat c.take-book.result c.take-book.result refl
+    c.take-book.ensures.history c.give.ensures.seen refl
+
+pub returns-clause-rests : goal.returns-clause-rests
+returns-clause-rests g c =
+    rests_more (seat_of c.args.self.connection c.args.pass.now.seat) (turns_seen c.args.pass.now.seat) (turns_seen c.give.new.pass.seat)
+    (learned_alone (seat_of c.args.self.connection c.args.pass.now.seat) c.args.pass.now.seat c.give.new.pass.seat c.take-book.result c.take-book.result refl
+    c.take-book.ensures.history c.give.ensures.seen refl)

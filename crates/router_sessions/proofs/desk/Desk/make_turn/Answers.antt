@@ -1,9 +1,10 @@
-use Rattle.std.proofs.Common.{subst}
+use Rattle.std.proofs.Common.{[], subst}
 use Rattle.router_core.specs.View.{request_of}
 use Rattle.router_sessions.specs.declared.book.Seat.{Seat}
-use Rattle.router_sessions.specs.Book.{book_of}
+use Rattle.router_sessions.specs.Acts.{Makes}
 use Rattle.router_sessions.specs.Answered.{IsAnswered}
-use Rattle.router_sessions.proofs.DeskLemmas.{after_learning, learned_alone, extends, pass_of, map_ok, map_on_err}
+use Rattle.router_sessions.specs.Desk.{turns_seen}
+use Rattle.router_sessions.proofs.DeskLemmas.{taken, answered_later, learned_alone, extends, own_number, pass_of, map_ok, map_on_err}
 use Rattle.router_sessions.proofs.desk.Desk.make_turn.Goals as goal
 
 pub give-requires-clause-longer : goal.give-requires-clause-longer
@@ -13,14 +14,17 @@ give-requires-clause-longer g c =
 
 pub returns-clause-answered : goal.returns-clause-answered
 returns-clause-answered g c = map_ok c.turn-made.result _ _
-    (λ made is. after_learning c.args.pass.now.seat c.give.new.pass.seat c.take-book.result c.turn-made.new.self c.take-book.ensures.history
-    c.take-book.ensures.sound c.turn-made.ensures.book c.give.ensures.seen
-    (subst (λ (s : Seat). IsAnswered s (book_of c.take-book.result) (book_of c.turn-made.new.self) (request_of c.args.request.now) c.args.close made.reply)
-    c.seat-seat.ensures is))
+    (λ made is. subst (λ (s : Seat). IsAnswered s (turns_seen c.args.pass.now.seat) (turns_seen c.give.new.pass.seat) (request_of c.args.request.now) c.args.close made.reply)
+    c.seat-seat.ensures
+    (answered_later (request_of c.args.request.now) c.args.close made.reply
+    (taken c.seat-seat.result c.args.pass.now.seat c.give.new.pass.seat c.take-book.result c.turn-made.new.self
+    (own_number c.args.self.connection c.args.pass.now.seat c.seat-seat.result c.seat-seat.ensures) c.requires.book c.take-book.ensures.history
+    c.take-book.ensures.sound c.give.ensures.seen) is))
     c.turn-made.ensures.answered
 
 pub returns-clause-unchanged : goal.returns-clause-unchanged
 returns-clause-unchanged g c = map_on_err c.turn-made.result _ _
-    (λ same. learned_alone c.args.pass.now.seat c.give.new.pass.seat c.take-book.result c.turn-made.new.self c.take-book.ensures.history
-    c.turn-made.ensures.book c.give.ensures.seen same)
+    (λ same. subst (λ (s : Seat). Makes s [] (turns_seen c.args.pass.now.seat) (turns_seen c.give.new.pass.seat)) c.seat-seat.ensures
+    (learned_alone c.seat-seat.result c.args.pass.now.seat c.give.new.pass.seat c.take-book.result c.turn-made.new.self
+    (own_number c.args.self.connection c.args.pass.now.seat c.seat-seat.result c.seat-seat.ensures) c.take-book.ensures.history c.give.ensures.seen same))
     c.turn-made.ensures.unchanged

@@ -1,29 +1,34 @@
-use Rattle.std.proofs.Common.{refl, sym, subst, ap}
+use Rattle.std.proofs.Common.{ℕ, List, sym, subst}
+use Rattle.courier_run.specs.Steps.{unsent}
 use Rattle.router_sessions.specs.declared.book.Seat.{Seat}
-use Rattle.router_sessions.specs.History.{puts_back}
-use Rattle.router_sessions.specs.Book.{book_of, state_of}
-use Rattle.router_sessions.specs.Delivery.{held_claim, IsOpen}
-use Rattle.router_sessions.specs.Turns.{IsAdded}
-use Rattle.router_sessions.specs.Desk.{book_seen, number_of}
-use Rattle.router_sessions.proofs.StaysOpenLemmas.{book_stays_open}
-use Rattle.router_sessions.proofs.DeskLemmas.{learned, after_learning, extends, pass_of}
+use Rattle.router_sessions.specs.History.{Turn}
+use Rattle.router_sessions.specs.Held.{held_claim}
+use Rattle.router_sessions.specs.Book.{Rests}
+use Rattle.router_sessions.specs.Answered.{IsPutBack}
+use Rattle.router_sessions.specs.Desk.{turns_seen}
+use Rattle.router_sessions.proofs.DeskLemmas.{seen_of, taken, back_later, holds_there, extends, own_number, pass_of}
 use Rattle.router_sessions.proofs.desk.Desk.put_back.Goals as goal
 
-pub put_back-requires-clause-is_open : goal.put_back-requires-clause-is_open
-put_back-requires-clause-is_open g c =
-    let l = learned c.args.pass.now.seat c.take-book.result c.take-book.ensures.history in
-    subst (λ n. IsOpen (state_of (book_of c.take-book.result)) n (held_claim c.args.held)) (ap (λ (s : Seat). s.pass) (sym c.seat-seat.ensures))
-    (book_stays_open (number_of c.args.pass.now.seat) (book_seen c.args.pass.now.seat) (book_of c.take-book.result) l.more (held_claim c.args.held) refl
-    l.opened c.take-book.ensures.sound l.turns l.by_others c.requires.is_open)
+pub put_back-requires-clause-holds : goal.put_back-requires-clause-holds
+put_back-requires-clause-holds g c =
+    holds_there c.seat-seat.result c.args.pass.now.seat c.take-book.result (held_claim c.args.held)
+    (own_number c.args.self.connection c.args.pass.now.seat c.seat-seat.result c.seat-seat.ensures) c.requires.book c.take-book.ensures.sound
+    c.take-book.ensures.history c.requires.holds
 
 pub give-requires-clause-longer : goal.give-requires-clause-longer
 give-requires-clause-longer g c =
     extends c.seat-seat.result c.take-book.new.pass.seat c.take-book.result c.put_back.new.self c.put_back.ensures.grows c.take-book.ensures.seen
     (pass_of c.args.self.connection c.args.pass.now.seat c.take-book.new.pass.seat c.seat-seat.result c.seat-seat.ensures c.take-book.ensures.pass.0)
 
-pub returns-clause-added : goal.returns-clause-added
-returns-clause-added g c =
-    after_learning c.args.pass.now.seat c.give.new.pass.seat c.take-book.result c.put_back.new.self c.take-book.ensures.history
-    c.take-book.ensures.sound c.put_back.ensures.book c.give.ensures.seen
-    (subst (λ (s : Seat). IsAdded s (puts_back (held_claim c.args.held).number) (book_of c.take-book.result) (book_of c.put_back.new.self))
-    c.seat-seat.ensures c.put_back.ensures.added)
+pub returns-clause-rests : goal.returns-clause-rests
+returns-clause-rests g c =
+    subst (λ (n : ℕ). Rests n (turns_seen c.give.new.pass.seat)) (own_number c.args.self.connection c.args.pass.now.seat c.seat-seat.result c.seat-seat.ensures)
+    (subst (λ (ts : List Turn). Rests c.seat-seat.result.pass ts) (sym (seen_of c.put_back.new.self c.give.new.pass.seat c.give.ensures.seen)) c.put_back.ensures.rests)
+
+pub returns-clause-put_back : goal.returns-clause-put_back
+returns-clause-put_back g c =
+    subst (λ (s : Seat). IsPutBack s (held_claim c.args.held) unsent (turns_seen c.args.pass.now.seat) (turns_seen c.give.new.pass.seat)) c.seat-seat.ensures
+    (back_later (held_claim c.args.held) unsent
+    (taken c.seat-seat.result c.args.pass.now.seat c.give.new.pass.seat c.take-book.result c.put_back.new.self
+    (own_number c.args.self.connection c.args.pass.now.seat c.seat-seat.result c.seat-seat.ensures) c.requires.book c.take-book.ensures.history
+    c.take-book.ensures.sound c.give.ensures.seen) c.put_back.ensures.put_back)

@@ -1,41 +1,52 @@
-use Rattle.std.proofs.Common.{refl, sym, subst, ap}
+use Rattle.std.proofs.Common.{ℕ, List, sym, subst}
+use Rattle.courier_run.specs.Steps.{limited}
 use Rattle.router_sessions.specs.declared.book.Seat.{Seat}
-use Rattle.router_sessions.specs.Book.{BookState, book_of, state_of}
-use Rattle.router_sessions.specs.Delivery.{held_claim, IsOpen}
-use Rattle.router_sessions.specs.Turns.{IsRecordedBy, IsLimited, IsPutBackAtLimit}
-use Rattle.router_sessions.specs.Desk.{book_seen, number_of}
-use Rattle.router_sessions.proofs.StaysOpenLemmas.{book_stays_open}
-use Rattle.router_sessions.proofs.DeskLemmas.{seen_of, learned, after_learning, extends, pass_of}
+use Rattle.router_sessions.specs.History.{Turn}
+use Rattle.router_sessions.specs.Held.{held_claim}
+use Rattle.router_sessions.specs.Book.{Rests}
+use Rattle.router_sessions.specs.Answered.{IsRecorded, IsPutBack}
+use Rattle.router_sessions.specs.Desk.{turns_seen}
+use Rattle.router_sessions.proofs.DeskLemmas.{seen_of, taken, recorded_later, back_later, holds_there, extends, own_number, pass_of}
 use Rattle.router_sessions.proofs.desk.Desk.record.Goals as goal
 
-pub record-recorded-requires-clause-is_open : goal.record-recorded-requires-clause-is_open
-record-recorded-requires-clause-is_open g c =
-    let l = learned c.args.pass.now.seat c.take-book.result c.take-book.ensures.history in
-    subst (λ n. IsOpen (state_of (book_of c.take-book.result)) n (held_claim c.args.held)) (ap (λ (s : Seat). s.pass) (sym c.seat-seat.ensures))
-    (book_stays_open (number_of c.args.pass.now.seat) (book_seen c.args.pass.now.seat) (book_of c.take-book.result) l.more (held_claim c.args.held) refl
-    l.opened c.take-book.ensures.sound l.turns l.by_others c.requires.is_open)
+pub record-recorded-requires-clause-holds : goal.record-recorded-requires-clause-holds
+record-recorded-requires-clause-holds g c =
+    holds_there c.seat-seat.result c.args.pass.now.seat c.take-book.result (held_claim c.args.held)
+    (own_number c.args.self.connection c.args.pass.now.seat c.seat-seat.result c.seat-seat.ensures) c.requires.book c.take-book.ensures.sound
+    c.take-book.ensures.history c.requires.holds
 
 pub give-requires-clause-longer : goal.give-requires-clause-longer
 give-requires-clause-longer g c =
     extends c.seat-seat.result c.take-book.new.pass.seat c.take-book.result c.record-recorded.new.self c.record-recorded.ensures.grows c.take-book.ensures.seen
     (pass_of c.args.self.connection c.args.pass.now.seat c.take-book.new.pass.seat c.seat-seat.result c.seat-seat.ensures c.take-book.ensures.pass.0)
 
+pub returns-in-Ok-clause-rests : goal.returns-in-Ok-clause-rests
+returns-in-Ok-clause-rests g c =
+    subst (λ (n : ℕ). Rests n (turns_seen c.give.new.pass.seat)) (own_number c.args.self.connection c.args.pass.now.seat c.seat-seat.result c.seat-seat.ensures)
+    (subst (λ (ts : List Turn). Rests c.seat-seat.result.pass ts) (sym (seen_of c.record-recorded.new.self c.give.new.pass.seat c.give.ensures.seen))
+    c.record-recorded.ensures.rests)
+
+pub returns-in-Err-clause-rests : goal.returns-in-Err-clause-rests
+returns-in-Err-clause-rests g c =
+    subst (λ (n : ℕ). Rests n (turns_seen c.give.new.pass.seat)) (own_number c.args.self.connection c.args.pass.now.seat c.seat-seat.result c.seat-seat.ensures)
+    (subst (λ (ts : List Turn). Rests c.seat-seat.result.pass ts) (sym (seen_of c.record-recorded.new.self c.give.new.pass.seat c.give.ensures.seen))
+    c.record-recorded.ensures.rests)
+
 pub returns-in-Ok-clause-recorded : goal.returns-in-Ok-clause-recorded
 returns-in-Ok-clause-recorded g c =
-    after_learning c.args.pass.now.seat c.give.new.pass.seat c.take-book.result c.record-recorded.new.self c.take-book.ensures.history
-    c.take-book.ensures.sound c.record-recorded.ensures.book c.give.ensures.seen
-    (subst (λ (s : Seat). IsRecordedBy s (held_claim c.args.held) c.args.outcome c.in-Ok.fate (book_of c.take-book.result)
-    (book_of c.record-recorded.new.self))
-    c.seat-seat.ensures c.in-Ok.ensures.recorded)
+    subst (λ (s : Seat). IsRecorded s (held_claim c.args.held) c.args.outcome c.in-Ok.fate (turns_seen c.args.pass.now.seat) (turns_seen c.give.new.pass.seat)) c.seat-seat.ensures
+    (recorded_later (held_claim c.args.held) c.args.outcome c.in-Ok.fate
+    (taken c.seat-seat.result c.args.pass.now.seat c.give.new.pass.seat c.take-book.result c.record-recorded.new.self
+    (own_number c.args.self.connection c.args.pass.now.seat c.seat-seat.result c.seat-seat.ensures) c.requires.book c.take-book.ensures.history
+    c.take-book.ensures.sound c.give.ensures.seen) c.in-Ok.ensures.recorded)
 
 pub returns-in-Err-clause-refused : goal.returns-in-Err-clause-refused
 returns-in-Err-clause-refused g c =
     let is = c.in-Err.ensures.refused in (
       is.0,
-      subst (λ (b : BookState). IsLimited b c.args.held.reading)
-          (sym (seen_of c.record-recorded.new.self c.give.new.pass.seat c.record-recorded.ensures.book c.give.ensures.seen)) is.1,
-      after_learning c.args.pass.now.seat c.give.new.pass.seat c.take-book.result c.record-recorded.new.self c.take-book.ensures.history
-          c.take-book.ensures.sound c.record-recorded.ensures.book c.give.ensures.seen
-          (subst (λ (s : Seat). IsPutBackAtLimit s (held_claim c.args.held) (book_of c.take-book.result) (book_of c.record-recorded.new.self))
-          c.seat-seat.ensures is.2),
+      subst (λ (s : Seat). IsPutBack s (held_claim c.args.held) limited (turns_seen c.args.pass.now.seat) (turns_seen c.give.new.pass.seat)) c.seat-seat.ensures
+          (back_later (held_claim c.args.held) limited
+          (taken c.seat-seat.result c.args.pass.now.seat c.give.new.pass.seat c.take-book.result c.record-recorded.new.self
+          (own_number c.args.self.connection c.args.pass.now.seat c.seat-seat.result c.seat-seat.ensures) c.requires.book c.take-book.ensures.history
+          c.take-book.ensures.sound c.give.ensures.seen) is.1),
     )

@@ -2,7 +2,7 @@ use Rattle.std.proofs.Common.{List, map, ap, ◌∙◌}
 use Rattle.router_sessions.specs.declared.history.Turn.{Turn}
 use Rattle.router_sessions.specs.Book.{turn_of}
 use Rattle.router_sessions.specs.Firsts.{firsts}
-use Rattle.router_sessions.proofs.HistoryLemmas.{firsts_more, turns_more}
+use Rattle.router_sessions.proofs.TurnLemmas.{firsts_more, turns_more}
 use Rattle.router_sessions.proofs.history.History.push.Goals as goal
 
 pub returns-clause-turns : goal.returns-clause-turns

@@ -1,0 +1,12 @@
+-- A session after its first look.
+use Rattle.std.specs.Prelude.{List, ◌∷◌}
+use Rattle.courier_run.specs.Act.{looks}
+use Rattle.router_sessions.specs.declared.book.Seat.{Seat}
+use Rattle.router_sessions.specs.declared.session.SessionEnd.{SessionEnd}
+use Rattle.router_sessions.specs.History.{state_of}
+use Rattle.router_sessions.specs.Acts.{Act, World, Does}
+use Rattle.router_sessions.specs.Session.{Ended}
+
+-- for private clauses: the acts after the first look, which showed the history that the pass knew then
+abbrev pub HasEnded : Seat → World → World → SessionEnd → Type 0
+HasEnded seat old new end = (acts : List Act) × Ended end (looks (state_of old.turns) ∷ acts) × Does seat acts old new

@@ -1,0 +1,4 @@
+mod SameLemmas
+mod StepLemmas
+mod AnswerLemmas
+mod SessionLemmas

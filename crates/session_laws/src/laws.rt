@@ -1,0 +1,20 @@
+//! The law of sessions.
+ghost use Rattle.router_sessions.specs.Acts.{World};
+ghost use Rattle.router_sessions.specs.declared.book.Seat.{Seat};
+ghost use Rattle.router_sessions.specs.declared.session.SessionEnd.{SessionEnd};
+ghost use Rattle.router_sessions.specs.Session.{IsSession};
+ghost use Rattle.session_laws.specs.OneSession.{BeginAlike, EndAlike};
+
+use router_calls::one_answer;
+
+/// What a session that is alone with its history does and writes follows from the tables, the bytes that it reads, the readings of the clock and what
+/// the link answered. One case is left open: bytes that end inside a request target that cannot become UTF-8 may be refused, or awaited until
+/// the input ends.
+pub fn one_session()
+    ensures { (seat other_seat : Seat) (old new other other_new : World) (end other_end : SessionEnd)
+        (one : IsSession seat old new end) (two : IsSession other_seat other other_new other_end)
+        → BeginAlike seat other_seat old new other other_new end other_end one two
+        → EndAlike seat other_seat old new other other_new end other_end one two }
+{
+    one_answer();
+}
