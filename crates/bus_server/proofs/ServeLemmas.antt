@@ -1,12 +1,9 @@
 -- A program that serves. Other files cite `opens` (the door), `announced`, `unannounced` (the port), `serves_by`, `unserved_by`,
 -- `no_door` (the door of a host), and `serves`, `not_served`, `no_links`, `no_room` (its links).
-use Rattle.std.proofs.Common.{◌≡◌, ◌≢◌, ℕ, ◌≤◌, ◌⊎◌, inl, inr, Bool, List, [], ◌∷◌, ◌++◌, length, map, Option, Some, None, Err, refl, sym, ap, ◌∙◌, subst, arith, append-nil}
-use Rattle.std.specs.Io.KnownBytes.{Appends, Keeps}
-use Rattle.std.proofs.KnownBytes.{Keeps-refl}
+use Rattle.std.proofs.Common.{◌≡◌, ◌≢◌, ℕ, ◌≤◌, ◌⊎◌, inl, inr, Bool, List, [], ◌∷◌, ◌++◌, length, map, Option, Err, refl, sym, ap, ◌∙◌, subst, arith, append-nil}
 use mathlib.Core.List.{IsPrefix}
 use Rattle.router_disk.specs.Faults.{CountsFaults, Rose}
 use Rattle.bus_host.specs.HostFault.{host_outcome}
-use Rattle.router_disk.specs.Sink.{AppendsPart}
 use Rattle.bus_host.specs.declared.host.HostFault.{HostFault}
 use Rattle.bus_host.specs.declared.host.HostFault.TheVariants as host
 use Rattle.program_lines.specs.declared.status.Status.{Status}
@@ -21,14 +18,8 @@ use Rattle.door_workers.proofs.ServingLemmas.{served_later}
 use Rattle.router_sessions.specs.declared.book.Book.{Book}
 use Rattle.router_sessions.specs.declared.history.Turn.{Turn}
 use Rattle.router_sessions.specs.Book.{IsKept, recorded_in}
-use Rattle.bus_server.specs.Serve.{AroundDoor, EndsServing, EndsUnserved, IsOpened, IsUnserved, IsServe, around_door}
+use Rattle.bus_server.specs.Serve.{AroundDoor, EndsServing, EndsUnserved, IsOpened, IsUnserved, IsServe, WritesPart, around_door}
 use Rattle.bus_server.specs.Opened.{status_of_host, CountsHost, IsUnopened, IsAnnounced, IsUnannounced, ServesBy, IsUnservedBy}
-
-appends_kept : (a b c : Option (List ℕ)) (bs : List ℕ) → Appends a b bs → Keeps b c → Appends a c bs
-appends_kept None b c bs p q = tt
-appends_kept (Some x) None c bs p q = absurd p
-appends_kept (Some x) (Some y) None bs p q = absurd q
-appends_kept (Some x) (Some y) (Some z) bs p q = q ∙ p
 
 module _ {D I O : Type 0} (show : D → Shown I O) (fits : ℕ → I × O → I × O → Bool → List Turn → List Turn → Type 0)
     (lasts : (n : ℕ) (came went : I × O) (cut : Bool) (before turns more : List Turn) → fits n came went cut before turns → fits n came went cut before (turns ++ more)) where
@@ -37,7 +28,7 @@ module _ {D I O : Type 0} (show : D → Shown I O) (fits : ℕ → I × O → I 
   later connections start now turns turns' end pre s =
       served_later fits lasts connections start now turns turns' end s pre
 
-  opened : (connections : Option ℕ) (lent returned : D) (seen : List Turn) (b : Book) (end : DoorEnd) (old new : Option (List ℕ)) (status : Status)
+  opened : (connections : Option ℕ) (lent returned : D) (seen : List Turn) (b : Book) (end : DoorEnd) (old new : List ℕ) (status : Status)
       → HasServed connections (show lent) (show returned) fits seen end → IsPrefix seen (recorded_in b.history) → IsKept b
       → EndsServing end b.tables old new status → IsOpened show fits connections lent returned old new status
   opened connections lent returned seen b end old new status served pre is ends = record {
@@ -50,10 +41,10 @@ module _ {D I O : Type 0} (show : D → Shown I O) (fits : ℕ → I × O → I 
 
   -- the door was served, or there was no memory for its workers
   pub opens : {L Count : Type 0} (connections : Option ℕ) (lent returned : D) (links links_back : List L) (seen : List Turn) (b : Book) (end : DoorEnd)
-      (old new : Option (List ℕ)) (status : Status) → (end ≢ ends.NoMemory → HasServed connections (show lent) (show returned) fits seen end)
+      (old new : List ℕ) (status : Status) → (end ≢ ends.NoMemory → HasServed connections (show lent) (show returned) fits seen end)
       → (end ≡ ends.NoMemory → (returned ≡ lent) × (links_back ≡ links)) → Count
       → IsPrefix seen (recorded_in b.history) → IsKept b → (end ≢ ends.NoMemory → EndsServing end b.tables old new status)
-      → (end ≡ ends.NoMemory → (status ≡ statuses.NoMemory) × Keeps old new)
+      → (end ≡ ends.NoMemory → (status ≡ statuses.NoMemory) × (new ≡ old))
       → (Count × IsOpened show fits connections lent returned old new status)
       ⊎ IsUnopened lent returned links links_back old new status
   opens {L} {Count} connections lent returned links links_back seen b ends.Done old new status served same count pre is ended none =
@@ -65,22 +56,25 @@ module _ {D I O : Type 0} (show : D → Shown I O) (fits : ℕ → I × O → I 
 
 module _ {D L I O : Type 0} (show : D → Shown I O) (fits : ℕ → I × O → I × O → Bool → List Turn → List Turn → Type 0) where
   -- the port was printed, and the door opened
-  pub announced : {Count : Type 0} (port : ℕ) (connections : Option ℕ) (lent returned : D) (links links_back : List L) (old printed new : Option (List ℕ))
-      (status : Status) → Appends old printed (listening_text port)
+  pub announced : {Count : Type 0} (port : ℕ) (connections : Option ℕ) (lent returned : D) (links links_back : List L) (old printed new : List ℕ)
+      (status : Status) → printed ≡ old ++ listening_text port
       → (Count → length links_back ≡ length links) → (Count × IsOpened show fits connections lent returned printed new status)
       ⊎ IsUnopened lent returned links links_back printed new status
       → IsAnnounced show fits port connections lent returned links links_back old new status ⊎ IsUnannounced port lent returned links links_back old new status
   announced {Count} port connections lent returned links links_back old printed new status listening counted (inl (count, is)) =
-      inl (record { all_back = counted count; printed = printed; listening = listening; opened = is })
+      inl (record {
+        all_back = counted count;
+        opened = subst (λ (w : List ℕ). IsOpened show fits connections lent returned w new status) listening is;
+      })
   announced {Count} port connections lent returned links links_back old printed new status listening counted (inr none) = inr (record {
     same_door = none.same_door;
     same_links = none.same_links;
-    cause = inr (none.no_memory, appends_kept old printed new (listening_text port) listening none.unwritten);
+    cause = inr (none.no_memory, none.unwritten ∙ listening);
   })
 
   -- the port was not printed
-  pub unannounced : (port : ℕ) (connections : Option ℕ) (door : D) (links : List L) (old new : Option (List ℕ)) (status : Status)
-      → status ≡ statuses.WriteFault → AppendsPart old new (listening_text port)
+  pub unannounced : (port : ℕ) (connections : Option ℕ) (door : D) (links : List L) (old new : List ℕ) (status : Status)
+      → status ≡ statuses.WriteFault → WritesPart old new (listening_text port)
       → IsAnnounced show fits port connections door door links links old new status ⊎ IsUnannounced port door door links links old new status
   unannounced port connections door links old new status is part = inr (record { same_door = refl; same_links = refl; cause = inl (is, part) })
 
@@ -113,8 +107,8 @@ module _ {D L I O : Type 0} (show : D → Shown I O) (fits : ℕ → I × O → 
     links_back = back ∙ ap (λ (ls : List L). old.links_back ++ ls) none.same_links;
     faultless = λ _. (door_same, link_same);
   }) where
-    causes : ((status ≡ statuses.WriteFault) × AppendsPart old.written new.written (listening_text port))
-        ⊎ ((status ≡ statuses.NoMemory) × Appends old.written new.written (listening_text port)) → EndsUnserved port old new status
+    causes : ((status ≡ statuses.WriteFault) × WritesPart old.written new.written (listening_text port))
+        ⊎ ((status ≡ statuses.NoMemory) × (new.written ≡ old.written ++ listening_text port)) → EndsUnserved port old new status
     causes (inl fault) = inr (inl fault)
     causes (inr (none, printed)) = inr (inr (none, inr printed))
 
@@ -136,12 +130,10 @@ module _ {D L I O : Type 0} (show : D → Shown I O) (fits : ℕ → I × O → 
     each_worker = count;
     all_back = s.announced.all_back ∙ count;
     faultless = (s.faultless.0 ∙ df, s.faultless.1 ∙ lf);
-    printed = s.announced.printed;
-    listening = subst (λ (b : Option (List ℕ)). Appends b s.announced.printed (listening_text port)) w s.announced.listening;
-    opened = s.announced.opened;
+    opened = subst (λ (b : List ℕ). IsOpened show fits connections s.lent s.returned (b ++ listening_text port) new.written status) w s.announced.opened;
   })
   serves port workers connections links old mid new status w d db l lb df lf count (inr s) = inr (record {
-    cause = subst (λ (a : Option (List ℕ)). EndsUnserved port (around_door a old.doors old.doors_back old.links old.links_back old.door_faults old.link_faults) new status) w
+    cause = subst (λ (a : List ℕ). EndsUnserved port (around_door a old.doors old.doors_back old.links old.links_back old.door_faults old.link_faults) new status) w
         (causes s.cause);
     lent = s.lent;
     one = s.one;
@@ -177,8 +169,8 @@ no_door port fault links old new status is w d db l lb rose same lf = record {
   faultless = λ other. (same (λ e. other (is ∙ ap status_of_host e)), lf);
 } where
   causes : (f : HostFault) → status ≡ status_of_host f → (f ≡ host.Failed → Rose old.door_faults new.door_faults) → EndsUnserved port old new status
-  causes host.Failed at r = inl (at, subst (Keeps old.written) (sym w) (Keeps-refl old.written), inl (r refl, lf))
-  causes host.NoMemory at r = inr (inr (at, inl (subst (Keeps old.written) (sym w) (Keeps-refl old.written))))
+  causes host.Failed at r = inl (at, w, inl (r refl, lf))
+  causes host.NoMemory at r = inr (inr (at, inl w))
 
   unlike : (f : HostFault) → status ≡ status_of_host f → status ≢ statuses.WriteFault
   unlike host.Failed at e = cc
@@ -204,8 +196,8 @@ no_links port workers fault links old new status is w d db l lb few df rose same
   faultless = λ other. (df, same (λ e. other (is ∙ ap status_of_host e)));
 } where
   causes : (f : HostFault) → status ≡ status_of_host f → (f ≡ host.Failed → Rose old.link_faults new.link_faults) → EndsUnserved port old new status
-  causes host.Failed at r = inl (at, subst (Keeps old.written) (sym w) (Keeps-refl old.written), inr (r refl, df))
-  causes host.NoMemory at r = inr (inr (at, inl (subst (Keeps old.written) (sym w) (Keeps-refl old.written))))
+  causes host.Failed at r = inl (at, w, inr (r refl, df))
+  causes host.NoMemory at r = inr (inr (at, inl w))
 
   unlike : (f : HostFault) → status ≡ status_of_host f → status ≢ statuses.WriteFault
   unlike host.Failed at e = cc
@@ -215,7 +207,7 @@ no_links port workers fault links old new status is w d db l lb few df rose same
 pub no_room : {D L : Type 0} (port workers : ℕ) (old : AroundDoor D L) (status : Status) → status ≡ statuses.NoMemory
     → IsUnserved port workers old old status
 no_room port workers old status is = record {
-  cause = inr (inr (is, inl (Keeps-refl old.written)));
+  cause = inr (inr (is, inl refl));
   lent = [];
   one = omega (arith);
   opened_first = λ e. cc;

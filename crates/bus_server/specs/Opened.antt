@@ -1,8 +1,6 @@
 -- For private clauses alone: parts of a program that serves.
 use Rattle.std.specs.Prelude.{◌≡◌, ◌≢◌, ℕ, ◌≤◌, ◌⊎◌, Bool, List, [], ◌∷◌, ◌++◌, length, map, Option, Result, Ok, Err}
-use Rattle.std.specs.Io.KnownBytes.{Appends, Keeps}
 use Rattle.router_disk.specs.Faults.{Rose}
-use Rattle.router_disk.specs.Sink.{AppendsPart}
 use Rattle.bus_host.specs.declared.host.HostFault.{HostFault}
 use Rattle.bus_host.specs.declared.host.HostFault.TheVariants as host
 use Rattle.program_lines.specs.declared.status.Status.{Status}
@@ -10,7 +8,7 @@ use Rattle.program_lines.specs.declared.status.Status.TheVariants as statuses
 use Rattle.program_lines.specs.Printed.{listening_text}
 use Rattle.shared_door.specs.Shown.{Shown}
 use Rattle.router_sessions.specs.declared.history.Turn.{Turn}
-use Rattle.bus_server.specs.Serve.{AroundDoor, EndsUnserved, IsOpened}
+use Rattle.bus_server.specs.Serve.{AroundDoor, EndsUnserved, IsOpened, WritesPart}
 
 -- the status of a host that gave no link or no door
 abbrev pub status_of_host : HostFault → Status
@@ -24,27 +22,25 @@ CountsHost (Err host.Failed) before now = Rose before now
 CountsHost (Err host.NoMemory) before now = now ≡ before
 
 -- the door and its links are as they were, and nothing was written: there was no memory for the workers
-pub record IsUnopened {D L : Type 0} (lent returned : D) (links links_back : List L) (old new : Option (List ℕ)) (status : Status) : Type 0 where
+pub record IsUnopened {D L : Type 0} (lent returned : D) (links links_back : List L) (old new : List ℕ) (status : Status) : Type 0 where
   pub same_door : returned ≡ lent
   pub same_links : links_back ≡ links
   pub no_memory : status ≡ statuses.NoMemory
-  pub unwritten : Keeps old new
+  pub unwritten : new ≡ old
 
 -- the port was printed, and the door served, with a link for each worker
 pub record IsAnnounced {D L I O : Type 0} (show : D → Shown I O) (fits : ℕ → I × O → I × O → Bool → List Turn → List Turn → Type 0) (port : ℕ)
-    (connections : Option ℕ) (lent returned : D) (links links_back : List L) (old new : Option (List ℕ)) (status : Status) : Type 0 where
+    (connections : Option ℕ) (lent returned : D) (links links_back : List L) (old new : List ℕ) (status : Status) : Type 0 where
   pub all_back : length links_back ≡ length links
-  pub printed : Option (List ℕ)
-  pub listening : Appends old printed (listening_text port)
-  pub opened : IsOpened show fits connections lent returned printed new status
+  pub opened : IsOpened show fits connections lent returned (old ++ listening_text port) new status
 
 -- the door and its links are as they were: the port could not be printed, or there was no memory for the workers
-pub record IsUnannounced {D L : Type 0} (port : ℕ) (lent returned : D) (links links_back : List L) (old new : Option (List ℕ)) (status : Status)
+pub record IsUnannounced {D L : Type 0} (port : ℕ) (lent returned : D) (links links_back : List L) (old new : List ℕ) (status : Status)
     : Type 0 where
   pub same_door : returned ≡ lent
   pub same_links : links_back ≡ links
-  pub cause : ((status ≡ statuses.WriteFault) × AppendsPart old new (listening_text port))
-      ⊎ ((status ≡ statuses.NoMemory) × Appends old new (listening_text port))
+  pub cause : ((status ≡ statuses.WriteFault) × WritesPart old new (listening_text port))
+      ⊎ ((status ≡ statuses.NoMemory) × (new ≡ old ++ listening_text port))
 
 -- `Serves`, by links that the host had given
 pub record ServesBy {D L I O : Type 0} (show : D → Shown I O) (fits : ℕ → I × O → I × O → Bool → List Turn → List Turn → Type 0) (port : ℕ)

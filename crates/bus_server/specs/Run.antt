@@ -2,7 +2,7 @@
 use Rattle.std.specs.Prelude.{◌≡◌, ◌≢◌, ℕ, ◌⊎◌, List, [], ◌∷◌, ◌++◌, Option, Some, None, Result, All, Contains}
 use Rattle.router_disk.specs.Faults.{CountsFaults, Rose}
 use Rattle.router_disk.specs.Link.{Exchange}
-use Rattle.router_disk.specs.Sink.{WritesAll}
+use Rattle.router_disk.specs.Sink.{AddsBytes}
 use Rattle.router_disk.specs.declared.fault.Failed.{Failed}
 use Rattle.delivery_duties.specs.declared.outcome.Fate.{Fate}
 use Rattle.program_lines.specs.declared.status.Status.{Status}
@@ -33,9 +33,9 @@ status_of ends.NoMemory = statuses.NoMemory
 
 -- The status's line was written, or a first part of it if the write failed, which the count of faults shows.
 -- Shown by: bad-arguments.
-abbrev pub IsReported : Status → Option (List ℕ) → Option (List ℕ) → ℕ → ℕ → Type 0
+abbrev pub IsReported : Status → List ℕ → List ℕ → ℕ → ℕ → Type 0
 IsReported status old new faults faults_new =
-    (result : Result (Unit {0}) Failed) × WritesAll old new result (fault_line status) × CountsFaults faults faults_new result
+    (result : Result (Unit {0}) Failed) × AddsBytes old new result (fault_line status) × CountsFaults faults faults_new result
 
 -- The source's count of faults rose, or was at its last value, if the status is `ReadFault`, and is unchanged at every other status. The
 -- same holds of the sink's count and `WriteFault`.

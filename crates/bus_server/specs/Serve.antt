@@ -1,8 +1,6 @@
 -- The program while it serves connections to a port.
 use Rattle.std.specs.Prelude.{◌≡◌, ◌≢◌, ℕ, ◌≤◌, ◌⊎◌, Bool, List, [], ◌∷◌, ◌++◌, length, map, Option}
-use Rattle.std.specs.Io.KnownBytes.{Appends, Keeps}
 use Rattle.router_disk.specs.Faults.{Rose}
-use Rattle.router_disk.specs.Sink.{AppendsPart}
 use Rattle.delivery_duties.specs.Duties.{delivered_of, dead_lettered_of, dropped_of}
 use Rattle.delivery_queues.specs.Queues.{message_count}
 use Rattle.program_lines.specs.declared.printed.Summary.{Summary}
@@ -18,11 +16,11 @@ use Rattle.router_sessions.specs.declared.history.Turn.{Turn}
 use Rattle.router_sessions.specs.History.{state_of}
 use Rattle.router_sessions.specs.Book.{turn_of, IsBook}
 
--- What is known around a program that serves: the bytes written, if they are known; the doors, each after its port, and the links that the
--- host gave, and those that it took back; and the host's counts of faults of doors and of links.
+-- What is known around a program that serves: the bytes written; the doors, each after its port, and the links that the host gave, and those
+-- that it took back; and the host's counts of faults of doors and of links.
 -- Shown by: program_tests serve.rt: a_port_that_is_not_open_serves_nothing.
 pub record AroundDoor (D L : Type 0) : Type 0 where
-  pub written : Option (List ℕ)
+  pub written : List ℕ
   pub doors : List (ℕ × D)
   pub doors_back : List D
   pub links : List L
@@ -32,7 +30,7 @@ pub record AroundDoor (D L : Type 0) : Type 0 where
 
 -- The `AroundDoor` with these parts.
 -- Shown by: program_tests serve.rt: a_port_that_is_not_open_serves_nothing.
-abbrev pub around_door : {D L : Type 0} → Option (List ℕ) → List (ℕ × D) → List D → List L → List L → ℕ → ℕ → AroundDoor D L
+abbrev pub around_door : {D L : Type 0} → List ℕ → List (ℕ × D) → List D → List L → List L → ℕ → ℕ → AroundDoor D L
 around_door written doors doors_back links links_back door_faults link_faults = record {
   written = written;
   doors = doors;
@@ -62,18 +60,23 @@ summary_of t = record {
   messages = message_count t.duties.queues;
 }
 
+-- A first part of these bytes was written, perhaps none.
+-- Shown by: program_tests serve.rt: without_its_first_line_nothing_is_served.
+abbrev pub WritesPart : List ℕ → List ℕ → List ℕ → Type 0
+WritesPart old new bytes = (first rest : List ℕ) × (bytes ≡ first ++ rest) × (new ≡ old ++ first)
+
 -- The summary was written, with `Done`; a first part of it, with `WriteFault`; or nothing, with `NoMemory`.
 -- Shown by: program_tests serve.rt: a_rule_of_one_connection_holds_for_the_next.
-abbrev pub IsSummed : Tables → Option (List ℕ) → Option (List ℕ) → Status → Type 0
+abbrev pub IsSummed : Tables → List ℕ → List ℕ → Status → Type 0
 IsSummed t old new status =
-    ((status ≡ statuses.Done) × Appends old new (summary_lines (summary_of t)))
-    ⊎ (((status ≡ statuses.WriteFault) × AppendsPart old new (summary_lines (summary_of t))) ⊎ ((status ≡ statuses.NoMemory) × Keeps old new))
+    ((status ≡ statuses.Done) × (new ≡ old ++ summary_lines (summary_of t)))
+    ⊎ (((status ≡ statuses.WriteFault) × WritesPart old new (summary_lines (summary_of t))) ⊎ ((status ≡ statuses.NoMemory) × (new ≡ old)))
 
 -- The status, and what was written after the workers had ended: `IsSummed` if the door is done; `DoorFault` and nothing if it failed.
 -- Shown by: program_tests serve.rt: a_door_that_fails_ends_the_run; a_failed_door_is_done.edit.
-abbrev pub EndsServing : DoorEnd → Tables → Option (List ℕ) → Option (List ℕ) → Status → Type 0
+abbrev pub EndsServing : DoorEnd → Tables → List ℕ → List ℕ → Status → Type 0
 EndsServing ends.Done t old new status = IsSummed t old new status
-EndsServing ends.DoorFault t old new status = (status ≡ statuses.DoorFault) × Keeps old new
+EndsServing ends.DoorFault t old new status = (status ≡ statuses.DoorFault) × (new ≡ old)
 EndsServing ends.NoMemory t old new status = ⊥
 
 -- The workers served the door: their turns are one legal history from the first tables, each connection that ended fits it (`HasServed` of
@@ -81,7 +84,7 @@ EndsServing ends.NoMemory t old new status = ⊥
 -- connection owes.
 -- Shown by: program_tests serve.rt: sixteen_workers_serve_more_connections_than_they_are.
 pub record IsOpened {D I O : Type 0} (show : D → Shown I O) (fits : ℕ → I × O → I × O → Bool → List Turn → List Turn → Type 0) (connections : Option ℕ)
-    (lent returned : D) (old new : Option (List ℕ)) (status : Status) : Type 0 where
+    (lent returned : D) (old new : List ℕ) (status : Status) : Type 0 where
   pub turns : List Turn
   pub book : IsBook (map turn_of turns)
   pub end : DoorEnd
@@ -106,10 +109,7 @@ pub record Serves {D L I O : Type 0} (show : D → Shown I O) (fits : ℕ → I 
   pub each_worker : length links_lent ≡ workers
   pub all_back : length links_returned ≡ workers
   pub faultless : (new.door_faults ≡ old.door_faults) × (new.link_faults ≡ old.link_faults)
-  -- the output when the port was printed
-  pub printed : Option (List ℕ)
-  pub listening : Appends old.written printed (listening_text port)
-  pub opened : IsOpened show fits connections lent returned printed new.written status
+  pub opened : IsOpened show fits connections lent returned (old.written ++ listening_text port) new.written status
 
 -- the host failed to give a door, or a link, and not both
 abbrev pub OneRose : {D L : Type 0} → AroundDoor D L → AroundDoor D L → Type 0
@@ -121,9 +121,9 @@ OneRose old new =
 -- Shown by: program_tests serve.rt: without_its_first_line_nothing_is_served.
 abbrev pub EndsUnserved : {D L : Type 0} → ℕ → AroundDoor D L → AroundDoor D L → Status → Type 0
 EndsUnserved port old new status =
-    ((status ≡ statuses.DoorFault) × Keeps old.written new.written × OneRose old new)
-    ⊎ (((status ≡ statuses.WriteFault) × AppendsPart old.written new.written (listening_text port))
-    ⊎ ((status ≡ statuses.NoMemory) × (Keeps old.written new.written ⊎ Appends old.written new.written (listening_text port))))
+    ((status ≡ statuses.DoorFault) × (new.written ≡ old.written) × OneRose old new)
+    ⊎ (((status ≡ statuses.WriteFault) × WritesPart old.written new.written (listening_text port))
+    ⊎ ((status ≡ statuses.NoMemory) × ((new.written ≡ old.written) ⊎ (new.written ≡ old.written ++ listening_text port))))
 
 -- Nothing was served, by `EndsUnserved`. The host took back the door, if it gave one, and the links, each as it gave it.
 -- Shown by: program_tests serve.rt: a_port_that_is_not_open_serves_nothing, without_its_first_line_nothing_is_served.

@@ -52,15 +52,15 @@ pub fn run<Rt: Wait + Threads + Sync, S: Source, K: Sink, E: Sink, H: Host, C: C
     ensures serve { (port workers : ℕ) (connections : Option ℕ) → IsCommand (map string_bytes words.now) (commands.Serve port workers connections)
         → (S.gave input.new ≡ S.gave input.old) × IsServe (shown_by H.Door.faults H.Door.ahead H.Door.given H.Door.ended H.Door.gave H.Door.took_back H.Door.closed)
         (IsVisit H.Door.In.gave H.Door.Out.wrote H.Door.In.faults H.Door.Out.faults) port workers connections
-        (around_door (K.written output.old) (H.doors_given host.old) (H.doors_back host.old) (H.links_given host.old) (H.links_back host.old)
+        (around_door (K.wrote output.old) (H.doors_given host.old) (H.doors_back host.old) (H.links_given host.old) (H.links_back host.old)
         (H.door_faults host.old) (H.link_faults host.old))
-        (around_door (K.written output.new) (H.doors_given host.new) (H.doors_back host.new) (H.links_given host.new) (H.links_back host.new)
+        (around_door (K.wrote output.new) (H.doors_given host.new) (H.doors_back host.new) (H.links_given host.new) (H.links_back host.new)
         (H.door_faults host.new) (H.link_faults host.new)) result }
     ensures usage { ((c : Action) → ¬ IsCommand (map string_bytes words.now) c)
         → (result ≡ statuses.Usage) × IsUnbegun
         (around (S.gave input.old) (K.wrote output.old) (C.gave clock.old) (H.links_given host.old) (H.links_back host.old))
         (around (S.gave input.new) (K.wrote output.new) (C.gave clock.new) (H.links_given host.new) (H.links_back host.new)) }
-    ensures reported { IsReported result (E.written faults.old) (E.written faults.new) (E.faults faults.old) (E.faults faults.new) }
+    ensures reported { IsReported result (E.wrote faults.old) (E.wrote faults.new) (E.faults faults.old) (E.faults faults.new) }
     ensures counts { FaultsMatch result (S.faults input.old) (S.faults input.new) (K.faults output.old) (K.faults output.new) }
     ensures disk { H.disk_faults host.new ≡ H.disk_faults host.old }
     ensures host { ((port workers : ℕ) (connections : Option ℕ) → ¬ IsCommand (map string_bytes words.now) (commands.Serve port workers connections))
@@ -90,7 +90,7 @@ pub fn run<Rt: Wait + Threads + Sync, S: Source, K: Sink, E: Sink, H: Host, C: C
 /// Reports bad arguments.
 fn refuse<E: Sink>(faults: &mut E) -> Status
     ensures usage { result ≡ statuses.Usage }
-    ensures reported { IsReported result (E.written faults.old) (E.written faults.new) (E.faults faults.old) (E.faults faults.new) }
+    ensures reported { IsReported result (E.wrote faults.old) (E.wrote faults.new) (E.faults faults.old) (E.faults faults.new) }
 {
     report(faults, Status::Usage);
     Status::Usage
@@ -98,7 +98,7 @@ fn refuse<E: Sink>(faults: &mut E) -> Status
 
 /// Writes the line of the status. A failed write changes only the sink.
 fn report<E: Sink>(faults: &mut E, status: Status)
-    ensures { IsReported status (E.written faults.old) (E.written faults.new) (E.faults faults.old) (E.faults faults.new) }
+    ensures { IsReported status (E.wrote faults.old) (E.wrote faults.new) (E.faults faults.old) (E.faults faults.new) }
 {
     let _ = faults.write_all(status.line());
 }

@@ -1,6 +1,5 @@
 //! The program while it serves connections to a port.
 ghost use Rattle.std.specs.Prelude.{◌≡◌, ◌≢◌, ◌+◌, ◌<◌, ◌≤◌, ◌++◌, ◌⊎◌, ◌∷◌, [], IfOk, List, map, vec_len, vec_capacity};
-ghost use Rattle.std.specs.Io.KnownBytes.{Keeps};
 ghost use Rattle.router_disk.specs.Faults.{Rose};
 ghost use Rattle.turn_book.specs.Passes.{view, IsFree};
 ghost use Rattle.bus_host.specs.Host.{SameFaults, SameGiven};
@@ -47,9 +46,9 @@ pub(crate) fn serve<Rt: Wait + Threads + Sync, K: Sink, H: Host, C: Clock>(
     requires workers { (0 < workers) × (workers ≤ 1024) }
     ensures serve { IsServe (shown_by H.Door.faults H.Door.ahead H.Door.given H.Door.ended H.Door.gave H.Door.took_back H.Door.closed) (IsVisit H.Door.In.gave H.Door.Out.wrote H.Door.In.faults H.Door.Out.faults) port workers
         connections
-        (around_door (K.written output.old) (H.doors_given host.old) (H.doors_back host.old) (H.links_given host.old) (H.links_back host.old)
+        (around_door (K.wrote output.old) (H.doors_given host.old) (H.doors_back host.old) (H.links_given host.old) (H.links_back host.old)
         (H.door_faults host.old) (H.link_faults host.old))
-        (around_door (K.written output.new) (H.doors_given host.new) (H.doors_back host.new) (H.links_given host.new) (H.links_back host.new)
+        (around_door (K.wrote output.new) (H.doors_given host.new) (H.doors_back host.new) (H.links_given host.new) (H.links_back host.new)
         (H.door_faults host.new) (H.link_faults host.new)) result }
     ensures write_fault { result ≡ statuses.WriteFault → Rose (K.faults output.old) (K.faults output.new) }
     ensures output_faultless { result ≢ statuses.WriteFault → K.faults output.new ≡ K.faults output.old }
@@ -169,14 +168,14 @@ fn at_port<Rt: Wait + Threads + Sync, K: Sink, H: Host, C: Clock>(
     requires links { (0 < vec_len links) × (vec_len links ≤ 1024) }
     requires listening { listening.now ≡ listening_text port }
     ensures served { ServesBy (shown_by H.Door.faults H.Door.ahead H.Door.given H.Door.ended H.Door.gave H.Door.took_back H.Door.closed) (IsVisit H.Door.In.gave H.Door.Out.wrote H.Door.In.faults H.Door.Out.faults) port connections links.items
-        (around_door (K.written output.old) (H.doors_given host.old) (H.doors_back host.old) (H.links_given host.old) (H.links_back host.old)
+        (around_door (K.wrote output.old) (H.doors_given host.old) (H.doors_back host.old) (H.links_given host.old) (H.links_back host.old)
         (H.door_faults host.old) (H.link_faults host.old))
-        (around_door (K.written output.new) (H.doors_given host.new) (H.doors_back host.new) (H.links_given host.new) (H.links_back host.new)
+        (around_door (K.wrote output.new) (H.doors_given host.new) (H.doors_back host.new) (H.links_given host.new) (H.links_back host.new)
         (H.door_faults host.new) (H.link_faults host.new)) result
         ⊎ IsUnservedBy port links.items
-        (around_door (K.written output.old) (H.doors_given host.old) (H.doors_back host.old) (H.links_given host.old) (H.links_back host.old)
+        (around_door (K.wrote output.old) (H.doors_given host.old) (H.doors_back host.old) (H.links_given host.old) (H.links_back host.old)
         (H.door_faults host.old) (H.link_faults host.old))
-        (around_door (K.written output.new) (H.doors_given host.new) (H.doors_back host.new) (H.links_given host.new) (H.links_back host.new)
+        (around_door (K.wrote output.new) (H.doors_given host.new) (H.doors_back host.new) (H.links_given host.new) (H.links_back host.new)
         (H.door_faults host.new) (H.link_faults host.new)) result }
     ensures write_fault { result ≡ statuses.WriteFault → Rose (K.faults output.old) (K.faults output.new) }
     ensures output_faultless { result ≢ statuses.WriteFault → K.faults output.new ≡ K.faults output.old }
@@ -234,8 +233,8 @@ fn announce<Rt: Wait + Threads + Sync, K: Sink, D: Door, L: Link, C: Clock>(
     requires links { (0 < vec_len links) × (vec_len links ≤ 1024) }
     requires listening { listening.now ≡ listening_text port }
     ensures announced { IsAnnounced (shown_by D.faults D.ahead D.given D.ended D.gave D.took_back D.closed) (IsVisit ⟦<D::In as Source>⟧.gave ⟦<D::Out as Sink>⟧.wrote ⟦<D::In as Source>⟧.faults ⟦<D::Out as Sink>⟧.faults) port connections door result.door
-        links.items result.links.items (K.written output.old) (K.written output.new) result.status
-        ⊎ IsUnannounced port door result.door links.items result.links.items (K.written output.old) (K.written output.new) result.status }
+        links.items result.links.items (K.wrote output.old) (K.wrote output.new) result.status
+        ⊎ IsUnannounced port door result.door links.items result.links.items (K.wrote output.old) (K.wrote output.new) result.status }
     ensures write_fault { result.status ≡ statuses.WriteFault → Rose (K.faults output.old) (K.faults output.new) }
     ensures output_faultless { result.status ≢ statuses.WriteFault → K.faults output.new ≡ K.faults output.old }
 {
@@ -277,8 +276,8 @@ fn open<Rt: Wait + Threads + Sync, K: Sink, D: Door, L: Link, C: Clock>(
     requires seats { vec_len links + 2 ≤ hall.seats }
     requires links { (0 < vec_len links) × (vec_len links ≤ 1024) }
     ensures opened { ((vec_len result.links ≡ vec_len links) × IsOpened (shown_by D.faults D.ahead D.given D.ended D.gave D.took_back D.closed)
-        (IsVisit ⟦<D::In as Source>⟧.gave ⟦<D::Out as Sink>⟧.wrote ⟦<D::In as Source>⟧.faults ⟦<D::Out as Sink>⟧.faults) connections door result.door (K.written output.old) (K.written output.new) result.status)
-        ⊎ IsUnopened door result.door links.items result.links.items (K.written output.old) (K.written output.new) result.status }
+        (IsVisit ⟦<D::In as Source>⟧.gave ⟦<D::Out as Sink>⟧.wrote ⟦<D::In as Source>⟧.faults ⟦<D::Out as Sink>⟧.faults) connections door result.door (K.wrote output.old) (K.wrote output.new) result.status)
+        ⊎ IsUnopened door result.door links.items result.links.items (K.wrote output.old) (K.wrote output.new) result.status }
     ensures write_fault { result.status ≡ statuses.WriteFault → Rose (K.faults output.old) (K.faults output.new) }
     ensures output_faultless { result.status ≢ statuses.WriteFault → K.faults output.new ≡ K.faults output.old }
 {
@@ -310,8 +309,8 @@ fn open<Rt: Wait + Threads + Sync, K: Sink, D: Door, L: Link, C: Clock>(
 
 /// The status of a door that is served no longer. If it gave all that it should, the summary is printed.
 fn end_status<K: Sink>(alloc: Global, end: DoorEnd, tables: &Tables, output: &mut K) -> Status
-    ensures ends { end ≢ DoorEnd.NoMemory → EndsServing end tables.now (K.written output.old) (K.written output.new) result }
-    ensures no_memory { end ≡ DoorEnd.NoMemory → (result ≡ statuses.NoMemory) × Keeps (K.written output.old) (K.written output.new) }
+    ensures ends { end ≢ DoorEnd.NoMemory → EndsServing end tables.now (K.wrote output.old) (K.wrote output.new) result }
+    ensures no_memory { end ≡ DoorEnd.NoMemory → (result ≡ statuses.NoMemory) × (K.wrote output.new ≡ K.wrote output.old) }
     ensures write_fault { result ≡ statuses.WriteFault → Rose (K.faults output.old) (K.faults output.new) }
     ensures output_faultless { result ≢ statuses.WriteFault → K.faults output.new ≡ K.faults output.old }
 {
@@ -324,7 +323,7 @@ fn end_status<K: Sink>(alloc: Global, end: DoorEnd, tables: &Tables, output: &mu
 
 /// Prints the summary.
 fn sum_up<K: Sink>(alloc: Global, tables: &Tables, output: &mut K) -> Status
-    ensures summed { IsSummed tables.now (K.written output.old) (K.written output.new) result }
+    ensures summed { IsSummed tables.now (K.wrote output.old) (K.wrote output.new) result }
     ensures write_fault { result ≡ statuses.WriteFault → Rose (K.faults output.old) (K.faults output.new) }
     ensures output_faultless { result ≢ statuses.WriteFault → K.faults output.new ≡ K.faults output.old }
 {

@@ -31,8 +31,8 @@ returns-in-Some-Serve-clause-serve g c = λ port workers connections line.
     let same_connections : c.in-Some-Serve.connections ≡ connections = cc in
     let Is : ℕ → ℕ → Option ℕ → Type 0 = λ p w k. IsServe (shown_by g.H.Door.Door.faults g.H.Door.Door.ahead g.H.Door.Door.given g.H.Door.Door.ended g.H.Door.Door.gave g.H.Door.Door.took_back g.H.Door.Door.closed)
     (IsVisit g.H.Door.In.Source.gave g.H.Door.Out.Sink.wrote g.H.Door.In.Source.faults g.H.Door.Out.Sink.faults) p w k
-    (around_door (g.K.Sink.written c.args.output.now) (h.doors_given old) (h.doors_back old) (h.links_given old) (h.links_back old) (h.door_faults old) (h.link_faults old))
-    (around_door (g.K.Sink.written c.serve-status.new.output) (h.doors_given new) (h.doors_back new) (h.links_given new) (h.links_back new) (h.door_faults new)
+    (around_door (g.K.Sink.wrote c.args.output.now) (h.doors_given old) (h.doors_back old) (h.links_given old) (h.links_back old) (h.door_faults old) (h.link_faults old))
+    (around_door (g.K.Sink.wrote c.serve-status.new.output) (h.doors_given new) (h.doors_back new) (h.links_given new) (h.links_back new) (h.door_faults new)
     (h.link_faults new)) c.serve-status.result in (
       refl,
       subst (λ (k : Option ℕ). Is port workers k) same_connections

@@ -13,8 +13,8 @@ returns-in-Ok-clause-served g c =
     let old = c.args.host.now in let new = c.give_links.new.host in
     serves_by (shown_by g.H.Door.Door.faults g.H.Door.Door.ahead g.H.Door.Door.given g.H.Door.Door.ended g.H.Door.Door.gave g.H.Door.Door.took_back g.H.Door.Door.closed) (IsVisit g.H.Door.In.Source.gave g.H.Door.Out.Sink.wrote g.H.Door.In.Source.faults g.H.Door.Out.Sink.faults)
     c.args.port c.args.connections c.in-Ok.door left.door c.args.links.items left.links.items
-    (around_door (g.K.Sink.written c.args.output.now) (h.doors_given old) (h.doors_back old) (h.links_given old) (h.links_back old) (h.door_faults old) (h.link_faults old))
-    (around_door (g.K.Sink.written c.announce-left.new.output) (h.doors_given new) (h.doors_back new) (h.links_given new) (h.links_back new) (h.door_faults new)
+    (around_door (g.K.Sink.wrote c.args.output.now) (h.doors_given old) (h.doors_back old) (h.links_given old) (h.links_back old) (h.door_faults old) (h.link_faults old))
+    (around_door (g.K.Sink.wrote c.announce-left.new.output) (h.doors_given new) (h.doors_back new) (h.links_given new) (h.links_back new) (h.door_faults new)
     (h.link_faults new)) left.status
     (l.doors.same_given ∙ b.given ∙ c.in-Ok.ensures.given)
     (l.doors.same_back ∙ b.back ∙ ap (λ ds. ds ++ left.door ∷ []) d.back)
@@ -31,8 +31,8 @@ returns-in-Err-clause-served g c =
     let old = c.args.host.now in let new = c.give_links-in-Err.new.host in
     let (rose, same) = counted g.row.H-Door.Denot c.in-Err.fault (h.door_faults old) (h.door_faults c.door.new.self) (h.door_faults new) c.in-Err.ensures.count l.faults.same_door in
     inr (no_door c.args.port c.in-Err.fault c.args.links.items
-    (around_door (g.K.Sink.written c.args.output.now) (h.doors_given old) (h.doors_back old) (h.links_given old) (h.links_back old) (h.door_faults old) (h.link_faults old))
-    (around_door (g.K.Sink.written c.args.output.now) (h.doors_given new) (h.doors_back new) (h.links_given new) (h.links_back new) (h.door_faults new)
+    (around_door (g.K.Sink.wrote c.args.output.now) (h.doors_given old) (h.doors_back old) (h.links_given old) (h.links_back old) (h.door_faults old) (h.link_faults old))
+    (around_door (g.K.Sink.wrote c.args.output.now) (h.doors_given new) (h.doors_back new) (h.links_given new) (h.links_back new) (h.door_faults new)
     (h.link_faults new)) c.host_status.result c.host_status.ensures refl
     (l.doors.same_given ∙ c.in-Err.ensures.given)
     (l.doors.same_back ∙ d.back)

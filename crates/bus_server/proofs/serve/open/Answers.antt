@@ -12,8 +12,8 @@ returns-clause-opened g c =
     let served = c.serve_door-serving in
     let left = served.result in
     let book = c.close-book.result in
-    let old = g.K.Sink.written c.args.output.now in
-    let new = g.K.Sink.written c.end_status-status.new.output in
+    let old = g.K.Sink.wrote c.args.output.now in
+    let new = g.K.Sink.wrote c.end_status-status.new.output in
     opens (shown_by g.D.Door.faults g.D.Door.ahead g.D.Door.given g.D.Door.ended g.D.Door.gave g.D.Door.took_back g.D.Door.closed) (IsVisit g.D.In.Source.gave g.D.Out.Sink.wrote g.D.In.Source.faults g.D.Out.Sink.faults)
     (visit_lasts g.D.In.Source.gave g.D.Out.Sink.wrote g.D.In.Source.faults g.D.Out.Sink.faults) c.args.connections c.args.door left.door c.args.links.items left.owns.items
     (seen_by served.new.pass.seat) book left.end old new c.end_status-status.result served.ensures.served

@@ -21,9 +21,9 @@ returns-in-Ok-take_links-clause-serve g c =
     let links = c.take_links.new.links in
     serves (shown_by g.H.Door.Door.faults g.H.Door.Door.ahead g.H.Door.Door.given g.H.Door.Door.ended g.H.Door.Door.gave g.H.Door.Door.took_back g.H.Door.Door.closed) (IsVisit g.H.Door.In.Source.gave g.H.Door.Out.Sink.wrote g.H.Door.In.Source.faults g.H.Door.Out.Sink.faults)
     c.args.port c.args.workers c.args.connections links.items
-    (around_door (g.K.Sink.written c.args.output.now) (h.doors_given old) (h.doors_back old) (h.links_given old) (h.links_back old) (h.door_faults old) (h.link_faults old))
-    (around_door (g.K.Sink.written c.args.output.now) (h.doors_given mid) (h.doors_back mid) (h.links_given mid) (h.links_back mid) (h.door_faults mid) (h.link_faults mid))
-    (around_door (g.K.Sink.written c.at_port.new.output) (h.doors_given new) (h.doors_back new) (h.links_given new) (h.links_back new) (h.door_faults new)
+    (around_door (g.K.Sink.wrote c.args.output.now) (h.doors_given old) (h.doors_back old) (h.links_given old) (h.links_back old) (h.door_faults old) (h.link_faults old))
+    (around_door (g.K.Sink.wrote c.args.output.now) (h.doors_given mid) (h.doors_back mid) (h.links_given mid) (h.links_back mid) (h.door_faults mid) (h.link_faults mid))
+    (around_door (g.K.Sink.wrote c.at_port.new.output) (h.doors_given new) (h.doors_back new) (h.links_given new) (h.links_back new) (h.door_faults new)
     (h.link_faults new)) c.at_port.result refl t.doors.same_given t.doors.same_back t.given t.back t.same.0 c.in-Ok-take_links.ensures.counts
     (omega (arith, links.ok, c.in-Ok-take_links.ensures.all, c.from-count.ensures)) c.at_port.ensures.served
 
@@ -37,8 +37,8 @@ returns-in-Ok-listening_line-clause-serve g c =
     let (rose, same) = counted_host (Unit {0}) fault (h.link_faults old) (h.link_faults c.take_links.new.host) (h.link_faults new) c.in-Err-take_links.ensures.counts
     l.faults.same_link in
     inr (no_links c.args.port c.args.workers fault links.items
-    (around_door (g.K.Sink.written c.args.output.now) (h.doors_given old) (h.doors_back old) (h.links_given old) (h.links_back old) (h.door_faults old) (h.link_faults old))
-    (around_door (g.K.Sink.written c.args.output.now) (h.doors_given new) (h.doors_back new) (h.links_given new) (h.links_back new) (h.door_faults new)
+    (around_door (g.K.Sink.wrote c.args.output.now) (h.doors_given old) (h.doors_back old) (h.links_given old) (h.links_back old) (h.door_faults old) (h.link_faults old))
+    (around_door (g.K.Sink.wrote c.args.output.now) (h.doors_given new) (h.doors_back new) (h.links_given new) (h.links_back new) (h.door_faults new)
     (h.link_faults new)) c.host_status.result c.host_status.ensures refl
     (l.doors.same_given ∙ t.doors.same_given)
     (l.doors.same_back ∙ t.doors.same_back)
