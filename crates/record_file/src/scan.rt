@@ -68,6 +68,8 @@ impl Scan {
         ensures count { Counts (D.faults disk.old) (D.faults disk.new) (next_outcome result) }
         ensures found { self.new.found ≡ self.old.found }
         ensures place { self.new.place ≡ self.old.place }
+        ensures size { self.new.size ≡ self.old.size }
+        ensures ahead { result ≡ Next.Record → self.new.place < self.new.next_place }
         ensures opened { (since : ℕ) → IsOpened (D.calls disk.old) since → IsOpened (D.calls disk.new) since }
         ensures scan { IsScan (D.calls disk.old) self.old → IsScan (D.calls disk.new) self.new }
         ensures next { IsScan (D.calls disk.old) self.old → (first file : List ℕ) → AreAnswers first (D.calls disk.new) →
@@ -93,6 +95,8 @@ impl Scan {
     /// Goes on after the record that `next` met last.
     pub fn admit(&mut self)
         ensures found { self.new.found ≡ self.old.found ++ payload_of self.old ∷ [] }
+        ensures place { self.new.place ≡ self.old.next_place }
+        ensures size { self.new.size ≡ self.old.size }
         ensures scan { (file : List ℕ) → IsScanOf file self.old → IsNext file self.old Next.Record → IsScanOf file self.new }
     {
         self.found
