@@ -13,6 +13,7 @@
 mod TablesLemmas
 mod BatchLemmas
 mod ClaimLemmas
+mod SettleLemmas
 pub mod MatchingLemmas
 pub mod DutyLemmas
 pub mod OnceLemmas

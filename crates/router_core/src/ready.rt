@@ -20,8 +20,8 @@ use std::collections::VecDeque;
 
 /// What applying one entry of a batch needs. All its memory is allocated. A part is made from its entry, and of a change also from the rule
 /// set before it; nothing else of the tables is in it. So a journal that reads batches back can make their parts again, each on the rule
-/// set after the entries before it. An attempt has no part: `Tables::finish` applies it with its claim. Such a journal will need one for it,
-/// for which `Nothing` serves: `Tables::apply` then claims the duty by its number and settles it, both without memory.
+/// set after the entries before it. An attempt has no part: `Tables::finish` applies it with its claim, and `Tables::settle_at` by its duty's
+/// number.
 #[derive(Drop)]
 pub enum Part {
     /// Of a change: the rule set after it, and the new queue if it creates one.

@@ -360,6 +360,22 @@ impl Tables {
         }
     }
 
+    /// Applies the batch that records an attempt of the duty of this number, which is pending and not claimed. Returns the duty's fate. Takes
+    /// no memory. Visits the unclaimed duties that come before it.
+    pub fn settle_at(&mut self, duty: u64, outcome: Outcome, moment: u64) -> Fate
+        requires admitted { IsAdmitted self.old (record_of moment duty outcome) }
+        requires free { (row : DutyRow) × (pending_row duty self.old.duties ≡ Some row) × (row.claimed ≡ false) × (row.number ≡ duty) }
+        ensures fate { (row : DutyRow) → pending_row duty self.old.duties ≡ Some row → result ≡ fate_after self.old.duties.queues moment row outcome }
+        ensures tables { self.new ≡ after_batch (record_of moment duty outcome) self.old }
+    {
+        let claim = self.duties.claim_at(duty);
+        let fate = self.duties.settle(claim, outcome, moment);
+        self.entries += 1;
+        self.batches += 1;
+        self.moment = moment;
+        fate
+    }
+
     /// Releases the errand's claim: the duty can be claimed again.
     pub fn put_back(&mut self, errand: Errand)
         requires { IsErrandOf self.old errand }
