@@ -1,11 +1,11 @@
 -- What reading one more piece does. Other files cite `read_none`, `read_piece_more`, `lacks_now`, `starved`, `whole_starved`.
-use Rattle.std.proofs.Common.{◌≡◌, ◌≢◌, ℕ, inl, inr, Bool, true, false, List, [], ◌∷◌, ◌++◌, sym, ap, ◌∙◌, append_assoc, append-nil, refl}
+use Rattle.std.proofs.Common.{◌≡◌, ℕ, inl, inr, Bool, true, false, List, [], ◌∷◌, ◌++◌, sym, ap, ◌∙◌, append_assoc, append-nil, refl}
 use Rattle.std.specs.Prelude.{IsTrue, IsFalse}
 use Rattle.httparse.specs.Grammar.{HasNoRequest, print_request}
 use Rattle.api_messages.specs.declared.message.Message.{Message}
 use Rattle.api_messages.specs.Messages.{HoldsMessage, IsAwaited}
 use Rattle.api_messages.specs.Between.{HasHead}
-use Rattle.router_sessions.specs.Session.{IsWhole}
+use Rattle.router_sessions.specs.Session.{IsWhole, IsPiece}
 use Rattle.router_sessions.specs.declared.incoming.Lack.{Lack}
 use Rattle.router_sessions.specs.declared.incoming.Lack.TheVariants as lacks
 use Rattle.router_sessions.specs.Incoming.{AreRead, one_more, none, LackOf, end_piece}
@@ -18,7 +18,7 @@ pub read_none : (gave : List (List ℕ)) (held : List ℕ) → IsReading gave ga
 read_none gave held = ([], sym (append-nil gave), none)
 
 pub read_piece_more : (gave mid new : List (List ℕ)) (first held piece : List ℕ) → IsReading gave mid first held → new ≡ mid ++ piece ∷ [] → IsAwaited held
-    → piece ≢ [] → IsReading gave new first (held ++ piece)
+    → IsPiece piece → IsReading gave new first (held ++ piece)
 read_piece_more gave mid new first held piece (pieces, is, read) more awaited some = (
   pieces ++ piece ∷ [],
   more ∙ ap (λ (g : List (List ℕ)). g ++ piece ∷ []) is ∙ append_assoc gave pieces (piece ∷ []),

@@ -1,11 +1,11 @@
 -- What reading the next message returns.
-use Rattle.std.specs.Prelude.{◌≡◌, ◌≢◌, ℕ, ◌⊎◌, true, false, List, [], ◌∷◌, ◌++◌, Option, Some, None}
+use Rattle.std.specs.Prelude.{◌≡◌, ℕ, ◌⊎◌, true, false, List, [], ◌∷◌, ◌++◌, Option, Some, None}
 use Rattle.api_replies.specs.Reply.{no_memory}
 use Rattle.api_messages.specs.declared.message.Refusal.{Refusal}
 use Rattle.api_messages.specs.Messages.{HoldsMessage, IsAwaited, IsRefused}
 use Rattle.api_messages.specs.Between.{AreEmptyLines, HasHead}
 use Rattle.api_replies.specs.Written.{reply_text}
-use Rattle.router_sessions.specs.Session.{refusal_reply, IsWhole}
+use Rattle.router_sessions.specs.Session.{refusal_reply, IsWhole, IsPiece}
 use Rattle.router_sessions.specs.declared.incoming.Incoming.{Incoming}
 use Rattle.router_sessions.specs.declared.incoming.Incoming.TheVariants as incoming
 use Rattle.router_sessions.specs.declared.incoming.Lack.{Lack}
@@ -16,7 +16,7 @@ use Rattle.router_sessions.specs.declared.session.SessionEnd.TheVariants as ends
 -- the pieces that were read while the buffered bytes were awaited, and what was buffered then
 pub data AreRead (first : List ℕ) : List (List ℕ) → List ℕ → Type 0 where
   none : AreRead first [] first
-  one_more : (pieces : List (List ℕ)) (held piece : List ℕ) → AreRead first pieces held → IsAwaited held → piece ≢ []
+  one_more : (pieces : List (List ℕ)) (held piece : List ℕ) → AreRead first pieces held → IsAwaited held → IsPiece piece
       → AreRead first (pieces ++ piece ∷ []) (held ++ piece)
 
 -- why these bytes give no message

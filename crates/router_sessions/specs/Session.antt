@@ -1,5 +1,5 @@
 -- A session as one list of acts.
-use Rattle.std.specs.Prelude.{◌≡◌, ◌≢◌, ◌+◌, ◌==◌, ◌||◌, ◌⊎◌, ℕ, Bool, true, false, List, [], ◌∷◌, ◌++◌, None}
+use Rattle.std.specs.Prelude.{◌≡◌, ◌≢◌, ◌≤◌, ◌+◌, ◌==◌, ◌||◌, ◌⊎◌, ℕ, Bool, true, false, List, [], ◌∷◌, ◌++◌, length, None}
 use Rattle.router_core.specs.Request.{deliver_due, Request}
 use Rattle.api_replies.specs.declared.cause.Cause.{Cause}
 use Rattle.api_replies.specs.Reply.{Reply, Counts, counted, refused as refusal_of, not_post, limit_reply, no_memory, bad_head, length_required, too_large, head_too_large}
@@ -75,12 +75,17 @@ request_limit = 1048576
 abbrev pub closes : ℕ → Message → Bool
 closes n m = m.close || (n == request_limit)
 
+-- What a read gave that did not find the end: some bytes, at most 16,384 (this project's own choice).
+-- Shown by: proofs alone.
+abbrev pub IsPiece : List ℕ → Type 0
+IsPiece piece = (piece ≢ []) × (length piece ≤ 16384)
+
 -- A session that goes on: the messages answered, the bytes that were read and not yet taken, and its acts. It begins with a look. It reads
 -- only if the bytes are the beginning of a message, and answers each message as soon as it is whole.
 -- Shown by: session_tests tests.rt: the_first_run_has_its_replies.
 pub data Serving : ℕ → List ℕ → List Act → Type 0 where
   begun : (s : State) → Serving 0 [] (looks s ∷ [])
-  reads_on : (n : ℕ) (held piece : List ℕ) (acts : List Act) → Serving n held acts → IsAwaited held → piece ≢ []
+  reads_on : (n : ℕ) (held piece : List ℕ) (acts : List Act) → Serving n held acts → IsAwaited held → IsPiece piece
       → Serving n (held ++ piece) (acts ++ reads piece ∷ [])
   answers : (n : ℕ) (held rest : List ℕ) (acts done : List Act) (m : Message) (reply : Reply) → Serving n held acts → HoldsMessage held m rest
       → Answers m done reply → closes (n + 1) m ≡ false → Serving (n + 1) rest (acts ++ (done ++ writes (sent_text m.method reply false) ∷ []))

@@ -1,5 +1,5 @@
 //! The next message of an input.
-ghost use Rattle.std.specs.Prelude.{◌≡◌, ◌≢◌, ◌<◌, ◌∷◌, [], None, length};
+ghost use Rattle.std.specs.Prelude.{◌≡◌, ◌≢◌, ◌<◌, ◌≤◌, ◌∷◌, [], None, length};
 ghost use Rattle.std.specs.Io.{ReadsAtMost};
 ghost use Rattle.router_disk.specs.Faults.{CountsFaults, Rose};
 ghost use Rattle.router_disk.specs.Source.{GivesPiece};
@@ -37,6 +37,7 @@ pub(crate) fn next_message<S: Source>(
     piece: &mut [u8],
 ) -> Incoming
     requires room { 0 < length piece.old }
+    requires most { length piece.old ≤ 16384 }
     requires open { wire.old.refused ≡ None }
     ensures next { NextOf (S.gave input.old) (S.gave input.new) wire.old.rest wire.new.rest result }
     ensures open { StaysOpen result wire.new.refused }

@@ -13,6 +13,7 @@ loop-message-init g c = record {
   unrefused = search rules;
   faultless = search rules;
   room = search rules;
+  most = search rules;
 }
 
 pub returns-in-Ok-Some-clause-next : goal.returns-in-Ok-Some-clause-next
@@ -67,12 +68,15 @@ loop-message-preserved g c =
     let within : c.in-Ok.count ≤ length c.read_piece.new.piece = c.in-Ok.ensures.within.0 in
     let read : ¬ (c.in-Ok.count ≡ 0) = c.in-Ok.count-test.1 in
     let some : piece ≢ [] = λ none. absurd (omega (arith, ap length none, length-take c.in-Ok.count c.read_piece.new.piece, within, read)) in
+    let all : length c.read_piece.new.piece ≤ 16384 = search rules in
+    let most : length piece ≤ 16384 = omega (arith, length-take c.in-Ok.count c.read_piece.new.piece, all, within) in
     record {
       reading = subst (λ (bytes : List ℕ). IsReading (g.S.Source.gave c.args.input.now) (g.S.Source.gave c.read_piece.new.input) c.args.wire.now.rest bytes) (sym longer)
-          (read_piece_more _ _ _ c.args.wire.now.rest c.loop-message.wire.rest piece c.loop-message.invariant.reading c.in-Ok.ensures.piece awaited.0 some);
+          (read_piece_more _ _ _ c.args.wire.now.rest c.loop-message.wire.rest piece c.loop-message.invariant.reading c.in-Ok.ensures.piece awaited.0 (some, most));
       unrefused = c.feed.ensures.refused ∙ c.reserve.ensures.refused ∙ ap (λ (w : Incoming). w.refused) awaited.1 ∙ c.loop-message.invariant.unrefused;
       faultless = search rules;
       room = search rules;
+      most = search rules;
     }
 
 pub loop-message-smaller : goal.loop-message-smaller

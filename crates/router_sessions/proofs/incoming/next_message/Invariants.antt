@@ -1,4 +1,4 @@
-use Rattle.std.proofs.Common.{◌≡◌, ◌-◌, ◌<◌, None, length}
+use Rattle.std.proofs.Common.{◌≡◌, ◌-◌, ◌<◌, ◌≤◌, None, length}
 use Rattle.router_sessions.proofs.IncomingLemmas.{IsReading}
 use Rattle.router_sessions.proofs.incoming.next_message.Given as goal
 
@@ -9,6 +9,7 @@ invariant-loop-message g l = record {
   unrefused : l.wire.refused ≡ None;
   faultless : g.S.Source.faults l.input ≡ g.S.Source.faults l.initial.input;
   room : 0 < length l.piece;
+  most : length l.piece ≤ 16384;
 }
 
 -- what is awaited is shorter than this
