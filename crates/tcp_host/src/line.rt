@@ -8,6 +8,10 @@ use std::net::{Shutdown, TcpStream};
 use std::sync::atomic::{AtomicBool, AtomicU64, Ordering};
 use std::time::Duration;
 
+/// How many milliseconds one wait of the system lasts at most. Linux ends a wait of 16.4 s or more up to 2 s late, and one of
+/// 16 s within 0.3 s, if its timers tick 250 times a second.
+const LONGEST_WAIT: u64 = 16_000;
+
 /// In place of a time: the connection does not wait for that.
 const NEVER: u64 = u64::MAX;
 
@@ -112,6 +116,11 @@ impl Line {
         self.stream.shutdown(Shutdown::Write)?;
         self.stream.set_nonblocking(true)
     }
+}
+
+/// How long one read or write waits if so much time is left: at most 16 s. After that it is made again.
+pub(crate) fn one_wait(left: Duration) -> Duration {
+    left.min(Duration::from_millis(LONGEST_WAIT))
 }
 
 fn time_in(word: &AtomicU64) -> Option<u64> {

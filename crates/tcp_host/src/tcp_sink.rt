@@ -3,7 +3,7 @@ ghost use Rattle.std.specs.Prelude.{◌≡◌, []};
 ghost use Rattle.router_disk.specs.Sink.{AddsBytes};
 
 use crate::http_link::is_waiting;
-use crate::line::Line;
+use crate::line::{Line, one_wait};
 use bus_host::raise;
 use router_disk::{Failed, Heard, Sink};
 use std::sync::Arc;
@@ -53,7 +53,7 @@ impl<C: Clock> TcpSink<C> {
             if left.is_zero() {
                 break;
             }
-            match self.line.write(rest, left) {
+            match self.line.write(rest, one_wait(left)) {
                 Ok(0) => break,
                 Ok(count) => {
                     self.wrote.hear(&rest[..count]);

@@ -4,7 +4,7 @@ ghost use Rattle.std.specs.Io.{ReadsAtMost};
 
 use crate::alone::Alone;
 use crate::http_link::is_waiting;
-use crate::line::Line;
+use crate::line::{Line, one_wait};
 use crate::times::Times;
 use bus_host::raise;
 use router_disk::{Failed, Pieces, Source};
@@ -30,7 +30,7 @@ pub struct TcpSource<C> {
     /// Whether a reply was written. Before the first one the socket is read even if the door has ended the connection, so
     /// that a request that has arrived is not lost.
     answered: bool,
-    /// How long a read of the socket waits; zero, if no time is set yet.
+    /// How long a read of the socket waits, at most 16 s; zero, if no time is set yet.
     wait: Duration,
     gave: Pieces,
     faults: u64,
@@ -139,12 +139,13 @@ impl<C: Clock> TcpSource<C> {
         Ok(false)
     }
 
-    /// Has a read of the socket wait until the input is over, within 50 ms, and at least 1 ms.
+    /// Has a read of the socket wait until the input is over, within 50 ms, and at least 1 ms; but at most 16 s, after which
+    /// it is made again.
     fn set_wait(&mut self, now: u64) -> Result<(), Failed>
         ensures gave { self.new.gave ≡ self.old.gave }
         ensures faults { self.new.faults ≡ self.old.faults }
     {
-        let left = self.times.waited(now).left(self.alone.get());
+        let left = one_wait(self.times.waited(now).left(self.alone.get()));
         let slack = Duration::from_millis(SLACK);
         if self.wait.saturating_sub(left) < slack
             && left.saturating_sub(self.wait) < slack
