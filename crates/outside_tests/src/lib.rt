@@ -20,6 +20,8 @@ mod test_router_disk;
 #[cfg(test)]
 mod test_shared_door;
 #[cfg(test)]
+mod test_tcp_connections;
+#[cfg(test)]
 mod test_tcp_host;
 #[cfg(test)]
 mod test_turn_book;

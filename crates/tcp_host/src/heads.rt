@@ -1,10 +1,10 @@
 // The bytes of a reply that have arrived.
-use crate::http_link::is_waiting;
 use http_target::{Reply, read_reply};
 use std::io;
 use std::io::Read;
 use std::marker::Model;
 use std::net::OpenStream;
+use tcp_connections::is_waiting;
 
 /// How many bytes the heads of a reply may have together.
 const HEADS_LIMIT: usize = 16_384;

@@ -10,6 +10,7 @@ use std::io;
 use std::io::{ErrorKind, Write};
 use std::net::{IpAddr, Ipv4Addr, Ipv6Addr, Net, OpenStream, SocketAddr};
 use std::time::{Clock, Duration, Instant};
+use tcp_connections::is_waiting;
 
 /// How many seconds a send may take, from connecting to the whole head of the reply.
 const LIMIT: u64 = 5;
@@ -132,14 +133,6 @@ impl<N: Net + Clock> HttpLink<N> {
             Err(_) => Duration::ZERO,
         }
     }
-}
-
-/// Whether a call may be made again.
-pub(crate) fn is_waiting(kind: ErrorKind) -> bool {
-    matches!(
-        kind,
-        ErrorKind::Interrupted | ErrorKind::WouldBlock | ErrorKind::TimedOut
-    )
 }
 
 impl<N: Net + Clock + Send> Link for HttpLink<N> {

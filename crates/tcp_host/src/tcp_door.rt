@@ -5,9 +5,6 @@ ghost use Rattle.bus_host.specs.Knock.{knock_outcome};
 ghost use Rattle.tcp_host.specs.Places.{fresh, limit_for, out_after};
 
 use crate::alone::Alone;
-use crate::closing::Closing;
-use crate::line::Line;
-use crate::lines::Lines;
 use crate::listening::{Arrival, Listening, pause};
 use crate::tcp_source::nanos_between;
 use crate::waiting::Waiting;
@@ -19,9 +16,10 @@ use std::marker::Model;
 use std::net::{Net, TcpListener, TcpStream};
 use std::sync::Arc;
 use std::time::{Clock, Instant};
+use tcp_connections::{Closing, Connection, OpenConnections};
 
 /// A door at a port of 127.0.0.1. `next` waits at most 5 ms. Only EBADF, EINVAL and ENOTSOCK of accept(2) are its fault.
-/// If all connections that there may be are out, `next` ends one of them for each client that waits (`Lines::end_for`), by
+/// If all connections that there may be are out, `next` ends one of them for each client that waits (`OpenConnections::end_for`), by
 /// ending its receiving side: its session finds the end of its input, and what it writes still goes to its client.
 /// `done` ends the sending side; each `next` then drops what such clients still send, at most 256 KiB of each of 24
 /// connections, and closes them at the client's end or after 1 s, so that a client refused while it sends gets its reply as
@@ -38,7 +36,7 @@ pub struct TcpDoor<N> {
     /// How many connections were begun.
     begun: u64,
     alone: Arc<Alone>,
-    lines: Lines,
+    open: OpenConnections,
     waiting: Waiting,
     closing: Closing,
     given: Log<TcpSource<N>, TcpSink<N>>,
@@ -93,7 +91,7 @@ impl<N: Net<Stream = TcpStream, Listener = TcpListener> + Clock + Copy> TcpDoor<
             out: 0,
             begun: 0,
             alone,
-            lines: Lines::new(),
+            open: OpenConnections::new(),
             waiting,
             closing,
             given: Log::new(),
@@ -131,7 +129,7 @@ impl<N: Net<Stream = TcpStream, Listener = TcpListener> + Clock + Copy> TcpDoor<
             return;
         }
         if let Ok(now) = Instant::now(&self.system) {
-            self.lines
+            self.open
                 .end_for(self.waiting.count(), nanos_between(self.start, now));
         }
     }
@@ -157,39 +155,39 @@ impl<N: Net<Stream = TcpStream, Listener = TcpListener> + Clock + Copy> TcpDoor<
             return Knock::Quiet;
         };
         let now = nanos_between(self.start, now);
-        match self.line(stream, now) {
-            Ok(line) => self.give(line, now),
+        match self.connection(stream, now) {
+            Ok(connection) => self.give(connection, now),
             Err(HostFault::Failed) => Knock::Quiet,
             Err(HostFault::NoMemory) => Knock::NoMemory,
         }
     }
 
-    /// The line of a connection that begins now. It is among those that are out.
-    fn line(&mut self, stream: TcpStream, now: u64) -> Result<Arc<Line>, HostFault>
+    /// A connection that begins now. It is among those that are out.
+    fn connection(&mut self, stream: TcpStream, now: u64) -> Result<Arc<Connection>, HostFault>
         ensures { self.new ≡ self.old }
     {
         let number = self.begun;
         self.begun = number.saturating_add(1);
-        let Ok(line) = Line::new(stream, number, now) else {
+        let Ok(connection) = Connection::new(stream, number, now) else {
             return Err(HostFault::Failed);
         };
-        let Ok(line) = Arc::new(self.alloc, line) else {
+        let Ok(connection) = Arc::new(self.alloc, connection) else {
             return Err(HostFault::NoMemory);
         };
-        match self.lines.add(self.alloc, &line) {
-            Ok(()) => Ok(line),
+        match self.open.add(self.alloc, &connection) {
+            Ok(()) => Ok(connection),
             Err(AllocError) => Err(HostFault::NoMemory),
         }
     }
 
     /// Gives a connection.
-    fn give(&mut self, line: Arc<Line>, now: u64) -> Knock<TcpSource<N>, TcpSink<N>>
+    fn give(&mut self, connection: Arc<Connection>, now: u64) -> Knock<TcpSource<N>, TcpSink<N>>
         requires { self.old.out < self.old.limit }
         ensures outcome { knock_outcome result ≡ Ok tt }
         ensures open { false ≡ closed_after false result }
         ensures out { self.new ≡ record self.old { out = out_after self.old.out result; given = self.old.given ++ given_by result } }
     {
-        match self.halves(line, now) {
+        match self.halves(connection, now) {
             Ok((input, output)) => {
                 self.out += 1;
                 self.given = self.given.and(&input, &output);
@@ -200,10 +198,20 @@ impl<N: Net<Stream = TcpStream, Listener = TcpListener> + Clock + Copy> TcpDoor<
     }
 
     /// Fails only if the count of an `Arc` is full.
-    fn halves(&self, line: Arc<Line>, now: u64) -> Result<(TcpSource<N>, TcpSink<N>), AllocError> {
+    fn halves(
+        &self,
+        connection: Arc<Connection>,
+        now: u64,
+    ) -> Result<(TcpSource<N>, TcpSink<N>), AllocError> {
         let alone = Arc::try_clone(&self.alone)?;
-        let input = TcpSource::new(Arc::try_clone(&line)?, alone, self.system, self.start, now);
-        Ok((input, TcpSink::new(line, self.system)))
+        let input = TcpSource::new(
+            Arc::try_clone(&connection)?,
+            alone,
+            self.system,
+            self.start,
+            now,
+        );
+        Ok((input, TcpSink::new(connection, self.system)))
     }
 }
 
@@ -273,8 +281,8 @@ impl<N: Net<Stream = TcpStream, Listener = TcpListener> + Clock + Copy + Send> D
         let ended = Ended { input, output, cut };
         self.ended = self.ended.and(&ended, &());
         let Ended { input, .. } = ended;
-        let TcpSource { line, .. } = input;
-        self.lines.take_back(&line);
-        self.closing.add(line, &self.system);
+        let TcpSource { connection, .. } = input;
+        self.open.take_back(&connection);
+        self.closing.add(connection, &self.system);
     }
 }

@@ -2,12 +2,11 @@
 ghost use Rattle.std.specs.Prelude.{◌≡◌, []};
 ghost use Rattle.router_disk.specs.Sink.{AddsBytes};
 
-use crate::http_link::is_waiting;
-use crate::line::{Line, one_wait};
 use bus_host::raise;
 use router_disk::{Failed, Heard, Sink};
 use std::sync::Arc;
 use std::time::{Clock, Duration, Instant};
+use tcp_connections::{Connection, is_waiting, one_wait};
 
 /// How many seconds a reply may take until the system has taken all of it.
 const LIMIT: u64 = 20;
@@ -16,19 +15,19 @@ const LIMIT: u64 = 20;
 /// so does one whose clock fails.
 #[derive(Drop)]
 pub struct TcpSink<C> {
-    line: Arc<Line>,
+    connection: Arc<Connection>,
     clock: C,
     wrote: Heard,
     faults: u64,
 }
 
 impl<C: Clock> TcpSink<C> {
-    pub(crate) fn new(line: Arc<Line>, clock: C) -> Self
+    pub(crate) fn new(connection: Arc<Connection>, clock: C) -> Self
         ensures wrote { result.wrote ≡ [] }
         ensures faults { result.faults ≡ 0 }
     {
         TcpSink {
-            line,
+            connection,
             clock,
             wrote: Heard::new(),
             faults: 0,
@@ -46,14 +45,14 @@ impl<C: Clock> TcpSink<C> {
         let mut rest = bytes;
         for _ in 0..u64::MAX {
             if rest.is_empty() {
-                self.line.note_reply();
+                self.connection.note_reply();
                 return Ok(());
             }
             let left = self.left(start);
             if left.is_zero() {
                 break;
             }
-            match self.line.write(rest, one_wait(left)) {
+            match self.connection.write(rest, one_wait(left)) {
                 Ok(0) => break,
                 Ok(count) => {
                     self.wrote.hear(&rest[..count]);

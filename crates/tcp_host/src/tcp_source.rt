@@ -3,13 +3,11 @@ ghost use Rattle.std.specs.Prelude.{◌≡◌, []};
 ghost use Rattle.std.specs.Io.{ReadsAtMost};
 
 use crate::alone::Alone;
-use crate::http_link::is_waiting;
-use crate::line::{Line, one_wait};
-use crate::times::Times;
 use bus_host::raise;
 use router_disk::{Failed, Pieces, Source};
 use std::sync::Arc;
 use std::time::{Clock, Duration, Instant};
+use tcp_connections::{Connection, Times, is_waiting, one_wait};
 
 /// How many milliseconds a read may wait too long or too short, so that not each read sets its time anew.
 const SLACK: u64 = 50;
@@ -19,7 +17,7 @@ const SLACK: u64 = 50;
 /// clock; if the clock fails, the read fails.
 #[derive(Drop)]
 pub struct TcpSource<C> {
-    pub(crate) line: Arc<Line>,
+    pub(crate) connection: Arc<Connection>,
     alone: Arc<Alone>,
     clock: C,
     /// When the door was opened.
@@ -39,7 +37,7 @@ pub struct TcpSource<C> {
 impl<C: Clock> TcpSource<C> {
     /// A source of a connection that begins now, in nanoseconds since the door was opened.
     pub(crate) fn new(
-        line: Arc<Line>,
+        connection: Arc<Connection>,
         alone: Arc<Alone>,
         clock: C,
         start: Instant,
@@ -49,7 +47,7 @@ impl<C: Clock> TcpSource<C> {
         ensures faults { result.faults ≡ 0 }
     {
         TcpSource {
-            line,
+            connection,
             alone,
             clock,
             start,
@@ -77,11 +75,11 @@ impl<C: Clock> TcpSource<C> {
     {
         let rests = self.rests;
         self.begin()?;
-        if rests && self.answered && self.line.is_ended() {
+        if rests && self.answered && self.connection.is_ended() {
             return Ok(0);
         }
         for _ in 0..u64::MAX {
-            match self.line.read(buf) {
+            match self.connection.read(buf) {
                 Ok(0) => return Ok(0),
                 Ok(count) => {
                     self.note_bytes();
@@ -106,11 +104,11 @@ impl<C: Clock> TcpSource<C> {
         ensures faults { self.new.faults ≡ self.old.faults }
     {
         let now = self.now()?;
-        let replied = self.line.take_reply();
+        let replied = self.connection.take_reply();
         self.answered = self.answered | replied;
         self.times = self.times.at_read(now, replied, self.rests);
         self.rests = false;
-        self.line.show(self.times);
+        self.connection.show(self.times);
         self.set_wait(now)
     }
 
@@ -121,7 +119,7 @@ impl<C: Clock> TcpSource<C> {
     {
         let now = self.now().unwrap_or(self.times.last);
         self.times = self.times.at_bytes(now);
-        self.line.show(self.times);
+        self.connection.show(self.times);
     }
 
     /// Whether the input ends here. If it does not, sets how long the next read of the socket waits.
@@ -154,7 +152,7 @@ impl<C: Clock> TcpSource<C> {
             return Ok(());
         }
         let left = left.max(Duration::from_millis(1));
-        match self.line.set_wait(left) {
+        match self.connection.set_wait(left) {
             Ok(()) => {
                 self.wait = left;
                 Ok(())

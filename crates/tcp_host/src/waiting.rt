@@ -1,7 +1,8 @@
 // Clients that have connected and wait for a place.
-ghost use Rattle.std.specs.Prelude.{◌≤◌, vec_len, vec_capacity};
+ghost use Rattle.std.specs.Prelude.{◌≡◌};
 
 use crate::listening::{Arrival, Listening};
+use circular_buffer::HeapCircularBuffer;
 use std::alloc::{AllocError, Global};
 use std::net::TcpStream;
 
@@ -11,15 +12,14 @@ const MOST: usize = 8;
 /// The clients that wait for a place, the first one first. Their memory is taken at the start.
 #[derive(Drop)]
 pub(crate) struct Waiting {
-    clients: Vec<TcpStream>,
-    ghost few: { vec_len clients ≤ 8 },
-    ghost room: { 8 ≤ vec_capacity clients },
+    clients: HeapCircularBuffer<TcpStream>,
+    ghost few: { clients.capacity ≡ 8 },
 }
 
 impl Waiting {
     pub(crate) fn new(alloc: Global) -> Result<Waiting, AllocError> {
         Ok(Waiting {
-            clients: Vec::with_capacity(alloc, MOST)?,
+            clients: HeapCircularBuffer::with_capacity(alloc, MOST)?,
         })
     }
 
@@ -30,22 +30,22 @@ impl Waiting {
     /// Adds clients that wait in the system's queue, as many as there is room for.
     pub(crate) fn fill(&mut self, listening: &Listening) {
         for _ in 0..MOST {
-            if self.clients.len() >= MOST {
+            if self.clients.is_full() {
                 return;
             }
             match listening.accept() {
-                Arrival::Client(client) => self.clients.push_reserved(client),
+                Arrival::Client(client) => self.add(client),
                 Arrival::Nobody | Arrival::Lost | Arrival::Broken => return,
             }
         }
     }
 
+    fn add(&mut self, client: TcpStream) {
+        let _ = self.clients.try_push_back(client);
+    }
+
     /// The client that has waited longest.
     pub(crate) fn take(&mut self) -> Option<TcpStream> {
-        if self.clients.is_empty() {
-            None
-        } else {
-            Some(self.clients.remove(0))
-        }
+        self.clients.pop_front()
     }
 }

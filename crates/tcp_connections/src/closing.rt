@@ -1,8 +1,8 @@
 // Connections whose sending side has ended, while their clients may still send (RFC 9112, section 9.6).
-ghost use Rattle.std.specs.Prelude.{◌≤◌, vec_len, vec_capacity};
+ghost use Rattle.std.specs.Prelude.{◌≡◌};
 
-use crate::http_link::is_waiting;
-use crate::line::Line;
+use crate::connection::{Connection, is_waiting};
+use circular_buffer::HeapCircularBuffer;
 use std::alloc::{AllocError, Global};
 use std::sync::Arc;
 use std::time::{Clock, Duration, Instant};
@@ -22,51 +22,61 @@ const PIECES: u32 = 128;
 
 /// The connections that wait for their client's end, the oldest first. Their memory is taken at the start.
 #[derive(Drop)]
-pub(crate) struct Closing {
-    ended: Vec<Ended>,
-    ghost few: { vec_len ended ≤ 24 },
-    ghost room: { 24 ≤ vec_capacity ended },
+pub struct Closing {
+    ended: HeapCircularBuffer<Ended>,
+    ghost few: { ended.capacity ≡ 24 },
 }
 
 #[derive(Drop)]
 struct Ended {
-    line: Arc<Line>,
+    connection: Arc<Connection>,
     since: Instant,
 }
 
 impl Closing {
     /// None waits yet. At most 24 will.
-    pub(crate) fn new(alloc: Global) -> Result<Closing, AllocError> {
+    pub fn new(alloc: Global) -> Result<Closing, AllocError> {
         Ok(Closing {
-            ended: Vec::with_capacity(alloc, MOST)?,
+            ended: HeapCircularBuffer::with_capacity(alloc, MOST)?,
         })
     }
 
-    pub(crate) fn is_empty(&self) -> bool {
+    /// Whether no connection waits.
+    pub fn is_empty(&self) -> bool {
         self.ended.is_empty()
     }
 
     /// Ends the sending side of a connection. It waits for its client's end; if as many wait as may, the oldest is closed.
     /// A connection that cannot be ended, or whose time is not known, is closed at once.
-    pub(crate) fn add(&mut self, line: Arc<Line>, clock: &impl Clock) {
+    pub fn add(&mut self, connection: Arc<Connection>, clock: &impl Clock) {
         let Ok(since) = Instant::now(clock) else {
             return;
         };
-        if line.end_sending().is_err() {
+        if connection.end_sending().is_err() {
             return;
         }
-        if self.ended.len() >= MOST {
-            self.ended.remove(0);
-        }
-        self.ended.push_reserved(Ended { line, since });
+        let _ = self.ended.push_back(Ended { connection, since });
     }
 
     /// Drops what has arrived, at most 256 KiB of each connection. Closes those whose client has ended, and those that
     /// have waited for 1 s; if the clock fails, all.
-    pub(crate) fn drop_arrived(&mut self, clock: &impl Clock) {
+    pub fn drop_arrived(&mut self, clock: &impl Clock) {
         match Instant::now(clock) {
-            Ok(now) => self.ended.retain(|ended| ended.stays(now)),
+            Ok(now) => {
+                for _ in 0..self.ended.len() {
+                    self.look_at_oldest(now);
+                }
+            }
             Err(_) => self.ended.clear(),
+        }
+    }
+
+    /// Closes the oldest one, or puts it at the end if it stays. So after a look at each one they are in their order again.
+    fn look_at_oldest(&mut self, now: Instant) {
+        if let Some(oldest) = self.ended.pop_front()
+            && oldest.stays(now)
+        {
+            let _ = self.ended.push_back(oldest);
         }
     }
 }
@@ -76,7 +86,7 @@ impl Ended {
     fn stays(&self, now: Instant) -> bool {
         let mut piece = [0u8; PIECE];
         for _ in 0..PIECES {
-            match self.line.read(&mut piece) {
+            match self.connection.read(&mut piece) {
                 Ok(0) => return false,
                 Ok(_) => {}
                 Err(fault) => {

@@ -1,6 +1,7 @@
 // When a connection ends without its client's doing.
-ghost use Rattle.std.specs.Prelude.{◌↔◌, IsTrue};
-ghost use Rattle.tcp_host.specs.Ending.{IsOver};
+ghost use Rattle.std.specs.Prelude.{◌≡◌, ◌↔◌, IsTrue, min};
+ghost use Rattle.std.specs.Duration.{as_nanos};
+ghost use Rattle.tcp_connections.specs.Ending.{IsOver, left_of, rest_of};
 
 use std::time::Duration;
 
@@ -47,14 +48,26 @@ impl Waited {
 
     /// How long it may still wait while no client waits. If it is its program's only one at a time, `spares` is true, and it
     /// may be idle between messages only as long as if another client waited.
-    pub(crate) fn left(self, spares: bool) -> Duration {
+    pub fn left(self, spares: bool) -> Duration
+        ensures { as_nanos result ≡ left_of self.idle self.message spares }
+    {
         match self.message {
-            None => Duration::from_millis(if spares { SPARED } else { IDLE }).saturating_sub(
-                self.idle,
-            ),
-            Some(since) => Duration::from_millis(IDLE)
-                .saturating_sub(self.idle)
-                .min(Duration::from_millis(MESSAGE).saturating_sub(since)),
+            None if spares => rest(SPARED, self.idle),
+            None => rest(IDLE, self.idle),
+            Some(since) => shorter(rest(IDLE, self.idle), rest(MESSAGE, since)),
         }
     }
+}
+
+fn rest(millis: u64, spent: Duration) -> Duration
+    ensures { as_nanos result ≡ rest_of millis spent }
+{
+    Duration::from_millis(millis).saturating_sub(spent)
+}
+
+/// The shorter one of two times.
+pub(crate) fn shorter(one: Duration, other: Duration) -> Duration
+    ensures { as_nanos result ≡ min (as_nanos one) (as_nanos other) }
+{
+    if other < one { other } else { one }
 }

@@ -1,9 +1,12 @@
 // A connection's socket, which its source, its sink and its door share.
+ghost use Rattle.std.specs.Prelude.{◌≡◌, ◌⊎◌, ◌↔◌, IsTrue, min};
+ghost use Rattle.std.specs.Duration.{as_nanos};
 ghost use Rattle.std.specs.Io.{ReadsAtMost, WritesAtMost};
 
+use crate::ending::shorter;
 use crate::times::Times;
 use std::io;
-use std::io::{Read, Write};
+use std::io::{ErrorKind, Read, Write};
 use std::net::{Shutdown, TcpStream};
 use std::sync::atomic::{AtomicBool, AtomicU64, Ordering};
 use std::time::Duration;
@@ -16,12 +19,11 @@ const LONGEST_WAIT: u64 = 16_000;
 const NEVER: u64 = u64::MAX;
 
 /// A socket; whether a reply was written since the source last looked; what the connection waits for, and since when, for
-/// its door; and when its door will look at it.
+/// its door; and when its door will look at it. Its times are in nanoseconds since its door was opened.
 #[derive(Drop)]
-pub(crate) struct Line {
+pub struct Connection {
     stream: TcpStream,
     replied: AtomicBool,
-    /// Its place among the connections of its door.
     number: u64,
     idle: AtomicU64,
     message: AtomicU64,
@@ -31,11 +33,12 @@ pub(crate) struct Line {
     ended: AtomicBool,
 }
 
-impl Line {
-    /// A line over an accepted socket, with no Nagle delay, for a connection that begins now.
-    pub(crate) fn new(stream: TcpStream, number: u64, now: u64) -> io::Result<Line> {
+impl Connection {
+    /// A connection that begins now over an accepted socket, with no Nagle delay. `number` is its place among those of its
+    /// door, by which two that began in the same nanosecond differ. Fails if the system does.
+    pub fn new(stream: TcpStream, number: u64, now: u64) -> io::Result<Connection> {
         stream.set_nodelay(true)?;
-        Ok(Line {
+        Ok(Connection {
             stream,
             replied: AtomicBool::new(false),
             number,
@@ -51,20 +54,20 @@ impl Line {
         self.number
     }
 
-    /// How long a read waits at most.
-    pub(crate) fn set_wait(&self, wait: Duration) -> io::Result<()> {
+    /// Sets how long a read waits at most. Fails if `wait` is zero, or the system fails.
+    pub fn set_wait(&self, wait: Duration) -> io::Result<()> {
         self.stream.set_read_timeout(Some(wait))
     }
 
     /// Reads once. Waits for bytes, or until its time is over.
-    pub(crate) fn read(&self, buf: &mut [u8]) -> io::Result<usize>
+    pub fn read(&self, buf: &mut [u8]) -> io::Result<usize>
         ensures { ReadsAtMost result buf.new }
     {
         (&self.stream).read(buf)
     }
 
-    /// Writes once. Waits at most `wait`.
-    pub(crate) fn write(&self, bytes: &[u8], wait: Duration) -> io::Result<usize>
+    /// Writes once. Waits at most `wait` for room.
+    pub fn write(&self, bytes: &[u8], wait: Duration) -> io::Result<usize>
         ensures { WritesAtMost result bytes.now }
     {
         self.stream.set_write_timeout(Some(wait))?;
@@ -72,17 +75,17 @@ impl Line {
     }
 
     /// Notes that a reply was written.
-    pub(crate) fn note_reply(&self) {
+    pub fn note_reply(&self) {
         self.replied.store(true, Ordering::SeqCst);
     }
 
     /// Whether a reply was written since the last call.
-    pub(crate) fn take_reply(&self) -> bool {
+    pub fn take_reply(&self) -> bool {
         self.replied.swap(false, Ordering::SeqCst)
     }
 
     /// Shows the door what the connection waits for.
-    pub(crate) fn show(&self, times: Times) {
+    pub fn show(&self, times: Times) {
         self.idle
             .store(times.idle_since().unwrap_or(NEVER), Ordering::SeqCst);
         self.message
@@ -106,8 +109,8 @@ impl Line {
         let _ = self.stream.shutdown(Shutdown::Read);
     }
 
-    /// Whether its door has ended the receiving side.
-    pub(crate) fn is_ended(&self) -> bool {
+    /// Whether its door has ended the receiving side for a client that waits.
+    pub fn is_ended(&self) -> bool {
         self.ended.load(Ordering::SeqCst)
     }
 
@@ -118,14 +121,26 @@ impl Line {
     }
 }
 
-/// How long one read or write waits if so much time is left: at most 16 s. After that it is made again.
-pub(crate) fn one_wait(left: Duration) -> Duration {
-    left.min(Duration::from_millis(LONGEST_WAIT))
-}
-
 fn time_in(word: &AtomicU64) -> Option<u64> {
     match word.load(Ordering::SeqCst) {
         NEVER => None,
         time => Some(time),
     }
+}
+
+/// How long one read or write waits if so much time is left: at most 16 s. After that it is made again.
+pub fn one_wait(left: Duration) -> Duration
+    ensures { as_nanos result ≡ min (as_nanos left) 16_000_000_000 }
+{
+    shorter(left, Duration::from_millis(LONGEST_WAIT))
+}
+
+/// Whether a call of the system that failed so may be made again.
+pub fn is_waiting(kind: ErrorKind) -> bool
+    ensures { IsTrue result ↔ ((kind ≡ ErrorKind.Interrupted) ⊎ (kind ≡ ErrorKind.WouldBlock) ⊎ (kind ≡ ErrorKind.TimedOut)) }
+{
+    matches!(
+        kind,
+        ErrorKind::Interrupted | ErrorKind::WouldBlock | ErrorKind::TimedOut
+    )
 }

@@ -2,8 +2,8 @@
 ghost use Rattle.std.specs.Prelude.{◌≡◌, ◌∷◌, [], ℕ, List, MatchOption};
 ghost use Rattle.key_tree.specs.Entries.{AreSorted};
 
+use crate::connection::Connection;
 use crate::ending::Waited;
-use crate::line::Line;
 use crate::times::since;
 use key_tree::{KeyTree, Node};
 use std::alloc::{AllocError, Global};
@@ -23,13 +23,13 @@ const AT_ONCE: u64 = 8;
 /// By how many nanoseconds the 5 s of a message are longer than the 0.25 s in which a busy connection is looked at again.
 const AGAIN: u64 = 4_750_000_000;
 
-/// The connections that are out, each in two trees. Its key in a tree is a time before which it has not waited: since then it
-/// may be idle between messages, or may have waited for the rest of a message. So the first of a tree whose key is the time
-/// since which it does wait has waited longest.
+/// The connections that are out: their door gave them, and they have not come back. Each is in two trees. Its key in a tree is a
+/// time before which it has not waited: since then it may be idle between messages, or may have waited for the rest of a
+/// message. So the first of a tree whose key is the time since which it does wait has waited longest.
 #[derive(Drop)]
-pub(crate) struct Lines {
-    idle: KeyTree<Arc<Line>>,
-    messages: KeyTree<Arc<Line>>,
+pub struct OpenConnections {
+    idle: KeyTree<Arc<Connection>>,
+    messages: KeyTree<Arc<Connection>>,
     /// How many of those that are out were ended for clients that wait.
     leaving: usize,
     /// When the last of them was ended, as the pace counts it: 1 ms after the one before it, but no earlier than 7 ms before
@@ -44,9 +44,10 @@ enum Wait {
     Message,
 }
 
-impl Lines {
-    pub(crate) fn new() -> Lines {
-        Lines {
+impl OpenConnections {
+    /// None is out.
+    pub fn new() -> OpenConnections {
+        OpenConnections {
             idle: KeyTree::new(),
             messages: KeyTree::new(),
             leaving: 0,
@@ -54,31 +55,36 @@ impl Lines {
         }
     }
 
-    /// Adds a connection that begins.
-    pub(crate) fn add(&mut self, alloc: Global, line: &Arc<Line>) -> Result<(), AllocError> {
-        let idle = node(alloc, line)?;
-        let message = node(alloc, line)?;
-        put(&mut self.idle, key_of(line, Wait::Idle), idle);
-        put(&mut self.messages, key_of(line, Wait::Message), message);
+    /// Adds a connection that begins. After an error it is not among those that are out.
+    pub fn add(&mut self, alloc: Global, connection: &Arc<Connection>) -> Result<(), AllocError> {
+        let idle = node(alloc, connection)?;
+        let message = node(alloc, connection)?;
+        put(&mut self.idle, key_of(connection, Wait::Idle), idle);
+        put(
+            &mut self.messages,
+            key_of(connection, Wait::Message),
+            message,
+        );
         Ok(())
     }
 
-    /// Removes a connection that is back.
-    pub(crate) fn take_back(&mut self, line: &Line) {
-        if line.is_ended() {
+    /// Removes a connection that has come back. It is no longer counted if it was ended for a client that waits.
+    pub fn take_back(&mut self, connection: &Connection) {
+        if connection.is_ended() {
             self.leaving = self.leaving.saturating_sub(1);
         }
-        self.remove(line);
+        self.remove(connection);
     }
 
-    fn remove(&mut self, line: &Line) {
-        self.idle.remove(key_of(line, Wait::Idle));
-        self.messages.remove(key_of(line, Wait::Message));
+    fn remove(&mut self, connection: &Connection) {
+        self.idle.remove(key_of(connection, Wait::Idle));
+        self.messages.remove(key_of(connection, Wait::Message));
     }
 
-    /// Ends a connection for each of these clients that wait, but for those for which one that was ended is still out. It ends
-    /// at most 8 at once and 1,000 a second, and only those that are over while another client waits.
-    pub(crate) fn end_for(&mut self, waiting: usize, now: u64) {
+    /// Ends a connection for each of `waiting` clients, but for those for which one that was ended is still out. It ends at most
+    /// 8 at once and 1,000 a second, and only those that are over while another client waits. `now` is in nanoseconds since the
+    /// door was opened.
+    pub fn end_for(&mut self, waiting: usize, now: u64) {
         for _ in 0..AT_ONCE {
             if self.leaving >= waiting
                 || now < self.paced.saturating_add(PACE)
@@ -96,13 +102,13 @@ impl Lines {
     /// first, if that is. Returns whether it ended one. It may find none if more than 64 were active since it looked at them.
     fn end_one(&mut self, now: u64) -> bool {
         let found = match over(&mut self.idle, Wait::Idle, now) {
-            Some(line) => Some(line),
+            Some(connection) => Some(connection),
             None => over(&mut self.messages, Wait::Message, now),
         };
         match found {
-            Some(line) => {
-                self.remove(&line);
-                line.end_receiving();
+            Some(connection) => {
+                self.remove(&connection);
+                connection.end_receiving();
                 true
             }
             None => false,
@@ -112,18 +118,18 @@ impl Lines {
 
 impl Wait {
     /// The time since which the connection waits so, if it does.
-    fn since(self, line: &Line) -> Option<u64> {
+    fn since(self, connection: &Connection) -> Option<u64> {
         match self {
-            Wait::Idle => line.idle_since(),
-            Wait::Message => line.message_since(),
+            Wait::Idle => connection.idle_since(),
+            Wait::Message => connection.message_since(),
         }
     }
 
     /// The time by which the connection is in this tree.
-    fn place(self, line: &Line) -> &AtomicU64 {
+    fn place(self, connection: &Connection) -> &AtomicU64 {
         match self {
-            Wait::Idle => &line.idle_place,
-            Wait::Message => &line.message_place,
+            Wait::Idle => &connection.idle_place,
+            Wait::Message => &connection.message_place,
         }
     }
 
@@ -154,17 +160,17 @@ impl Wait {
 
 /// The first connection of a tree, if it has waited since its key, and is over while another client waits. Those before it that
 /// have waited for less get new keys.
-fn over(tree: &mut KeyTree<Arc<Line>>, wait: Wait, now: u64) -> Option<Arc<Line>> {
+fn over(tree: &mut KeyTree<Arc<Connection>>, wait: Wait, now: u64) -> Option<Arc<Connection>> {
     for _ in 0..LOOKS {
-        let line = Arc::try_clone(oldest(tree)?).ok()?;
-        let place = wait.place(&line).load(Ordering::SeqCst);
+        let connection = Arc::try_clone(oldest(tree)?).ok()?;
+        let place = wait.place(&connection).load(Ordering::SeqCst);
         if !wait.is_over(since(place, now)) {
             return None;
         }
-        match wait.since(&line) {
-            Some(time) if time <= place => return Some(line),
-            Some(time) => move_to(tree, &line, wait, time.min(now)),
-            None => move_to(tree, &line, wait, wait.again(now)),
+        match wait.since(&connection) {
+            Some(time) if time <= place => return Some(connection),
+            Some(time) => move_to(tree, &connection, wait, time.min(now)),
+            None => move_to(tree, &connection, wait, wait.again(now)),
         }
     }
     None
@@ -182,27 +188,27 @@ fn oldest<V: Drop>(tree: &KeyTree<V>) -> Option<&V>
 }
 
 /// Gives a connection another key.
-fn move_to(tree: &mut KeyTree<Arc<Line>>, line: &Line, wait: Wait, time: u64) {
-    if let Some(node) = tree.remove(key_of(line, wait)) {
-        wait.place(line).store(time, Ordering::SeqCst);
-        put(tree, key_of(line, wait), node);
+fn move_to(tree: &mut KeyTree<Arc<Connection>>, connection: &Connection, wait: Wait, time: u64) {
+    if let Some(node) = tree.remove(key_of(connection, wait)) {
+        wait.place(connection).store(time, Ordering::SeqCst);
+        put(tree, key_of(connection, wait), node);
     }
 }
 
-fn put(tree: &mut KeyTree<Arc<Line>>, key: u128, node: Node<Arc<Line>>) {
+fn put(tree: &mut KeyTree<Arc<Connection>>, key: u128, node: Node<Arc<Connection>>) {
     if tree.get(key).is_none() {
         tree.insert(key, node);
     }
 }
 
 /// The key of a connection: its time, and then its number.
-fn key_of(line: &Line, wait: Wait) -> u128 {
-    let time = wait.place(line).load(Ordering::SeqCst);
-    u128::from(time) * (1 << 64) + u128::from(line.number())
+fn key_of(connection: &Connection, wait: Wait) -> u128 {
+    let time = wait.place(connection).load(Ordering::SeqCst);
+    u128::from(time) * (1 << 64) + u128::from(connection.number())
 }
 
-fn node(alloc: Global, line: &Arc<Line>) -> Result<Node<Arc<Line>>, AllocError> {
-    match Node::new(alloc, Arc::try_clone(line)?) {
+fn node(alloc: Global, connection: &Arc<Connection>) -> Result<Node<Arc<Connection>>, AllocError> {
+    match Node::new(alloc, Arc::try_clone(connection)?) {
         Ok(node) => Ok(node),
         Err(_) => Err(AllocError),
     }
