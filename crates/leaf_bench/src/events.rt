@@ -30,7 +30,8 @@ pub fn measure(rt: &impl Clock, alloc: Global, detail: &str, rounds: u32) -> Res
     })
 }
 
-fn entry(alloc: Global, detail: &str) -> Result<EventEntry> {
+/// An entry with this detail.
+pub(crate) fn entry(alloc: Global, detail: &str) -> Result<EventEntry> {
     Ok(EventEntry {
         time: None,
         source: Some(Text::from_str(alloc, "shop.orders")?),

@@ -5,6 +5,7 @@
 //! - `ranges_*`: SIZE ranges, made once, and NUMBER looked up a thousand times.
 //! - `json`: standard input, read and written SIZE times; NUMBER is ignored.
 //! - `events`: SIZE events with standard input as their detail; NUMBER is ignored.
+//! - `templates`: a template filled SIZE times from an event with standard input as its detail; NUMBER is ignored.
 //! - `holds_*`: a pattern on two events in turn, SIZE times; each event has a list of NUMBER objects.
 //! - `share`: a rule set of SIZE rules, at most 300, shared NUMBER times.
 //! - `pattern`: standard input, read as a pattern and read as JSON, SIZE times each; NUMBER is ignored.
@@ -15,6 +16,7 @@ mod patterns;
 mod ranges;
 mod reading;
 mod sharing;
+mod templates;
 mod texts;
 mod wildcards;
 
@@ -44,6 +46,7 @@ fn measure(
     match word {
         "json" => json(rt, size),
         "events" => event(rt, size),
+        "templates" => template(rt, size),
         "pattern" => pattern(rt, size),
         "share" => share(rt, size, number),
         _ if word.starts_with("holds") => holds(rt, word, size, number),
@@ -68,6 +71,14 @@ fn json(rt: &(impl Print + Eprint + Input + Clock + AllocGlobal), size: u32) -> 
 fn event(rt: &(impl Print + Eprint + Input + Clock + AllocGlobal), size: u32) -> Result<()> {
     let detail = io::read_to_string(rt.alloc(), rt.reader())?;
     let figures = events::measure(rt, rt.alloc(), detail.as_str(), size)?;
+    println!(rt; "{}", figures.bytes)?;
+    eprintln!(rt; "{}", figures.took.as_micros())?;
+    Ok(())
+}
+
+fn template(rt: &(impl Print + Eprint + Input + Clock + AllocGlobal), size: u32) -> Result<()> {
+    let detail = io::read_to_string(rt.alloc(), rt.reader())?;
+    let figures = templates::measure(rt, rt.alloc(), detail.as_str(), size)?;
     println!(rt; "{}", figures.bytes)?;
     eprintln!(rt; "{}", figures.took.as_micros())?;
     Ok(())
