@@ -1,4 +1,4 @@
--- The book after one more turn. Other files cite `steady_of`, `added_legal`, `legal_later`, `book_first`, `IsMade`, `made_book`, `made_makes`, `made_state`, `latest`, `turn_by`.
+-- The book after one more turn. Other files cite `steady_of`, `added_legal`, `legal_later`, `book_first`, `IsMade`, `made_book`, `made_makes`, `made_state`, `latest`, `turn_by`, `book_with`, `kept_same`.
 use Rattle.std.proofs.Common.{◌≡◌, ℕ, List, [], ◌∷◌, ◌++◌, length, Option, Some, None, refl, sym, ap, ◌∙◌, subst, arith}
 use Rattle.std.proofs.Math.Seq.{take-length}
 use Rattle.rule_table.specs.Control.{Control}
@@ -8,6 +8,7 @@ use Rattle.router_core.specs.Tables.{Tables, first_tables}
 use Rattle.courier_run.specs.Act.{makes}
 use Rattle.router_sessions.specs.declared.book.Book.{Book}
 use Rattle.router_sessions.specs.declared.book.Seat.{Seat}
+use Rattle.router_sessions.specs.declared.history.History.{History}
 use Rattle.router_sessions.specs.History.{Ask, opens, Turn, State, Placed, IsTurnFor, IsLatest, IsLegal, AreTurnsFrom, after_ask, state_after, state_of, begun}
 use Rattle.router_sessions.specs.Book.{turns_of, opening, IsBook, IsKept}
 use Rattle.router_sessions.specs.Acts.{Makes}
@@ -120,3 +121,14 @@ opened_with old new start found none is empty turns =
 
 pub kept_first : (b : Book) → turns_of b ≡ opening ∷ [] → b.tables ≡ first_tables → IsKept b
 kept_first b turns tables = record { book = book_first (turns_of b) turns; tables = ap (λ (ts : List Turn). (state_of ts).tables) turns ∙ sym tables }
+
+-- the book with other tables and another history, of the same rule set
+abbrev pub book_with : (old : Book) (tables : Tables) (history : History) → tables.set ≡ old.tables.set → Book
+book_with old tables history same = record { tables = tables; board = old.board; history = history; same_set = old.same_set ∙ sym same }
+
+-- a book with the tables and the turns of one that is kept
+pub kept_same : (old new : Book) → IsKept old → new.tables ≡ old.tables → turns_of new ≡ turns_of old → IsKept new
+kept_same old new h tables turns = record {
+  book = subst IsBook (sym turns) h.book;
+  tables = ap (λ (ts : List Turn). (state_of ts).tables) turns ∙ h.tables ∙ sym tables;
+}

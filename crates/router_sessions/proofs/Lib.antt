@@ -1,5 +1,5 @@
 -- Each relation over acts is a loop's invariant, since its list grows at the end; there is one lemma for each kind of step.
--- The order: turns (`TurnLemmas`), what holds of a legal history's state (`SteadyLemmas`), a book (`BookLemmas`), acts among turns (`ActLemmas`), the book's
+-- The order: turns (`TurnLemmas`), what holds of a legal history's state (`SteadyLemmas`), a book (`BookLemmas`), its board (`BoardLemmas`), acts among turns (`ActLemmas`), the book's
 -- functions (`AnsweredLemmas`, `ClaimLemmas`, `RecordLemmas`), the desk (`DeskLemmas`), deliveries (`DidLemmas`, `SeatedLemmas`), the world around (`DoesLemmas`),
 -- messages (`ReplyLemmas`, `IncomingLemmas`) and sessions (`SessionLemmas`).
 -- A pass's claims change only at its own turns, whatever others do (`claims_stay`); that a claim's duty waits for it is in the state of each legal history.
@@ -10,6 +10,7 @@
 -- A pass whose history is not known to be legal looks first (`makes_looked`): a look needs no bound on versions.
 pub mod ActLemmas
 pub mod AnsweredLemmas
+pub mod BoardLemmas
 pub mod BookLemmas
 pub mod BoundLemmas
 pub mod ClaimLemmas

@@ -156,7 +156,7 @@ pub record IsAnsweredBy (s : State) (turn : Turn) (request : Request) (reply : R
   pub answer : IsAnswer s.tables request turn.k (rule_set_at turn.k s.controls) (record { batch = turn.batch; reply = reply })
 
 -- The turn goes by the latest configuration version.
--- Shown by: matched_on_the_first_rule_set.edit.
+-- Shown by: the_old_board_stays.edit.
 abbrev pub IsLatest : State → Turn → Type 0
 IsLatest s turn = turn.k ≡ length s.controls
 

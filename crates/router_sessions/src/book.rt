@@ -1,36 +1,21 @@
-//! The router's guarded state: its tables, and the history of its turns.
-ghost use Rattle.std.specs.Prelude.{◌≡◌, ◌∷◌, [], ℕ, Bool, Some, None, IsSome, IfOk, IfSome, IfNone, IfErr, OnErr};
-ghost use Rattle.json_text.specs.Moment.{IsMoment};
-ghost use Rattle.turn_book.specs.Rule.{turns_by};
-ghost use Rattle.router_core.specs.View.{request_of};
-ghost use Rattle.router_core.specs.Tables.{moment_at};
-ghost use Rattle.courier_run.specs.Claim.{FitsClaim};
-ghost use Rattle.courier_run.specs.Book.{HasCause};
-ghost use Rattle.courier_run.specs.Steps.{limited};
-ghost use Rattle.router_sessions.specs.History.{state_of, IsAskable, IsReason};
-ghost use Rattle.router_sessions.specs.Held.{held_claim};
-ghost use Rattle.router_sessions.specs.Book.{why_of, recorded_in, turns_of, opening, Holds, Rests, IsKept, HasGrown};
-ghost use Rattle.router_sessions.specs.Acts.{IsIdle, IsFullAt};
-ghost use Rattle.router_sessions.specs.Answered.{IsDecided, IsAnswered, IsRenderable, IsClaimed, IsRecorded, IsPutBack};
+//! The router's guarded state: its tables, the board by which events are matched, and the history of its turns.
+ghost use Rattle.std.specs.Prelude.{◌≡◌};
+ghost use Rattle.std.specs.Coded.{Coded-set};
 
-use crate::held::Held;
-use crate::history::{Ask, History, Turn, Why, Written};
-use crate::text::reply_bytes;
-use courier_run::BookFault;
-use delivery_duties::{Fate, Outcome};
-use http_server::Log;
-use json_text::{Bytes, NoMemory};
-use router_calls::decide;
-use router_core::{Ready, Released, Reply, Request, Tables, see_plain};
-use std::alloc::Global;
-use std::snapshot::Snapshot;
+use crate::history::{History, Turn};
+use board_publish::Board;
+use json_text::Bytes;
+use router_core::{Released, Reply, Tables};
 use turn_book::Story;
 
 /// The router's guarded state.
 #[derive(Drop)]
 pub struct Book {
     pub(crate) tables: Tables,
+    /// Events are matched by it.
+    pub(crate) board: Board,
     pub(crate) history: History,
+    ghost same_set: { board ≡ tables.set } by { Coded-set board-code board tables.set },
 }
 
 /// Whose turns they are.
@@ -57,6 +42,8 @@ pub struct MadeTurn {
     pub reply: TurnReply,
     /// What applying its batch left over; none if it has no batch. Drop it once the book is given back.
     pub released: Option<Released>,
+    /// The board before it; none if the rule set stays. Drop it with `released`.
+    pub board: Option<Board>,
 }
 
 impl MadeTurn {
@@ -67,6 +54,7 @@ impl MadeTurn {
         let MadeTurn {
             reply,
             released: _released,
+            board: _board,
         } = self;
         reply
     }
@@ -82,248 +70,4 @@ impl Story for Book {
     ghost made_by = { λ t. t.pass };
 
     ghost sound = { λ b. IsKept b };
-}
-
-impl Book {
-    /// The book that was just opened with the first tables: one turn, which no pass made.
-    pub fn first(alloc: Global) -> Result<Book, NoMemory>
-        ensures first { IfOk result (λ b. turns_of b ≡ opening ∷ []) }
-        ensures unmade { IfOk result (λ b. (n : ℕ) → turns_by (λ t. t.pass) n (recorded_in b.history) ≡ []) }
-        ensures book { IfOk result (λ b. IsKept b) }
-    {
-        let tables = Tables::first(alloc)?;
-        let mut history = History::new();
-        history.push(&Turn {
-            pass: None,
-            connection: None,
-            ask: Ask::Opens {
-                start: Snapshot::of(&tables),
-                found: Log::new(),
-            },
-            k: 0,
-            written: Written::Nothing,
-        });
-        Ok(Book { tables, history })
-    }
-
-    /// The tables after all turns.
-    pub fn tables(&self) -> &Tables
-        ensures { result.now ≡ self.now.tables }
-    {
-        &self.tables
-    }
-
-    /// Makes the turn of the request, and returns its reply with what the turn released. The seat names the connection by which the request
-    /// came. If the tables change, the memory of the reply's bytes is allocated before, so an `Err` changes nothing.
-    pub fn turn(
-        &mut self,
-        alloc: Global,
-        seat: Seat,
-        request: &Request,
-        close: bool,
-    ) -> Result<MadeTurn, NoMemory>
-        requires book { IsKept self.old }
-        requires askable { IsAskable (request_of request.now) }
-        requires named { IsSome seat.connection }
-        ensures book { IsKept self.new }
-        ensures grows { HasGrown seat self.old self.new }
-        ensures answered { IfOk result (λ made. IsAnswered seat (turns_of self.old) (turns_of self.new) (request_of request.now) close made.reply) }
-        ensures renderable { IfOk result (λ made. IsRenderable made.reply) }
-        ensures unchanged { OnErr result (turns_of self.new ≡ turns_of self.old) }
-    {
-        let (ready, reply) = self.decided(alloc, request)?;
-        match ready {
-            Some(ready) => self.write(alloc, seat, request, ready, reply, close),
-            None => Ok(self.show(seat, request, reply)),
-        }
-    }
-
-    /// Makes the turn of a request that changes the tables. The reply's bytes are made before.
-    fn write(
-        &mut self,
-        alloc: Global,
-        seat: Seat,
-        request: &Request,
-        ready: Ready,
-        reply: Reply,
-        close: bool,
-    ) -> Result<MadeTurn, NoMemory>
-        requires book { IsKept self.old }
-        requires askable { IsAskable (request_of request.now) }
-        requires decided { IsDecided self.old.tables (request_of request.now) (Some ready, reply) }
-        requires named { IsSome seat.connection }
-        ensures book { IsKept self.new }
-        ensures grows { HasGrown seat self.old self.new }
-        ensures answered { IfOk result (λ made. IsAnswered seat (turns_of self.old) (turns_of self.new) (request_of request.now) close made.reply) }
-        ensures renderable { IfOk result (λ made. IsRenderable made.reply) }
-        ensures unchanged { OnErr result (turns_of self.new ≡ turns_of self.old) }
-    {
-        let bytes = reply_bytes(alloc, &reply, close)?;
-        self.history.push(&Turn {
-            pass: Some(seat.pass),
-            connection: seat.connection,
-            ask: Ask::Asked(Snapshot::of(request)),
-            k: self.tables.set().control_count(),
-            written: Written::Changes(Snapshot::of(ready.batch())),
-        });
-        let released = self.tables.apply(ready);
-        Ok(MadeTurn {
-            reply: TurnReply::Rendered(bytes),
-            released: Some(released),
-        })
-    }
-
-    /// Makes the turn of a request that changes nothing.
-    fn show(&mut self, seat: Seat, request: &Request, reply: Reply) -> MadeTurn
-        requires book { IsKept self.old }
-        requires askable { IsAskable (request_of request.now) }
-        requires decided { IsDecided self.old.tables (request_of request.now) (None, reply) }
-        requires named { IsSome seat.connection }
-        ensures book { IsKept self.new }
-        ensures grows { HasGrown seat self.old self.new }
-        ensures answered { (close : Bool) → IsAnswered seat (turns_of self.old) (turns_of self.new) (request_of request.now) close result.reply }
-        ensures renderable { IsRenderable result.reply }
-    {
-        self.history.push(&Turn {
-            pass: Some(seat.pass),
-            connection: seat.connection,
-            ask: Ask::Asked(Snapshot::of(request)),
-            k: self.tables.set().control_count(),
-            written: Written::Nothing,
-        });
-        MadeTurn {
-            reply: TurnReply::Unrendered(reply),
-            released: None,
-        }
-    }
-
-    /// The batch that the request writes, if any, and its reply. Events are matched on the tables' own rule set.
-    fn decided(&self, alloc: Global, request: &Request) -> Result<(Option<Ready>, Reply), NoMemory>
-        requires { IsAskable (request_of request.now) }
-        ensures { IfOk result (λ p. IsDecided self.now.tables (request_of request.now) p) }
-    {
-        let moment = turn_moment(&self.tables, request.reading);
-        let set = self.tables.set();
-        let _version = set.control_count();
-        let seen = see_plain(alloc, set, request)?;
-        let (ready, reply) = decide(alloc, &self.tables, request, moment, seen)?;
-        Ok((ready, reply))
-    }
-
-    /// Claims the duty that is due first at this reading of the clock: one turn. If none is due, or at the number limit, or out of memory, there
-    /// is no turn.
-    pub fn claim(
-        &mut self,
-        alloc: Global,
-        seat: Seat,
-        reading: u64,
-    ) -> Result<Option<Held>, BookFault>
-        requires book { IsKept self.old }
-        requires reading { IsMoment reading }
-        requires rests { Rests seat.pass (turns_of self.old) }
-        ensures book { IsKept self.new }
-        ensures grows { HasGrown seat self.old self.new }
-        ensures held { IfOk result (λ found. IfSome found (λ held. IsClaimed seat reading (turns_of self.old) (turns_of self.new) (held_claim held))) }
-        ensures idle { IfOk result (λ found. IfNone found (IsIdle (state_of (turns_of self.old)) reading × (turns_of self.new ≡ turns_of self.old))) }
-        ensures refused { IfErr result (λ fault. HasCause (IsFullAt (state_of (turns_of self.old)) reading) fault
-            × (turns_of self.new ≡ turns_of self.old)) }
-    {
-        let moment = turn_moment(&self.tables, reading);
-        let full = self.tables.full();
-        let errand = match self.tables.claim(alloc, moment) {
-            Ok(Some(errand)) => errand,
-            Ok(None) => return Ok(None),
-            Err(NoMemory) => return Err(BookFault::NoMemory),
-        };
-        if full {
-            self.tables.put_back(errand);
-            return Err(BookFault::NumberLimit);
-        }
-        let held = Held { errand, reading };
-        self.history.push(&Turn {
-            pass: Some(seat.pass),
-            connection: seat.connection,
-            ask: Ask::Claims(Snapshot::of(&held)),
-            k: self.tables.set().control_count(),
-            written: Written::Nothing,
-        });
-        Ok(Some(held))
-    }
-
-    /// Records the outcome of an attempt of the held duty: one turn, and one batch. If a queue accepted the text, the turn decides whether the queue
-    /// exists. At the number limit the claim is put back instead. Returns the duty's fate, and what the turn released.
-    pub fn record(
-        &mut self,
-        seat: Seat,
-        held: Held,
-        outcome: Outcome,
-    ) -> Result<(Fate, Released), BookFault>
-        requires book { IsKept self.old }
-        requires holds { Holds seat.pass (turns_of self.old) (held_claim held) }
-        requires fits { FitsClaim (held_claim held) outcome }
-        ensures book { IsKept self.new }
-        ensures grows { HasGrown seat self.old self.new }
-        ensures rests { Rests seat.pass (turns_of self.new) }
-        ensures recorded { IfOk result (λ made. IsRecorded seat (held_claim held) outcome made.0 (turns_of self.old) (turns_of self.new)) }
-        ensures refused { IfErr result (λ fault. (fault ≡ BookFault.NumberLimit)
-            × IsPutBack seat (held_claim held) limited (turns_of self.old) (turns_of self.new)) }
-    {
-        if self.tables.full() {
-            self.put_back(seat, held, Why::Limited);
-            return Err(BookFault::NumberLimit);
-        }
-        let about = Snapshot::of(&held);
-        let Held {
-            mut errand,
-            reading,
-        } = held;
-        let moment = turn_moment(&self.tables, reading);
-        let k = self.tables.set().control_count();
-        let outcome = self.tables.record_outcome(&mut errand, outcome, moment);
-        let written = Written::Changes(Snapshot::of(errand.batch()));
-        let (fate, released) = self.tables.finish(errand);
-        self.history.push(&Turn {
-            pass: Some(seat.pass),
-            connection: seat.connection,
-            ask: Ask::Records {
-                held: about,
-                outcome,
-                fate,
-            },
-            k,
-            written,
-        });
-        Ok((fate, released))
-    }
-
-    /// Releases the claim of the held duty: one turn.
-    pub fn put_back(&mut self, seat: Seat, held: Held, why: Why)
-        requires book { IsKept self.old }
-        requires holds { Holds seat.pass (turns_of self.old) (held_claim held) }
-        requires reason { IsReason (state_of (turns_of self.old)) (held_claim held) (why_of why) }
-        ensures book { IsKept self.new }
-        ensures grows { HasGrown seat self.old self.new }
-        ensures rests { Rests seat.pass (turns_of self.new) }
-        ensures put_back { IsPutBack seat (held_claim held) (why_of why) (turns_of self.old) (turns_of self.new) }
-    {
-        self.history.push(&Turn {
-            pass: Some(seat.pass),
-            connection: seat.connection,
-            ask: Ask::PutsBack {
-                held: Snapshot::of(&held),
-                why,
-            },
-            k: self.tables.set().control_count(),
-            written: Written::Nothing,
-        });
-        let Held { errand, reading: _ } = held;
-        self.tables.put_back(errand);
-    }
-}
-
-/// The moment of a turn at this reading of the clock.
-fn turn_moment(tables: &Tables, reading: u64) -> u64
-    ensures { result ≡ moment_at tables.now reading }
-{
-    reading.max(tables.moment())
 }

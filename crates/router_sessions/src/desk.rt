@@ -9,7 +9,7 @@ ghost use Rattle.courier_run.specs.Book.{HasCause};
 ghost use Rattle.courier_run.specs.Steps.{unsent, limited};
 ghost use Rattle.router_sessions.specs.History.{state_of, IsAskable};
 ghost use Rattle.router_sessions.specs.Held.{held_claim};
-ghost use Rattle.router_sessions.specs.Book.{Holds, Rests, IsBook};
+ghost use Rattle.router_sessions.specs.Book.{turns_of, Holds, Rests, IsBook, IsKept, HasGrown};
 ghost use Rattle.router_sessions.specs.Acts.{IsIdle, IsFullAt, Makes};
 ghost use Rattle.router_sessions.specs.Answered.{IsAnswered, IsRenderable, IsClaimed, IsRecorded, IsPutBack};
 ghost use Rattle.router_sessions.specs.Desk.{turns_seen, number_of, seat_of, SeesMore};
@@ -67,7 +67,7 @@ impl<Rt: Wait> Desk<'_, Rt> {
         self.hall.give(pass, book);
     }
 
-    /// Makes the turn of the request, as `Book::turn`. The request and what the turn released are freed once other passes can have the book.
+    /// Matches the request on the book's board, and makes its turn, as `Book::turn`. The request and what the turn released are freed once other passes can have the book.
     pub(crate) fn turn(
         self,
         pass: &mut Pass<Book>,
@@ -115,7 +115,7 @@ impl<Rt: Wait> Desk<'_, Rt> {
     {
         let seat = self.seat(pass);
         let mut book = self.hall.take(self.rt, pass);
-        let made = book.turn(self.alloc, seat, request, close);
+        let made = match_and_turn(&mut book, self.alloc, seat, request, close);
         self.hall.give(pass, book);
         made
     }
@@ -202,4 +202,25 @@ impl<Rt: Wait> Desk<'_, Rt> {
         book.put_back(seat, held, Why::Unsent);
         self.hall.give(pass, book);
     }
+}
+
+/// Matches the request on the book's board, and makes its turn.
+fn match_and_turn(
+    book: &mut Book,
+    alloc: Global,
+    seat: Seat,
+    request: &Request,
+    close: bool,
+) -> Result<MadeTurn, NoMemory>
+    requires book { IsKept book.old }
+    requires askable { IsAskable (request_of request.now) }
+    requires named { IsSome seat.connection }
+    ensures book { IsKept book.new }
+    ensures grows { HasGrown seat book.old book.new }
+    ensures answered { IfOk result (λ made. IsAnswered seat (turns_of book.old) (turns_of book.new) (request_of request.now) close made.reply) }
+    ensures renderable { IfOk result (λ made. IsRenderable made.reply) }
+    ensures unchanged { OnErr result (turns_of book.new ≡ turns_of book.old) }
+{
+    let seen = book.seen(alloc, request)?;
+    book.turn(alloc, seat, request, seen, close)
 }

@@ -13,6 +13,7 @@ mod quiet;
 mod refused;
 mod session;
 mod text;
+mod turns;
 mod visit;
 
 pub use book::{Book, MadeTurn, Seat, TurnReply};

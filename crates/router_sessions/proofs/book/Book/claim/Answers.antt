@@ -5,7 +5,7 @@ use Rattle.router_core.specs.Steps.{IsClaimed}
 use Rattle.router_sessions.specs.declared.held.Held.{Held}
 use Rattle.router_sessions.specs.declared.book.Book.{Book}
 use Rattle.router_sessions.specs.Held.{held_claim}
-use Rattle.router_sessions.specs.Book.{IsKept}
+use Rattle.router_sessions.proofs.BookLemmas.{book_with, kept_same}
 use Rattle.router_sessions.proofs.ClaimLemmas.{claim_made, claimed, claimed_book, limited, put_back_same}
 use Rattle.router_sessions.proofs.book.Book.claim.Goals as goal
 
@@ -17,7 +17,7 @@ returns-then-full-clause-book c =
     c.in-Ok-Some.ensures.some in
     let same = put_back_same old c.turn_moment-moment.result c.in-Ok-Some.errand c.claim.new.self c.put_back.new.self
     c.requires.book is c.put_back.ensures in
-    subst (λ (t : Tables). IsKept (record old { tables = t })) (sym same) c.requires.book
+    kept_same old _ c.requires.book same refl
 
 pub returns-then-full-clause-refused : goal.returns-then-full-clause-refused
 returns-then-full-clause-refused c =
@@ -37,9 +37,8 @@ returns-clause-book c =
     subst (λ found. IfSome found (λ e. IsClaimed old.tables c.turn_moment-moment.result e c.claim.new.self)) c.in-Ok-Some.field-0-is
     c.in-Ok-Some.ensures.some in
     let held : Held = record { errand = c.in-Ok-Some.errand; reading = c.args.reading; is_moment = c.requires.reading } in
-    let new : Book = record { tables = c.claim.new.self; history = c.push.new.self } in
     claimed_book held c.turn_moment-moment.result
-    (claim_made c.args.seat old new held c.of.result.value c.turn_moment-moment.result c.control_count.result
+    (claim_made c.args.seat old _ held c.of.result.value c.turn_moment-moment.result c.control_count.result
     c.set.result.now c.requires.book is (ap held_claim c.of.ensures) c.control_count.ensures.count c.set.ensures c.push.ensures.turns)
     (sym c.full-full.ensures.full ∙ c.if-full.false) c.requires.reading c.requires.rests c.turn_moment-moment.ensures is
 
@@ -50,7 +49,7 @@ returns-clause-held c =
     subst (λ found. IfSome found (λ e. IsClaimed old.tables c.turn_moment-moment.result e c.claim.new.self)) c.in-Ok-Some.field-0-is
     c.in-Ok-Some.ensures.some in
     let held : Held = record { errand = c.in-Ok-Some.errand; reading = c.args.reading; is_moment = c.requires.reading } in
-    let new : Book = record { tables = c.claim.new.self; history = c.push.new.self } in
+    let new : Book = book_with old c.claim.new.self c.push.new.self (ap (λ (t : Tables). t.set) is.tables) in
     claimed held
     (claim_made c.args.seat old new held c.of.result.value c.turn_moment-moment.result c.control_count.result
     c.set.result.now c.requires.book is (ap held_claim c.of.ensures) c.control_count.ensures.count c.set.ensures c.push.ensures.turns)

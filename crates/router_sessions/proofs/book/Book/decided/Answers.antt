@@ -1,7 +1,5 @@
 use Rattle.std.proofs.Common.{subst}
-use Rattle.rule_table.specs.RuleSet.{RuleSet}
 use Rattle.rule_table.specs.Sound.{IsSound}
-use Rattle.router_core.specs.Matching.{IsSeen}
 use Rattle.router_core.specs.Request.{Request}
 use Rattle.router_core.specs.Tables.{Tables}
 use Rattle.router_core.specs.View.{request_of}
@@ -12,8 +10,6 @@ pub returns : goal.returns
 returns c =
     let t : Tables = c.args.self.now.tables in
     let request : Request = request_of c.args.request.now in
-    let seen = c.in_ok-seen.seen in
-    let is : IsSeen t.set request seen = subst (λ (set : RuleSet). IsSeen set request seen) c.set-set.ensures c.in_ok-seen.ensures in
-    let sound : IsSound t.set = subst IsSound c.set-set.ensures c.control_count-version.ensures.sound in
-    decided_by t request seen (c.in_ok-ready.ready, c.in_ok-ready.reply) is
-    (c.in_ok-ready.ensures.answer t.set (matched_on t request seen sound is)) c.in_ok-ready.ensures.ready
+    let sound : IsSound t.set = subst IsSound c.set.ensures c.control_count-version.ensures.sound in
+    decided_by t request c.args.seen (c.in_ok-ready.ready, c.in_ok-ready.reply) c.requires.seen
+    (c.in_ok-ready.ensures.answer t.set (matched_on t request c.args.seen sound c.requires.seen)) c.in_ok-ready.ensures.ready

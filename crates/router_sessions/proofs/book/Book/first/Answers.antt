@@ -17,7 +17,7 @@ unmade_with old new connection ask k written n none turns =
 
 pub returns-clause-first : goal.returns-clause-first
 returns-clause-first c =
-    opened_with _ _ c.of.result.value (map batch_of (firsts c.new.result.items)) c.new-history.ensures.turns (c.of.ensures ∙ c.in_ok-tables.ensures)
+    opened_with _ _ c.of-2.result.value (map batch_of (firsts c.new.result.items)) c.new-history.ensures.turns (c.of-2.ensures ∙ c.in_ok-tables.ensures)
     (ap (λ ps. map batch_of (firsts ps)) c.new.ensures) c.push.ensures.turns
 
 pub returns-clause-unmade : goal.returns-clause-unmade
@@ -26,6 +26,6 @@ returns-clause-unmade c = λ n. unmade_with _ _ _ _ _ _ n c.new-history.ensures.
 pub returns-clause-book : goal.returns-clause-book
 returns-clause-book c =
     kept_first _
-    (opened_with _ _ c.of.result.value (map batch_of (firsts c.new.result.items)) c.new-history.ensures.turns (c.of.ensures ∙ c.in_ok-tables.ensures)
+    (opened_with _ _ c.of-2.result.value (map batch_of (firsts c.new.result.items)) c.new-history.ensures.turns (c.of-2.ensures ∙ c.in_ok-tables.ensures)
     (ap (λ ps. map batch_of (firsts ps)) c.new.ensures) c.push.ensures.turns)
     c.in_ok-tables.ensures

@@ -1,5 +1,8 @@
+use Rattle.std.proofs.Common.{ap}
+use Rattle.router_core.specs.Tables.{Tables}
 use Rattle.router_sessions.specs.declared.book.Book.{Book}
 use Rattle.router_sessions.specs.Book.{why_of}
+use Rattle.router_sessions.proofs.BookLemmas.{book_with}
 use Rattle.router_sessions.proofs.RecordLemmas.{errand_open, back_made, back_rests, put_back_book, back}
 use Rattle.router_sessions.proofs.book.Book.put_back.Goals as goal
 
@@ -15,14 +18,14 @@ returns-clause-book c =
 
 pub returns-clause-rests : goal.returns-clause-rests
 returns-clause-rests c =
-    let new : Book = record { tables = c.put_back.new.self; history = c.push.new.self } in
+    let new : Book = book_with c.args.self.now c.put_back.new.self c.push.new.self (ap (λ (t : Tables). t.set) c.put_back.ensures) in
     back_rests
     (back_made c.args.seat c.args.self.now new c.args.held c.of.result.value (why_of c.args.why) c.control_count.result c.set.result.now c.requires.book c.of.ensures
     c.control_count.ensures.count c.set.ensures c.push.ensures.turns)
 
 pub returns-clause-put_back : goal.returns-clause-put_back
 returns-clause-put_back c =
-    let new : Book = record { tables = c.put_back.new.self; history = c.push.new.self } in
+    let new : Book = book_with c.args.self.now c.put_back.new.self c.push.new.self (ap (λ (t : Tables). t.set) c.put_back.ensures) in
     back c.args.held
     (back_made c.args.seat c.args.self.now new c.args.held c.of.result.value (why_of c.args.why) c.control_count.result c.set.result.now c.requires.book c.of.ensures
     c.control_count.ensures.count c.set.ensures c.push.ensures.turns)

@@ -2,10 +2,11 @@ use Rattle.std.proofs.Common.{ℕ, ◌≤◌, sym, ap, ◌∙◌, subst}
 use Rattle.delivery_duties.specs.Duties.{pending_row}
 use Rattle.router_core.specs.Batch.{Batch}
 use Rattle.router_core.specs.View.{batch_of}
-use Rattle.router_core.specs.Tables.{is_full, after_batch}
+use Rattle.router_core.specs.Tables.{Tables, is_full, after_batch}
 use Rattle.router_core.specs.Steps.{record_of, fate_after}
 use Rattle.router_core.specs.declared.errand.Errand.{Errand}
 use Rattle.router_sessions.specs.declared.book.Book.{Book}
+use Rattle.router_sessions.proofs.BookLemmas.{book_with}
 use Rattle.router_sessions.proofs.RecordLemmas.{errand_open, errand_after, due_by, recording, recorded, recorded_book, record_rests}
 use Rattle.router_sessions.proofs.book.Book.record.Goals as goal
 
@@ -46,10 +47,9 @@ returns-clause-book c =
     let n : ℕ = c.args.held.errand.claim.number in
     let moment = ap (λ (b : Batch). b.moment) made.1 in
     let shown = c.of.ensures ∙ c.batch.ensures in
-    let new : Book = record { tables = c.finish-fate.new.self; history = c.push.new.self } in
     recorded_book
     (recording c.args.seat c.args.held c.of-about.result.value c.args.outcome c.record_outcome-outcome.result c.finish-fate.result.0 c.turn_moment-moment.result
-    c.args.self.now new (batch_of c.of.result.value) c.control_count-k.result c.set.result.now c.requires.book c.requires.holds c.turn_moment-moment.ensures c.requires.fits
+    c.args.self.now _ (batch_of c.of.result.value) c.control_count-k.result c.set.result.now c.requires.book c.requires.holds c.turn_moment-moment.ensures c.requires.fits
     (sym c.full.ensures.full ∙ c.if-full.false) made.0 (ap batch_of shown ∙ made.1)
     (λ row there.
     c.finish-fate.ensures.fate row c.record_outcome-outcome.result
@@ -69,7 +69,8 @@ returns-clause-rests c =
     let n : ℕ = c.args.held.errand.claim.number in
     let moment = ap (λ (b : Batch). b.moment) made.1 in
     let shown = c.of.ensures ∙ c.batch.ensures in
-    let new : Book = record { tables = c.finish-fate.new.self; history = c.push.new.self } in
+    let new : Book = book_with c.args.self.now c.finish-fate.new.self c.push.new.self
+    (ap (λ (t : Tables). t.set) (c.finish-fate.ensures.tables ∙ ap (λ b. after_batch b c.args.self.now.tables) made.1)) in
     let r = recording c.args.seat c.args.held c.of-about.result.value c.args.outcome c.record_outcome-outcome.result c.finish-fate.result.0 c.turn_moment-moment.result
     c.args.self.now new (batch_of c.of.result.value) c.control_count-k.result c.set.result.now c.requires.book c.requires.holds c.turn_moment-moment.ensures c.requires.fits
     (sym c.full.ensures.full ∙ c.if-full.false) made.0 (ap batch_of shown ∙ made.1)
@@ -92,7 +93,8 @@ returns-clause-recorded c =
     let n : ℕ = c.args.held.errand.claim.number in
     let moment = ap (λ (b : Batch). b.moment) made.1 in
     let shown = c.of.ensures ∙ c.batch.ensures in
-    let new : Book = record { tables = c.finish-fate.new.self; history = c.push.new.self } in
+    let new : Book = book_with c.args.self.now c.finish-fate.new.self c.push.new.self
+    (ap (λ (t : Tables). t.set) (c.finish-fate.ensures.tables ∙ ap (λ b. after_batch b c.args.self.now.tables) made.1)) in
     recorded
     (recording c.args.seat c.args.held c.of-about.result.value c.args.outcome c.record_outcome-outcome.result c.finish-fate.result.0 c.turn_moment-moment.result
     c.args.self.now new (batch_of c.of.result.value) c.control_count-k.result c.set.result.now c.requires.book c.requires.holds c.turn_moment-moment.ensures c.requires.fits

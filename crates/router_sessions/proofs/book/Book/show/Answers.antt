@@ -14,7 +14,7 @@ returns-clause-book c =
 
 pub returns-clause-answered : goal.returns-clause-answered
 returns-clause-answered c = λ close.
-    let new : Book = record { tables = c.args.self.now.tables; history = c.push.new.self } in
+    let new : Book = record c.args.self.now { history = c.push.new.self } in
     answered close (None, c.args.reply) (Unrendered c.args.reply)
     (answer_made c.args.seat c.args.self.now new c.args.request.now c.of.result.value None None c.control_count.result c.set.result.now c.requires.book c.of.ensures
     c.control_count.ensures.count c.set.ensures refl c.push.ensures.turns)

@@ -9,22 +9,22 @@ use Rattle.router_sessions.proofs.desk.Desk.make_turn.Goals as goal
 
 pub give-requires-clause-longer : goal.give-requires-clause-longer
 give-requires-clause-longer g c =
-    extends c.seat-seat.result c.take-book.new.pass.seat c.take-book.result c.turn-made.new.self c.turn-made.ensures.grows c.take-book.ensures.seen
+    extends c.seat-seat.result c.take-book.new.pass.seat c.take-book.result c.match_and_turn-made.new.book c.match_and_turn-made.ensures.grows c.take-book.ensures.seen
     (pass_of c.args.self.connection c.args.pass.now.seat c.take-book.new.pass.seat c.seat-seat.result c.seat-seat.ensures c.take-book.ensures.pass.0)
 
 pub returns-clause-answered : goal.returns-clause-answered
-returns-clause-answered g c = map_ok c.turn-made.result _ _
+returns-clause-answered g c = map_ok c.match_and_turn-made.result _ _
     (λ made is. subst (λ (s : Seat). IsAnswered s (turns_seen c.args.pass.now.seat) (turns_seen c.give.new.pass.seat) (request_of c.args.request.now) c.args.close made.reply)
     c.seat-seat.ensures
     (answered_later (request_of c.args.request.now) c.args.close made.reply
-    (taken c.seat-seat.result c.args.pass.now.seat c.give.new.pass.seat c.take-book.result c.turn-made.new.self
+    (taken c.seat-seat.result c.args.pass.now.seat c.give.new.pass.seat c.take-book.result c.match_and_turn-made.new.book
     (own_number c.args.self.connection c.args.pass.now.seat c.seat-seat.result c.seat-seat.ensures) c.requires.book c.take-book.ensures.history
     c.take-book.ensures.sound c.give.ensures.seen) is))
-    c.turn-made.ensures.answered
+    c.match_and_turn-made.ensures.answered
 
 pub returns-clause-unchanged : goal.returns-clause-unchanged
-returns-clause-unchanged g c = map_on_err c.turn-made.result _ _
+returns-clause-unchanged g c = map_on_err c.match_and_turn-made.result _ _
     (λ same. subst (λ (s : Seat). Makes s [] (turns_seen c.args.pass.now.seat) (turns_seen c.give.new.pass.seat)) c.seat-seat.ensures
-    (learned_alone c.seat-seat.result c.args.pass.now.seat c.give.new.pass.seat c.take-book.result c.turn-made.new.self
+    (learned_alone c.seat-seat.result c.args.pass.now.seat c.give.new.pass.seat c.take-book.result c.match_and_turn-made.new.book
     (own_number c.args.self.connection c.args.pass.now.seat c.seat-seat.result c.seat-seat.ensures) c.take-book.ensures.history c.give.ensures.seen same))
-    c.turn-made.ensures.unchanged
+    c.match_and_turn-made.ensures.unchanged
