@@ -189,11 +189,11 @@ def compare(output, asked, counts):
     return number
 
 
-def run(command, reading, counts, causes):
-    """Makes the run of one reading; a failure is raised. The causes of the refusals are added."""
+def run(command, reading, exchanges, counts, seconds=SECONDS):
+    """Makes the requests of the exchanges at one reading, in that many seconds at most; a failure is raised."""
     ran = subprocess.Popen([*command, "once", "--now", str(reading)], stdin=subprocess.PIPE, stdout=subprocess.PIPE, stderr=subprocess.PIPE)
     late = threading.Event()
-    timer = threading.Timer(SECONDS, lambda: (late.set(), ran.kill()))
+    timer = threading.Timer(seconds, lambda: (late.set(), ran.kill()))
     timer.start()
     asked = queue.Queue()
     faults = []
@@ -201,7 +201,7 @@ def run(command, reading, counts, causes):
 
     def write():
         try:
-            for number, exchange in enumerate(exchanges_of(reading, causes)):
+            for number, exchange in enumerate(exchanges):
                 asked.put(exchange)
                 ran.stdin.write(message(exchange[0], number))
             ran.stdin.close()
@@ -229,7 +229,7 @@ def run(command, reading, counts, causes):
     if broken:
         raise broken[0]
     if late.is_set():
-        raise Failure(f"the run took more than {SECONDS} s")
+        raise Failure(f"the run took more than {seconds} s")
     if status != 0 and (failure is None or "has none" in failure):
         failure = f"{failure + '; ' if failure else ''}the exit status is {status}, and 0 is wanted"
     if faults[0]:
@@ -243,7 +243,7 @@ def one(command, reading):
     began = time.monotonic()
     counts, causes = {}, set()
     try:
-        run(command, reading, counts, causes)
+        run(command, reading, exchanges_of(reading, causes), counts)
         return None, counts, causes, time.monotonic() - began
     except Failure as found:
         return str(found), counts, causes, time.monotonic() - began
