@@ -7,10 +7,12 @@
 //! - `events`: SIZE events with standard input as their detail; NUMBER is ignored.
 //! - `templates`: a template filled SIZE times from an event with standard input as its detail; NUMBER is ignored.
 //! - `holds_*`: a pattern on two events in turn, SIZE times; each event has a list of NUMBER objects.
+//! - `match_*`: an event matched NUMBER times against SIZE rules of one kind, of which ten hold for most kinds.
 //! - `share`: a rule set of SIZE rules, at most 300, shared NUMBER times.
 //! - `pattern`: standard input, read as a pattern and read as JSON, SIZE times each; NUMBER is ignored.
 #![tactic(auto)]
 
+mod automata;
 mod events;
 mod patterns;
 mod ranges;
@@ -50,6 +52,7 @@ fn measure(
         "pattern" => pattern(rt, size),
         "share" => share(rt, size, number),
         _ if word.starts_with("holds") => holds(rt, word, size, number),
+        _ if word.starts_with("match") => matching(rt, word, size, number),
         _ if word.starts_with("ranges") => range(rt, word, size, number),
         _ => wildcard(rt, word, size, number),
     }
@@ -93,6 +96,23 @@ fn holds(
     let figures = patterns::measure(rt, rt.alloc(), word, size, number)?;
     println!(rt; "{}", figures.held)?;
     eprintln!(rt; "{}", figures.took.as_micros())?;
+    Ok(())
+}
+
+fn matching(
+    rt: &(impl Print + Eprint + Clock + AllocGlobal),
+    word: &str,
+    size: u32,
+    number: u32,
+) -> Result<()> {
+    let figures = automata::measure(rt, rt.alloc(), word, size, number)?;
+    println!(rt; "{}", figures.held)?;
+    eprintln!(rt;
+        "{} {} {}",
+        figures.built.as_micros(),
+        figures.changed.as_micros(),
+        figures.matched.as_micros()
+    )?;
     Ok(())
 }
 

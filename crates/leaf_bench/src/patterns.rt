@@ -108,7 +108,13 @@ fn pattern_of(alloc: Global, word: &str) -> Result<String> {
 }
 
 /// The event, with a list of objects. The last of them has another `sku`.
-fn event_of(alloc: Global, source: &str, state: &str, objects: u32, last: &str) -> Result<Json>
+pub(crate) fn event_of(
+    alloc: Global,
+    source: &str,
+    state: &str,
+    objects: u32,
+    last: &str,
+) -> Result<Json>
     ensures { IfOk result (λ event. IsValue (tree_of event)) }
 {
     let mut text = joined(alloc, &FRONT)?;
