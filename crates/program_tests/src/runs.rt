@@ -66,7 +66,7 @@ pub(crate) fn host<R: Abort>(rt: &R, alloc: Global, door: &str, link: &str) -> S
 }
 
 /// The words of a command line.
-fn words<R: Abort>(rt: &R, alloc: Global, line: &str) -> Vec<String> {
+pub(crate) fn words<R: Abort>(rt: &R, alloc: Global, line: &str) -> Vec<String> {
     let mut words = Vec::new(alloc);
     for word in line.split(' ') {
         let word = String::from_str(alloc, word).expect(rt, "words");

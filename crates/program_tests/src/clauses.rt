@@ -1,0 +1,140 @@
+//! What follows from the clauses of `run` alone.
+ghost use Rattle.std.specs.Prelude.{◌≡◌, ◌⊎◌, ℕ, Option, map, string_bytes};
+ghost use Rattle.std.specs.List.{concat};
+ghost use Rattle.program_lines.specs.Command.{IsCommand};
+ghost use Rattle.program_lines.specs.declared.command.Command.TheVariants as commands;
+ghost use Rattle.program_lines.specs.declared.status.Status.TheVariants as statuses;
+ghost use Rattle.program_tests.specs.Printed.{IsPrinted};
+
+use crate::runs::words;
+use bus_host::{Host, MemDoor, MemHost};
+use bus_server::run;
+use program_lines::{Command, Status, read_command};
+use router_disk::{Clock, LinkFault, MemClock, MemLink, MemSink, MemSource, Sink, Source};
+use std::alloc::Global;
+use std::collections::LinkedList;
+use std::process::Abort;
+use std::sync::Wait;
+use std::thread::Threads;
+use test_exchanges::NOW;
+
+/// Runs `once`. If its reads gave no byte, it wrote nothing, and ended as done, out of memory, or by a fault of its input or its host.
+fn once_of_nothing<R: Wait + Threads + Sync, S: Source, K: Sink, E: Sink, H: Host, C: Clock>(
+    rt: &R,
+    alloc: Global,
+    words: &[String],
+    input: &mut S,
+    output: &mut K,
+    faults: &mut E,
+    host: &mut H,
+    clock: &mut C,
+) -> Status
+    requires once { (now : Option ℕ) × IsCommand (map string_bytes words.now) (commands.Once now) }
+    ensures silent { concat (S.gave input.new) ≡ concat (S.gave input.old) → K.wrote output.new ≡ K.wrote output.old }
+    ensures ends { concat (S.gave input.new) ≡ concat (S.gave input.old)
+        → (result ≡ statuses.Done) ⊎ ((result ≡ statuses.NoMemory) ⊎ ((result ≡ statuses.ReadFault) ⊎ (result ≡ statuses.DoorFault))) }
+{
+    run(rt, alloc, words, input, output, faults, host, clock)
+}
+
+/// Runs `serve`. If it ends as done, it printed its port, and then the summary of a legal history (`IsPrinted`).
+fn serve_to_the_end<R: Wait + Threads + Sync, S: Source, K: Sink, E: Sink, H: Host, C: Clock>(
+    rt: &R,
+    alloc: Global,
+    words: &[String],
+    port: u16,
+    workers: u16,
+    connections: Option<u64>,
+    input: &mut S,
+    output: &mut K,
+    faults: &mut E,
+    host: &mut H,
+    clock: &mut C,
+) -> Status
+    requires serve { IsCommand (map string_bytes words.now) (commands.Serve port workers connections) }
+    ensures unread { S.gave input.new ≡ S.gave input.old }
+    ensures printed { result ≡ statuses.Done → IsPrinted port (K.wrote output.old) (K.wrote output.new) }
+{
+    run(rt, alloc, words, input, output, faults, host, clock)
+}
+
+/// Runs the command of these words, by the two calls above.
+fn done<R: Wait + Threads + Sync, H: Host>(
+    rt: &R,
+    alloc: Global,
+    words: &[String],
+    output: &mut MemSink,
+    host: &mut H,
+) -> Option<Status> {
+    let mut input = MemSource::new(Vec::new(alloc));
+    let mut faults = MemSink::new(alloc);
+    let mut clock = MemClock::always(alloc, NOW);
+    match read_command(words) {
+        Some(Command::Once { now: _ }) => Some(once_of_nothing(
+            rt,
+            alloc,
+            words,
+            &mut input,
+            output,
+            &mut faults,
+            host,
+            &mut clock,
+        )),
+        Some(
+            Command::Serve {
+                port,
+                workers,
+                connections,
+            },
+        ) => Some(serve_to_the_end(
+            rt,
+            alloc,
+            words,
+            port,
+            workers,
+            connections,
+            &mut input,
+            output,
+            &mut faults,
+            host,
+            &mut clock,
+        )),
+        None => None,
+    }
+}
+
+/// A host with one link, and one door, which closes at once.
+fn host<R: Abort>(rt: &R, alloc: Global) -> MemHost<MemSource, MemSink> {
+    let mut links = LinkedList::new(alloc);
+    links
+        .push_back(Ok(MemLink::always(alloc, Err(LinkFault::Failed))))
+        .expect(rt, "links");
+    let mut doors = LinkedList::new(alloc);
+    doors
+        .push_back(Ok(MemDoor::new(alloc, LinkedList::new(alloc))))
+        .expect(rt, "doors");
+    MemHost::new(alloc, doors, links)
+}
+
+/// Fails unless the command is done on empty input and a door that closes at once, and writes this.
+fn meet<R: Wait + Threads + Sync + Abort>(rt: &R, alloc: Global, line: &str, want: &str) {
+    let words = words(rt, alloc, line);
+    let mut output = MemSink::new(alloc);
+    let mut host = host(rt, alloc);
+    let status = done(rt, alloc, words.as_slice(), &mut output, &mut host);
+    assert!(*rt; status == Some(Status::Done), "{line}");
+    let text = str::from_utf8(output.bytes()).expect(rt, "text");
+    assert_eq!(*rt; text, want, "{line}");
+}
+
+#[test]
+fn once_on_empty_input_writes_nothing(rt: HostRuntime) {
+    meet(&rt, rt.alloc(), "ebusd once", "");
+}
+
+#[test]
+fn a_door_that_closes_at_once_leaves_zeros(rt: HostRuntime) {
+    let want = "listening 8080\nrecords 0 entries 0 control 0\nevents 0 archived 0 replays 0\n\
+        duties 0 pending 0 delivered 0 dead-lettered 0 dropped 0\nmessages 0\n";
+    meet(&rt, rt.alloc(), "ebusd serve --port 8080 --workers 1", want);
+}
