@@ -6,7 +6,7 @@ mod KeptLemmas
 pub mod LookLemmas
 mod HeadLemmas
 mod FindLemmas
-mod ScanLemmas
+pub mod ScanLemmas
 mod StartLemmas
 mod StateLemmas
 mod KindLemmas

@@ -1,4 +1,4 @@
--- Records of payloads in a file. Callers cite `same_records`, `HasRecords-next`, `IsFileOf-closed` and `IsFileOf-joined`.
+-- Records of payloads in a file. Callers cite `same_records`, `HasRecords-next`, `HasRecords-last`, `payload_same` and `whole_file`.
 use Rattle.std.proofs.Common.{◌≡◌, ◌≢◌, ◌⊎◌, ℕ, ◌+◌, ◌^◌, ◌<◌, List, [], ◌∷◌, ◌++◌, length, get_or, take, drop, refl, sym, ap, subst, inl, inr, ◌∙◌, arith}
 use Rattle.std.proofs.Common.{append_assoc, length-append}
 use Rattle.std.proofs.lemmas.List.{append-nil, take_at, drop_at, drop-drop, take-append-drop}
@@ -42,6 +42,10 @@ pub fit-append : (ps qs : List (List ℕ)) → AllByRecursion Fits ps → AllByR
 fit-append [] qs first second = second
 fit-append (p ∷ ps) qs first second = (first.0, fit-append ps qs first.1 second)
 
+pub fit-parts : (ps qs : List (List ℕ)) → AllByRecursion Fits (ps ++ qs) → AllByRecursion Fits ps × AllByRecursion Fits qs
+fit-parts [] qs fit = (tt, fit)
+fit-parts (p ∷ ps) qs fit = let rest = fit-parts ps qs fit.1 in ((fit.0, rest.0), rest.1)
+
 -- one more record: what follows the open gate is a payload after its length, and a gate
 pub HasRecords-next : (at : ℕ) (file : List ℕ) (ps : List (List ℕ)) (rest p more : List ℕ) (gate : ℕ) → HasRecords at file ps 1 rest → Fits p →
     rest ≡ length_bytes (length p) ++ (p ++ (gate ∷ more)) → HasRecords at file (ps ++ p ∷ []) gate more
@@ -52,6 +56,21 @@ HasRecords-next at file ps rest p more gate has fits is = record {
       ∙ ap (λ m. m ++ (gate ∷ more)) (sym (records-append ps (p ∷ [])));
   fit = fit-append ps (p ∷ []) has.fit (fits, tt);
 }
+
+-- one record less: its gate is open, and its payload comes after its length
+pub HasRecords-last : (at : ℕ) (file : List ℕ) (ps : List (List ℕ)) (p more : List ℕ) (gate : ℕ) → HasRecords at file (ps ++ p ∷ []) gate more →
+    HasRecords at file ps 1 (length_bytes (length p) ++ (p ++ (gate ∷ more))) × Fits p
+HasRecords-last at file ps p more gate has =
+    let parts = fit-parts ps (p ∷ []) has.fit in (
+      record {
+        is = has.is ∙ ap (λ m. m ++ (gate ∷ more)) (records-append ps (p ∷ []))
+            ∙ append_assoc (records ps) (record_bytes p ++ []) (gate ∷ more)
+            ∙ ap (λ m. records ps ++ (m ++ (gate ∷ more))) (append-nil (record_bytes p))
+            ∙ ap (λ m. records ps ++ (1 ∷ m)) (append_assoc (length_bytes (length p)) p (gate ∷ more));
+        fit = parts.0;
+      },
+      parts.1.0,
+    )
 
 -- where the gate is
 pub gate_is : (file : List ℕ) (ps : List (List ℕ)) (gate : ℕ) (rest : List ℕ) → HasRecords 8 file ps gate rest →

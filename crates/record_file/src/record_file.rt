@@ -67,6 +67,7 @@ impl<D: Disk> RecordFile<D> {
         ensures sound { (since : ℕ) → IsOpened (D.calls disk) since → IfOk result (λ f. IsSound D.calls f) }
         ensures kept { (since : ℕ) → IsOpened (D.calls disk) since → (first : List ℕ) → AreAnswers first (D.calls (disk_in result)) →
             IsKept first (D.calls (disk_in result)) [] since [] [] }
+        ensures answers { (first : List ℕ) → AreAnswers first (D.calls (disk_in result)) → AreAnswers first (D.calls disk) }
         ensures count { CountsFaults (D.faults disk) (D.faults (disk_in result)) result }
     {
         let appended = Log::new();

@@ -37,7 +37,7 @@ pub struct Scan {
 }
 
 impl Scan {
-    ghost use Rattle.record_file.specs.Records.{IsDamagedAt, header};
+    ghost use Rattle.record_file.specs.Records.{IsDamagedAt, header, records};
     ghost use Rattle.record_file.specs.Kept.{IsOpened};
     ghost use Rattle.record_file.specs.State.{Counts, IsScan, IsScanOf, OnlyLooks, payload_of};
     ghost use Rattle.record_file.specs.Next.{IsNext, next_outcome};
@@ -115,7 +115,9 @@ impl Scan {
 
     /// The place of the record that comes next, counted from 1, and that of its gate's byte.
     pub fn place(&self) -> (u64, u64)
-        ensures { (file : List ℕ) → IsScanOf file self.now → IsNext file self.now Next.Damaged →
+        ensures at { (file : List ℕ) → IsScanOf file self.now →
+            (result.0 ≡ length self.now.found + 1) × (result.1 ≡ 8 + length (records self.now.found)) }
+        ensures damaged { (file : List ℕ) → IsScanOf file self.now → IsNext file self.now Next.Damaged →
             IsDamagedAt file self.now.found result.0 result.1 }
     {
         let record = self.count.saturating_add(1);

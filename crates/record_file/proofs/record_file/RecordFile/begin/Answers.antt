@@ -1,4 +1,5 @@
 use Rattle.std.proofs.Common.{[], Ok, Err, refl}
+use Rattle.record_file.proofs.MomentLemmas.{written_front}
 use Rattle.record_file.proofs.StartLemmas.{begun_kept, begun_rests}
 use Rattle.record_file.proofs.StateLemmas.{moved, shown_none}
 use Rattle.record_file.proofs.record_file.RecordFile.begin.Goals as goal
@@ -17,3 +18,11 @@ returns-in-Ok-clause-kept g c = λ since opened first answers.
 pub returns-in-Err-clause-kept : goal.returns-in-Err-clause-kept
 returns-in-Err-clause-kept g c = λ since opened first answers.
     begun_kept (g.D.Disk.calls c.args.disk) (g.D.Disk.calls c.write.new.disk) since opened c.requires (Err c.in-Err.field-0) c.in-Err.ensures.calls first answers
+
+pub returns-in-Ok-clause-answers : goal.returns-in-Ok-clause-answers
+returns-in-Ok-clause-answers g c = λ first answers.
+    written_front first (g.D.Disk.calls c.args.disk) _ _ (Ok tt) (g.D.Disk.calls c.write.new.disk) c.in-Ok.ensures.calls answers
+
+pub returns-in-Err-clause-answers : goal.returns-in-Err-clause-answers
+returns-in-Err-clause-answers g c = λ first answers.
+    written_front first (g.D.Disk.calls c.args.disk) _ _ (Err c.in-Err.field-0) (g.D.Disk.calls c.write.new.disk) c.in-Err.ensures.calls answers
