@@ -4,3 +4,10 @@ pub mod BatchFormats
 pub mod Readable
 pub mod Finding
 pub mod RecordLemmas
+pub mod JournalLemmas
+pub mod RedoLemmas
+pub mod RecoveryLemmas
+pub mod LawLemmas
+pub mod NamedLemmas
+pub mod AdmitLemmas
+pub mod OpeningLemmas

@@ -1,5 +1,6 @@
--- A batch is read back from its bytes: `is_read`, `is_none`, `has_rest`, `own_bytes`.
-use Rattle.std.proofs.Common.{◌≡◌, ℕ, ◌^◌, ◌<◌, List, [], ◌∷◌, ◌++◌, Some, sym, ap, ◌∙◌}
+-- A batch is read back from its bytes: `is_read`, `is_none`, `has_rest`, `own_bytes`, `read_whole`, `read_batch`,
+-- `admitted_readable`.
+use Rattle.std.proofs.Common.{◌≡◌, ℕ, ◌^◌, ◌<◌, List, [], ◌∷◌, ◌++◌, Option, Some, MatchOption, sym, ap, subst, ◌∙◌}
 use Rattle.std.specs.List.{AllByRecursion}
 use Rattle.std.proofs.lemmas.List.{append-nil}
 use Rattle.delivery_duties.specs.declared.duty.NewDuty.{NewDuty}
@@ -7,7 +8,11 @@ use Rattle.router_core.specs.Batch.{Entry, control, accepted, attempt, messages_
 use Rattle.entry_bytes.specs.Duty.{IsDuty, IsNamed}
 use Rattle.entry_bytes.specs.Reading.{IsBytes, HasNone}
 use Rattle.entry_bytes.proofs.Formats.{some_is}
-use Rattle.duty_journal.specs.Batch.{batch_bytes, IsOperation, NamesRules, HasValidTexts, IsReadable, IsNoBatch}
+use Rattle.router_core.specs.View.{batch_of}
+use Rattle.router_core.specs.declared.batch.Batch.{Batch as CodeBatch}
+use Rattle.router_core.specs.Tables.{Tables, after_entry}
+use Rattle.router_core.specs.Admitted.{AreAdmitted, IsAdmitted}
+use Rattle.duty_journal.specs.Batch.{batch_bytes, FitsBytes, IsOperation, NamesRules, HasValidTexts, IsReadable, IsNoBatch}
 use Rattle.duty_journal.specs.Reading.{batch_at}
 use Rattle.duty_journal.proofs.BatchFormats.{IsReadDuty, HasOperations, batch_format}
 
@@ -71,7 +76,7 @@ readable b h valid = record {
 read_again : (b : Batch) (rest : List ℕ) → IsReadable b → batch_at (batch_bytes b ++ rest) ≡ Some (b, rest)
 read_again b rest r = batch_format.again b rest (has_batch b r)
 
-read_whole : (b : Batch) (bytes : List ℕ) → IsReadable b → bytes ≡ batch_bytes b → batch_at bytes ≡ Some (b, [])
+pub read_whole : (b : Batch) (bytes : List ℕ) → IsReadable b → bytes ≡ batch_bytes b → batch_at bytes ≡ Some (b, [])
 read_whole b bytes r e = ap batch_at (e ∙ sym (append-nil (batch_bytes b))) ∙ read_again b [] r
 
 pub is_read : (bytes : List ℕ) (b : Batch) (rest : List ℕ) → IsBytes bytes → batch_at bytes ≡ Some (b, rest) → AllByRecursion HasValidTexts b.entries → rest ≡ []
@@ -91,3 +96,21 @@ pub own_bytes : (a b : Batch) (x y : List ℕ) → IsReadable a → IsReadable b
 own_bytes a b x y one other e =
     let both = some_is (a, x) (b, y) (sym (read_again a x one) ∙ ap batch_at e ∙ read_again b y other) in
     (ap (λ (p : Batch × List ℕ). p.0) both, ap (λ (p : Batch × List ℕ). p.1) both)
+
+-- the texts of admitted operations are valid
+valid_all : (moment : ℕ) (es : List Entry) (t : Tables) → AreAdmitted moment es t → AllByRecursion HasValidTexts es
+valid_all moment [] t a = tt
+valid_all moment (control c ∷ es) t a = (a.0.0.1, valid_all moment es (after_entry moment (control c) t) a.1)
+valid_all moment (accepted e ∷ es) t a = (tt, valid_all moment es (after_entry moment (accepted e) t) a.1)
+valid_all moment (attempt duty outcome ∷ es) t a = (tt, valid_all moment es (after_entry moment (attempt duty outcome) t) a.1)
+valid_all moment (messages_deleted queue through ∷ es) t a = (tt, valid_all moment es (after_entry moment (messages_deleted queue through) t) a.1)
+
+pub admitted_readable : (t : Tables) (b : Batch) → FitsBytes b → AllByRecursion NamesRules b.entries → IsAdmitted t b → IsReadable b
+admitted_readable t b fits named admitted = record { fits = fits; named = named; valid = valid_all b.moment b.entries t admitted.entries }
+
+-- a batch that was read, and its bytes
+pub read_batch : (bytes : List ℕ) (found : Option CodeBatch) (b : CodeBatch) →
+    MatchOption found (IsNoBatch bytes) (λ o. IsReadable (batch_of o) × (bytes ≡ batch_bytes (batch_of o))) → found ≡ Some b →
+    IsReadable (batch_of b) × (bytes ≡ batch_bytes (batch_of b))
+read_batch bytes found b said is =
+    subst (λ o. MatchOption o (IsNoBatch bytes) (λ x. IsReadable (batch_of x) × (bytes ≡ batch_bytes (batch_of x)))) is said

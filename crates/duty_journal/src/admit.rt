@@ -1,0 +1,327 @@
+//! Whether tables admit an operation, and what applying it needs.
+ghost use Rattle.std.specs.Prelude.{◌≡◌, ◌↔◌, ◌<◌, ◌≤◌, ◌^◌, ◌++◌, ℕ, List, true, false, map, IfOk, IsTrue, MatchOption, OnOk, Err};
+ghost use Rattle.std.specs.List.{list_all};
+ghost use Rattle.json_text.specs.Moment.{IsMoment};
+ghost use Rattle.event_shape.specs.Names.{IsQueueArn};
+ghost use Rattle.rule_table.specs.RuleSet.{RuleSet as Set};
+ghost use Rattle.rule_table.specs.WellFormed.{IsSpelled};
+ghost use Rattle.rule_table.specs.View.{control_of};
+ghost use Rattle.rule_table.specs.declared.control.ControlFault.TheVariants as control_faults;
+ghost use Rattle.delivery_duties.specs.declared.outcome.Outcome.TheVariants as outcomes;
+ghost use Rattle.delivery_queues.specs.Queues.{has_queue};
+ghost use Rattle.router_core.specs.Batch.{control as change, accepted};
+ghost use Rattle.router_core.specs.View.{accepted_of, entry_of};
+ghost use Rattle.router_core.specs.Tables.{is_full};
+ghost use Rattle.router_core.specs.Admitted.{IsAnEvent, IsAttemptAdmitted, IsDeletionAdmitted, IsEntryAdmitted, IsTextAdmitted, IsUnnamed};
+ghost use Rattle.router_core.specs.Ready.{IsPartOf, ArePartsOf};
+ghost use Rattle.router_core.specs.declared.ready.Part.{Part as PartView};
+ghost use Rattle.duty_journal.specs.Batch.{HasValidTexts};
+ghost use Rattle.duty_journal.specs.Redo.{AreNextEvents, HasNoClaim, IsFreeDuty, IsNeedOf, IsNextEvent, is_short};
+
+use crate::fault::ReplayFault;
+use delivery_duties::{NewDuty, Outcome};
+use event_shape::{Event, is_account, is_bus_name, queue_of};
+use json_text::{NoMemory, Text};
+use router_core::{AcceptedEvent, Entry, Part, Tables};
+use rule_table::{Control, ControlFault, is_well_formed};
+use std::alloc::Global;
+use std::collections::VecDeque;
+
+/// The last moment of a time, in seconds since 1970-01-01T00:00:00Z.
+const LAST_MOMENT: u64 = 250_000_000_000;
+
+/// The greatest number of duties of an event.
+const MOST_DUTIES: usize = 1500;
+
+/// The greatest number of bytes of a duty's text.
+const MOST_TEXT: usize = 1_048_576;
+
+/// The greatest number.
+const LAST_NUMBER: u64 = u64::MAX;
+
+/// What one operation needs to be applied.
+#[derive(Drop)]
+pub enum Need {
+    OfPart(Part),
+    OfAttempt(u64, Outcome),
+}
+
+/// Whether a batch may have this moment, and be the next one.
+pub(crate) fn is_on_time(tables: &Tables, moment: u64) -> bool
+    ensures count { tables.now.set.count < 2 ^ 63 }
+    ensures events { tables.now.events < 2 ^ 63 }
+    ensures on_time { IsTrue result ↔ (IsMoment moment × (tables.now.moment ≤ moment) × (is_full tables.now ≡ false)) }
+{
+    if tables.full() {
+        return false;
+    }
+    if moment > LAST_MOMENT {
+        return false;
+    }
+    tables.moment() <= moment
+}
+
+/// What the operation needs, or the reason why it cannot be applied.
+pub(crate) fn admit_one(
+    alloc: Global,
+    tables: &Tables,
+    moment: u64,
+    entry: &Entry,
+) -> Result<Need, ReplayFault>
+    requires valid { HasValidTexts (entry_of entry.now) }
+    requires unclaimed { HasNoClaim tables.now }
+    requires count { tables.now.set.count < 2 ^ 63 }
+    requires events { tables.now.events < 2 ^ 63 }
+    ensures ok { IfOk result (λ need. IsEntryAdmitted moment (entry_of entry.now) tables.now × IsNeedOf tables.now (entry_of entry.now) need) }
+    ensures refused { result ≡ Err ReplayFault.NotAdmitted → ¬ IsEntryAdmitted moment (entry_of entry.now) tables.now }
+{
+    match entry {
+        Entry::Control(control) => match admit_change(alloc, tables, control) {
+            Ok(part) => Ok(Need::OfPart(part)),
+            Err(fault) => Err(fault),
+        },
+        Entry::Accepted(event) => {
+            let number = tables.events() + 1;
+            let known = tables.set().control_count();
+            match admit_event(alloc, number, known, event) {
+                Ok(part) => Ok(Need::OfPart(part)),
+                Err(fault) => Err(fault),
+            }
+        }
+        Entry::Attempt { duty, outcome } => match admit_attempt(tables, moment, *duty, *outcome) {
+            Ok(()) => Ok(Need::OfAttempt(*duty, *outcome)),
+            Err(fault) => Err(fault),
+        },
+        Entry::MessagesDeleted { queue, through } => match admit_deletion(tables, queue, *through) {
+            Ok(()) => Ok(Need::OfPart(Part::Nothing)),
+            Err(fault) => Err(fault),
+        },
+    }
+}
+
+fn admit_change(alloc: Global, tables: &Tables, control: &Control) -> Result<Part, ReplayFault>
+    requires valid { IsSpelled (control_of control.now) }
+    requires count { tables.now.set.count < 2 ^ 63 }
+    ensures ok { IfOk result (λ part. (moment : ℕ) → IsEntryAdmitted moment (change (control_of control.now)) tables.now
+        × IsPartOf tables.now.set (change (control_of control.now)) part) }
+    ensures refused { result ≡ Err ReplayFault.NotAdmitted → (moment : ℕ) → ¬ IsEntryAdmitted moment (change (control_of control.now)) tables.now }
+{
+    match is_well_formed(alloc, control) {
+        Ok(yes) => {
+            if !yes {
+                return Err(ReplayFault::NotAdmitted);
+            }
+        }
+        Err(NoMemory) => return Err(ReplayFault::NoMemory),
+    }
+    if !is_unnamed(tables, control) {
+        return Err(ReplayFault::NotAdmitted);
+    }
+    match Part::of_control(alloc, tables.set(), control) {
+        Ok(part) => Ok(part),
+        Err(fault) => Err(as_replay_fault(fault)),
+    }
+}
+
+/// Whether no pending duty and no message names a queue that the change deletes.
+fn is_unnamed(tables: &Tables, control: &Control) -> bool
+    ensures { IsTrue result ↔ IsUnnamed (control_of control.now) tables.now.duties }
+{
+    match control {
+        Control::QueueDeleted { name } => !tables.duties().names(name.as_str()),
+        Control::BusCreated { .. }
+        | Control::BusDeleted { .. }
+        | Control::RulePut { .. }
+        | Control::RuleDeleted { .. }
+        | Control::StatePut { .. }
+        | Control::TargetsPut { .. }
+        | Control::TargetsRemoved { .. }
+        | Control::PolicyPut { .. }
+        | Control::QueueCreated { .. } => true,
+    }
+}
+
+/// A refusal, or out of memory.
+fn as_replay_fault(fault: ControlFault) -> ReplayFault
+    ensures { result ≡ ReplayFault.NotAdmitted → ¬ (fault ≡ control_faults.NoMemory) }
+{
+    match fault {
+        ControlFault::NoMemory => ReplayFault::NoMemory,
+        ControlFault::ResourceNotFound(_)
+        | ControlFault::AlreadyExists(_)
+        | ControlFault::LimitExceeded(_)
+        | ControlFault::Validation(_)
+        | ControlFault::PolicyTooLong
+        | ControlFault::InUse(_)
+        | ControlFault::HasTargets
+        | ControlFault::DefaultBus => ReplayFault::NotAdmitted,
+    }
+}
+
+/// The part of the event, if it is the next one with this number, and configuration versions up to `known` are known.
+fn admit_event(
+    alloc: Global,
+    number: u64,
+    known: u64,
+    event: &AcceptedEvent,
+) -> Result<Part, ReplayFault>
+    ensures ok { IfOk result (λ part. IsNextEvent number known (accepted_of event.now)
+        × ((set : Set) → IsPartOf set (accepted (accepted_of event.now)) part)) }
+    ensures refused { result ≡ Err ReplayFault.NotAdmitted → ¬ IsNextEvent number known (accepted_of event.now) }
+{
+    if event.number != number {
+        return Err(ReplayFault::NotAdmitted);
+    }
+    if event.k > known {
+        return Err(ReplayFault::NotAdmitted);
+    }
+    if event.time > LAST_MOMENT {
+        return Err(ReplayFault::NotAdmitted);
+    }
+    if !is_bus_name(event.bus.as_str()) {
+        return Err(ReplayFault::NotAdmitted);
+    }
+    if event.duties.len() > MOST_DUTIES {
+        return Err(ReplayFault::NotAdmitted);
+    }
+    if !are_short(&event.duties) {
+        return Err(ReplayFault::NotAdmitted);
+    }
+    match is_event_text(alloc, event.text.as_str()) {
+        Ok(yes) => {
+            if !yes {
+                return Err(ReplayFault::NotAdmitted);
+            }
+        }
+        Err(NoMemory) => return Err(ReplayFault::NoMemory),
+    }
+    match Part::of_event(alloc, event) {
+        Ok(part) => Ok(part),
+        Err(NoMemory) => Err(ReplayFault::NoMemory),
+    }
+}
+
+/// Whether no text is too long.
+fn are_short(duties: &[NewDuty]) -> bool
+    ensures { result ≡ list_all is_short duties.now }
+{
+    match duties {
+        [duty, rest @ ..] => duty.text.as_str().len() <= MOST_TEXT && are_short(rest),
+        [] => true,
+    }
+}
+
+/// Whether the text is that of an event with a number and an account.
+fn is_event_text(alloc: Global, text: &str) -> Result<bool, NoMemory>
+    ensures { IfOk result (λ yes. IsTrue yes ↔ IsTextAdmitted text.now) }
+{
+    match Event::read(alloc, text.as_bytes()) {
+        Ok(found) => match found {
+            Some(event) => {
+                if event.number() == 0 {
+                    return Ok(false);
+                }
+                Ok(is_account(event.account()))
+            }
+            None => Ok(false),
+        },
+        Err(NoMemory) => Err(NoMemory),
+    }
+}
+
+fn admit_attempt(
+    tables: &Tables,
+    moment: u64,
+    duty: u64,
+    outcome: Outcome,
+) -> Result<(), ReplayFault>
+    requires unclaimed { HasNoClaim tables.now }
+    ensures ok { OnOk result (IsAttemptAdmitted tables.now moment duty outcome × IsFreeDuty duty tables.now.duties) }
+    ensures refused { result ≡ Err ReplayFault.NotAdmitted → ¬ IsAttemptAdmitted tables.now moment duty outcome }
+{
+    match tables.duties().pending(duty) {
+        Some(row) => {
+            if row.due > moment {
+                return Err(ReplayFault::NotAdmitted);
+            }
+            if has_its_queue(tables, row.duty.target.endpoint(), outcome) {
+                Ok(())
+            } else {
+                Err(ReplayFault::NotAdmitted)
+            }
+        }
+        None => Err(ReplayFault::NotAdmitted),
+    }
+}
+
+/// Whether the queue that accepted the text exists, if one did.
+fn has_its_queue(tables: &Tables, endpoint: &str, outcome: Outcome) -> bool
+    ensures { IsTrue result ↔ (outcome ≡ outcomes.Accepted → (queue : List ℕ) → IsQueueArn endpoint.now queue → has_queue queue tables.now.duties.queues ≡ true) }
+{
+    match outcome {
+        Outcome::Accepted => match queue_of(endpoint) {
+            Some(queue) => tables.duties().has_queue(queue),
+            None => true,
+        },
+        Outcome::Code(_) | Outcome::NoAnswer | Outcome::NoQueue | Outcome::TooOld => true,
+    }
+}
+
+fn admit_deletion(tables: &Tables, queue: &Text, through: u64) -> Result<(), ReplayFault>
+    ensures ok { OnOk result (IsDeletionAdmitted tables.now queue.now through) }
+    ensures refused { result ≡ Err ReplayFault.NotAdmitted → ¬ IsDeletionAdmitted tables.now queue.now through }
+{
+    if !tables.duties().has_queue(queue.as_str()) {
+        return Err(ReplayFault::NotAdmitted);
+    }
+    if through >= 1 << 48 {
+        return Err(ReplayFault::NotAdmitted);
+    }
+    if tables.duties().count_through(queue.as_str(), through) == 0 {
+        return Err(ReplayFault::NotAdmitted);
+    }
+    Ok(())
+}
+
+/// Adds the parts of the events, if they are the next ones with numbers from `number` on.
+pub(crate) fn admit_events(
+    alloc: Global,
+    number: u64,
+    known: u64,
+    entries: &[Entry],
+    parts: &mut VecDeque<Part>,
+) -> Result<(), ReplayFault>
+    ensures ok { OnOk result (AreNextEvents number known (map entry_of entries.now)
+        × ((ps : List PartView) × (parts.new.items ≡ parts.old.items ++ ps) × ((set : Set) → ArePartsOf set (map entry_of entries.now) ps))) }
+    ensures refused { result ≡ Err ReplayFault.NotAdmitted → ¬ AreNextEvents number known (map entry_of entries.now) }
+{
+    match entries {
+        [] => Ok(()),
+        [first, rest @ ..] => match event_in(first) {
+            Some(event) => {
+                let part = admit_event(alloc, number, known, event)?;
+                if parts.push_back(part).is_err() {
+                    return Err(ReplayFault::NoMemory);
+                }
+                // Never so: tables are full long before.
+                if number == LAST_NUMBER {
+                    return Err(ReplayFault::NoMemory);
+                }
+                admit_events(alloc, number.saturating_add(1), known, rest, parts)
+            }
+            None => Err(ReplayFault::NotAdmitted),
+        },
+    }
+}
+
+/// The event, if the operation is one.
+fn event_in(entry: &Entry) -> Option<&AcceptedEvent>
+    ensures { MatchOption result
+        (¬ IsAnEvent (entry_of entry.now))
+        (λ event. entry_of entry.now ≡ accepted (accepted_of event.now)) }
+{
+    match entry {
+        Entry::Accepted(event) => Some(event),
+        Entry::Control(_) | Entry::Attempt { .. } | Entry::MessagesDeleted { .. } => None,
+    }
+}
