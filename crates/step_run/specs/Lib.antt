@@ -1,0 +1,2 @@
+pub mod Act
+pub mod Steps
