@@ -1,0 +1,4 @@
+pub mod Kept
+pub mod Archive
+pub mod Archives
+pub mod Sound

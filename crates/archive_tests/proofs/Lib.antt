@@ -1,0 +1,1 @@
+-- An archive is made event by event: each is later than those before.
