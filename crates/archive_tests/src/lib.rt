@@ -5,3 +5,5 @@
 mod kept;
 #[cfg(test)]
 mod test_archive_keep;
+#[cfg(test)]
+mod test_replay_run;
