@@ -1,0 +1,9 @@
+pub mod NumberLemmas
+pub mod StepLemmas
+pub mod LeafLemmas
+pub mod OptionLemmas
+pub mod TopLemmas
+pub mod TableLemmas
+pub mod LineLemmas
+pub mod ValueLemmas
+pub mod FaultLemmas
