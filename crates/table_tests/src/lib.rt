@@ -13,4 +13,6 @@ mod test_delivery_duties;
 #[cfg(test)]
 mod test_duty_journal;
 #[cfg(test)]
+mod test_journal;
+#[cfg(test)]
 mod test_rule_table;

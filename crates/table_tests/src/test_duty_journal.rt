@@ -83,7 +83,7 @@ fn byte(high: u8, low: u8) -> Result<u8, Fail> {
 }
 
 /// The bytes that these digits spell, two a byte.
-fn bytes(alloc: Global, digits: &str) -> Result<Bytes, Fail> {
+pub(crate) fn bytes(alloc: Global, digits: &str) -> Result<Bytes, Fail> {
     let mut out = Bytes::new(alloc);
     let mut left = digits.as_bytes();
     for _ in 0..digits.len() {
