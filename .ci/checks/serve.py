@@ -139,6 +139,27 @@ def eight_clients():
                 expect_ids(f"queue q-{number}", [json.loads(row["Body"])["id"] for row in rows], ids[number])
 
 
+def ids_after_the_last_known():
+    """Eight clients share the last id that any of them got. The next id of each is above the one that was known before it asked."""
+    rounds = 200
+    lock, known = threading.Lock(), [event_id(0)]
+
+    def one():
+        with it.client(again=True) as client:
+            for _ in range(rounds):
+                with lock:
+                    before = known[0]
+                [got] = put_events(client, "shop.a", 1)
+                if got <= before:
+                    raise Failure(f"the id {got}, asked for when {before} was known")
+                with lock:
+                    known[0] = max(known[0], got)
+
+    with Served(9) as it:
+        together([one] * 8)
+        expect("the last id", known[0], event_id(8 * rounds))
+
+
 def fifteen_clients():
     """Sixteen workers serve fifteen at once: nobody waits, and no idle client is closed."""
     with Served(16, connections=1_000_000) as it:
@@ -873,6 +894,7 @@ def find_boto3():
 CASES = [
     twelve_clients,
     eight_clients,
+    ids_after_the_last_known,
     fifteen_clients,
     any_number_of_workers,
     a_full_door,
