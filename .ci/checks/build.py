@@ -73,10 +73,10 @@ class Site:
         for name in ("bin/ebusd", "bin/build-times", "crates.txt"):
             (self.top / name).parent.mkdir(parents=True, exist_ok=True)
             shutil.copy2(name, self.top / name)
-        self.crates = []
+        self.crates = {}
         for line in Path("crates.txt").read_text(encoding="utf-8").splitlines():
-            if found := re.match(r"([a-z0-9_]+)[^:#]*:", line):
-                self.crates.append(found[1])
+            if found := re.match(r"([a-z0-9_]+)[^:#]*:([^#]*)", line):
+                self.crates[found[1]] = found[2].split()
                 (self.top / "crates" / found[1] / "src").mkdir(parents=True)
                 (self.top / "crates" / found[1] / "src" / "lib.rt").touch()
         self.command("rt", RT)
@@ -89,6 +89,21 @@ class Site:
         there = {"PATH": path or f"{self.words}:{os.environ['PATH']}", "SECONDS_EACH": str(seconds), **more}
         ran = subprocess.run([self.top / "bin/ebusd", "once", "x y"], stdin=subprocess.DEVNULL, capture_output=True, text=True, env=there, timeout=PATIENCE)
         return ran.returncode, ran.stdout, ran.stderr.splitlines()
+
+
+def each_crate_has_its_seconds(site):
+    """Those that the program is made of, and no others."""
+    wanted, left = set(), ["ebusd"]
+    while left:
+        name = left.pop()
+        if name in site.crates and name not in wanted:
+            wanted.add(name)
+            left += site.crates[name]
+    lines = [it.split() for it in Path("bin/build-times").read_text(encoding="utf-8").splitlines() if not it.startswith("#")]
+    wrong = [it for it in lines if len(it) != 2 or not it[1].isdigit() or it[1] == "0"]
+    assert not wrong, wrong
+    names = [it[0] for it in lines]
+    assert sorted(names) == sorted(wanted), set(names) ^ wanted
 
 
 def first_build(site):
@@ -161,7 +176,7 @@ def main():
     passed = failed = 0
     with tempfile.TemporaryDirectory() as folder:
         site = Site(Path(folder))
-        for case in (first_build, no_build, what_changed, a_line_a_minute, little_disk, a_failed_proof, no_toolchain):
+        for case in (each_crate_has_its_seconds, first_build, no_build, what_changed, a_line_a_minute, little_disk, a_failed_proof, no_toolchain):
             try:
                 case(site)
                 passed += 1
