@@ -7,3 +7,4 @@ pub mod ClockLemmas
 pub mod StreamLemmas
 pub mod DiskLemmas
 mod SourceLemmas
+mod MemoryDiskLemmas

@@ -1,6 +1,6 @@
 // The one error of the outside, and how it is counted.
-ghost use Rattle.std.specs.Prelude.{IsErr};
-ghost use Rattle.router_disk.specs.Faults.{CountsFaults};
+ghost use Rattle.std.specs.Prelude.{◌≡◌, IsErr};
+ghost use Rattle.router_disk.specs.Faults.{CountsFaults, last_count};
 
 use thiserror::Error;
 
@@ -16,4 +16,19 @@ pub(crate) fn fail<T>(faults: &mut u64) -> Result<T, Failed>
 {
     *faults = faults.saturating_add(1);
     Err(Failed)
+}
+
+/// Counts a fault if the answer is one.
+pub(crate) fn counted<T>(faults: &mut u64, answer: Result<T, Failed>) -> Result<T, Failed>
+    requires { faults.old ≡ last_count → IsErr answer }
+    ensures same { result ≡ answer }
+    ensures count { CountsFaults faults.old faults.new answer }
+{
+    match answer {
+        Ok(value) => Ok(value),
+        Err(Failed) => {
+            *faults = faults.saturating_add(1);
+            Err(Failed)
+        }
+    }
 }

@@ -19,6 +19,6 @@ pub use disk_call::{DiskCall, DiskCalls};
 pub use fault::Failed;
 pub use heard::{Heard, Pieces};
 pub use link::{Link, LinkFault};
-pub use memory::{Answer, Failing, MemClock, MemLink, MemSink, MemSource};
+pub use memory::{Answer, Failing, MemClock, MemLink, MemSink, MemSource, MemoryDisk, Tear};
 pub use sink::Sink;
 pub use source::Source;

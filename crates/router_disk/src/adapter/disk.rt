@@ -1,7 +1,7 @@
 // A file of the system as a disk.
-ghost use Rattle.std.specs.Prelude.{◌≡◌, IsErr, Result};
-ghost use Rattle.router_disk.specs.Faults.{CountsFaults, last_count};
+ghost use Rattle.std.specs.Prelude.{◌≡◌};
 
+use crate::fault::counted;
 use crate::{Disk, DiskCalls, Failed};
 use std::fs::OpenFile;
 use std::io;
@@ -9,37 +9,55 @@ use std::io::ErrorKind;
 use std::os::unix::fs::FileExt;
 
 /// An open file as a disk. It makes one system call a method, and as many as the system needs for all bytes of a read or a write; a cut
-/// asks for the length first. A call that was interrupted is made again, and every other short end is `Failed`.
+/// asks for the length first. A call that was interrupted is made again, and every other short end is `Failed`: then a line on standard error
+/// has the file's name, the call and the system's reason.
 #[derive(Drop)]
-pub struct FileDisk<F> {
+pub struct FileDisk<F, R> {
     file: F,
+    reasons: Reasons<R>,
     calls: DiskCalls,
     faults: u64,
 }
 
-impl<F: OpenFile + FileExt + Send> FileDisk<F> {
+impl<F, R> FileDisk<F, R> {
     ghost use Rattle.std.specs.Prelude.{[]};
 
-    /// A disk over `file`, with no call and no fault yet.
-    pub fn new(file: F) -> Self
-        ensures calls { ⟦<FileDisk<F> as Disk>⟧.calls result ≡ [] }
-        ensures faults { ⟦<FileDisk<F> as Disk>⟧.faults result ≡ 0 }
+    /// A disk over `file`, with no call and no fault yet. Its lines call it `name`.
+    pub fn new(file: F, name: String, system: R) -> Self
+        ensures calls { result.calls ≡ [] }
+        ensures faults { result.faults ≡ 0 }
     {
         FileDisk {
             file,
+            reasons: Reasons { name, system },
             calls: DiskCalls::new(),
             faults: 0,
         }
     }
+}
 
-    /// The file.
-    pub fn into_file(self) -> F {
-        let FileDisk { file, .. } = self;
-        file
+// What writes the reason of a failed call.
+#[derive(Drop)]
+struct Reasons<R> {
+    name: String,
+    system: R,
+}
+
+impl<R: Eprint> Reasons<R> {
+    // The answer of a call of the system. A line has the reason if it failed.
+    fn noted<T>(&self, call: &str, answer: io::Result<T>) -> Result<T, Failed> {
+        match answer {
+            Ok(value) => Ok(value),
+            Err(reason) => {
+                let name = self.name.as_str();
+                let _ = eprintln!(self.system; "ebusd: journal {name}: {call}: {reason}");
+                Err(Failed)
+            }
+        }
     }
 }
 
-impl<F: OpenFile + FileExt + Send> Disk for FileDisk<F> {
+impl<F: OpenFile + FileExt + Send, R: Eprint + Send> Disk for FileDisk<F, R> {
     ghost calls = { λ d. d.calls };
 
     ghost faults = { λ d. d.faults };
@@ -52,7 +70,7 @@ impl<F: OpenFile + FileExt + Send> Disk for FileDisk<F> {
         let answer = if self.faults == u64::MAX {
             Err(Failed)
         } else {
-            length(&self.file)
+            self.reasons.noted("fstat", length(&self.file))
         };
         self.calls.size(answer);
         counted(&mut self.faults, answer)
@@ -62,7 +80,8 @@ impl<F: OpenFile + FileExt + Send> Disk for FileDisk<F> {
         let answer = if self.faults == u64::MAX {
             Err(Failed)
         } else {
-            done(self.file.read_exact_at(into, at))
+            self.reasons
+                .noted("pread", self.file.read_exact_at(into, at))
         };
         self.calls.read(at, into, answer);
         counted(&mut self.faults, answer)
@@ -72,7 +91,8 @@ impl<F: OpenFile + FileExt + Send> Disk for FileDisk<F> {
         let answer = if self.faults == u64::MAX {
             Err(Failed)
         } else {
-            done(self.file.write_all_at(bytes, at))
+            self.reasons
+                .noted("pwrite", self.file.write_all_at(bytes, at))
         };
         self.calls.write_at(at, bytes, answer);
         counted(&mut self.faults, answer)
@@ -82,7 +102,7 @@ impl<F: OpenFile + FileExt + Send> Disk for FileDisk<F> {
         let answer = if self.faults == u64::MAX {
             Err(Failed)
         } else {
-            shorten(&self.file, len)
+            self.reasons.noted("ftruncate", shorten(&self.file, len))
         };
         self.calls.cut(len, answer);
         counted(&mut self.faults, answer)
@@ -92,68 +112,55 @@ impl<F: OpenFile + FileExt + Send> Disk for FileDisk<F> {
         let answer = if self.faults == u64::MAX {
             Err(Failed)
         } else {
-            sync(&self.file)
+            self.reasons.noted("fdatasync", sync(&self.file))
         };
         self.calls.sync(answer);
         counted(&mut self.faults, answer)
     }
 }
 
-// Counts a fault if the answer is one.
-fn counted<T>(faults: &mut u64, answer: Result<T, Failed>) -> Result<T, Failed>
-    requires { faults.old ≡ last_count → IsErr answer }
-    ensures same { result ≡ answer }
-    ensures count { CountsFaults faults.old faults.new answer }
-{
-    match answer {
-        Ok(value) => Ok(value),
-        Err(Failed) => {
-            *faults = faults.saturating_add(1);
-            Err(Failed)
-        }
-    }
-}
-
-fn done(answer: io::Result<()>) -> Result<(), Failed> {
-    match answer {
-        Ok(()) => Ok(()),
-        Err(_) => Err(Failed),
-    }
-}
-
-fn length<F: OpenFile>(file: &F) -> Result<u64, Failed> {
+fn length<F: OpenFile>(file: &F) -> io::Result<u64> {
     for _ in 0..u64::MAX {
         match file.metadata() {
             Ok(metadata) => return Ok(metadata.len()),
-            Err(fault) if fault.kind() == ErrorKind::Interrupted => {}
-            Err(_) => break,
+            Err(reason) => {
+                if reason.kind() != ErrorKind::Interrupted {
+                    return Err(reason);
+                }
+            }
         }
     }
-    Err(Failed)
+    Err(io::Error::from(ErrorKind::Interrupted))
 }
 
 // The system extends a shorter file: so the length is asked for first.
-fn shorten<F: OpenFile>(file: &F, len: u64) -> Result<(), Failed> {
+fn shorten<F: OpenFile>(file: &F, len: u64) -> io::Result<()> {
     if length(file)? < len {
-        return Err(Failed);
+        return Err(io::Error::from(ErrorKind::UnexpectedEof));
     }
     for _ in 0..u64::MAX {
         match file.set_len(len) {
             Ok(()) => return Ok(()),
-            Err(fault) if fault.kind() == ErrorKind::Interrupted => {}
-            Err(_) => break,
+            Err(reason) => {
+                if reason.kind() != ErrorKind::Interrupted {
+                    return Err(reason);
+                }
+            }
         }
     }
-    Err(Failed)
+    Err(io::Error::from(ErrorKind::Interrupted))
 }
 
-fn sync<F: OpenFile>(file: &F) -> Result<(), Failed> {
+fn sync<F: OpenFile>(file: &F) -> io::Result<()> {
     for _ in 0..u64::MAX {
         match file.sync_data() {
             Ok(()) => return Ok(()),
-            Err(fault) if fault.kind() == ErrorKind::Interrupted => {}
-            Err(_) => break,
+            Err(reason) => {
+                if reason.kind() != ErrorKind::Interrupted {
+                    return Err(reason);
+                }
+            }
         }
     }
-    Err(Failed)
+    Err(io::Error::from(ErrorKind::Interrupted))
 }
