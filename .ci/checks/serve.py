@@ -649,13 +649,16 @@ def an_endpoint_that_never_answers():
 
 
 def a_port_in_use():
-    failed = (b"", b"ebusd: door failed\n", 8)
+    def failed(port):
+        reason = f"ebusd: port {port}: bind: Address already in use (os error 98)\n"
+        return b"", reason.encode() + b"ebusd: door failed\n", 8
+
     with Served(2) as it, it.client() as client:
-        expect("a second process at the port", run("serve", "--port", str(it.port), "--workers", "2"), failed)
+        expect("a second process at the port", run("serve", "--port", str(it.port), "--workers", "2"), failed(it.port))
         client.ask("DutyCounts")
     with socket.create_server((HOST, 0)) as other:
         port = str(other.getsockname()[1])
-        expect("a process at another program's port", run("serve", "--port", port, "--workers", "2"), failed)
+        expect("a process at another program's port", run("serve", "--port", port, "--workers", "2"), failed(port))
 
 
 def ended_by_a_signal():

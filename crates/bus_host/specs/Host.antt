@@ -1,4 +1,4 @@
--- The three counts of faults of a host, and its doors and links.
+-- The three counts of faults of a host, and its disks, doors and links.
 use Rattle.std.specs.Prelude.{◌≡◌, ℕ, List}
 
 -- None of a host's three counts changed.
@@ -8,7 +8,7 @@ pub record SameFaults {H : Type 0} (disk door link : H → ℕ) (old new : H) : 
   pub same_door : door new ≡ door old
   pub same_link : link new ≡ link old
 
--- Of one kind, doors or links, the host gave nothing and took nothing back.
+-- Of one kind, disks, doors or links, the host gave nothing and took nothing back.
 -- Shown by: program_tests program.rt: a_run_gives_its_link_back.
 pub record SameGiven {H G B : Type 0} (given : H → List G) (back : H → List B) (old new : H) : Type 0 where
   pub same_given : given new ≡ given old

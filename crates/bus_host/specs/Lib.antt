@@ -4,3 +4,4 @@ pub mod Host
 pub mod Doors
 pub mod Plans
 pub mod Stock
+pub mod Files

@@ -1,38 +1,40 @@
 // A host in memory.
-ghost use Rattle.std.specs.Prelude.{◌≡◌, [], ◌∷◌, ◌++◌, Err, MatchResult};
+ghost use Rattle.std.specs.Prelude.{◌≡◌, [], ◌∷◌, ◌++◌, IfOk, MatchResult};
 ghost use Rattle.router_disk.specs.Faults.{CountsFaults};
 ghost use Rattle.bus_host.specs.HostFault.{host_outcome};
+ghost use Rattle.bus_host.specs.Files.{OpensByPlan, TookDiskBack};
 ghost use Rattle.bus_host.specs.Stock.{Gave, GoesByPlan, TookBack};
 
-use crate::{Host, HostFault, MemDoor, NoDisk, NoHost, Stock};
+use crate::{Host, HostFault, MemDoor, MemFile, MemFiles, Stock};
 use http_server::Log;
-use router_disk::{MemLink, Sink, Source};
+use router_disk::{MemLink, MemoryDisk, Sink, Source};
 use std::alloc::Global;
 use std::collections::LinkedList;
 
-/// A host that gives doors and links in memory as it plans them, and takes them back. Each call for a disk fails.
+/// A host that gives disks, doors and links in memory as it plans them, and takes them back.
 #[derive(Drop)]
 pub struct MemHost<I, O> {
-    disks: NoHost,
+    pub disks: MemFiles,
     ports: Log<u16, MemDoor<I, O>>,
     pub doors: Stock<MemDoor<I, O>>,
     pub links: Stock<MemLink>,
 }
 
 impl<I: Source + Drop, O: Sink + Drop> MemHost<I, O> {
-    /// A host that plans these results for the calls of `door` and of `link`. After the last one of a list, each further call fails.
+    /// A host that plans these results for the calls of `disk`, of `door` and of `link`. After the last one of a list, each further call fails.
     pub fn new(
         alloc: Global,
+        disks: LinkedList<Result<MemFile, HostFault>>,
         doors: LinkedList<Result<MemDoor<I, O>, HostFault>>,
         links: LinkedList<Result<MemLink, HostFault>>,
     ) -> Self
+        ensures disks { result.disks ≡ record { planned = disks; given = []; back = []; held = []; faults = 0 } }
         ensures doors { result.doors ≡ record { planned = doors; given = []; back = []; held = []; faults = 0 } }
         ensures links { result.links ≡ record { planned = links; given = []; back = []; held = []; faults = 0 } }
         ensures doors_given { ⟦<MemHost<I, O> as Host>⟧.doors_given result ≡ [] }
-        ensures disk { ⟦<MemHost<I, O> as Host>⟧.disk_faults result ≡ 0 }
     {
         MemHost {
-            disks: NoHost::new(),
+            disks: MemFiles::new(alloc, disks),
             ports: Log::new(),
             doors: Stock::new(alloc, doors),
             links: Stock::new(alloc, links),
@@ -41,17 +43,21 @@ impl<I: Source + Drop, O: Sink + Drop> MemHost<I, O> {
 }
 
 impl<I: Source + Drop, O: Sink + Drop> Host for MemHost<I, O> {
-    type Disk = NoDisk;
+    type Disk = MemoryDisk;
 
     type Door = MemDoor<I, O>;
 
     type Link = MemLink;
 
-    ghost disk_faults = { λ h. ⟦<NoHost as Host>⟧.disk_faults h.disks };
+    ghost disk_faults = { λ h. h.disks.faults };
 
     ghost door_faults = { λ h. h.doors.faults };
 
     ghost link_faults = { λ h. h.links.faults };
+
+    ghost disks_given = { λ h. h.disks.given };
+
+    ghost disks_back = { λ h. h.disks.back };
 
     ghost doors_given = { λ h. h.ports.items };
 
@@ -62,7 +68,7 @@ impl<I: Source + Drop, O: Sink + Drop> Host for MemHost<I, O> {
     ghost links_back = { λ h. h.links.back };
 
     fn disk_faults(&self) -> u64 {
-        self.disks.disk_faults()
+        self.disks.faults()
     }
 
     fn door_faults(&self) -> u64 {
@@ -73,13 +79,17 @@ impl<I: Source + Drop, O: Sink + Drop> Host for MemHost<I, O> {
         self.links.faults()
     }
 
-    fn disk(&mut self, path: &str) -> Result<NoDisk, HostFault>
-        ensures count { CountsFaults (⟦<NoHost as Host>⟧.disk_faults self.old.disks)
-            (⟦<NoHost as Host>⟧.disk_faults self.new.disks) (host_outcome result) }
-        ensures fails { result ≡ Err HostFault.Failed }
+    fn disk(&mut self, path: &str) -> Result<MemoryDisk, HostFault>
+        ensures count { CountsFaults self.old.disks.faults self.new.disks.faults (host_outcome result) }
+        ensures plan { OpensByPlan self.old.disks self.new.disks result }
+        ensures opened { IfOk result (λ disk. disk.calls ≡ []) }
+        ensures given { MatchResult result
+            (λ disk. self.new.disks.given ≡ self.old.disks.given ++ (path.now, disk) ∷ [])
+            (λ _. self.new.disks.given ≡ self.old.disks.given) }
+        ensures back { self.new.disks.back ≡ self.old.disks.back }
         ensures rest { self.new ≡ record self.old { disks = self.new.disks } }
     {
-        self.disks.disk(path)
+        self.disks.open(path)
     }
 
     fn door(&mut self, port: u16) -> Result<MemDoor<I, O>, HostFault>
@@ -110,8 +120,11 @@ impl<I: Source + Drop, O: Sink + Drop> Host for MemHost<I, O> {
         self.links.give()
     }
 
-    fn back_disk(&mut self, disk: NoDisk) {
-        self.disks.back_disk(disk);
+    fn back_disk(&mut self, disk: MemoryDisk)
+        ensures back { TookDiskBack self.old.disks self.new.disks disk }
+        ensures rest { self.new ≡ record self.old { disks = self.new.disks } }
+    {
+        self.disks.take_back(disk);
     }
 
     fn back_door(&mut self, door: MemDoor<I, O>)

@@ -33,6 +33,7 @@ pub struct NoHost {
     disk_faults: u64,
     door_faults: u64,
     link_faults: u64,
+    disks_back: Log<NoDisk, ()>,
     doors_back: Log<NoDoor, ()>,
     links_back: Log<NoLink, ()>,
 }
@@ -43,6 +44,7 @@ impl NoHost {
         ensures disk { ⟦<NoHost as Host>⟧.disk_faults result ≡ 0 }
         ensures door { ⟦<NoHost as Host>⟧.door_faults result ≡ 0 }
         ensures link { ⟦<NoHost as Host>⟧.link_faults result ≡ 0 }
+        ensures disks_back { ⟦<NoHost as Host>⟧.disks_back result ≡ [] }
         ensures doors_back { ⟦<NoHost as Host>⟧.doors_back result ≡ [] }
         ensures links_back { ⟦<NoHost as Host>⟧.links_back result ≡ [] }
     {
@@ -50,6 +52,7 @@ impl NoHost {
             disk_faults: 0,
             door_faults: 0,
             link_faults: 0,
+            disks_back: Log::new(),
             doors_back: Log::new(),
             links_back: Log::new(),
         }
@@ -233,6 +236,10 @@ impl Host for NoHost {
 
     ghost link_faults = { λ h. h.link_faults };
 
+    ghost disks_given = { λ h. [] };
+
+    ghost disks_back = { λ h. map (λ pair. pair.0) h.disks_back.items };
+
     ghost doors_given = { λ h. [] };
 
     ghost doors_back = { λ h. map (λ pair. pair.0) h.doors_back.items };
@@ -257,6 +264,7 @@ impl Host for NoHost {
         ensures count { CountsFaults self.old.disk_faults self.new.disk_faults (host_outcome result) }
         ensures door { self.new.door_faults ≡ self.old.door_faults }
         ensures link { self.new.link_faults ≡ self.old.link_faults }
+        ensures back { self.new.disks_back ≡ self.old.disks_back }
         ensures doors { self.new.doors_back ≡ self.old.doors_back }
         ensures links { self.new.links_back ≡ self.old.links_back }
         ensures fails { result ≡ Err HostFault.Failed }
@@ -269,6 +277,7 @@ impl Host for NoHost {
         ensures count { CountsFaults self.old.door_faults self.new.door_faults (host_outcome result) }
         ensures disk { self.new.disk_faults ≡ self.old.disk_faults }
         ensures link { self.new.link_faults ≡ self.old.link_faults }
+        ensures disks { self.new.disks_back ≡ self.old.disks_back }
         ensures doors { self.new.doors_back ≡ self.old.doors_back }
         ensures links { self.new.links_back ≡ self.old.links_back }
         ensures fails { result ≡ Err HostFault.Failed }
@@ -281,6 +290,7 @@ impl Host for NoHost {
         ensures count { CountsFaults self.old.link_faults self.new.link_faults (host_outcome result) }
         ensures disk { self.new.disk_faults ≡ self.old.disk_faults }
         ensures door { self.new.door_faults ≡ self.old.door_faults }
+        ensures disks { self.new.disks_back ≡ self.old.disks_back }
         ensures doors { self.new.doors_back ≡ self.old.doors_back }
         ensures links { self.new.links_back ≡ self.old.links_back }
         ensures fails { result ≡ Err HostFault.Failed }
@@ -289,7 +299,9 @@ impl Host for NoHost {
         Err(HostFault::Failed)
     }
 
-    fn back_disk(&mut self, _disk: NoDisk) {}
+    fn back_disk(&mut self, disk: NoDisk) {
+        self.disks_back = self.disks_back.and(&disk, &());
+    }
 
     fn back_door(&mut self, door: NoDoor) {
         self.doors_back = self.doors_back.and(&door, &());

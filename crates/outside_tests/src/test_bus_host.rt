@@ -1,8 +1,12 @@
 //! A host that opens nothing, and a door and a host in memory.
 use crate::ledger::{door, knock};
-use bus_host::{Door, Host, HostFault, Knock, MemDoor, MemHost, NoDisk, NoDoor, NoHost, NoLink};
+use bus_host::{
+    Door, Host, HostFault, Knock, MemDoor, MemFile, MemHost, NoDisk, NoDoor, NoHost, NoLink,
+};
 use router_disk::{Disk, Failed, Link, LinkFault, MemLink, MemSink, MemSource};
+use std::alloc::Global;
 use std::collections::LinkedList;
+use std::process::Abort;
 
 #[test]
 fn each_call_of_no_host_fails_and_is_counted_apart(rt: HostRuntime) {
@@ -88,7 +92,12 @@ fn a_host_in_memory_gives_what_it_plans(rt: HostRuntime) {
     doors
         .push_back(Ok(MemDoor::new(alloc, LinkedList::new(alloc))))
         .expect(&rt, "doors");
-    let mut host: MemHost<MemSource, MemSink> = MemHost::new(alloc, doors, links);
+    let mut host: MemHost<MemSource, MemSink> = MemHost::new(
+        alloc,
+        LinkedList::new(alloc),
+        doors,
+        links,
+    );
     assert_eq!(rt; sent(&mut host), Ok(Ok(204)));
     assert_eq!(rt; sent(&mut host), Err(b'm'));
     assert_eq!(rt; sent(&mut host), Err(b'f'), "no further plan");
@@ -100,5 +109,52 @@ fn a_host_in_memory_gives_what_it_plans(rt: HostRuntime) {
     assert_eq!(rt; host.links.held().len(), 1);
     for link in host.links.held() {
         assert_eq!(rt; link.answers.len(), 1);
+    }
+}
+
+/// Results of calls for a disk: a file with the bytes `abc` whose second call fails, and a refusal of memory.
+fn files<R: Abort>(rt: &R, alloc: Global) -> LinkedList<Result<MemFile, HostFault>> {
+    let mut files = LinkedList::new(alloc);
+    let file = MemFile {
+        bytes: b"abc".to_vec(alloc).expect(rt, "bytes"),
+        fails: [false, true].to_vec(alloc).expect(rt, "plan"),
+    };
+    files.push_back(Ok(file)).expect(rt, "files");
+    files
+        .push_back(Err(HostFault::NoMemory))
+        .expect(rt, "files");
+    files
+}
+
+/// The lengths that two calls of a disk of the host give, or a letter for why there is no disk.
+fn sized<H: Host>(host: &mut H) -> Result<(Result<u64, Failed>, Result<u64, Failed>), u8> {
+    match host.disk("journal") {
+        Ok(mut disk) => {
+            let sizes = (disk.size(), disk.size());
+            host.back_disk(disk);
+            Ok(sizes)
+        }
+        Err(HostFault::Failed) => Err(b'f'),
+        Err(HostFault::NoMemory) => Err(b'm'),
+    }
+}
+
+#[test]
+fn a_host_in_memory_opens_its_files(rt: HostRuntime) {
+    let alloc = rt.alloc();
+    let files = files(&rt, alloc);
+    let mut host: MemHost<MemSource, MemSink> = MemHost::new(
+        alloc,
+        files,
+        LinkedList::new(alloc),
+        LinkedList::new(alloc),
+    );
+    assert_eq!(rt; sized(&mut host), Ok((Ok(3), Err(Failed))));
+    assert_eq!(rt; sized(&mut host), Err(b'm'));
+    assert_eq!(rt; sized(&mut host), Err(b'f'), "no further plan");
+    assert_eq!(rt; host.disk_faults(), 1, "disk");
+    assert_eq!(rt; host.disks.held().len(), 1);
+    for disk in host.disks.held() {
+        assert_eq!(rt; disk.bytes(), b"abc".as_slice());
     }
 }

@@ -37,16 +37,23 @@ fn knocked(host: &mut TcpHost<HostRuntime>, port: u16) -> u8 {
     }
 }
 
+// Whether the host fails to give a disk over this file.
+fn has_no_disk(host: &mut TcpHost<HostRuntime>, path: &str) -> bool {
+    matches!(host.disk(path), Err(HostFault::Failed))
+}
+
 #[test]
 fn a_host_over_tcp_gives_doors_and_links(rt: HostRuntime) {
     let mut host = TcpHost::new(rt.alloc(), rt);
     assert_eq!(rt; sent_nowhere(&mut host), Some((Err(LinkFault::Failed), 1)));
-    assert!(rt; matches!(host.disk("journal"), Err(HostFault::Failed)));
+    assert!(rt; has_no_disk(&mut host, "/dev/null"));
+    assert!(rt; has_no_disk(&mut host, "/"));
+    assert!(rt; has_no_disk(&mut host, "/no such folder/journal"));
     assert_eq!(rt; knocked(&mut host, 0), b'q', "nobody came");
     let other = TcpListener::bind(&rt, local(0)).expect(&rt, "a listener");
     let port = other.local_addr().expect(&rt, "an address").port();
     assert_eq!(rt; knocked(&mut host, port), b'n', "in use");
-    assert_eq!(rt; host.disk_faults(), 1, "disk");
+    assert_eq!(rt; host.disk_faults(), 3, "disk");
     assert_eq!(rt; host.door_faults(), 1, "door");
     assert_eq!(rt; host.link_faults(), 0, "link");
 }

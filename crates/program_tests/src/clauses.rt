@@ -113,7 +113,7 @@ fn host<R: Abort>(rt: &R, alloc: Global) -> MemHost<MemSource, MemSink> {
     doors
         .push_back(Ok(MemDoor::new(alloc, LinkedList::new(alloc))))
         .expect(rt, "doors");
-    MemHost::new(alloc, doors, links)
+    MemHost::new(alloc, LinkedList::new(alloc), doors, links)
 }
 
 /// Fails unless the command is done on empty input and a door that closes at once, and writes this.

@@ -62,7 +62,8 @@ pub(crate) fn host<R: Abort>(rt: &R, alloc: Global, door: &str, link: &str) -> S
         _ => Ok(self::door(rt, alloc, door)),
     };
     doors.push_back(planned).expect(rt, "doors");
-    MemHost::new(alloc, doors, links(rt, alloc, link))
+    let disks = LinkedList::new(alloc);
+    MemHost::new(alloc, disks, doors, links(rt, alloc, link))
 }
 
 /// The words of a command line.

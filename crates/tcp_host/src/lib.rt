@@ -1,10 +1,11 @@
-//! The host of the program over TCP: its links to endpoints, and a door for clients.
+//! The host of the program: disks over files, links to endpoints and a door for clients over TCP.
 #![tactic(auto)]
 
 mod alone;
 mod exchanged;
 mod heads;
 mod http_link;
+mod journal_file;
 mod listening;
 mod tcp_door;
 mod tcp_host;

@@ -42,8 +42,8 @@ pub(crate) struct Listening {
 }
 
 impl Listening {
-    /// Listens at 127.0.0.1.
-    pub(crate) fn open<N: Net<Stream = TcpStream, Listener = TcpListener>>(
+    /// Listens at 127.0.0.1. A line on standard error has the reason if it cannot.
+    pub(crate) fn open<N: Net<Stream = TcpStream, Listener = TcpListener> + Eprint>(
         alloc: Global,
         system: &N,
         port: u16,
@@ -57,7 +57,10 @@ impl Listening {
                 poll,
                 events,
             }),
-            Err(_) => Err(HostFault::Failed),
+            Err((call, reason)) => {
+                let _ = eprintln!(system; "ebusd: port {port}: {call}: {reason}");
+                Err(HostFault::Failed)
+            }
         }
     }
 
@@ -106,12 +109,27 @@ impl Listening {
     }
 }
 
+/// A socket that listens, or the call of the system that failed and its reason.
 fn listen<N: Net<Stream = TcpStream, Listener = TcpListener>>(
     system: &N,
     port: u16,
-) -> io::Result<(TcpListener, Poll)> {
+) -> Result<(TcpListener, Poll), (&'static str, io::Error)> {
     let address = SocketAddr::new(IpAddr::V4(Ipv4Addr::LOCALHOST), port);
-    let listener = system.bind(address)?;
+    let listener = match system.bind(address) {
+        Ok(listener) => listener,
+        Err(reason) => return Err(("bind", reason)),
+    };
+    match watched(system, &listener) {
+        Ok(poll) => Ok((listener, poll)),
+        Err(reason) => Err(("listen", reason)),
+    }
+}
+
+/// What wakes the wait for clients of the socket.
+fn watched<N: Net<Stream = TcpStream, Listener = TcpListener>>(
+    system: &N,
+    listener: &TcpListener,
+) -> io::Result<Poll> {
     listener.set_nonblocking(true)?;
     let poll = Poll::new(system)?;
     let fd = listener.as_raw_fd();
@@ -119,7 +137,7 @@ fn listen<N: Net<Stream = TcpStream, Listener = TcpListener>>(
     set_queue(fd, QUEUE);
     poll.registry()
         .register(&mut SourceFd(&fd), LISTENER, Interest::READABLE)?;
-    Ok((listener, poll))
+    Ok(poll)
 }
 
 /// Waits 5 ms.

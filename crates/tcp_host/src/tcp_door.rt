@@ -63,9 +63,10 @@ impl<N> Model for TcpDoor<N> {
     ghost invariant = { λ d. d.out ≤ d.limit };
 }
 
-impl<N: Net<Stream = TcpStream, Listener = TcpListener> + Clock + Copy> TcpDoor<N> {
+impl<N: Net<Stream = TcpStream, Listener = TcpListener> + Eprint + Clock + Copy> TcpDoor<N> {
     /// Listens at `port` for a program with so many workers, that is, links. It gives out one connection fewer at once,
     /// so that a worker stays free, and one if there is only one worker; then each idle connection ends after 0.25 s.
+    /// A line on standard error has the reason if it cannot listen.
     pub fn open(alloc: Global, system: N, port: u16, workers: usize) -> Result<Self, HostFault>
         ensures opened { IfOk result (λ door. door ≡ fresh (limit_for workers)) }
     {
@@ -99,7 +100,9 @@ impl<N: Net<Stream = TcpStream, Listener = TcpListener> + Clock + Copy> TcpDoor<
             faults: 0,
         })
     }
+}
 
+impl<N: Net<Stream = TcpStream, Listener = TcpListener> + Clock + Copy> TcpDoor<N> {
     /// Stops listening, and waits at most 1 s for the connections that wait for their client's end.
     pub fn close(self) {
         let TcpDoor {

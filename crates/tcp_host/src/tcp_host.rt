@@ -1,27 +1,32 @@
-// The host of the program: doors and links over TCP. It has no disk yet.
-ghost use Rattle.std.specs.Prelude.{◌≡◌, [], ◌∷◌, ◌++◌, map, length, Err, IfOk, IsOk, MatchResult};
+// The host of the program: disks over files, doors and links over TCP.
+ghost use Rattle.std.specs.Prelude.{◌≡◌, [], ◌∷◌, ◌++◌, map, length, IfOk, IsOk, MatchResult};
 ghost use Rattle.router_disk.specs.Faults.{CountsFaults};
 ghost use Rattle.bus_host.specs.HostFault.{host_outcome};
 ghost use Rattle.tcp_host.specs.Places.{counted, fresh, limit_for};
 
+use crate::journal_file::open_disk;
 use crate::{HttpLink, TcpDoor};
-use bus_host::{Host, HostFault, NoDisk, NoHost, raise};
+use bus_host::{Host, HostFault, raise};
 use http_server::Log;
+use router_disk::{FileDisk, Heard};
 use std::alloc::Global;
+use std::fs::File;
 use std::net::{Net, TcpListener, TcpStream};
+use std::rt::Files;
 use std::time::Clock;
 
-/// A host whose doors and links go over the system's sockets, by its monotonic clock. A door gives out one connection
-/// fewer at once than the host had given links when it opened the door, and at least one: each worker has a link. Each
-/// call for a disk fails.
+/// A host whose disks are files of the system, and whose doors and links go over its sockets, by its monotonic clock. A door gives out one
+/// connection fewer at once than the host had given links when it opened the door, and at least one: each worker has a link.
 #[derive(Drop)]
 pub struct TcpHost<N> {
     alloc: Global,
     system: N,
-    disks: NoHost,
+    disk_faults: u64,
     door_faults: u64,
     /// The number of links given. It stays at the last `usize`.
     links: usize,
+    disks_given: Log<Heard, FileDisk<File, N>>,
+    disks_back: Log<FileDisk<File, N>, ()>,
     doors_given: Log<u16, TcpDoor<N>>,
     doors_back: Log<TcpDoor<N>, ()>,
     links_given: Log<HttpLink<N>, ()>,
@@ -29,11 +34,21 @@ pub struct TcpHost<N> {
     ghost counted: { links ≡ counted (length links_given.items) },
 }
 
-impl<N: Net<Stream = TcpStream, Listener = TcpListener> + Clock + Copy + Send + Drop> TcpHost<N> {
-    /// A host that has given no door and no link yet.
+impl<
+    N: Net<Stream = TcpStream, Listener = TcpListener>
+        + Files<File = File>
+        + Eprint
+        + Clock
+        + Copy
+        + Send
+        + Drop,
+> TcpHost<N> {
+    /// A host that has given no disk, no door and no link yet.
     pub fn new(alloc: Global, system: N) -> Self
         ensures disk { ⟦<TcpHost<N> as Host>⟧.disk_faults result ≡ 0 }
         ensures door { ⟦<TcpHost<N> as Host>⟧.door_faults result ≡ 0 }
+        ensures disks_given { ⟦<TcpHost<N> as Host>⟧.disks_given result ≡ [] }
+        ensures disks_back { ⟦<TcpHost<N> as Host>⟧.disks_back result ≡ [] }
         ensures doors_given { ⟦<TcpHost<N> as Host>⟧.doors_given result ≡ [] }
         ensures doors_back { ⟦<TcpHost<N> as Host>⟧.doors_back result ≡ [] }
         ensures given { ⟦<TcpHost<N> as Host>⟧.links_given result ≡ [] }
@@ -42,9 +57,11 @@ impl<N: Net<Stream = TcpStream, Listener = TcpListener> + Clock + Copy + Send + 
         TcpHost {
             alloc,
             system,
-            disks: NoHost::new(),
+            disk_faults: 0,
             door_faults: 0,
             links: 0,
+            disks_given: Log::new(),
+            disks_back: Log::new(),
             doors_given: Log::new(),
             doors_back: Log::new(),
             links_given: Log::new(),
@@ -53,24 +70,35 @@ impl<N: Net<Stream = TcpStream, Listener = TcpListener> + Clock + Copy + Send + 
     }
 }
 
-impl<N: Net<Stream = TcpStream, Listener = TcpListener> + Clock + Copy + Send + Drop> Host
-    for TcpHost<N> {
-    ghost use Rattle.std.specs.Prelude.{◌≡◌, ◌∷◌, ◌++◌, [], map, length, Err, IfOk, IsOk, MatchResult};
+impl<
+    N: Net<Stream = TcpStream, Listener = TcpListener>
+        + Files<File = File>
+        + Eprint
+        + Clock
+        + Copy
+        + Send
+        + Drop,
+> Host for TcpHost<N> {
+    ghost use Rattle.std.specs.Prelude.{◌≡◌, ◌∷◌, ◌++◌, [], map, length, IfOk, IsOk, MatchResult};
     ghost use Rattle.router_disk.specs.Faults.{CountsFaults};
     ghost use Rattle.bus_host.specs.HostFault.{host_outcome};
     ghost use Rattle.tcp_host.specs.Places.{counted, fresh, limit_for};
 
-    type Disk = NoDisk;
+    type Disk = FileDisk<File, N>;
 
     type Door = TcpDoor<N>;
 
     type Link = HttpLink<N>;
 
-    ghost disk_faults = { λ h. ⟦<NoHost as Host>⟧.disk_faults h.disks };
+    ghost disk_faults = { λ h. h.disk_faults };
 
     ghost door_faults = { λ h. h.door_faults };
 
     ghost link_faults = { λ h. 0 };
+
+    ghost disks_given = { λ h. h.disks_given.items };
+
+    ghost disks_back = { λ h. map (λ pair. pair.0) h.disks_back.items };
 
     ghost doors_given = { λ h. h.doors_given.items };
 
@@ -81,7 +109,7 @@ impl<N: Net<Stream = TcpStream, Listener = TcpListener> + Clock + Copy + Send + 
     ghost links_back = { λ h. map (λ pair. pair.0) h.links_back.items };
 
     fn disk_faults(&self) -> u64 {
-        self.disks.disk_faults()
+        self.disk_faults
     }
 
     fn door_faults(&self) -> u64 {
@@ -92,13 +120,32 @@ impl<N: Net<Stream = TcpStream, Listener = TcpListener> + Clock + Copy + Send + 
         0
     }
 
-    fn disk(&mut self, path: &str) -> Result<NoDisk, HostFault>
-        ensures count { CountsFaults (⟦<NoHost as Host>⟧.disk_faults self.old.disks)
-            (⟦<NoHost as Host>⟧.disk_faults self.new.disks) (host_outcome result) }
-        ensures fails { result ≡ Err HostFault.Failed }
-        ensures rest { self.new ≡ record self.old { disks = self.new.disks } }
+    /// A regular file that no other process has so; if it is missing it is made, for its owner alone. A line on standard error has the reason
+    /// if it is not opened.
+    fn disk(&mut self, path: &str) -> Result<FileDisk<File, N>, HostFault>
+        ensures count { CountsFaults self.old.disk_faults self.new.disk_faults (host_outcome result) }
+        ensures opened { IfOk result (λ disk. disk.calls ≡ []) }
+        ensures given { MatchResult result
+            (λ disk. self.new.disks_given.items ≡ self.old.disks_given.items ++ (path.now, disk) ∷ [])
+            (λ _. self.new.disks_given.items ≡ self.old.disks_given.items) }
+        ensures rest { self.new ≡ record self.old { disk_faults = self.new.disk_faults; disks_given = self.new.disks_given } }
     {
-        self.disks.disk(path)
+        if self.disk_faults == u64::MAX {
+            return Err(HostFault::Failed);
+        }
+        match open_disk(self.alloc, self.system, path) {
+            Ok(disk) => {
+                let mut name = Heard::new();
+                name.hear(path.as_bytes());
+                self.disks_given = self.disks_given.and(&name, &disk);
+                Ok(disk)
+            }
+            Err(HostFault::NoMemory) => Err(HostFault::NoMemory),
+            Err(HostFault::Failed) => {
+                raise(&mut self.disk_faults);
+                Err(HostFault::Failed)
+            }
+        }
     }
 
     /// A door at a port of 127.0.0.1. Its limit goes by the links given so far.
@@ -133,7 +180,8 @@ impl<N: Net<Stream = TcpStream, Listener = TcpListener> + Clock + Copy + Send + 
         ensures gives { IsOk result }
         ensures back { self.new.links_back ≡ self.old.links_back }
         ensures doors { (self.new.doors_given ≡ self.old.doors_given) × (self.new.doors_back ≡ self.old.doors_back) }
-        ensures faults { (self.new.disks ≡ self.old.disks) × (self.new.door_faults ≡ self.old.door_faults) }
+        ensures disks { (self.new.disks_given ≡ self.old.disks_given) × (self.new.disks_back ≡ self.old.disks_back) }
+        ensures faults { (self.new.disk_faults ≡ self.old.disk_faults) × (self.new.door_faults ≡ self.old.door_faults) }
     {
         let link = HttpLink::new(self.alloc, self.system);
         self.links_given = self.links_given.and(&link, &());
@@ -141,8 +189,9 @@ impl<N: Net<Stream = TcpStream, Listener = TcpListener> + Clock + Copy + Send + 
         Ok(link)
     }
 
-    fn back_disk(&mut self, disk: NoDisk) {
-        self.disks.back_disk(disk);
+    /// Closes the file.
+    fn back_disk(&mut self, disk: FileDisk<File, N>) {
+        self.disks_back = self.disks_back.and(&disk, &());
     }
 
     /// Stops listening, and waits at most 1 s for connections whose clients may still send.
