@@ -3,7 +3,7 @@ ghost use Rattle.std.specs.Prelude.{◌≡◌, ◌++◌, ◌∷◌, [], ℕ, Lis
 ghost use Rattle.std.specs.Result.{IfErr};
 ghost use Rattle.json_text.specs.Moment.{IsMoment};
 ghost use Rattle.step_run.specs.Act.{Act, looks, makes};
-ghost use Rattle.step_run.specs.Steps.{IsRefusal};
+ghost use Rattle.step_run.specs.Step.{IsRefusal};
 
 use crate::StepFault;
 
@@ -15,17 +15,20 @@ pub trait StepBook {
     /// What a look at the book shows.
     ghost State: { Type 0 };
 
+    /// What else is done where steps are made, such as sends. A step of the book does none of it.
+    ghost Other: { Type 0 };
+
     /// What holds of the book before and after each call.
     ghost sound: { Self → Type 0 };
 
     /// What the book did from one value to another: its turns and its looks, in order.
-    ghost did: { Self → Self → List (Act Placed State) → Type 0 };
+    ghost did: { Self → Self → List (Act Placed State Other) → Type 0 };
 
     /// At first nothing was done.
     ghost begins: { (b : Self) → did b b [] };
 
     /// What was done in two parts was done.
-    ghost joins: { (a b c : Self) (first second : List (Act Placed State)) → did a b first → did b c second → did a c (first ++ second) };
+    ghost joins: { (a b c : Self) (first second : List (Act Placed State Other)) → did a b first → did b c second → did a c (first ++ second) };
 
     /// The turn makes a step at this moment of the clock.
     ghost steps: { Placed → ℕ → Type 0 };
@@ -50,5 +53,5 @@ pub trait StepBook {
             ((p : Placed) × did self.old self.new (makes p ∷ []) × steps p reading)
             ((s : State) × did self.old self.new (looks s ∷ []) × idle s reading)) }
         ensures refused { IfErr result (λ fault.
-            (acts : List (Act Placed State)) × did self.old self.new acts × IsRefusal (λ s. full s reading) acts fault) };
+            (acts : List (Act Placed State Other)) × did self.old self.new acts × IsRefusal (λ s. full s reading) acts fault) };
 }

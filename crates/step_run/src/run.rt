@@ -2,7 +2,7 @@
 ghost use Rattle.std.specs.Prelude.{◌≡◌, ◌++◌, ◌∷◌, [], ℕ, List};
 ghost use Rattle.json_text.specs.Moment.{IsMoment};
 ghost use Rattle.step_run.specs.Act.{Act, book_acts_in, readings_in};
-ghost use Rattle.step_run.specs.Steps.{IsNext, Steps, moment_of};
+ghost use Rattle.step_run.specs.Step.{IsNext, Ran, moment_of};
 
 use crate::{StepBook, StepFault, StepsFault};
 use json_text::LAST_MOMENT;
@@ -18,8 +18,8 @@ pub fn run_steps<B: StepBook, C: Clock>(
     requires sound { B.sound book.old }
     ensures sound { B.sound book.new }
     ensures lender { B.lender book.new ≡ B.lender book.old }
-    ensures stepped { (acts : List (Act B.Placed B.State)) × B.did book.old book.new (book_acts_in acts)
-        × Steps B.steps B.idle B.full budget acts result × (C.gave clock.new ≡ C.gave clock.old ++ readings_in acts) }
+    ensures stepped { (acts : List (Act B.Placed B.State B.Other)) × B.did book.old book.new (book_acts_in acts)
+        × Ran B.steps B.idle B.full budget acts result × (C.gave clock.new ≡ C.gave clock.old ++ readings_in acts) }
 {
     let mut made = 0;
     while made < budget {
@@ -46,7 +46,7 @@ fn next_step<B: StepBook, C: Clock>(book: &mut B, clock: &mut C) -> Next
     requires sound { B.sound book.old }
     ensures sound { B.sound book.new }
     ensures lender { B.lender book.new ≡ B.lender book.old }
-    ensures made { (acts : List (Act B.Placed B.State)) × B.did book.old book.new (book_acts_in acts)
+    ensures made { (acts : List (Act B.Placed B.State B.Other)) × B.did book.old book.new (book_acts_in acts)
         × IsNext B.steps B.idle B.full acts result × (C.gave clock.new ≡ C.gave clock.old ++ readings_in acts) }
 {
     let moment = read_clock(clock);

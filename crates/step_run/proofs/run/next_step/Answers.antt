@@ -2,7 +2,7 @@ use Rattle.std.proofs.Common.{◌≡◌, ℕ, List, [], ◌∷◌, ◌++◌, sym
 use Rattle.std.proofs.lemmas.Bool.{MatchBool-at_true, MatchBool-at_false}
 use Rattle.step_run.specs.Act.{Act, ticks, looks, makes}
 use Rattle.step_run.proofs.ActLemmas.{refused_by_book}
-use Rattle.step_run.specs.Steps.{IsRefusal, stepped, idle_at, stopped_at}
+use Rattle.step_run.specs.Step.{IsRefusal, stepped, idle_at, refused_at}
 use Rattle.step_run.proofs.run.next_step.Goals as goal
 
 pub returns-then-made-clause-made : goal.returns-then-made-clause-made
@@ -10,7 +10,7 @@ returns-then-made-clause-made g c =
     let (reading, cut, gave) = c.read_clock-moment.ensures.reading in
     let (p, did, is) = MatchBool-at_true _ _ c.if-made.true c.in-Ok.ensures.stepped in
     let At : ℕ → Type 0 = λ m. g.B.StepBook.steps p m in
-    (ticks reading ∷ makes p ∷ [], did, stepped reading p (subst At cut is), gave)
+    (ticks reading ∷ makes p ∷ [], did, (p, stepped reading p (subst At cut is)), gave)
 
 pub returns-else-made-clause-made : goal.returns-else-made-clause-made
 returns-else-made-clause-made g c =
@@ -25,6 +25,6 @@ returns-in-Err-clause-made g c =
     let (acts, did, refusal) = c.in-Err.ensures.refused in
     let At : ℕ → Type 0 = λ m. IsRefusal (λ s. g.B.StepBook.full s m) acts c.in-Err.fault in
     let (own, none) = refused_by_book (λ s. g.B.StepBook.full s c.read_clock-moment.result) acts c.in-Err.fault refusal in
-    let Did : List (Act g.B.StepBook.Placed g.B.StepBook.State) → Type 0 = λ made. g.B.StepBook.did c.args.book.now c.step.new.self made in
+    let Did : List (Act g.B.StepBook.Placed g.B.StepBook.State g.B.StepBook.Other) → Type 0 = λ made. g.B.StepBook.did c.args.book.now c.step.new.self made in
     let Gave : List ℕ → Type 0 = λ more. g.C.Clock.gave c.read_clock-moment.new.clock ≡ g.C.Clock.gave c.args.clock.now ++ (reading ∷ more) in
-    (ticks reading ∷ acts, subst Did (sym own) did, stopped_at reading acts c.in-Err.fault (subst At cut refusal), subst Gave (sym none) gave)
+    (ticks reading ∷ acts, subst Did (sym own) did, refused_at reading acts c.in-Err.fault (subst At cut refusal), subst Gave (sym none) gave)
