@@ -8,7 +8,7 @@ use Rattle.router_core.specs.Tables.{Tables, is_full}
 use Rattle.delivery_duties.specs.declared.duty.DutyRow.{DutyRow}
 use Rattle.delivery_duties.specs.declared.outcome.Outcome.{Outcome}
 use Rattle.delivery_duties.specs.Duties.{pending_row, marked_row}
-use Rattle.router_sessions.specs.declared.session.SessionEnd.{SessionEnd}
+use Rattle.message_streams.specs.declared.farewell.SessionEnd.{SessionEnd}
 use Rattle.delivery_duties.specs.declared.outcome.Fate.{Fate}
 use Rattle.api_messages.specs.declared.message.Message.{Message}
 use Rattle.api_replies.specs.Reply.{Reply}

@@ -7,8 +7,8 @@ use Rattle.router_disk.specs.Link.{Exchange}
 use Rattle.program_lines.specs.declared.status.Status.{Status}
 use Rattle.program_lines.specs.declared.status.Status.TheVariants as statuses
 use Rattle.router_core.specs.Tables.{first_tables}
-use Rattle.router_sessions.specs.declared.session.SessionEnd.{SessionEnd}
-use Rattle.router_sessions.specs.declared.session.SessionEnd.TheVariants as ends
+use Rattle.message_streams.specs.declared.farewell.SessionEnd.{SessionEnd}
+use Rattle.message_streams.specs.declared.farewell.SessionEnd.TheVariants as ends
 use Rattle.router_sessions.specs.History.{Turn, AreTurnsFrom, state_of, turns_by, begun}
 use Rattle.router_sessions.specs.Book.{opening, IsBook, Rests}
 use Rattle.router_sessions.specs.Acts.{World, world}

@@ -3,8 +3,8 @@ use Rattle.std.proofs.Common.{◌≡◌, ◌≢◌, ℕ, List, [], ◌++◌, map
 use Rattle.router_disk.specs.Faults.{Rose}
 use Rattle.router_disk.specs.Link.{Exchange}
 use Rattle.router_sessions.specs.declared.history.Turn.{Turn}
-use Rattle.router_sessions.specs.declared.session.SessionEnd.{SessionEnd}
-use Rattle.router_sessions.specs.declared.session.SessionEnd.TheVariants.{ReadFault, WriteFault}
+use Rattle.message_streams.specs.declared.farewell.SessionEnd.{SessionEnd}
+use Rattle.message_streams.specs.declared.farewell.SessionEnd.TheVariants.{ReadFault, WriteFault}
 use Rattle.router_sessions.specs.History as history
 use Rattle.router_sessions.specs.Book.{turn_of}
 use Rattle.router_sessions.specs.Desk.{Known, seen_by, turns_seen, number_of, seat_of, SeesMore}

@@ -12,8 +12,8 @@ use Rattle.router_core.specs.Tables.{first_tables, tables_after}
 use Rattle.courier_run.specs.Claim.{NeedsSend}
 use Rattle.courier_run.specs.Act.{Try, makes, tries_in}
 use Rattle.router_sessions.specs.declared.book.Seat.{Seat}
-use Rattle.router_sessions.specs.declared.session.SessionEnd.{SessionEnd}
-use Rattle.router_sessions.specs.declared.session.SessionEnd.TheVariants as ends
+use Rattle.message_streams.specs.declared.farewell.SessionEnd.{SessionEnd}
+use Rattle.message_streams.specs.declared.farewell.SessionEnd.TheVariants as ends
 use Rattle.router_sessions.specs.History.{Turn, Placed, records, state_of, batches_of}
 use Rattle.bus_server.specs.Folds.{without_claims}
 use Rattle.router_sessions.specs.Book.{opening, IsBook}

@@ -16,10 +16,11 @@ use Rattle.api_messages.specs.Messages.{HoldsMessage, IsAwaited, IsRefused}
 use Rattle.api_messages.specs.Between.{AreEmptyLines, HasHead}
 use Rattle.api_messages.proofs.MessageLemmas.{no_message_is_empty, nothing_is_awaited, undecided}
 use Rattle.courier_run.specs.Act.{reads, looks, writes, pieces_of, pieces_in, bytes_of, bytes_in}
-use Rattle.router_sessions.specs.declared.session.SessionEnd.{SessionEnd}
-use Rattle.router_sessions.specs.declared.session.SessionEnd.TheVariants as ends
+use Rattle.message_streams.specs.declared.farewell.SessionEnd.{SessionEnd}
+use Rattle.message_streams.specs.declared.farewell.SessionEnd.TheVariants as ends
 use Rattle.router_sessions.specs.Acts.{Act, World, world}
-use Rattle.router_sessions.specs.Session.{Serving, begun, reads_on, answers, IsLast, IsWhole, IsFarewell, refused, starved}
+use Rattle.message_streams.specs.Incoming.{IsWhole}
+use Rattle.router_sessions.specs.Session.{Serving, begun, reads_on, answers, IsLast, IsFarewell, refused, starved}
 use Rattle.router_sessions.specs.Session.{Ended, closed_by_end, cut, closed_by_message, long, farewell, starved_early, read_fault, unwritten, farewell_unwritten}
 use Rattle.bus_server.specs.Run.{status_of, RunsOnce, Around, RunsBy, RunsLinked, IsRun}
 

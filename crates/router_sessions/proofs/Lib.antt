@@ -1,7 +1,7 @@
 -- Each relation over acts is a loop's invariant, since its list grows at the end; there is one lemma for each kind of step.
 -- The order: turns (`TurnLemmas`), what holds of a legal history's state (`SteadyLemmas`), a book (`BookLemmas`), its board (`BoardLemmas`), acts among turns (`ActLemmas`), the book's
 -- functions (`AnsweredLemmas`, `ClaimLemmas`, `RecordLemmas`), the desk (`DeskLemmas`), deliveries (`DidLemmas`, `SeatedLemmas`), the world around (`DoesLemmas`),
--- messages (`ReplyLemmas`, `IncomingLemmas`) and sessions (`SessionLemmas`).
+-- messages (`ReplyLemmas`) and sessions (`SessionLemmas`).
 -- A pass's claims change only at its own turns, whatever others do (`claims_stay`); that a claim's duty waits for it is in the state of each legal history.
 -- A law in a trait that needs lemmas cannot be stated in specs: `Did` says what was done beside all that was done before, so its laws are `append-nil` and
 -- `append_assoc`. `OwesNothing` speaks of all longer histories for the same reason.
@@ -17,7 +17,6 @@ pub mod ClaimLemmas
 pub mod DeskLemmas
 pub mod DidLemmas
 pub mod DoesLemmas
-pub mod IncomingLemmas
 pub mod KeptLemmas
 pub mod MovingLemmas
 pub mod OwesLemmas

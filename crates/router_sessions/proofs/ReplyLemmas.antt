@@ -27,9 +27,10 @@ use Rattle.router_sessions.specs.History.{Turn, State, Ask, Placed, asked, state
 use Rattle.router_sessions.specs.Book.{IsBook, Rests}
 use Rattle.router_sessions.specs.Acts.{Act, Makes, World, world, Does}
 use Rattle.router_sessions.specs.Answered.{turn_text, IsUnrendered, IsAnswered}
-use Rattle.router_sessions.specs.Session.{Answers, unposted, refused, out_of_memory, served, unrendered, stepped, steps_reply, sent_text}
+use Rattle.message_streams.specs.Reply.{text_or, IsFaultText, steps_reply}
+use Rattle.router_sessions.specs.Session.{Answers, unposted, refused, out_of_memory, served, unrendered, stepped, sent_text}
 use Rattle.router_sessions.specs.Delivery.{Delivers}
-use Rattle.router_sessions.specs.Reply.{text_or, IsFaultText, DoesAndWrites, IsDelivery, HasAnswered, HasDelivered}
+use Rattle.router_sessions.specs.Reply.{DoesAndWrites, IsDelivery, HasAnswered, HasDelivered}
 use Rattle.router_sessions.proofs.TurnLemmas.{none_of_mine, open_written}
 use Rattle.router_sessions.proofs.ActLemmas.{makes_none, state_longer, state_here}
 use Rattle.router_sessions.proofs.DoesLemmas.{does_append, does_acts, does_made, writes_then, after_acts, steps_quiet}

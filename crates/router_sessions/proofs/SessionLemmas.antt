@@ -14,18 +14,19 @@ use Rattle.api_messages.specs.declared.message.Message.{Message}
 use Rattle.api_messages.specs.Messages.{HoldsMessage}
 use Rattle.courier_run.specs.Act.{reads, looks, writes}
 use Rattle.router_sessions.specs.declared.book.Seat.{Seat}
-use Rattle.router_sessions.specs.declared.session.SessionEnd.{SessionEnd}
-use Rattle.router_sessions.specs.declared.session.SessionEnd.TheVariants as ends
-use Rattle.router_sessions.specs.declared.incoming.Incoming.TheVariants as incoming
-use Rattle.router_sessions.specs.declared.incoming.Lack.{Lack}
-use Rattle.router_sessions.specs.declared.incoming.Lack.TheVariants as lacks
+use Rattle.message_streams.specs.declared.farewell.SessionEnd.{SessionEnd}
+use Rattle.message_streams.specs.declared.farewell.SessionEnd.TheVariants as ends
+use Rattle.message_streams.specs.declared.incoming.Incoming.TheVariants as incoming
+use Rattle.message_streams.specs.declared.incoming.Lack.{Lack}
+use Rattle.message_streams.specs.declared.incoming.Lack.TheVariants as lacks
 use Rattle.router_sessions.specs.History.{Turn, State, state_of, turns_by}
 use Rattle.router_sessions.specs.Book.{IsBook}
 use Rattle.router_sessions.specs.Acts.{Act, Makes, IsNamed, World, world, Does}
-use Rattle.router_sessions.specs.Session.{Answers, sent_text, request_limit, closes, Serving, begun, reads_on, answers, IsLast, IsFarewell, refused, starved, refusal_reply}
+use Rattle.router_sessions.specs.Session.{Answers, sent_text, request_limit, closes, Serving, begun, reads_on, answers, IsLast, IsFarewell, refused, starved}
 use Rattle.router_sessions.specs.Session.{Ended, closed_by_end, cut, closed_by_message, long, farewell, starved_early, read_fault, unwritten, farewell_unwritten, IsSession}
 use Rattle.router_sessions.specs.Desk.{Known, seat_of}
-use Rattle.router_sessions.specs.Incoming.{AreRead, none, one_more, NextOf, IsFinish}
+use Rattle.message_streams.specs.Incoming.{AreRead, none, one_more, NextOf}
+use Rattle.message_streams.specs.Farewell.{refusal_reply, IsFinish}
 use Rattle.router_sessions.specs.Reply.{DoesAndWrites, HasAnswered}
 use Rattle.router_sessions.specs.Conversing.{HasEnded}
 use Rattle.router_sessions.proofs.TurnLemmas.{none_append}

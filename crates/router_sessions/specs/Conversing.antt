@@ -2,7 +2,7 @@
 use Rattle.std.specs.Prelude.{List, ◌∷◌}
 use Rattle.courier_run.specs.Act.{looks}
 use Rattle.router_sessions.specs.declared.book.Seat.{Seat}
-use Rattle.router_sessions.specs.declared.session.SessionEnd.{SessionEnd}
+use Rattle.message_streams.specs.declared.farewell.SessionEnd.{SessionEnd}
 use Rattle.router_sessions.specs.History.{state_of}
 use Rattle.router_sessions.specs.Acts.{Act, World, Does}
 use Rattle.router_sessions.specs.Session.{Ended}

@@ -7,7 +7,6 @@ pub mod Session
 pub mod Answered
 pub mod Desk
 pub mod Delivery
-pub mod Incoming
 pub mod Reply
 pub mod Conversing
 pub mod Visit

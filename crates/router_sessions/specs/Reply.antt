@@ -1,28 +1,16 @@
 -- What is written for one message.
-use Rattle.std.specs.Prelude.{◌≡◌, ◌⊎◌, ℕ, Bool, List, [], ◌∷◌, ◌++◌, Result, Ok, Err, MatchResult}
-use Rattle.json_text.specs.declared.base.NoMemory.{NoMemory}
+use Rattle.std.specs.Prelude.{◌≡◌, ◌⊎◌, ℕ, Bool, List, [], ◌∷◌, ◌++◌, Result, MatchResult}
 use Rattle.router_disk.specs.declared.fault.Failed.{Failed}
-use Rattle.api_replies.specs.Reply.{Reply, no_memory, refused}
+use Rattle.api_replies.specs.Reply.{Reply, no_memory}
 use Rattle.api_replies.specs.Written.{reply_text}
-use Rattle.api_members.specs.declared.fault.CallFault.{CallFault}
-use Rattle.api_members.specs.declared.fault.CallFault.TheVariants as faults
 use Rattle.api_messages.specs.declared.message.Message.{Message}
 use Rattle.courier_run.specs.Act.{writes}
 use Rattle.courier_run.specs.declared.turned.Turned.{Turned}
 use Rattle.courier_run.specs.declared.stepped.Stop.{Stop}
+use Rattle.message_streams.specs.Reply.{steps_reply}
 use Rattle.router_sessions.specs.declared.book.Seat.{Seat}
 use Rattle.router_sessions.specs.Acts.{Act, Steps, World, Does}
-use Rattle.router_sessions.specs.Session.{Answers, steps_reply, sent_text}
-
--- the bytes, or the reply `out of memory`
-abbrev pub text_or : Result (List ℕ) NoMemory → Bool → List ℕ
-text_or (Ok bytes) close = bytes
-text_or (Err refused) close = reply_text no_memory close
-
--- the reply to a message that is refused
-abbrev pub IsFaultText : CallFault → Bool → List ℕ → Type 0
-IsFaultText (faults.Refused c) close bytes = bytes ≡ reply_text (refused c) close
-IsFaultText faults.NoMemory close bytes = ⊥
+use Rattle.router_sessions.specs.Session.{Answers, sent_text}
 
 -- these acts were done, and then the text was written; if the write failed, a first part of it
 abbrev pub DoesAndWrites : Seat → List Act → List ℕ → World → World → Result (Unit {0}) Failed → Type 0

@@ -1,12 +1,11 @@
 -- A session as one list of acts.
-use Rattle.std.specs.Prelude.{◌≡◌, ◌≢◌, ◌≤◌, ◌+◌, ◌==◌, ◌||◌, ◌⊎◌, ℕ, Bool, true, false, List, [], ◌∷◌, ◌++◌, length, None}
+use Rattle.std.specs.Prelude.{◌≡◌, ◌≢◌, ◌+◌, ◌==◌, ◌||◌, ◌⊎◌, ℕ, Bool, true, false, List, [], ◌∷◌, ◌++◌, None}
 use Rattle.router_core.specs.Request.{deliver_due, Request}
 use Rattle.api_replies.specs.declared.cause.Cause.{Cause}
-use Rattle.api_replies.specs.Reply.{Reply, Counts, counted, refused as refusal_of, not_post, limit_reply, no_memory, bad_head, length_required, too_large, head_too_large}
+use Rattle.api_replies.specs.Reply.{Reply, refused as refusal_of, not_post, no_memory}
 use Rattle.api_replies.specs.Written.{reply_text, reply_head}
 use Rattle.api_messages.specs.declared.message.Message.{Message}
 use Rattle.api_messages.specs.declared.message.Refusal.{Refusal}
-use Rattle.api_messages.specs.declared.message.Refusal.TheVariants as refusals
 use Rattle.api_messages.specs.declared.method.Method.{Method}
 use Rattle.api_messages.specs.declared.method.Method.TheVariants.{Post, Head, Other}
 use Rattle.api_messages.specs.Fields.{is_post}
@@ -17,25 +16,14 @@ use Rattle.courier_run.specs.Claim.{moment_of}
 use Rattle.courier_run.specs.Act.{reads, ticks, looks, makes, writes}
 use Rattle.courier_run.specs.declared.turned.Turned.{Turned}
 use Rattle.courier_run.specs.declared.stepped.Stop.{Stop}
-use Rattle.courier_run.specs.declared.stepped.Stop.TheVariants.{Spent, Idle, Full, NoMemory}
+use Rattle.message_streams.specs.declared.farewell.SessionEnd.{SessionEnd}
+use Rattle.message_streams.specs.declared.farewell.SessionEnd.TheVariants as ends
+use Rattle.message_streams.specs.Incoming.{IsPiece, IsWhole}
+use Rattle.message_streams.specs.Farewell.{refusal_reply}
+use Rattle.message_streams.specs.Reply.{steps_reply}
 use Rattle.router_sessions.specs.declared.book.Seat.{Seat}
-use Rattle.router_sessions.specs.declared.session.SessionEnd.{SessionEnd}
-use Rattle.router_sessions.specs.declared.session.SessionEnd.TheVariants as ends
 use Rattle.router_sessions.specs.History.{State, Placed, asked, IsAnsweredBy}
 use Rattle.router_sessions.specs.Acts.{Act, Steps, World, Does}
-
--- The counts of a DeliverDue's reply, from those of the delivery steps.
--- Shown by: dead-letters.
-abbrev pub counts_of : Turned → Counts
-counts_of turned = record { attempts = turned.attempts; delivered = turned.delivered; dead_lettered = turned.dead; dropped = turned.dropped }
-
--- The reply to a DeliverDue, by why its steps ended: the counts, `limit_reply`, or `no_memory`.
--- Shown by: first-run; out_of_memory_is_reported_as_the_limit.edit.
-abbrev pub steps_reply : Turned → Stop → Reply
-steps_reply turned Spent = counted (counts_of turned)
-steps_reply turned Idle = counted (counts_of turned)
-steps_reply turned Full = limit_reply
-steps_reply turned NoMemory = no_memory
 
 -- The turn answers the request with this reply (`IsAnsweredBy`).
 -- Shown by: first-run.
@@ -75,11 +63,6 @@ request_limit = 1048576
 abbrev pub closes : ℕ → Message → Bool
 closes n m = m.close || (n == request_limit)
 
--- What a read gave that did not find the end: some bytes, at most 16,384 (this project's own choice).
--- Shown by: proofs alone.
-abbrev pub IsPiece : List ℕ → Type 0
-IsPiece piece = (piece ≢ []) × (length piece ≤ 16384)
-
 -- A session that goes on: the messages answered, the bytes that were read and not yet taken, and its acts. It begins with a look. It reads
 -- only if the bytes are the beginning of a message, and answers each message as soon as it is whole.
 -- Shown by: session_tests tests.rt: the_first_run_has_its_replies.
@@ -103,19 +86,6 @@ pub record IsLast (n : ℕ) (m : Message) (acts : List Act) (text : List ℕ) : 
   pub answers : Answers m done reply
   pub acts_are : acts ≡ before ++ done
   pub text_is : text ≡ sent_text m.method reply (closes (n + 1) m)
-
--- The reply to refused bytes, by the reason: 400, 411, 413 or 431.
--- Shown by: no-length.
-abbrev pub refusal_reply : Refusal → Reply
-refusal_reply refusals.BadHead = bad_head
-refusal_reply refusals.LengthRequired = length_required
-refusal_reply refusals.TooLarge = too_large
-refusal_reply refusals.HeadTooLarge = head_too_large
-
--- A message is whole at the front of the bytes.
--- Shown by: .ci/checks/limits.sh.
-abbrev pub IsWhole : List ℕ → Type 0
-IsWhole held = (m : Message) × (rest : List ℕ) × HoldsMessage held m rest
 
 -- What is written once no message follows: the reply to a refusal; or out of memory, if a whole head is there. It has its body, whatever the
 -- method.

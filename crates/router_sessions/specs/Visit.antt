@@ -6,8 +6,8 @@ use Rattle.turn_book.specs.Rule.{turns_by}
 use Rattle.router_disk.specs.Faults.{Rose}
 use Rattle.router_disk.specs.Link.{Exchange}
 use Rattle.router_sessions.specs.declared.history.Turn.{Turn}
-use Rattle.router_sessions.specs.declared.session.SessionEnd.{SessionEnd}
-use Rattle.router_sessions.specs.declared.session.SessionEnd.TheVariants.{Closed, Cut, Refused, Long, ReadFault, WriteFault, NoMemory}
+use Rattle.message_streams.specs.declared.farewell.SessionEnd.{SessionEnd}
+use Rattle.message_streams.specs.declared.farewell.SessionEnd.TheVariants.{Closed, Cut, Refused, Long, ReadFault, WriteFault, NoMemory}
 use Rattle.router_sessions.specs.Book.{turn_of, Rests}
 use Rattle.router_sessions.specs.Acts.{world}
 use Rattle.router_sessions.specs.Session.{IsSession}

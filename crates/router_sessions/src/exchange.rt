@@ -1,34 +1,23 @@
 //! One message and its reply.
-ghost use Rattle.std.specs.Prelude.{◌≡◌, ℕ, List, IsSome, IfOk, MatchOption};
-ghost use Rattle.api_replies.specs.Reply as replies;
-ghost use Rattle.router_core.specs.Request.{deliver_due, IsOneTurn};
-ghost use Rattle.router_core.specs.View.{action_of};
+ghost use Rattle.std.specs.Prelude.{◌≡◌, ℕ, List, IsSome};
 ghost use Rattle.router_disk.specs.Faults.{CountsFaults};
-ghost use Rattle.router_disk.specs.Sink.{AddsBytes};
-ghost use Rattle.api_replies.specs.Written.{reply_text};
 ghost use Rattle.turn_book.specs.Passes.{IsFree, IsSamePass};
 ghost use Rattle.router_sessions.specs.Book.{Rests, IsBook};
 ghost use Rattle.router_sessions.specs.Desk.{turns_seen, number_of, seat_of, SeesMore};
 ghost use Rattle.router_sessions.specs.Acts.{world};
-ghost use Rattle.router_sessions.specs.Session.{steps_reply};
-ghost use Rattle.router_sessions.specs.Reply.{text_or, IsFaultText, HasAnswered, HasDelivered};
+ghost use Rattle.router_sessions.specs.Reply.{HasAnswered, HasDelivered};
 
 use crate::book::Book;
 use crate::delivery::deliver;
 use crate::desk::Desk;
-use crate::gated::Gated;
-use crate::text::{reply_bytes, turn_bytes};
-use api_replies::{Cause, refused_reply};
-use api_wire::{
-    CallFault, CountsReply, Message, Method, no_memory_reply, not_post_head, not_post_reply,
-    read_call,
-};
+use crate::text::turn_bytes;
+use api_wire::{Message, Method, no_memory_reply, not_post_head, not_post_reply, read_call};
 use bus_host::Gate;
-use courier_run::{Stepped, Stop};
-use json_text::{Bytes, LAST_MOMENT, NoMemory};
-use router_core::{Action, limit_reply};
+use json_text::{LAST_MOMENT, NoMemory};
+use message_streams::{
+    Gated, delivery_budget, delivery_room, fault_bytes, respond, write_delivery,
+};
 use router_disk::{Clock, Failed, Link, Sink};
-use std::alloc::Global;
 use std::sync::Wait;
 use turn_book::Pass;
 
@@ -95,71 +84,6 @@ pub(crate) fn answer_message<Rt: Wait, K: Sink, L: Link, C: Clock, G: Gate>(
     }
 }
 
-/// The budget of a DeliverDue. `None` for every other request.
-fn delivery_budget(action: &Action) -> Option<u32>
-    ensures { MatchOption result (IsOneTurn (action_of action.now)) (λ budget. action_of action.now ≡ deliver_due budget) }
-{
-    match action {
-        Action::DeliverDue { budget } => Some(*budget),
-        Action::CreateEventBus { .. }
-        | Action::DeleteEventBus { .. }
-        | Action::DescribeEventBus { .. }
-        | Action::ListEventBuses { .. }
-        | Action::PutRule { .. }
-        | Action::DeleteRule { .. }
-        | Action::PutRuleState { .. }
-        | Action::DescribeRule { .. }
-        | Action::ListRules { .. }
-        | Action::PutTargets { .. }
-        | Action::RemoveTargets { .. }
-        | Action::ListTargetsByRule { .. }
-        | Action::ListRuleNamesByTarget { .. }
-        | Action::PutPolicy { .. }
-        | Action::PutStatement { .. }
-        | Action::RemovePolicy { .. }
-        | Action::RemoveStatement { .. }
-        | Action::PutEvents { .. }
-        | Action::TestEventPattern { .. }
-        | Action::CreateQueue { .. }
-        | Action::DeleteQueue { .. }
-        | Action::PeekMessages { .. }
-        | Action::DeleteMessages { .. }
-        | Action::DutyCounts => None,
-    }
-}
-
-/// Writes the bytes, or the reply `out of memory`.
-fn respond<K: Sink>(
-    bytes: Result<Bytes, NoMemory>,
-    close: bool,
-    output: &mut K,
-) -> Result<(), Failed>
-    ensures writes { AddsBytes (K.wrote output.old) (K.wrote output.new) result (text_or bytes close) }
-    ensures count { CountsFaults (K.faults output.old) (K.faults output.new) result }
-{
-    match bytes {
-        Ok(bytes) => output.write_all(bytes.as_slice()),
-        Err(NoMemory) => output.write_all(no_memory_reply(close)),
-    }
-}
-
-/// The reply to a message that is refused.
-fn fault_bytes(alloc: Global, fault: CallFault, close: bool) -> Result<Bytes, NoMemory>
-    ensures { IfOk result (λ bytes. IsFaultText fault close bytes) }
-{
-    match fault {
-        CallFault::Refused(cause) => refused_bytes(alloc, &cause, close),
-        CallFault::NoMemory => Err(NoMemory),
-    }
-}
-
-fn refused_bytes(alloc: Global, cause: &Cause, close: bool) -> Result<Bytes, NoMemory>
-    ensures { IfOk result (λ bytes. bytes ≡ reply_text (replies.refused cause.now) close) }
-{
-    let reply = refused_reply(alloc, cause)?;
-    reply_bytes(alloc, &reply, close)
-}
-
 /// Makes the steps of a DeliverDue, and writes its reply. The memory of the reply is allocated before the first step.
 fn answer_delivery<Rt: Wait, K: Sink, L: Link, C: Clock, G: Gate>(
     desk: Desk<'_, Rt>,
@@ -195,42 +119,4 @@ fn answer_delivery<Rt: Wait, K: Sink, L: Link, C: Clock, G: Gate>(
             output.write_all(no_memory_reply(close))
         }
     }
-}
-
-/// Writes the reply to the steps that were made.
-fn write_delivery<K: Sink>(
-    mut room: CountsReply,
-    limit: &[u8],
-    made: Stepped,
-    close: bool,
-    output: &mut K,
-) -> Result<(), Failed>
-    requires limit { limit.now ≡ reply_text replies.limit_reply close }
-    ensures writes { AddsBytes (K.wrote output.old) (K.wrote output.new) result (reply_text (steps_reply made.turned made.stop) close) }
-    ensures count { CountsFaults (K.faults output.old) (K.faults output.new) result }
-{
-    match made.stop {
-        Stop::Spent | Stop::Idle => {
-            let text = room.fill(
-                made.turned.attempts,
-                made.turned.delivered,
-                made.turned.dead,
-                made.turned.dropped,
-                close,
-            );
-            output.write_all(text)
-        }
-        Stop::Full => output.write_all(limit),
-        Stop::NoMemory => output.write_all(no_memory_reply(close)),
-    }
-}
-
-/// Room for the reply to a DeliverDue, and the reply if the number limit is reached.
-fn delivery_room(alloc: Global, close: bool) -> Result<(CountsReply, Bytes), NoMemory>
-    ensures { IfOk result (λ p. p.1 ≡ reply_text replies.limit_reply close) }
-{
-    let room = CountsReply::new(alloc)?;
-    let reply = limit_reply(alloc)?;
-    let limit = reply_bytes(alloc, &reply, close)?;
-    Ok((room, limit))
 }

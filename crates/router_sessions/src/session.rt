@@ -6,17 +6,14 @@ ghost use Rattle.router_sessions.specs.Book.{Rests, IsBook};
 ghost use Rattle.router_sessions.specs.Desk.{turns_seen, number_of, seat_of, SeesMore};
 ghost use Rattle.router_sessions.specs.Acts.{world};
 ghost use Rattle.router_sessions.specs.Session.{IsSession};
-ghost use Rattle.router_sessions.specs.Incoming.{IsFinish};
 ghost use Rattle.router_sessions.specs.Conversing.{HasEnded};
 
 use crate::book::Book;
 use crate::desk::Desk;
 use crate::exchange::answer_message;
-use crate::gated::Gated;
-use crate::incoming::{Incoming, Lack, next_message};
-use crate::refused::refusal_bytes;
-use api_wire::{Message, WireIn, no_memory_reply};
+use api_wire::{Message, WireIn};
 use bus_host::Gate;
+use message_streams::{Gated, Incoming, SessionEnd, finish, next_message};
 use router_disk::{Clock, Failed, Link, Sink, Source};
 use std::alloc::Global;
 use std::sync::Wait;
@@ -27,25 +24,6 @@ const REQUEST_LIMIT: u64 = 1_048_576;
 
 /// The number of bytes that one read takes at most.
 const PIECE: usize = 16_384;
-
-/// Why a session ended.
-#[derive(Clone, Copy, Debug, PartialEq, Eq)]
-pub enum SessionEnd {
-    /// The input ended between messages, or a message asked to close.
-    Closed,
-    /// The input ended inside a message.
-    Cut,
-    /// No message begins with the bytes. The rest of the input is unread.
-    Refused,
-    /// The request limit of a session is reached.
-    Long,
-    /// The input failed.
-    ReadFault,
-    /// The output failed.
-    WriteFault,
-    /// Out of memory while a message was read.
-    NoMemory,
-}
 
 /// Serves the requests of `input` in order, until it ends or a message, a fault or a limit ends the session. Its turns are made through the pass
 /// and name the connection. The pass holds no turn before and after. It begins by a look at the history, without a turn.
@@ -149,37 +127,4 @@ fn closes_after(message: &Message, last: bool) -> bool
     ensures { result ≡ (message.now.close || last) }
 {
     message.close || last
-}
-
-/// Writes the last reply, if there is one, when there is no further message.
-fn finish<Rt: Wait, K: Sink, G: Gate>(
-    lack: Lack,
-    gated: Gated<'_, Rt, G>,
-    output: &mut K,
-) -> SessionEnd
-    ensures finish { IsFinish lack (K.wrote output.old) (K.wrote output.new) result }
-    ensures write_fault { result ≡ SessionEnd.WriteFault → Rose (K.faults output.old) (K.faults output.new) }
-    ensures output_faultless { result ≢ SessionEnd.WriteFault → K.faults output.new ≡ K.faults output.old }
-    ensures read_fault { result ≡ SessionEnd.ReadFault → lack ≡ Lack.ReadFault }
-{
-    match lack {
-        Lack::Closed => SessionEnd::Closed,
-        Lack::Cut => SessionEnd::Cut,
-        Lack::ReadFault => SessionEnd::ReadFault,
-        Lack::NoMemory { head: false } => SessionEnd::NoMemory,
-        Lack::NoMemory { head: true } => {
-            gated.at_reply();
-            match output.write_all(no_memory_reply(true)) {
-                Ok(()) => SessionEnd::NoMemory,
-                Err(Failed) => SessionEnd::WriteFault,
-            }
-        }
-        Lack::Refused(why) => {
-            gated.at_reply();
-            match output.write_all(refusal_bytes(why)) {
-                Ok(()) => SessionEnd::Refused,
-                Err(Failed) => SessionEnd::WriteFault,
-            }
-        }
-    }
 }

@@ -18,12 +18,12 @@ ghost use Rattle.router_sessions.specs.Answered.{IsDecided, IsAnswered, IsRender
 use crate::book::{Book, MadeTurn, Seat, TurnReply};
 use crate::held::Held;
 use crate::history::{Ask, History, Turn, Why, Written};
-use crate::text::reply_bytes;
 use board_publish::Board;
 use courier_run::BookFault;
 use delivery_duties::{Fate, Outcome};
 use http_server::Log;
 use json_text::NoMemory;
+use message_streams::reply_bytes;
 use router_calls::decide;
 use router_core::{Ready, Released, Reply, Request, Seen, Tables};
 use std::alloc::Global;

@@ -3,7 +3,7 @@ ghost use Rattle.std.specs.Prelude.{◌≡◌};
 ghost use Rattle.router_sessions.specs.Visit.{is_cut};
 
 use crate::book::Book;
-use crate::session::SessionEnd;
+use message_streams::SessionEnd;
 use router_disk::{Sink, Source};
 use shared_door::Served;
 

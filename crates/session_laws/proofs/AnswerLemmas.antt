@@ -20,7 +20,8 @@ use Rattle.api_messages.specs.Messages.{HoldsMessage}
 use Rattle.api_messages.proofs.MessageLemmas.{one_message}
 use Rattle.router_sessions.specs.History.{State, Placed, IsAnsweredBy}
 use Rattle.router_sessions.specs.Acts.{Act, Steps}
-use Rattle.router_sessions.specs.Session.{Answers, unposted, refused, out_of_memory, served, unrendered, stepped, Replies, steps_reply, sent_text, Serving, begun, reads_on, answers}
+use Rattle.message_streams.specs.Reply.{steps_reply}
+use Rattle.router_sessions.specs.Session.{Answers, unposted, refused, out_of_memory, served, unrendered, stepped, Replies, sent_text, Serving, begun, reads_on, answers}
 use Rattle.session_laws.specs.OneSession.{read_in, IsSameState, IsAmple}
 use Rattle.session_laws.proofs.SameLemmas.{RunsAct, turn_same, Same, same_append, Given, given_rest, read_append, after_acts, given_front}
 use Rattle.session_laws.proofs.StepLemmas.{Stop, Taken, same_steps}

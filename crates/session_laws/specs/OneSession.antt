@@ -11,11 +11,12 @@ use Rattle.api_messages.specs.Messages.{first_bytes}
 use Rattle.courier_run.specs.Claim.{NeedsSend}
 use Rattle.courier_run.specs.Act.{Try, reads, makes, writes, pieces_in, readings_in, tries_in, bytes_in}
 use Rattle.router_sessions.specs.declared.book.Seat.{Seat}
-use Rattle.router_sessions.specs.declared.session.SessionEnd.{SessionEnd}
-use Rattle.router_sessions.specs.declared.session.SessionEnd.TheVariants.{Closed, Cut, Refused, Long, ReadFault, WriteFault, NoMemory}
+use Rattle.message_streams.specs.declared.farewell.SessionEnd.{SessionEnd}
+use Rattle.message_streams.specs.declared.farewell.SessionEnd.TheVariants.{Closed, Cut, Refused, Long, ReadFault, WriteFault, NoMemory}
 use Rattle.router_sessions.specs.History.{State, Turn, AreTurnsFrom, state_of}
 use Rattle.router_sessions.specs.Acts.{Act, World}
-use Rattle.router_sessions.specs.Session.{sent_text, refusal_reply, Serving, IsSession}
+use Rattle.message_streams.specs.Farewell.{refusal_reply}
+use Rattle.router_sessions.specs.Session.{sent_text, Serving, IsSession}
 
 -- The same tables, and the same changes of the configuration. The open claims may be those of other passes.
 -- Shown by: law one_session.

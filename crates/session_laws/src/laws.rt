@@ -1,7 +1,7 @@
 //! The law of sessions.
 ghost use Rattle.router_sessions.specs.Acts.{World};
 ghost use Rattle.router_sessions.specs.declared.book.Seat.{Seat};
-ghost use Rattle.router_sessions.specs.declared.session.SessionEnd.{SessionEnd};
+ghost use Rattle.message_streams.specs.declared.farewell.SessionEnd.{SessionEnd};
 ghost use Rattle.router_sessions.specs.Session.{IsSession};
 ghost use Rattle.session_laws.specs.OneSession.{BeginAlike, EndAlike};
 

@@ -5,10 +5,9 @@ use Rattle.httparse.specs.Grammar.{HasNoRequest, print_request}
 use Rattle.api_messages.specs.declared.message.Message.{Message}
 use Rattle.api_messages.specs.Messages.{HoldsMessage, IsAwaited}
 use Rattle.api_messages.specs.Between.{HasHead}
-use Rattle.router_sessions.specs.Session.{IsWhole, IsPiece}
-use Rattle.router_sessions.specs.declared.incoming.Lack.{Lack}
-use Rattle.router_sessions.specs.declared.incoming.Lack.TheVariants as lacks
-use Rattle.router_sessions.specs.Incoming.{AreRead, one_more, none, LackOf, end_piece}
+use Rattle.message_streams.specs.declared.incoming.Lack.{Lack}
+use Rattle.message_streams.specs.declared.incoming.Lack.TheVariants as lacks
+use Rattle.message_streams.specs.Incoming.{IsWhole, IsPiece, AreRead, one_more, none, LackOf, end_piece}
 
 -- the pieces read so far, and what is buffered
 abbrev pub IsReading : List (List ℕ) → List (List ℕ) → List ℕ → List ℕ → Type 0

@@ -3,9 +3,9 @@ use Rattle.std.proofs.lemmas.List.{length-take}
 use Rattle.api_messages.specs.declared.message.Message.{Message}
 use Rattle.api_messages.specs.Messages.{HoldsMessage, IsAwaited}
 use Rattle.api_messages.specs.Reading.{Incoming}
-use Rattle.router_sessions.specs.declared.incoming.Lack.TheVariants as lacks
-use Rattle.router_sessions.proofs.IncomingLemmas.{IsReading, read_none, read_piece_more, lacks_now, starved, whole_starved}
-use Rattle.router_sessions.proofs.incoming.next_message.Goals as goal
+use Rattle.message_streams.specs.declared.incoming.Lack.TheVariants as lacks
+use Rattle.message_streams.proofs.IncomingLemmas.{IsReading, read_none, read_piece_more, lacks_now, starved, whole_starved}
+use Rattle.message_streams.proofs.incoming.next_message.Goals as goal
 
 pub loop-message-init : goal.loop-message-init
 loop-message-init g c = record {

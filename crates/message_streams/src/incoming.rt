@@ -4,15 +4,15 @@ ghost use Rattle.std.specs.Io.{ReadsAtMost};
 ghost use Rattle.router_disk.specs.Faults.{CountsFaults, Rose};
 ghost use Rattle.router_disk.specs.Source.{GivesPiece};
 ghost use Rattle.api_messages.specs.Messages.{IsAwaited};
-ghost use Rattle.router_sessions.specs.Incoming.{LackOf, NextOf, StaysOpen, end_piece};
+ghost use Rattle.message_streams.specs.Incoming.{LackOf, NextOf, StaysOpen, end_piece};
 
-use api_wire::{Message, Refusal, WireFault, WireIn, awaited_is_short};
+use api_messages::{Message, Refusal, WireFault, WireIn, awaited_is_short};
 use json_text::NoMemory;
 use router_disk::{Failed, Source};
 
 /// Why there is no message.
 #[derive(Clone, Copy, Debug, PartialEq, Eq)]
-pub(crate) enum Lack {
+pub enum Lack {
     /// The input ended between messages.
     Closed,
     /// The input ended inside a message.
@@ -25,17 +25,14 @@ pub(crate) enum Lack {
     NoMemory { head: bool },
 }
 
-pub(crate) enum Incoming {
+/// What reading the next message returns.
+pub enum Incoming {
     Message(Message),
     Lack(Lack),
 }
 
-/// Reads until a message is whole, or returns why there is none.
-pub(crate) fn next_message<S: Source>(
-    wire: &mut WireIn,
-    input: &mut S,
-    piece: &mut [u8],
-) -> Incoming
+/// Reads until a message is whole, or returns why there is none. One read takes at most what `piece` has room for.
+pub fn next_message<S: Source>(wire: &mut WireIn, input: &mut S, piece: &mut [u8]) -> Incoming
     requires room { 0 < length piece.old }
     requires most { length piece.old ≤ 16384 }
     requires open { wire.old.refused ≡ None }

@@ -1,6 +1,6 @@
 use Rattle.std.proofs.Common.{◌≡◌, ◌-◌, ◌<◌, ◌≤◌, None, length}
-use Rattle.router_sessions.proofs.IncomingLemmas.{IsReading}
-use Rattle.router_sessions.proofs.incoming.next_message.Given as goal
+use Rattle.message_streams.proofs.IncomingLemmas.{IsReading}
+use Rattle.message_streams.proofs.incoming.next_message.Given as goal
 
 -- the buffered bytes are those that were there and those read
 abbrev pub invariant-loop-message : goal.invariant-loop-message

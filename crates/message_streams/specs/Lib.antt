@@ -1,0 +1,3 @@
+pub mod Incoming
+pub mod Farewell
+pub mod Reply

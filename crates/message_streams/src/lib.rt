@@ -1,0 +1,16 @@
+//! The two streams of a session. Messages are read from the one, and the bytes of replies are written to the other.
+#![tactic(auto)]
+
+mod delivery;
+mod farewell;
+mod gated;
+mod incoming;
+mod refused;
+mod reply;
+
+pub use delivery::{delivery_budget, delivery_room, write_delivery};
+pub use farewell::{SessionEnd, finish};
+pub use gated::Gated;
+pub use incoming::{Incoming, Lack, next_message};
+pub use refused::refusal_bytes;
+pub use reply::{fault_bytes, reply_bytes, respond};
