@@ -5,7 +5,7 @@ use Rattle.std.specs.Prelude.{All}
 use Rattle.std.proofs.lemmas.List.Elements.{All-nil, All-cons, All-append, All-head, All-tail}
 use Rattle.courier_run.specs.Act.{reads, ticks, looks, makes, tries, writes, book_acts_in}
 use Rattle.router_sessions.specs.declared.book.Seat.{Seat}
-use Rattle.router_sessions.specs.History.{Turn, State, Placed, after_turn, state_after, state_of, turns_by, AreTurnsFrom}
+use Rattle.router_sessions.specs.History.{Turn, State, Placed, last_version, after_turn, state_after, state_of, turns_by, AreTurnsFrom}
 use Rattle.router_sessions.specs.Acts.{Act, Happens, IsNamed, Makes}
 use Rattle.router_sessions.proofs.TurnLemmas.{state_append, turns_back, none_append, versions_grow}
 
@@ -121,7 +121,7 @@ makes_joined seat first second old mid new one legal two = record {
 
 -- one turn of the seat
 pub makes_one : (seat : Seat) (old new : List Turn) (turn : Turn) → new ≡ old ++ turn ∷ [] → turn.pass ≡ Some seat.pass
-    → turn.connection ≡ seat.connection → length (state_of old).controls ≤ turn.k → Makes seat (makes (record { before = state_of old; turn = turn }) ∷ []) old new
+    → turn.connection ≡ seat.connection → last_version (state_of old) ≤ turn.k → Makes seat (makes (record { before = state_of old; turn = turn }) ∷ []) old new
 makes_one seat old new turn is pass connection known =
     let act : Act = makes (record { before = state_of old; turn = turn }) in
     record {

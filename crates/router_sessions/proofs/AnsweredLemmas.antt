@@ -6,7 +6,7 @@ use Rattle.std.specs.Option.{option_map}
 use Rattle.api_replies.specs.View.{reply_of}
 use Rattle.api_replies.specs.Written.{reply_text}
 use Rattle.api_replies.specs.declared.reply.Reply.{Reply as CodeReply}
-use Rattle.rule_table.specs.RuleSet.{RuleSet, rule_set_at}
+use Rattle.rule_table.specs.RuleSet.{RuleSet}
 use Rattle.rule_table.specs.Sound.{IsSound}
 use Rattle.router_core.specs.Batch.{Batch}
 use Rattle.router_core.specs.Request.{Request}
@@ -24,7 +24,7 @@ use Rattle.router_calls.proofs.FormLemmas.{request_form}
 use Rattle.router_sessions.specs.declared.book.Book.{Book}
 use Rattle.router_sessions.specs.declared.book.Seat.{Seat}
 use Rattle.router_sessions.specs.declared.book.TurnReply.{TurnReply}
-use Rattle.router_sessions.specs.History.{Turn, State, asked, state_of, IsAskable, IsAnsweredBy, after_change, with_written}
+use Rattle.router_sessions.specs.History.{Turn, State, asked, last_version, set_of_version, state_of, IsAskable, IsAnsweredBy, after_change, with_written}
 use Rattle.router_sessions.specs.Book.{turns_of, IsKept}
 use Rattle.router_sessions.specs.Answered.{turn_text, IsUnrendered, IsAnswered, IsDecided}
 use Rattle.router_sessions.proofs.BookLemmas.{set_of, version_of, IsMade, made_book, made_makes, placed_on, turn_by}
@@ -63,9 +63,9 @@ answered_by : {seat : Seat} {request : Request} {old new : Book} {turn : Turn} (
     → IsAnsweredBy (state_of (turns_of old)) turn request (reply_of p.1)
 answered_by {seat} {request} {old} {new} {turn} p m askable decided =
     let s = state_of (turns_of old) in
-    let version : turn.k ≡ length s.controls = m.k ∙ version_of old m.kept in
-    let set : old.tables.set ≡ rule_set_at turn.k s.controls = set_of old m.kept ∙ ap (λ n. rule_set_at n s.controls) (sym version) in
-    let here : RuleSet = rule_set_at turn.k s.controls in
+    let version : turn.k ≡ last_version s = m.k ∙ version_of old m.kept in
+    let set : old.tables.set ≡ set_of_version turn.k s = set_of old m.kept ∙ ap (λ n. set_of_version n s) (sym version) in
+    let here : RuleSet = set_of_version turn.k s in
     let on_set : IsAnswer old.tables request old.tables.set.count here (answer_of p) =
     subst (λ (x : RuleSet). IsAnswer old.tables request old.tables.set.count x (answer_of p)) set decided.answer in
     let on_k : IsAnswer old.tables request turn.k here (answer_of p) = subst (λ n. IsAnswer old.tables request n here (answer_of p)) (sym m.k) on_set in
@@ -73,6 +73,7 @@ answered_by {seat} {request} {old} {new} {turn} p m askable decided =
     subst (λ (b : Option Batch). IsAnswer old.tables request turn.k here (record { batch = b; reply = reply_of p.1 })) (sym m.batch) on_k in
     record {
       askable = askable;
+      since = omega (arith, version);
       known = omega (arith, version);
       answer = subst (λ (t : Tables). IsAnswer t request turn.k here (record { batch = turn.batch; reply = reply_of p.1 })) (sym m.kept.tables) with_batch;
     }

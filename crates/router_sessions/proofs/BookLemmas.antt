@@ -1,15 +1,15 @@
 -- The book after one more turn. Other files cite `steady_of`, `added_legal`, `legal_later`, `book_first`, `IsMade`, `made_book`, `made_makes`, `made_state`, `latest`, `turn_by`, `book_with`, `kept_same`.
-use Rattle.std.proofs.Common.{◌≡◌, ℕ, List, [], ◌∷◌, ◌++◌, length, Option, Some, None, refl, sym, ap, ◌∙◌, subst, arith}
+use Rattle.std.proofs.Common.{◌≡◌, ℕ, ◌+◌, ◌-◌, take, List, [], ◌∷◌, ◌++◌, length, Option, Some, None, refl, sym, ap, ◌∙◌, subst, arith}
 use Rattle.std.proofs.Math.Seq.{take-length}
 use Rattle.rule_table.specs.Control.{Control}
-use Rattle.rule_table.specs.RuleSet.{RuleSet, first_set, applied_all, rule_set_at}
+use Rattle.rule_table.specs.RuleSet.{RuleSet, applied_all}
 use Rattle.router_core.specs.Batch.{Batch}
 use Rattle.router_core.specs.Tables.{Tables, first_tables}
 use Rattle.courier_run.specs.Act.{makes}
 use Rattle.router_sessions.specs.declared.book.Book.{Book}
 use Rattle.router_sessions.specs.declared.book.Seat.{Seat}
 use Rattle.router_sessions.specs.declared.history.History.{History}
-use Rattle.router_sessions.specs.History.{Ask, opens, Turn, State, Placed, IsTurnFor, IsLatest, IsLegal, AreTurnsFrom, after_ask, state_after, state_of, begun}
+use Rattle.router_sessions.specs.History.{Ask, opens, Turn, State, Placed, IsTurnFor, IsLatest, last_version, set_of_version, IsLegal, AreTurnsFrom, after_ask, state_after, state_of, begun}
 use Rattle.router_sessions.specs.Book.{turns_of, opening, IsBook, IsKept}
 use Rattle.router_sessions.specs.Acts.{Makes}
 use Rattle.router_sessions.proofs.TurnLemmas.{state_append, turns_append, turns_back}
@@ -57,16 +57,21 @@ book_first turns is = record {
       (record { start = first_tables; found = []; ask = refl; lawful = tt; no_pass = refl; no_connection = refl; k = refl; unwritten = refl }, tt);
 }
 
-latest_set : (controls : List Control) (set : RuleSet) → set ≡ applied_all controls first_set → set ≡ rule_set_at (length controls) controls
-latest_set controls set e = e ∙ ap (λ cs. applied_all cs first_set) (sym (take-length controls))
+since_start : (a b : ℕ) → a + b - a ≡ b
+since_start a b = omega arith
+
+latest_set : (start : RuleSet) (controls : List Control) (set : RuleSet) → set ≡ applied_all controls start
+    → set ≡ applied_all (take (start.count + length controls - start.count) controls) start
+latest_set start controls set e =
+    e ∙ sym (ap (λ cs. applied_all cs start) (ap (λ n. take n controls) (since_start start.count (length controls)) ∙ take-length controls))
 
 -- the rule set of a book's tables is that of the latest version
-pub set_of : (b : Book) (h : IsKept b) → b.tables.set ≡ rule_set_at (length (state_of (turns_of b)).controls) (state_of (turns_of b)).controls
+pub set_of : (b : Book) (h : IsKept b) → b.tables.set ≡ set_of_version (last_version (state_of (turns_of b))) (state_of (turns_of b))
 set_of b h =
     ap (λ (t : Tables). t.set) (sym h.tables)
-    ∙ latest_set (state_of (turns_of b)).controls (state_of (turns_of b)).tables.set (steady_of (turns_of b) h.book).set
+    ∙ latest_set (state_of (turns_of b)).start (state_of (turns_of b)).controls (state_of (turns_of b)).tables.set (steady_of (turns_of b) h.book).set
 
-pub version_of : (b : Book) (h : IsKept b) → b.tables.set.count ≡ length (state_of (turns_of b)).controls
+pub version_of : (b : Book) (h : IsKept b) → b.tables.set.count ≡ last_version (state_of (turns_of b))
 version_of b h = ap (λ (t : Tables). t.set.count) (sym h.tables) ∙ (steady_of (turns_of b) h.book).version
 
 -- a turn of the seat

@@ -2,7 +2,7 @@
 -- `back_later`, `rests_there`, `holds_there`, `rests_more`, `looked`, `extends`, `sees_more`, `sees_same`, `same_again`, `same_seat`, `sees_again`, `sees_none`, `pass_of`, and
 -- `map_ok` and the others of results.
 use Rattle.std.proofs.Common.{◌≡◌, ℕ, true, false, cond, List, [], ◌∷◌, ◌++◌, map, Option, Some, None, Result, Ok, Err, refl, sym, ap, ◌∙◌, subst, append-nil, append_assoc}
-use Rattle.std.specs.Prelude.{Bool, IfOk, IfErr, IfSome, IfNone, OnErr}
+use Rattle.std.specs.Prelude.{Bool, IfOk, IfErr, IfSome, IfNone}
 use Rattle.std.proofs.lemmas.Bool.{eq-eqb}
 use Rattle.std.proofs.lemmas.List.{map-append, append_cancel_left}
 use Rattle.std.proofs.lemmas.List.Elements.{filter-append, All-weaker, All-nil}
@@ -197,10 +197,6 @@ map_ok (Err e) P Q f p = tt
 pub map_err : {A E : Type 0} (r : Result A E) (P Q : E → Type 0) → ((e : E) → P e → Q e) → IfErr r P → IfErr r Q
 map_err (Ok a) P Q f p = tt
 map_err (Err e) P Q f p = f e p
-
-pub map_on_err : {A E : Type 0} (r : Result A E) (P Q : Type 0) → (P → Q) → OnErr r P → OnErr r Q
-map_on_err (Ok a) P Q f p = tt
-map_on_err (Err e) P Q f p = f p
 
 pub map_some : {A E : Type 0} (r : Result (Option A) E) (P Q : A → Type 0) → ((a : A) → P a → Q a) → IfOk r (λ found. IfSome found P)
     → IfOk r (λ found. IfSome found Q)

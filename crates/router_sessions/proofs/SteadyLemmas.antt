@@ -5,7 +5,7 @@ use Rattle.std.proofs.Math.Nat.{le-max_left}
 use Rattle.std.proofs.lemmas.Bool.{true≢false}
 use Rattle.std.specs.Prelude.{not, ◌==◌}
 use Rattle.rule_table.specs.Control.{Control, bus_created}
-use Rattle.rule_table.specs.RuleSet.{RuleSet, first_set, applied, applied_all}
+use Rattle.rule_table.specs.RuleSet.{RuleSet, applied, applied_all}
 use Rattle.delivery_duties.specs.declared.duty.DutyRow.{DutyRow}
 use Rattle.delivery_duties.specs.Duties.{Duties, pending_row, IsNext}
 use Rattle.router_core.specs.Batch.{Batch, Entry, control, accepted, attempt, messages_deleted}
@@ -14,7 +14,7 @@ use Rattle.router_core.specs.Request.{Request}
 use Rattle.router_calls.proofs.FormLemmas.{request_form}
 use Rattle.courier_run.specs.Claim.{Claim}
 use Rattle.router_sessions.specs.History.{Ask, opens, asked, claims, records, puts_back, Turn, State, OpenClaim, controls_in, claim_of, claims_of, without_pass}
-use Rattle.router_sessions.specs.History.{after_change, after_ask, after_turn, state_after, begun, with_claim, IsTurnFor, IsClaimBy, EndsClaim, AreTurnsFrom}
+use Rattle.router_sessions.specs.History.{last_version, after_change, after_ask, after_turn, state_after, begun, with_claim, IsTurnFor, IsClaimBy, EndsClaim, AreTurnsFrom}
 use Rattle.router_sessions.proofs.PendingLemmas.{AreNumbered, entries_numbered, marked_numbered, marked_row_there, key_has}
 use Rattle.router_sessions.proofs.KeptLemmas.{marked_other, settled_other, written_keeps}
 use Rattle.router_sessions.proofs.TurnLemmas.{open_written}
@@ -41,8 +41,8 @@ AreOpen d last (o ∷ os) = IsOpen d last o.claim × AreApart o.claim.number os 
 pub record IsSteady (s : State) : Type 0 where
   pub numbered : AreNumbered s.tables.duties
   pub opened : AreOpen s.tables.duties s.tables.moment s.open_claims
-  pub set : s.tables.set ≡ applied_all s.controls first_set
-  pub version : s.tables.set.count ≡ length s.controls
+  pub set : s.tables.set ≡ applied_all s.controls s.start
+  pub version : s.tables.set.count ≡ last_version s
 
 later : (a b c d : ℕ) → a ≤ max b c → c ≤ d → a ≤ max b d
 later a b c d h le = omega (arith, h, le)
@@ -163,16 +163,21 @@ numbered_written : (b : Option Batch) (s : State) → AreNumbered s.tables.dutie
 numbered_written None s h = h
 numbered_written (Some b) s h = entries_numbered b.moment b.entries s.tables h
 
-set_written : (b : Option Batch) (s : State) → s.tables.set ≡ applied_all s.controls first_set → (after_change b s).tables.set ≡ applied_all (after_change b s).controls first_set
+set_written : (b : Option Batch) (s : State) → s.tables.set ≡ applied_all s.controls s.start
+    → (after_change b s).tables.set ≡ applied_all (after_change b s).controls (after_change b s).start
 set_written None s h = h
 set_written (Some b) s h =
-    set_after b.moment b.entries s.tables ∙ ap (applied_all (controls_in b.entries)) h ∙ sym (applied_append s.controls (controls_in b.entries) first_set)
+    set_after b.moment b.entries s.tables ∙ ap (applied_all (controls_in b.entries)) h ∙ sym (applied_append s.controls (controls_in b.entries) s.start)
 
-version_written : (b : Option Batch) (s : State) → s.tables.set.count ≡ length s.controls → (after_change b s).tables.set.count ≡ length (after_change b s).controls
+more_changes : (a b c : ℕ) → a + b + c ≡ a + (b + c)
+more_changes a b c = omega arith
+
+version_written : (b : Option Batch) (s : State) → s.tables.set.count ≡ last_version s → (after_change b s).tables.set.count ≡ last_version (after_change b s)
 version_written None s h = h
 version_written (Some b) s h =
     ap (λ (r : RuleSet). r.count) (set_after b.moment b.entries s.tables) ∙ counted (controls_in b.entries) s.tables.set
-    ∙ ap (λ n. n + length (controls_in b.entries)) h ∙ sym (length-append s.controls (controls_in b.entries))
+    ∙ ap (λ n. n + length (controls_in b.entries)) h ∙ more_changes s.start.count (length s.controls) (length (controls_in b.entries))
+    ∙ sym (ap (λ n. s.start.count + n) (length-append s.controls (controls_in b.entries)))
 
 moment_written : (b : Option Batch) (s : State) → s.tables.moment ≤ (after_change b s).tables.moment
 moment_written None s = omega arith

@@ -12,7 +12,7 @@ use Rattle.router_sessions.specs.declared.history.Turn.{Turn as CodeTurn}
 use Rattle.router_sessions.specs.Book.{turn_of}
 use Rattle.router_sessions.specs.Firsts.{firsts}
 use Rattle.router_sessions.specs.History.{Ask, opens, asked, claims, records, puts_back, Turn, State, OpenClaim, controls_in, begun, claims_of, without_pass}
-use Rattle.router_sessions.specs.History.{with_claim, after_written, after_all, after_change, after_ask, after_turn, state_after, turns_by}
+use Rattle.router_sessions.specs.History.{last_version, with_claim, after_written, after_all, after_change, after_ask, after_turn, state_after, turns_by}
 use Rattle.router_sessions.specs.History.{IsTurnFor, AreTurnsFrom}
 
 pub firsts_more : {T : Type 0} (ps : List (T × Unit {0})) (x : T) → firsts (ps ++ (x, tt) ∷ []) ≡ firsts ps ++ x ∷ []
@@ -47,11 +47,11 @@ pub none_append : (n : ℕ) (ts us : List Turn) → turns_by n ts ≡ [] → tur
 none_append n ts us one two =
     filter-append (λ (t : Turn). is_number t.pass n) ts us ∙ ap (λ (xs : List Turn). xs ++ turns_by n us) one ∙ two
 
-versions_written : (b : Option Batch) (s : State) → length s.controls ≤ length (after_change b s).controls
+versions_written : (b : Option Batch) (s : State) → last_version s ≤ last_version (after_change b s)
 versions_written None s = omega arith
 versions_written (Some b) s = omega (arith, length-append s.controls (controls_in b.entries))
 
-versions_asked : (turn : Turn) (ask : Ask) (s : State) → IsTurnFor s turn ask → length s.controls ≤ length (after_ask turn ask s).controls
+versions_asked : (turn : Turn) (ask : Ask) (s : State) → IsTurnFor s turn ask → last_version s ≤ last_version (after_ask turn ask s)
 versions_asked turn (opens start found) s is = absurd is
 versions_asked turn (asked request) s is = versions_written turn.batch s
 versions_asked turn (claims c) s is = omega arith
@@ -59,7 +59,7 @@ versions_asked turn (records a) s is = versions_written turn.batch s
 versions_asked turn (puts_back c why) s is = omega arith
 
 -- turns only add configuration versions
-pub versions_grow : (turns : List Turn) (s : State) → AreTurnsFrom s turns → length s.controls ≤ length (state_after turns s).controls
+pub versions_grow : (turns : List Turn) (s : State) → AreTurnsFrom s turns → last_version s ≤ last_version (state_after turns s)
 versions_grow [] s legal = omega arith
 versions_grow (turn ∷ turns) s legal =
     let first = versions_asked turn turn.ask s legal.0 in

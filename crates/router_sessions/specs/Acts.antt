@@ -1,5 +1,5 @@
 -- What a list of acts did to the history, the streams, the clock and the link.
-use Rattle.std.specs.Prelude.{◌≡◌, ◌≤◌, ◌⊎◌, ℕ, true, List, [], ◌∷◌, ◌++◌, length, Option, Some, All}
+use Rattle.std.specs.Prelude.{◌≡◌, ◌≤◌, ◌⊎◌, ℕ, true, List, [], ◌∷◌, ◌++◌, Option, Some, All}
 use Rattle.router_disk.specs.Link.{Exchange}
 use Rattle.delivery_duties.specs.declared.outcome.Outcome.{Outcome}
 use Rattle.delivery_duties.specs.declared.outcome.Outcome.TheVariants.{Accepted, NoQueue}
@@ -13,7 +13,7 @@ use Rattle.courier_run.specs.declared.turned.Turned.{Turned}
 use Rattle.courier_run.specs.declared.stepped.Stop.{Stop}
 use Rattle.router_sessions.specs.declared.book.Seat.{Seat}
 use Rattle.router_sessions.specs.History as history
-use Rattle.router_sessions.specs.History.{State, Turn, Placed, turns_by, state_after, state_of, after_turn}
+use Rattle.router_sessions.specs.History.{State, Turn, Placed, last_version, turns_by, state_after, state_of, after_turn}
 
 -- An act on the router's book.
 -- Shown by: session_tests tests.rt: the_first_run_has_its_replies.
@@ -62,7 +62,7 @@ Steps budget = StepsOf Claims Records PutsBack IsIdle IsFullAt budget
 abbrev pub Happens : ℕ → State → List Turn → List Act → Type 0
 Happens n s added [] = turns_by n added ≡ []
 Happens n s added (makes p ∷ acts) = (others : List Turn) × (rest : List Turn) × (added ≡ others ++ p.turn ∷ rest) × (turns_by n others ≡ [])
-    × (p.turn.pass ≡ Some n) × (p.before ≡ state_after others s) × (length s.controls ≤ p.turn.k) × Happens n (after_turn p.turn p.before) rest acts
+    × (p.turn.pass ≡ Some n) × (p.before ≡ state_after others s) × (last_version s ≤ p.turn.k) × Happens n (after_turn p.turn p.before) rest acts
 Happens n s added (looks state ∷ acts) = (others : List Turn) × (rest : List Turn) × (added ≡ others ++ rest) × (turns_by n others ≡ [])
     × (state ≡ state_after others s) × Happens n state rest acts
 Happens n s added (reads piece ∷ acts) = Happens n s added acts

@@ -1,10 +1,10 @@
 -- The history: the turns of the router, oldest first. The first one opens the book; each other one is made by a pass.
-use Rattle.std.specs.Prelude.{◌≡◌, ℕ, ◌≤◌, false, true, ◌==◌, not, List, [], ◌∷◌, ◌++◌, length, Option, Some, None, IsSome, filter}
+use Rattle.std.specs.Prelude.{◌≡◌, ℕ, ◌+◌, ◌-◌, ◌≤◌, false, true, ◌==◌, not, List, [], ◌∷◌, ◌++◌, length, take, Option, Some, None, IsSome, filter}
 use Rattle.event_shape.specs.Names.{IsQueueArn}
 use Rattle.json_text.specs.Moment.{IsMoment}
 use Rattle.turn_book.specs.Rule.{is_number}
 use Rattle.rule_table.specs.Control.{Control}
-use Rattle.rule_table.specs.RuleSet.{rule_set_at}
+use Rattle.rule_table.specs.RuleSet.{RuleSet, applied_all}
 use Rattle.delivery_duties.specs.declared.duty.DutyRow.{DutyRow}
 use Rattle.delivery_duties.specs.declared.outcome.Outcome.{Outcome}
 use Rattle.delivery_duties.specs.declared.outcome.Outcome.TheVariants.{Accepted, Code, NoAnswer, NoQueue, TooOld}
@@ -47,12 +47,24 @@ pub record OpenClaim : Type 0 where
   pub pass : ℕ
   pub claim : Claim
 
--- The tables, the changes of the configuration since the start, oldest first, and the open claims.
+-- The rule set with which the book was opened, the tables, the changes of the configuration since it was opened, oldest first, and the open
+-- claims.
 -- Shown by: first-run; a_step_is_recorded_twice.edit.
 pub record State : Type 0 where
+  pub start : RuleSet
   pub tables : Tables
   pub controls : List Control
   pub open_claims : List OpenClaim
+
+-- The number of the latest configuration version: all changes that ever were, those before the start too.
+-- Shown by: the_old_board_stays.edit.
+abbrev pub last_version : State → ℕ
+last_version s = s.start.count + length s.controls
+
+-- The rule set of a configuration version, which is not before the start: the start's, and the first changes since.
+-- Shown by: the_old_board_stays.edit.
+abbrev pub set_of_version : ℕ → State → RuleSet
+set_of_version k s = applied_all (take (k - s.start.count) s.controls) s.start
 
 -- The configuration changes among operations.
 -- Shown by: first-run.
@@ -83,7 +95,7 @@ after_change (Some b) s = after_written b s
 -- The state of a start, before any batch.
 -- Shown by: first-run.
 abbrev pub begun : Tables → State
-begun start = record { tables = start; controls = []; open_claims = [] }
+begun start = record { start = start.set; tables = start; controls = []; open_claims = [] }
 
 -- The open claims of a pass.
 -- Shown by: proofs alone.
@@ -152,13 +164,14 @@ pub record IsAskable (request : Request) : Type 0 where
 -- Shown by: first-run.
 pub record IsAnsweredBy (s : State) (turn : Turn) (request : Request) (reply : Reply) : Type 0 where
   pub askable : IsAskable request
-  pub known : turn.k ≤ length s.controls
-  pub answer : IsAnswer s.tables request turn.k (rule_set_at turn.k s.controls) (record { batch = turn.batch; reply = reply })
+  pub since : s.start.count ≤ turn.k
+  pub known : turn.k ≤ last_version s
+  pub answer : IsAnswer s.tables request turn.k (set_of_version turn.k s) (record { batch = turn.batch; reply = reply })
 
 -- The turn goes by the latest configuration version.
 -- Shown by: the_old_board_stays.edit.
 abbrev pub IsLatest : State → Turn → Type 0
-IsLatest s turn = turn.k ≡ length s.controls
+IsLatest s turn = turn.k ≡ last_version s
 
 -- A pass that has no open claim claims the duty that is due first, below the number limit. Nothing is written.
 -- Shown by: proofs alone.

@@ -1,5 +1,5 @@
 //! Turns of a pass: each takes the book from the hall, makes at most one turn, and gives the book back.
-ghost use Rattle.std.specs.Prelude.{◌≡◌, ◌∷◌, [], IsSome, IfOk, IfErr, IfSome, IfNone, OnErr};
+ghost use Rattle.std.specs.Prelude.{◌≡◌, ◌∷◌, [], IsSome, IfOk, IfErr, IfSome, IfNone, Err};
 ghost use Rattle.json_text.specs.Moment.{IsMoment};
 ghost use Rattle.turn_book.specs.Passes.{IsFree, IsSamePass};
 ghost use Rattle.router_core.specs.View.{request_of};
@@ -15,11 +15,11 @@ ghost use Rattle.router_sessions.specs.Answered.{IsAnswered, IsRenderable, IsCla
 ghost use Rattle.router_sessions.specs.Desk.{turns_seen, number_of, seat_of, SeesMore};
 
 use crate::book::{Book, MadeTurn, Seat, TurnReply};
+use crate::fault::RequestFault;
 use crate::held::Held;
 use crate::history::Why;
 use courier_run::BookFault;
 use delivery_duties::{Fate, Outcome};
-use json_text::NoMemory;
 use router_core::Request;
 use std::alloc::{AllocError, Global};
 use std::sync::Wait;
@@ -73,7 +73,7 @@ impl<Rt: Wait> Desk<'_, Rt> {
         pass: &mut Pass<Book>,
         request: Request,
         close: bool,
-    ) -> Result<TurnReply, NoMemory>
+    ) -> Result<TurnReply, RequestFault>
         requires here { pass.old.seat.table_id ≡ self.hall.now.table.shared.table_id }
         requires free { IsFree pass.old.seat }
         requires book { IsBook (turns_seen pass.old.seat) }
@@ -85,11 +85,11 @@ impl<Rt: Wait> Desk<'_, Rt> {
         ensures answered { IfOk result (λ reply. IsAnswered (seat_of self.entry.connection pass.old.seat)
             (turns_seen pass.old.seat) (turns_seen pass.new.seat) (request_of request) close reply) }
         ensures renderable { IfOk result (λ reply. IsRenderable reply) }
-        ensures unchanged { OnErr result (Makes (seat_of self.entry.connection pass.old.seat) [] (turns_seen pass.old.seat) (turns_seen pass.new.seat)) }
+        ensures unchanged { result ≡ Err RequestFault.NoMemory → Makes (seat_of self.entry.connection pass.old.seat) [] (turns_seen pass.old.seat) (turns_seen pass.new.seat) }
     {
         match self.make_turn(pass, &request, close) {
             Ok(made) => Ok(made.into_reply()),
-            Err(NoMemory) => Err(NoMemory),
+            Err(fault) => Err(fault),
         }
     }
 
@@ -99,7 +99,7 @@ impl<Rt: Wait> Desk<'_, Rt> {
         pass: &mut Pass<Book>,
         request: &Request,
         close: bool,
-    ) -> Result<MadeTurn, NoMemory>
+    ) -> Result<MadeTurn, RequestFault>
         requires here { pass.old.seat.table_id ≡ self.hall.now.table.shared.table_id }
         requires free { IsFree pass.old.seat }
         requires book { IsBook (turns_seen pass.old.seat) }
@@ -111,7 +111,7 @@ impl<Rt: Wait> Desk<'_, Rt> {
         ensures answered { IfOk result (λ made. IsAnswered (seat_of self.entry.connection pass.old.seat)
             (turns_seen pass.old.seat) (turns_seen pass.new.seat) (request_of request.now) close made.reply) }
         ensures renderable { IfOk result (λ made. IsRenderable made.reply) }
-        ensures unchanged { OnErr result (Makes (seat_of self.entry.connection pass.old.seat) [] (turns_seen pass.old.seat) (turns_seen pass.new.seat)) }
+        ensures unchanged { result ≡ Err RequestFault.NoMemory → Makes (seat_of self.entry.connection pass.old.seat) [] (turns_seen pass.old.seat) (turns_seen pass.new.seat) }
     {
         let seat = self.seat(pass);
         let mut book = self.hall.take(self.rt, pass);
@@ -211,7 +211,7 @@ fn match_and_turn(
     seat: Seat,
     request: &Request,
     close: bool,
-) -> Result<MadeTurn, NoMemory>
+) -> Result<MadeTurn, RequestFault>
     requires book { IsKept book.old }
     requires askable { IsAskable (request_of request.now) }
     requires named { IsSome seat.connection }
@@ -219,7 +219,7 @@ fn match_and_turn(
     ensures grows { HasGrown seat book.old book.new }
     ensures answered { IfOk result (λ made. IsAnswered seat (turns_of book.old) (turns_of book.new) (request_of request.now) close made.reply) }
     ensures renderable { IfOk result (λ made. IsRenderable made.reply) }
-    ensures unchanged { OnErr result (turns_of book.new ≡ turns_of book.old) }
+    ensures unchanged { result ≡ Err RequestFault.NoMemory → turns_of book.new ≡ turns_of book.old }
 {
     let seen = book.seen(alloc, request)?;
     book.turn(alloc, seat, request, seen, close)

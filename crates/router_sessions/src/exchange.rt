@@ -10,6 +10,7 @@ ghost use Rattle.router_sessions.specs.Reply.{HasAnswered, HasDelivered};
 use crate::book::Book;
 use crate::delivery::deliver;
 use crate::desk::Desk;
+use crate::fault::RequestFault;
 use crate::text::turn_bytes;
 use api_wire::{Message, Method, no_memory_reply, not_post_head, not_post_reply, read_call};
 use bus_host::Gate;
@@ -70,7 +71,7 @@ pub(crate) fn answer_message<Rt: Wait, K: Sink, L: Link, C: Clock, G: Gate>(
                     gated.at_reply();
                     respond(bytes, close, output)
                 }
-                Err(NoMemory) => {
+                Err(RequestFault::NoMemory) => {
                     gated.at_reply();
                     respond(Err(NoMemory), close, output)
                 }

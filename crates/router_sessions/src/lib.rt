@@ -5,6 +5,7 @@ mod book;
 mod delivery;
 mod desk;
 mod exchange;
+mod fault;
 mod held;
 mod history;
 mod quiet;
@@ -14,6 +15,7 @@ mod turns;
 mod visit;
 
 pub use book::{Book, MadeTurn, Seat, TurnReply};
+pub use fault::RequestFault;
 pub use held::Held;
 pub use message_streams::SessionEnd;
 pub use quiet::{look, serve_quiet};

@@ -1,5 +1,5 @@
 //! The turns of the router's guarded state.
-ghost use Rattle.std.specs.Prelude.{◌≡◌, ◌∷◌, [], ℕ, Bool, Some, None, IsSome, IfOk, IfSome, IfNone, IfErr, OnErr, MatchOption};
+ghost use Rattle.std.specs.Prelude.{◌≡◌, ◌∷◌, [], ℕ, Bool, Some, None, IsSome, IfOk, IfSome, IfNone, IfErr, Err, MatchOption};
 ghost use Rattle.json_text.specs.Moment.{IsMoment};
 ghost use Rattle.turn_book.specs.Rule.{turns_by};
 ghost use Rattle.router_core.specs.View.{action_of, batch_of, request_of};
@@ -16,6 +16,7 @@ ghost use Rattle.router_sessions.specs.Acts.{IsIdle, IsFullAt};
 ghost use Rattle.router_sessions.specs.Answered.{IsDecided, IsAnswered, IsRenderable, IsClaimed, IsRecorded, IsPutBack};
 
 use crate::book::{Book, MadeTurn, Seat, TurnReply};
+use crate::fault::RequestFault;
 use crate::held::Held;
 use crate::history::{Ask, History, Turn, Why, Written};
 use board_publish::Board;
@@ -74,7 +75,7 @@ impl Book {
 
     /// Makes the turn of the request, for which matching found this, and returns its reply with what the turn released. The seat names the
     /// connection by which the request came. If the tables change, the memory of the next board and of the reply's bytes is allocated before,
-    /// so an `Err` changes nothing.
+    /// so `NoMemory` changes nothing.
     pub fn turn(
         &mut self,
         alloc: Global,
@@ -82,7 +83,7 @@ impl Book {
         request: &Request,
         seen: Seen,
         close: bool,
-    ) -> Result<MadeTurn, NoMemory>
+    ) -> Result<MadeTurn, RequestFault>
         requires book { IsKept self.old }
         requires askable { IsAskable (request_of request.now) }
         requires seen { IsSeen self.old.tables.set (request_of request.now) seen }
@@ -91,7 +92,7 @@ impl Book {
         ensures grows { HasGrown seat self.old self.new }
         ensures answered { IfOk result (λ made. IsAnswered seat (turns_of self.old) (turns_of self.new) (request_of request.now) close made.reply) }
         ensures renderable { IfOk result (λ made. IsRenderable made.reply) }
-        ensures unchanged { OnErr result (turns_of self.new ≡ turns_of self.old) }
+        ensures unchanged { result ≡ Err RequestFault.NoMemory → turns_of self.new ≡ turns_of self.old }
     {
         let (ready, reply) = self.decided(alloc, request, seen)?;
         match ready {
@@ -109,7 +110,7 @@ impl Book {
         ready: Ready,
         reply: Reply,
         close: bool,
-    ) -> Result<MadeTurn, NoMemory>
+    ) -> Result<MadeTurn, RequestFault>
         requires book { IsKept self.old }
         requires askable { IsAskable (request_of request.now) }
         requires decided { IsDecided self.old.tables (request_of request.now) (Some ready, reply) }
@@ -118,7 +119,7 @@ impl Book {
         ensures grows { HasGrown seat self.old self.new }
         ensures answered { IfOk result (λ made. IsAnswered seat (turns_of self.old) (turns_of self.new) (request_of request.now) close made.reply) }
         ensures renderable { IfOk result (λ made. IsRenderable made.reply) }
-        ensures unchanged { OnErr result (turns_of self.new ≡ turns_of self.old) }
+        ensures unchanged { result ≡ Err RequestFault.NoMemory → turns_of self.new ≡ turns_of self.old }
     {
         let next = self.next_board(alloc, &ready)?;
         let bytes = reply_bytes(alloc, &reply, close)?;

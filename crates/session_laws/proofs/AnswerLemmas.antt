@@ -1,9 +1,10 @@
 -- What two sessions do for the messages that they answer. Other files cite `OneAnswer`, `Two`, `two_front`, `Together`, `writes_same`, `one_front`,
 -- `Answered`, `both_answer` and `same_serving`.
-use Rattle.std.proofs.Common.{◌≡◌, ℕ, false, List, [], ◌∷◌, ◌++◌, length, sym, refl, ap, ◌∙◌, subst, arith, ◌+◌, Bool, append_assoc, append-nil}
+use Rattle.std.proofs.Common.{◌≡◌, ℕ, false, List, [], ◌∷◌, ◌++◌, ◌-◌, take, length, sym, refl, ap, ◌∙◌, subst, arith, ◌+◌, Bool, append_assoc, append-nil}
 use Rattle.std.proofs.lemmas.List.{append_cancel_left}
 use Rattle.std.proofs.lemmas.List.Elements.{Contains-append_right, Contains-push}
-use Rattle.rule_table.specs.RuleSet.{RuleSet, rule_set_at}
+use Rattle.rule_table.specs.Control.{Control}
+use Rattle.rule_table.specs.RuleSet.{RuleSet, applied_all}
 use Rattle.router_core.specs.Request.{Request, deliver_due, IsOneTurn}
 use Rattle.router_core.specs.Tables.{Tables}
 use Rattle.router_calls.specs.Answer.{Answer, IsAnswer}
@@ -18,7 +19,7 @@ use Rattle.courier_run.specs.Act.{ticks, makes, reads, looks, writes}
 use Rattle.courier_run.specs.Steps.{none, one_more, attempted, idle_at, spent, stopped}
 use Rattle.api_messages.specs.Messages.{HoldsMessage}
 use Rattle.api_messages.proofs.MessageLemmas.{one_message}
-use Rattle.router_sessions.specs.History.{State, Placed, IsAnsweredBy}
+use Rattle.router_sessions.specs.History.{State, Placed, last_version, set_of_version, IsAnsweredBy}
 use Rattle.router_sessions.specs.Acts.{Act, Steps}
 use Rattle.message_streams.specs.Reply.{steps_reply}
 use Rattle.router_sessions.specs.Session.{Answers, unposted, refused, out_of_memory, served, unrendered, stepped, Replies, sent_text, Serving, begun, reads_on, answers}
@@ -34,12 +35,12 @@ ticks_same : (s t : State) (r r2 : ℕ) (xs ys : List Act) → Given s t (ticks 
 ticks_same s t r r2 xs ys g = record { state = g.state; does = record { turns = refl; readings = ap (λ n. n ∷ []) (g.two.readings.0 ∙ sym g.one.readings.0); tries = refl; bytes = refl } }
 
 -- a turn that answers, by the latest configuration version
-answer_from : (s : State) (p : Placed) (r : Request) (reply : Reply) → RunsAct s (makes p) → Replies p r reply → (p.turn.k ≡ length s.controls)
-    × IsAnswer s.tables r (length s.controls) (rule_set_at (length s.controls) s.controls) (record { batch = p.turn.batch; reply = reply })
+answer_from : (s : State) (p : Placed) (r : Request) (reply : Reply) → RunsAct s (makes p) → Replies p r reply → (p.turn.k ≡ last_version s)
+    × IsAnswer s.tables r (last_version s) (set_of_version (last_version s) s) (record { batch = p.turn.batch; reply = reply })
 answer_from s p r reply runs replies =
     let is = subst (λ z. IsAnsweredBy z p.turn r reply) runs.0 replies.1 in
-    let k : p.turn.k ≡ length s.controls = omega (arith, is.known, runs.2) in
-    (k, subst (λ n. IsAnswer s.tables r n (rule_set_at n s.controls) (record { batch = p.turn.batch; reply = reply })) k is.answer)
+    let k : p.turn.k ≡ last_version s = omega (arith, is.known, runs.2) in
+    (k, subst (λ n. IsAnswer s.tables r n (set_of_version n s) (record { batch = p.turn.batch; reply = reply })) k is.answer)
 
 -- two turns that answer the same request
 both_served : OneAnswer → (s t : State) (r r2 : ℕ) (request : Request) (p q : Placed) (a b : Reply) → Replies p request a → Replies q request b
@@ -47,9 +48,12 @@ both_served : OneAnswer → (s t : State) (r r2 : ℕ) (request : Request) (p q 
 both_served law s t r r2 request p q a b one two g =
     let x = answer_from s p request a g.one.runs.1.0 one in
     let z = answer_from t q request b g.two.runs.1.0 two in
-    let y = subst (λ u. IsAnswer u request (length s.controls) (rule_set_at (length s.controls) s.controls) (record { batch = q.turn.batch; reply = b })) g.state.tables
-    (subst (λ u. IsAnswer t.tables request (length u) (rule_set_at (length u) u) (record { batch = q.turn.batch; reply = b })) g.state.controls z.1) in
-    let equal = law s.tables request (length s.controls) (rule_set_at (length s.controls) s.controls) _ _ y x.1 in
+    let here : Answer = record { batch = q.turn.batch; reply = b } in
+    let y = subst (λ u. IsAnswer u request (last_version s) (set_of_version (last_version s) s) here) g.state.tables
+    (subst (λ (u : RuleSet). IsAnswer t.tables request (u.count + length s.controls) (applied_all (take (u.count + length s.controls - u.count) s.controls) u) here) g.state.start
+    (subst (λ (u : List Control). IsAnswer t.tables request (t.start.count + length u) (applied_all (take (t.start.count + length u - t.start.count) u) t.start) here)
+    g.state.controls z.1)) in
+    let equal = law s.tables request (last_version s) (set_of_version (last_version s) s) _ _ y x.1 in
     let turn = turn_same p.turn q.turn s t (two.0 ∙ sym one.0) (ap (λ (u : Answer). u.batch) equal) x.0 z.0 g.state in
     let readings = (ticks_same s t r r2 (makes p ∷ []) (makes q ∷ []) g).does.readings in
     (record { state = turn.0; does = record { turns = ap (λ u. u ∷ []) turn.1; readings = readings; tries = refl; bytes = refl } }, ap (λ (u : Answer). u.reply) equal)

@@ -8,12 +8,13 @@ use Rattle.std.proofs.lemmas.List.Concat.{flat_map-append, concat_is}
 use Rattle.std.proofs.lemmas.List.Elements.{All-head, All-tail, Contains-append_left, Contains-append_right}
 use Rattle.turn_book.specs.Rule.{is_number}
 use Rattle.delivery_duties.specs.declared.outcome.Outcome.{Outcome}
+use Rattle.rule_table.specs.RuleSet.{RuleSet}
 use Rattle.router_core.specs.Batch.{Batch}
 use Rattle.router_core.specs.Tables.{after_batch}
 use Rattle.router_core.specs.Steps.{claiming, putting_back}
 use Rattle.courier_run.specs.Claim.{NeedsSend}
 use Rattle.courier_run.specs.Act.{looks, makes, readings_of, readings_in, tries_of, tries_in, bytes_of, pieces_of, pieces_in}
-use Rattle.router_sessions.specs.History.{State, Turn, Ask, opens, asked, claims, records, puts_back, controls_in, after_change, after_ask, after_turn}
+use Rattle.router_sessions.specs.History.{State, Turn, last_version, Ask, opens, asked, claims, records, puts_back, controls_in, after_change, after_ask, after_turn}
 use Rattle.router_sessions.specs.History.{state_after, turns_by, IsTurnOf, AreTurnsFrom}
 use Rattle.router_sessions.specs.Acts.{Act, Happens}
 use Rattle.session_laws.specs.OneSession.{IsSameState, unnamed, unnamed_of, DoSame, Follows, IsClock, IsLink, IsAmple, read_in}
@@ -32,7 +33,7 @@ after_append [] ys s = refl
 after_append (a ∷ xs) ys s = after_append xs ys (after_act a s)
 
 abbrev pub RunsAct : State → Act → Type 0
-RunsAct s (makes p) = (p.before ≡ s) × IsTurnOf s p.turn × (length s.controls ≤ p.turn.k)
+RunsAct s (makes p) = (p.before ≡ s) × IsTurnOf s p.turn × (last_version s ≤ p.turn.k)
 RunsAct s (looks state) = state ≡ s
 RunsAct s _ = Unit {0}
 
@@ -81,21 +82,24 @@ changed_same b c s t is same = subst (λ z. IsSameState (after_change b s) (afte
   where
     there : (e : Option Batch) → IsSameState (after_change e s) (after_change e t)
     there None = same
-    there (Some e) = record { tables = ap (after_batch e) same.tables; controls = ap (λ z. z ++ controls_in e.entries) same.controls }
+    there (Some e) = record { start = same.start; tables = ap (after_batch e) same.tables; controls = ap (λ z. z ++ controls_in e.entries) same.controls }
 
 asked_same : (p q : Turn) (ask : Ask) (s t : State) → q.batch ≡ p.batch → IsSameState s t → IsSameState (after_ask p ask s) (after_ask q ask t)
-asked_same p q (opens start found) s t batch same = record { tables = refl; controls = refl }
+asked_same p q (opens start found) s t batch same = record { start = refl; tables = refl; controls = refl }
 asked_same p q (asked request) s t batch same = changed_same p.batch q.batch s t batch same
-asked_same p q (claims c) s t batch same = record { tables = ap (claiming c.number) same.tables; controls = same.controls }
+asked_same p q (claims c) s t batch same = record { start = same.start; tables = ap (claiming c.number) same.tables; controls = same.controls }
 asked_same p q (records a) s t batch same =
-    let changed = changed_same p.batch q.batch s t batch same in record { tables = changed.tables; controls = changed.controls }
-asked_same p q (puts_back c why) s t batch same = record { tables = ap (putting_back c.number) same.tables; controls = same.controls }
+    let changed = changed_same p.batch q.batch s t batch same in record { start = changed.start; tables = changed.tables; controls = changed.controls }
+asked_same p q (puts_back c why) s t batch same = record { start = same.start; tables = ap (putting_back c.number) same.tables; controls = same.controls }
+
+pub same_version : (s t : State) → IsSameState s t → last_version t ≡ last_version s
+same_version s t same = ap (λ (set : RuleSet). set.count + length t.controls) same.start ∙ ap (λ cs. s.start.count + length cs) same.controls
 
 -- two turns by the latest version that were made for the same, and wrote the same
-pub turn_same : (p q : Turn) (s t : State) → q.ask ≡ p.ask → q.batch ≡ p.batch → p.k ≡ length s.controls → q.k ≡ length t.controls → IsSameState s t
+pub turn_same : (p q : Turn) (s t : State) → q.ask ≡ p.ask → q.batch ≡ p.batch → p.k ≡ last_version s → q.k ≡ last_version t → IsSameState s t
     → IsSameState (after_turn p s) (after_turn q t) × (unnamed q ≡ unnamed p)
 turn_same p q s t ask batch latest latest2 same =
-    let k : q.k ≡ p.k = latest2 ∙ ap length same.controls ∙ sym latest in (
+    let k : q.k ≡ p.k = latest2 ∙ same_version s t same ∙ sym latest in (
       subst (λ z. IsSameState (after_ask p p.ask s) (after_ask q z t)) (sym ask) (asked_same p q p.ask s t batch same),
       λ i. record { pass = None; connection = None; ask = ask i; k = k i; batch = batch i },
     )
@@ -163,7 +167,7 @@ pub record Given (s t : State) (xs ys : List Act) : Type 0 where
 
 pub given_other : (s t : State) (xs ys : List Act) → Given s t xs ys → Given t s ys xs
 given_other s t xs ys g =
-    let state : IsSameState t s = record { tables = sym g.state.tables; controls = sym g.state.controls } in
+    let state : IsSameState t s = record { start = sym g.state.start; tables = sym g.state.tables; controls = sym g.state.controls } in
     record { state = state; clock = g.clock; link = g.link; one = g.two; two = g.one }
 
 pub given_front : (s t : State) (xs ys vs ws : List Act) → Given s t (xs ++ vs) (ys ++ ws) → Given s t xs ys

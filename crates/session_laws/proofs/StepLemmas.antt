@@ -78,7 +78,7 @@ same_claim : (s t : State) (p q : Placed) (c d : Claim) (r r2 : ℕ) → IsSameS
     → Claims p c (moment_of r) → Claims q d (moment_of r2)
     → (d ≡ c) × IsSameState (after_turn p.turn s) (after_turn q.turn t) × (unnamed q.turn ≡ unnamed p.turn)
 same_claim s t p q c d r r2 same reading runs runs2 one two =
-    let own = claim_there s s p c r r (record { tables = refl; controls = refl }) refl runs one in
+    let own = claim_there s s p c r r (record { start = refl; tables = refl; controls = refl }) refl runs one in
     let is : d ≡ c = one_claim s.tables (moment_of r) c d own (claim_there s t q d r r2 same reading runs2 two) in
     let a = claim_by s p c (moment_of r) runs one in
     let b = claim_by t q d (moment_of r2) runs2 two in

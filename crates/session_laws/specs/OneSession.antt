@@ -18,9 +18,10 @@ use Rattle.router_sessions.specs.Acts.{Act, World}
 use Rattle.message_streams.specs.Farewell.{refusal_reply}
 use Rattle.router_sessions.specs.Session.{sent_text, Serving, IsSession}
 
--- The same tables, and the same changes of the configuration. The open claims may be those of other passes.
+-- The same tables, and the same configuration, at the start and in its changes. The open claims may be those of other passes.
 -- Shown by: law one_session.
 pub record IsSameState (s t : State) : Type 0 where
+  pub start : t.start ≡ s.start
   pub tables : t.tables ≡ s.tables
   pub controls : t.controls ≡ s.controls
 

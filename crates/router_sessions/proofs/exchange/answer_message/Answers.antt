@@ -1,4 +1,4 @@
-use Rattle.std.proofs.Common.{◌≡◌, ℕ, ap, sym, ◌∙◌, subst}
+use Rattle.std.proofs.Common.{◌≡◌, ℕ, Err, refl, ap, sym, ◌∙◌, subst}
 use Rattle.router_core.specs.View.{request_of}
 use Rattle.router_disk.specs.Sink.{AddsBytes}
 use Rattle.api_replies.specs.Reply.{not_post}
@@ -6,12 +6,17 @@ use Rattle.api_messages.specs.declared.method.Method.{Method}
 use Rattle.api_messages.specs.Fields.{is_post}
 use Rattle.api_wire.specs.Call.{IsAsked}
 use Rattle.courier_run.specs.Claim.{moment_of}
+use Rattle.router_sessions.specs.declared.fault.RequestFault.{RequestFault}
+use Rattle.router_sessions.specs.declared.fault.RequestFault.TheVariants as faults
 use Rattle.router_sessions.specs.Desk.{seat_of, turns_seen}
 use Rattle.router_sessions.specs.Session.{sent_text}
 use Rattle.router_sessions.proofs.DoesLemmas.{does_ticked}
 use Rattle.router_sessions.proofs.ReplyLemmas.{unposted_answer, memory_answer, fault_answer, turn_answer, delivery_answer, answered_rests}
 use Rattle.router_sessions.proofs.DeskLemmas.{rests_more}
 use Rattle.router_sessions.proofs.exchange.answer_message.Goals as goal
+
+one_fault : (fault : RequestFault) → fault ≡ faults.NoMemory
+one_fault faults.NoMemory = refl
 
 pub returns-in-Some-clause-answered : goal.returns-in-Some-clause-answered
 returns-in-Some-clause-answered g c = λ gave.
@@ -57,18 +62,18 @@ returns-in-Ok-turn-clause-rests g c =
     answered_rests (seat_of c.args.desk.connection c.args.pass.now.seat) (turns_seen c.args.pass.now.seat) (turns_seen c.turn.new.pass.seat)
     (request_of c.in-Ok.request) c.args.close c.in-Ok-turn.reply c.in-Ok-turn.ensures.answered c.requires.rests
 
-pub returns-in-Err-turn-clause-answered : goal.returns-in-Err-turn-clause-answered
-returns-in-Err-turn-clause-answered g c = λ gave.
+pub returns-in-Err-NoMemory-clause-answered : goal.returns-in-Err-NoMemory-clause-answered
+returns-in-Err-NoMemory-clause-answered g c = λ gave.
     let seat = seat_of c.args.desk.connection c.args.pass.now.seat in
     memory_answer seat c.args.message.now c.args.close _ (turns_seen c.args.pass.now.seat) (turns_seen c.turn.new.pass.seat) gave _ _ _ _ _ c.now-reading.result
-    c.respond-in-Err-turn.result c.in-Post.is c.requires.book c.requires.book c.in-Err-turn.ensures.book
+    c.respond-in-Err-NoMemory.result c.in-Post.is c.requires.book c.requires.book c.in-Err-NoMemory.ensures.book
     (does_ticked seat (turns_seen c.args.pass.now.seat) gave _ _ _ _ _ c.now-reading.result c.now-reading.ensures.gave)
-    c.in-Err-turn.ensures.unchanged c.respond-in-Err-turn.ensures.writes
+    (c.in-Err-NoMemory.ensures.unchanged (ap Err (one_fault c.in-Err-NoMemory.field-0))) c.respond-in-Err-NoMemory.ensures.writes
 
-pub returns-in-Err-turn-clause-rests : goal.returns-in-Err-turn-clause-rests
-returns-in-Err-turn-clause-rests g c =
+pub returns-in-Err-NoMemory-clause-rests : goal.returns-in-Err-NoMemory-clause-rests
+returns-in-Err-NoMemory-clause-rests g c =
     rests_more (seat_of c.args.desk.connection c.args.pass.now.seat) (turns_seen c.args.pass.now.seat) (turns_seen c.turn.new.pass.seat)
-    c.in-Err-turn.ensures.unchanged c.requires.rests
+    (c.in-Err-NoMemory.ensures.unchanged (ap Err (one_fault c.in-Err-NoMemory.field-0))) c.requires.rests
 
 pub returns-in-Err-clause-answered : goal.returns-in-Err-clause-answered
 returns-in-Err-clause-answered g c = λ gave.

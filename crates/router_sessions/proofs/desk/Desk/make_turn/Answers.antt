@@ -4,7 +4,7 @@ use Rattle.router_sessions.specs.declared.book.Seat.{Seat}
 use Rattle.router_sessions.specs.Acts.{Makes}
 use Rattle.router_sessions.specs.Answered.{IsAnswered}
 use Rattle.router_sessions.specs.Desk.{turns_seen}
-use Rattle.router_sessions.proofs.DeskLemmas.{taken, answered_later, learned_alone, extends, own_number, pass_of, map_ok, map_on_err}
+use Rattle.router_sessions.proofs.DeskLemmas.{taken, answered_later, learned_alone, extends, own_number, pass_of, map_ok}
 use Rattle.router_sessions.proofs.desk.Desk.make_turn.Goals as goal
 
 pub give-requires-clause-longer : goal.give-requires-clause-longer
@@ -23,8 +23,8 @@ returns-clause-answered g c = map_ok c.match_and_turn-made.result _ _
     c.match_and_turn-made.ensures.answered
 
 pub returns-clause-unchanged : goal.returns-clause-unchanged
-returns-clause-unchanged g c = map_on_err c.match_and_turn-made.result _ _
-    (λ same. subst (λ (s : Seat). Makes s [] (turns_seen c.args.pass.now.seat) (turns_seen c.give.new.pass.seat)) c.seat-seat.ensures
+returns-clause-unchanged g c = λ is.
+    subst (λ (s : Seat). Makes s [] (turns_seen c.args.pass.now.seat) (turns_seen c.give.new.pass.seat)) c.seat-seat.ensures
     (learned_alone c.seat-seat.result c.args.pass.now.seat c.give.new.pass.seat c.take-book.result c.match_and_turn-made.new.book
-    (own_number c.args.self.connection c.args.pass.now.seat c.seat-seat.result c.seat-seat.ensures) c.take-book.ensures.history c.give.ensures.seen same))
-    c.match_and_turn-made.ensures.unchanged
+    (own_number c.args.self.connection c.args.pass.now.seat c.seat-seat.result c.seat-seat.ensures) c.take-book.ensures.history c.give.ensures.seen
+    (c.match_and_turn-made.ensures.unchanged is))
