@@ -8,6 +8,7 @@ use Rattle.std.proofs.lemmas.List.{append-nil, map-append, length-map, take-map,
 use Rattle.router_disk.specs.declared.disk_call.DiskCall.{DiskCall}
 use Rattle.router_disk.specs.declared.fault.Failed.{Failed}
 use Rattle.router_disk.specs.Faults.{CountsFaults}
+use Rattle.router_disk.specs.Disk.{AreAnswers}
 use Rattle.record_file.specs.declared.record_file.RecordFile.{RecordFile}
 use Rattle.record_file.specs.Records.{length_bytes, laid, IsFileOf, IsText}
 use Rattle.record_file.specs.Kept.{Begins, Between, IsKept}
@@ -111,6 +112,7 @@ pub record IsFileAppended {D : Type 0} (calls : D → List DiskCall) (faults : D
   pub broken : new.broken ≡ is_err result
   pub no_more : old.broken ≡ true → IsErr result × (new ≡ old)
   pub count : old.broken ≡ false → CountsFaults (faults old.disk) (faults new.disk) result
+  pub answers : (first : List ℕ) → AreAnswers first (calls new.disk) → AreAnswers first (calls old.disk)
   pub any_moment : old.broken ≡ false → LeavesBoth (calls old.disk) (calls new.disk) (payloads_of old) ps
   pub kept : old.broken ≡ false → StaysKept (calls old.disk) (calls new.disk) (payloads_of old) ps result
 
@@ -175,6 +177,7 @@ appended calls faults old new ps (Ok done) (sound, held) f start more same r = r
   broken = f.broken;
   no_more = λ whole. ((f.no_more whole).0, same_journal old new (f.no_more whole).1);
   count = λ whole. let c = f.count whole in record { later = c.later; rose = c.rose; same = c.same; spent = c.spent };
+  answers = f.answers;
   any_moment = λ whole from all.
       leaves_up from (calls old.file.disk) (calls new.file.disk) (payloads_of old.file) ps more held same (f.any_moment whole) all;
   kept = λ whole from all.
@@ -186,6 +189,7 @@ appended calls faults old new ps (Err fault) (sound, held) f start more same r =
   broken = f.broken;
   no_more = λ broken. ((f.no_more broken).0, same_journal old new (f.no_more broken).1);
   count = λ whole. let c = f.count whole in record { later = c.later; rose = c.rose; same = c.same; spent = c.spent };
+  answers = f.answers;
   any_moment = λ whole from all.
       leaves_up from (calls old.file.disk) (calls new.file.disk) (payloads_of old.file) ps more held same (f.any_moment whole) all;
   kept = λ whole from all.

@@ -1,7 +1,7 @@
 -- A file has one reading as a journal: `one_list`, `never_both`, `one_place`.
 use Rattle.std.proofs.Common.{◌≡◌, ◌≢◌, ◌⊎◌, ℕ, ◌+◌, List, [], ◌∷◌, ◌++◌, length, get_or, drop, map, refl, sym, ap, subst, inl, inr, ◌∙◌, arith, append_assoc}
 use Rattle.std.specs.List.{AllByRecursion}
-use Rattle.record_file.specs.Records.{length_bytes, records, Fits}
+use Rattle.record_file.specs.Records.{first_gate, length_bytes, records, Fits}
 use Rattle.record_file.proofs.RecordLemmas.{payload_same}
 use Rattle.record_file.proofs.ScanLemmas as scan
 use Rattle.router_core.specs.Batch.{Batch}
@@ -59,7 +59,7 @@ same_batches t (b ∷ bs) (c ∷ cs) g h r q rb rc eb ec fb fc is =
     (ap (λ (d : Batch). d ∷ bs) own.0 ∙ ap (λ (ds : List Batch). c ∷ ds) rest.0, rest.1)
 
 pub never_both : (file : List ℕ) (start : Tables) (bs cs : List Batch) (place byte : ℕ) → IsJournal file start bs →
-    IsDamagedJournal file 8 start cs place byte → ⊥
+    IsDamagedJournal file first_gate start cs place byte → ⊥
 never_both file start bs cs place byte (inl short, all) damage = absurd (omega (arith, short.0, damage.long))
 never_both file start bs cs place byte (inr file_of, all) damage =
     let from = file_of.1 in

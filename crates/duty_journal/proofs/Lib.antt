@@ -11,3 +11,4 @@ pub mod LawLemmas
 pub mod NamedLemmas
 pub mod AdmitLemmas
 pub mod OpeningLemmas
+pub mod CrossingLemmas

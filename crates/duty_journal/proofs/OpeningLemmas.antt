@@ -10,7 +10,7 @@ use Rattle.record_file.specs.declared.kind.FileKind.{FileKind}
 use Rattle.record_file.specs.declared.kind.FileKind.TheVariants as kinds
 use Rattle.record_file.specs.declared.record_file.RecordFile.{RecordFile}
 use Rattle.record_file.specs.FileKind.{IsKind}
-use Rattle.record_file.specs.Records.{IsFileOf}
+use Rattle.record_file.specs.Records.{first_gate, AreFrom, IsFileOf}
 use Rattle.record_file.specs.Kept.{Begins, IsKept, IsOpened, IsSettledSince}
 use Rattle.record_file.specs.State.{IsEmptyFile, IsScan, IsSound, OnlyLooks, payloads_of}
 use Rattle.record_file.specs.Next.{IsClosedScan}
@@ -58,12 +58,12 @@ payloads_so start f s t batches read = read.payloads ∙ ap (map batch_bytes) (s
 
 -- a file that was read up to a closed gate
 pub file_so : (start : Tables) (f : Found) (s : Scan) (t : Tables) (calls : List DiskCall) → batches_found f ≡ batches_in s.found → IsReadTo start s t →
-    IsScan calls s → IsClosedScan calls s → (first file : List ℕ) → AreAnswers first calls → file_of first calls ≡ Some file →
+    IsScan calls s → IsClosedScan calls s → s.first ≡ first_gate → (first file : List ℕ) → AreAnswers first calls → file_of first calls ≡ Some file →
     IsJournal file start (batches_found f)
-file_so start f s t calls batches read scan closed first file answers known =
+file_so start f s t calls batches read scan closed gate first file answers known =
     let of = scan first file answers known in
     let end = closed first file answers known in (
-      subst (IsFileOf file) (payloads_so start f s t batches read) (inr (of.begins, end)),
+      subst (IsFileOf file) (payloads_so start f s t batches read) (inr (of.begins, subst (λ (at : ℕ). AreFrom at file s.found) gate end)),
       subst (AreRecordable start) (sym (batches ∙ same_batches start s t read)) read.recordable,
     )
 

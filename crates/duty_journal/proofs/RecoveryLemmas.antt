@@ -8,7 +8,7 @@ use Rattle.router_disk.specs.Disk.{AreAnswers, file_of}
 use Rattle.record_file.specs.declared.scan.Scan.{Scan}
 use Rattle.record_file.specs.declared.scan.Next.{Next}
 use Rattle.record_file.specs.declared.scan.Next.TheVariants as nexts
-use Rattle.record_file.specs.Records.{length_bytes, records, Fits, HasRecords, HasNoRecord}
+use Rattle.record_file.specs.Records.{first_gate, length_bytes, records, Fits, HasRecords, HasNoRecord}
 use Rattle.record_file.specs.State.{IsScan, IsScanOf, OnlyLooks, payload_of}
 use Rattle.record_file.specs.Next.{IsNext}
 use Rattle.record_file.proofs.RecordLemmas.{HasRecords-last, length-length_bytes, payload_same}
@@ -54,13 +54,14 @@ other_record t rest p more gate short fits is none b other_gate others readable 
     let both = payload_same p (batch_bytes b) (gate ∷ more) (other_gate ∷ others) fits own_fits (sym is ∙ own) in
     none b readable admitted both.0
 
-rest_short : (file : List ℕ) (ps : List (List ℕ)) (gate : ℕ) (rest : List ℕ) → length file < 2 ^ 63 → HasRecords 8 file ps gate rest → length rest < 2 ^ 64
-rest_short file ps gate rest short has =
-    omega (arith, short, ap (λ m. length m) has.is, length-drop 8 file, length-append (records ps) (gate ∷ rest))
+rest_short : (at : ℕ) (file : List ℕ) (ps : List (List ℕ)) (gate : ℕ) (rest : List ℕ) → length file < 2 ^ 63 → HasRecords at file ps gate rest →
+    length rest < 2 ^ 64
+rest_short at file ps gate rest short has =
+    omega (arith, short, ap (λ m. length m) has.is, length-drop at file, length-append (records ps) (gate ∷ rest))
 
 module _ (start : Tables) (file : List ℕ) (s : Scan) (t : Tables) (place byte : ℕ) (read : IsReadTo start s t) (of : IsScanOf file s)
-    (at : (place ≡ length s.found + 1) × (byte ≡ 8 + length (records s.found))) where
-  damaged_so : (rest : List ℕ) → HasRecords 8 file s.found 1 rest → HasNoBatch t rest → (batches : List Batch) × IsDamagedJournal file 8 start batches place byte
+    (at : (place ≡ length s.found + 1) × (byte ≡ s.first + length (records s.found))) where
+  damaged_so : (rest : List ℕ) → HasRecords s.first file s.found 1 rest → HasNoBatch t rest → (batches : List Batch) × IsDamagedJournal file s.first start batches place byte
   damaged_so rest has none = (
     read.batches,
     record {
@@ -68,31 +69,39 @@ module _ (start : Tables) (file : List ℕ) (s : Scan) (t : Tables) (place byte 
       begins = of.begins;
       recordable = read.recordable;
       rest = rest;
-      has = subst (λ ps. HasRecords 8 file ps 1 rest) read.payloads has;
+      has = subst (λ ps. HasRecords s.first file ps 1 rest) read.payloads has;
       none = subst (λ (u : Tables). HasNoBatch u rest) read.tables none;
       is_place = at.0 ∙ ap (λ (ps : List (List ℕ)). length ps + 1) read.payloads ∙ ap (λ n. n + 1) (length-map read.batches batch_bytes);
-      is_byte = at.1 ∙ ap (λ (ps : List (List ℕ)). 8 + length (records ps)) read.payloads;
+      is_byte = at.1 ∙ ap (λ (ps : List (List ℕ)). s.first + length (records ps)) read.payloads;
     },
   )
 
-  no_gate_after : IsNext file s nexts.Damaged → (batches : List Batch) × IsDamagedJournal file 8 start batches place byte
-  no_gate_after next = damaged_so next.0 next.1 (no_record t next.0 (rest_short file s.found 1 next.0 of.short next.1) next.2)
+  no_gate_after : IsNext file s nexts.Damaged → (batches : List Batch) × IsDamagedJournal file s.first start batches place byte
+  no_gate_after next = damaged_so next.0 next.1 (no_record t next.0 (rest_short s.first file s.found 1 next.0 of.short next.1) next.2)
 
   no_batch : IsNext file s nexts.Record → ((b : Batch) → IsReadable b → IsAdmitted t b → payload_of s ≡ batch_bytes b → ⊥) →
-      (batches : List Batch) × IsDamagedJournal file 8 start batches place byte
+      (batches : List Batch) × IsDamagedJournal file s.first start batches place byte
   no_batch next none =
       let p = payload_of s in
-      let last = HasRecords-last 8 file s.found p next.1 next.0 next.2 in
+      let last = HasRecords-last s.first file s.found p next.1 next.0 next.2 in
       let rest = length_bytes (length p) ++ (p ++ (next.0 ∷ next.1)) in
-      damaged_so rest last.0 (other_record t rest p next.1 next.0 (rest_short file s.found 1 rest of.short last.0) last.1 refl none)
+      damaged_so rest last.0 (other_record t rest p next.1 next.0 (rest_short s.first file s.found 1 rest of.short last.0) last.1 refl none)
 
 -- ---- one step
+
+-- the first gate of the scan
+at_first : (start : Tables) (file : List ℕ) (s : Scan) (place byte : ℕ) → s.first ≡ first_gate →
+    (batches : List Batch) × IsDamagedJournal file s.first start batches place byte →
+    (batches : List Batch) × IsDamagedJournal file first_gate start batches place byte
+at_first start file s place byte is damage =
+    subst (λ (at : ℕ). (batches : List Batch) × IsDamagedJournal file at start batches place byte) is damage
 
 -- what `Scan::next` says of the scan after it
 pub record IsLooked (old calls : List DiskCall) (s new : Scan) (next : Next) : Type 0 where
   pub found : new.found ≡ s.found
   pub place : new.place ≡ s.place
   pub size : new.size ≡ s.size
+  pub first : new.first ≡ s.first
   pub ahead : next ≡ nexts.Record → new.place < new.next_place
   pub scan : IsScan old s → IsScan calls new
   pub next_is : IsScan old s → (first file : List ℕ) → AreAnswers first calls → file_of first calls ≡ Some file → IsNext file new next
@@ -109,6 +118,7 @@ gone_on old calls s mid new t after free look done =
       scan = λ scan first file answers known. done.scan file (look.scan scan first file answers known) (look.next_is scan first file answers known);
       ahead = omega (arith, done.place, look.place, look.ahead refl);
       size = done.size ∙ look.size;
+      first = done.first ∙ look.first;
       read = λ start read. record {
         batches = read.batches ++ b ∷ [];
         payloads = done.found ∙ ap (λ (ps : List (List ℕ)). ps ++ payload_of mid ∷ []) (look.found ∙ read.payloads)
@@ -124,20 +134,22 @@ pub ended : (old calls : List DiskCall) (s mid : Scan) (t : Tables) → IsLooked
 ended old calls s mid t look = record {
   scan = look.scan;
   closed = look.next_is;
+  first = look.first;
   read = λ start read. read_same start s mid t look.found read;
 }
 
 pub stopped_here : (old calls : List DiskCall) (s mid : Scan) (t : Tables) (place byte : ℕ) → IsLooked old calls s mid nexts.Damaged →
-    ((file : List ℕ) → IsScanOf file mid → (place ≡ length mid.found + 1) × (byte ≡ 8 + length (records mid.found))) → HasStopped old calls s t place byte
-stopped_here old calls s mid t place byte look at start read scan first file answers known =
+    ((file : List ℕ) → IsScanOf file mid → (place ≡ length mid.found + 1) × (byte ≡ mid.first + length (records mid.found))) → HasStopped old calls s t place byte
+stopped_here old calls s mid t place byte look at start gate read scan first file answers known =
     let of = look.scan scan first file answers known in
-    no_gate_after start file mid t place byte (read_same start s mid t look.found read) of (at file of) (look.next_is scan first file answers known)
+    at_first start file mid place byte (look.first ∙ gate) (no_gate_after start file mid t place byte (read_same start s mid t look.found read) of (at file of) (look.next_is scan first file answers known))
 
 pub stopped_by : (old calls : List DiskCall) (s mid : Scan) (t : Tables) (place byte : ℕ) → IsLooked old calls s mid nexts.Record →
     HasNotRedone mid t place byte → HasStopped old calls s t place byte
-stopped_by old calls s mid t place byte look not start read scan first file answers known =
+stopped_by old calls s mid t place byte look not start gate read scan first file answers known =
     let of = look.scan scan first file answers known in
-    no_batch start file mid t place byte (read_same start s mid t look.found read) of (not.at file of) (look.next_is scan first file answers known) not.none
+    at_first start file mid place byte (look.first ∙ gate)
+    (no_batch start file mid t place byte (read_same start s mid t look.found read) of (not.at file of) (look.next_is scan first file answers known) not.none)
 
 -- a record that is not replayed, by what is said of its place
 pub not_redone : (s new : Scan) (t after : Tables) (step : Step) → IsPlaced s step →
@@ -174,6 +186,7 @@ reads_on old mid calls before between now s here new t u after r looks same gone
   looks = OnlyLooks-then old mid calls r.looks looks;
   same = same ∙ r.same;
   scan = λ scan. gone.scan (r.scan scan);
+  first = gone.first ∙ r.first;
   read = λ start read. gone.read start (r.read start read);
   unclaimed = gone.unclaimed;
 }
@@ -183,17 +196,19 @@ pub all_read : (old mid calls : List DiskCall) (before between : ℕ) (s here ne
 all_read old mid calls before between s here new t u after r end = record {
   scan = λ scan. end.scan (r.scan scan);
   closed = λ scan. end.closed (r.scan scan);
+  first = end.first ∙ r.first;
   read = λ start read. end.read start (r.read start read);
 }
 
 pub all_stopped : (old mid calls : List DiskCall) (before between : ℕ) (s here : Scan) (t u : Tables) (place byte : ℕ) →
     IsReading old mid before between s here t u → HasStopped mid calls here u place byte → HasStopped old calls s t place byte
-all_stopped old mid calls before between s here t u place byte r stop start read scan = stop start (r.read start read) (r.scan scan)
+all_stopped old mid calls before between s here t u place byte r stop start gate read scan =
+    stop start (r.first ∙ gate) (r.read start read) (r.scan scan)
 
 -- the fault of records that were read from the first one on
-pub fault_of_read : (start : Tables) (old calls : List DiskCall) (s new : Scan) (t after : Tables) (fault : JournalFault) → IsReadTo start s t → IsScan old s →
-    IsRead old calls s t new after (Err fault) → HasFault start calls fault
-fault_of_read start old calls s new t after NotOurs read scan done = absurd done
-fault_of_read start old calls s new t after (Damaged place byte) read scan done = done start read scan
-fault_of_read start old calls s new t after Failed read scan done = tt
-fault_of_read start old calls s new t after NoMemory read scan done = tt
+pub fault_of_read : (start : Tables) (old calls : List DiskCall) (s new : Scan) (t after : Tables) (fault : JournalFault) → s.first ≡ first_gate →
+    IsReadTo start s t → IsScan old s → IsRead old calls s t new after (Err fault) → HasFault start calls fault
+fault_of_read start old calls s new t after NotOurs gate read scan done = absurd done
+fault_of_read start old calls s new t after (Damaged place byte) gate read scan done = done start gate read scan
+fault_of_read start old calls s new t after Failed gate read scan done = tt
+fault_of_read start old calls s new t after NoMemory gate read scan done = tt

@@ -36,7 +36,7 @@ HasNoBatch t rest = (b : Batch) (gate : ℕ) (more : List ℕ) → IsReadable b 
 -- batch with a gate after it. The record's place counts from 1, the byte is that of its gate.
 -- Shown by: table_tests test_journal.rt: each_file_is_a_journal_or_refused; damage_ends_the_list.edit.
 pub record IsDamagedJournal (file : List ℕ) (at : ℕ) (start : Tables) (batches : List Batch) (place byte : ℕ) : Type 0 where
-  pub long : 9 < length file
+  pub long : at + 1 < length file
   pub begins : take 8 file ≡ header
   pub recordable : AreRecordable start batches
   pub rest : List ℕ
@@ -121,6 +121,8 @@ pub record IsAppended {D : Type 0} (calls : D → List DiskCall) (faults : D →
   pub no_more : old.file.broken ≡ true → IsErr result × (new ≡ old)
   -- each failure is the disk's
   pub count : old.file.broken ≡ false → CountsFaults (faults old.file.disk) (faults new.file.disk) result
+  -- what is known of the answers after it is known of those before
+  pub answers : (first : List ℕ) → AreAnswers first (calls new.file.disk) → AreAnswers first (calls old.file.disk)
   pub any_moment : old.file.broken ≡ false → (start : Tables) → AreRecordable start (batches_of old ++ more) →
       LeavesBothJournals (calls old.file.disk) (calls new.file.disk) start (batches_of old) more
   pub kept : old.file.broken ≡ false → (start : Tables) → AreRecordable start (batches_of old ++ more) →

@@ -5,7 +5,7 @@ use Rattle.router_disk.specs.declared.disk_call.DiskCall.{DiskCall}
 use Rattle.router_disk.specs.declared.disk_call.DiskCall.TheVariants.{Sync}
 use Rattle.router_disk.specs.declared.fault.Failed.{Failed as DiskFailed}
 use Rattle.router_disk.specs.Disk.{AreAnswers, IsImageSince, file_of}
-use Rattle.record_file.specs.Records.{header, records}
+use Rattle.record_file.specs.Records.{first_gate, header, records}
 use Rattle.record_file.specs.declared.scan.Scan.{Scan}
 use Rattle.record_file.specs.declared.scan.Next.TheVariants as nexts
 use Rattle.record_file.specs.State.{IsScan, IsScanOf, OnlyLooks, payload_of}
@@ -38,7 +38,7 @@ pub record IsFound (start : Tables) (f : Found) : Type 0 where
 -- Shown by: table_tests test_journal.rt: each_file_is_a_journal_or_refused.
 abbrev pub IsDamagedIn : Tables → List DiskCall → ℕ → ℕ → Type 0
 IsDamagedIn start calls place byte = (first file : List ℕ) → AreAnswers first calls → file_of first calls ≡ Some file →
-    (batches : List Batch) × IsDamagedJournal file 8 start batches place byte
+    (batches : List Batch) × IsDamagedJournal file first_gate start batches place byte
 
 -- What a read gives has more than nine bytes, and another header.
 -- Shown by: table_tests test_journal.rt: each_file_is_a_journal_or_refused.
@@ -107,7 +107,7 @@ IsOfSize size calls = (first file : List ℕ) → AreAnswers first calls → fil
 abbrev pub IsPlaced : Scan → Step → Type 0
 IsPlaced s steps.Went = ⊥
 IsPlaced s steps.Closed = ⊥
-IsPlaced s (steps.Damaged place byte) = (file : List ℕ) → IsScanOf file s → (place ≡ length s.found + 1) × (byte ≡ 8 + length (records s.found))
+IsPlaced s (steps.Damaged place byte) = (file : List ℕ) → IsScanOf file s → (place ≡ length s.found + 1) × (byte ≡ s.first + length (records s.found))
 IsPlaced s steps.Failed = ⊥
 IsPlaced s steps.NoMemory = ⊥
 
@@ -128,12 +128,13 @@ pub record HasRedone (s new : Scan) (t after : Tables) : Type 0 where
   pub found : new.found ≡ s.found ++ payload_of s ∷ []
   pub place : new.place ≡ s.next_place
   pub size : new.size ≡ s.size
+  pub first : new.first ≡ s.first
   pub scan : (file : List ℕ) → IsScanOf file s → IsNext file s nexts.Record → IsScanOf file new
 
 -- the payload is that of no batch that the tables admit; the record's place and byte
 pub record HasNotRedone (s : Scan) (t : Tables) (place byte : ℕ) : Type 0 where
   pub none : (b : Batch) → IsReadable b → IsAdmitted t b → payload_of s ≡ batch_bytes b → ⊥
-  pub at : (file : List ℕ) → IsScanOf file s → (place ≡ length s.found + 1) × (byte ≡ 8 + length (records s.found))
+  pub at : (file : List ℕ) → IsScanOf file s → (place ≡ length s.found + 1) × (byte ≡ s.first + length (records s.found))
 
 abbrev pub IsRedone : Scan → Tables → Scan → Tables → Step → Type 0
 IsRedone s t new after steps.Went = HasRedone s new t after
@@ -147,6 +148,7 @@ pub record HasGone (old calls : List DiskCall) (s new : Scan) (t after : Tables)
   pub scan : IsScan old s → IsScan calls new
   pub ahead : s.place < new.place
   pub size : new.size ≡ s.size
+  pub first : new.first ≡ s.first
   pub read : (start : Tables) → IsReadTo start s t → IsReadTo start new after
   pub unclaimed : HasNoClaim after
 
@@ -154,11 +156,12 @@ pub record HasGone (old calls : List DiskCall) (s new : Scan) (t after : Tables)
 pub record HasEnded (old calls : List DiskCall) (s new : Scan) (t after : Tables) : Type 0 where
   pub scan : IsScan old s → IsScan calls new
   pub closed : IsScan old s → IsClosedScan calls new
+  pub first : new.first ≡ s.first
   pub read : (start : Tables) → IsReadTo start s t → IsReadTo start new after
 
 -- the next record is damaged
 abbrev pub HasStopped : List DiskCall → List DiskCall → Scan → Tables → ℕ → ℕ → Type 0
-HasStopped old calls s t place byte = (start : Tables) → IsReadTo start s t → IsScan old s → IsDamagedIn start calls place byte
+HasStopped old calls s t place byte = (start : Tables) → s.first ≡ first_gate → IsReadTo start s t → IsScan old s → IsDamagedIn start calls place byte
 
 abbrev pub IsStep : List DiskCall → List DiskCall → Scan → Tables → Scan → Tables → Step → Type 0
 IsStep old calls s t new after steps.Went = HasGone old calls s new t after
@@ -186,5 +189,6 @@ pub record IsReading (old calls : List DiskCall) (before now : ℕ) (s here : Sc
   pub looks : OnlyLooks old calls
   pub same : now ≡ before
   pub scan : IsScan old s → IsScan calls here
+  pub first : here.first ≡ s.first
   pub read : (start : Tables) → IsReadTo start s t → IsReadTo start here after
   pub unclaimed : HasNoClaim after

@@ -12,6 +12,7 @@ ghost use Rattle.router_core.specs.Batch.{Batch};
 ghost use Rattle.duty_journal.specs.Batch.{batch_bytes, FitsBytes, IsReadable, NamesRules};
 ghost use Rattle.duty_journal.specs.Journal.{AreKept, IsDamagedJournal, IsJournal};
 ghost use Rattle.duty_journal.specs.Redo.{HasNoClaim};
+ghost use Rattle.record_file.specs.Records.{first_gate};
 ghost use Rattle.router_disk.specs.declared.disk_call.DiskCall.{DiskCall};
 ghost use Rattle.duty_journal.specs.Named.{AreNamedByArns, IsNamedByArn};
 
@@ -24,7 +25,7 @@ pub fn a_batch_has_its_own_bytes()
 pub fn a_file_is_one_journal()
     ensures one_list { (file : List ℕ) (start : Tables) (bs cs : List Batch) → IsJournal file start bs → IsJournal file start cs → bs ≡ cs }
     ensures never_both { (file : List ℕ) (start : Tables) (bs cs : List Batch) (place byte : ℕ) → IsJournal file start bs →
-        IsDamagedJournal file 8 start cs place byte → ⊥ }
+        IsDamagedJournal file first_gate start cs place byte → ⊥ }
     ensures one_place { (file : List ℕ) (at : ℕ) (start : Tables) (bs cs : List Batch) (place byte other_place other_byte : ℕ) →
         IsDamagedJournal file at start bs place byte → IsDamagedJournal file at start cs other_place other_byte →
         (bs ≡ cs) × (place ≡ other_place) × (byte ≡ other_byte) }

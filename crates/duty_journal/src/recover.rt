@@ -4,6 +4,7 @@ ghost use Rattle.router_disk.specs.Disk.{AreAnswers, file_of};
 ghost use Rattle.record_file.specs.State.{Counts, IsScan, OnlyLooks};
 ghost use Rattle.record_file.specs.Kept.{IsOpened};
 ghost use Rattle.record_file.specs.Next.{IsClosedScan};
+ghost use Rattle.record_file.specs.Records.{first_gate};
 ghost use Rattle.router_core.specs.Tables.{first_tables};
 ghost use Rattle.duty_journal.specs.Journal.{IsJournal, IsSoundJournal, batches_in, batches_of};
 ghost use Rattle.duty_journal.specs.Redo.{HasNoClaim};
@@ -15,7 +16,7 @@ use crate::redo::replay_batch;
 use crate::take::take_batch;
 use http_server::Log;
 use json_text::NoMemory;
-use record_file::{FileKind, Next, RecordFile, Scan, file_kind, settle};
+use record_file::{FIRST_GATE, FileKind, Next, RecordFile, Scan, file_kind, settle};
 use router_core::Tables;
 use router_disk::{Disk, Failed, Pieces};
 use std::alloc::Global;
@@ -136,14 +137,14 @@ fn read_records<D: Disk>(
     requires records { IsOfSize size (D.calls disk.old) }
     ensures looks { OnlyLooks (D.calls disk.old) (D.calls disk.new) }
     ensures count { Counts (D.faults disk.old) (D.faults disk.new) (outcome_of result) }
-    ensures ok { IfOk result (λ r. IsScan (D.calls disk.new) r.0 × IsClosedScan (D.calls disk.new) r.0 × IsReadTo first_tables r.0 r.1) }
+    ensures ok { IfOk result (λ r. IsScan (D.calls disk.new) r.0 × IsClosedScan (D.calls disk.new) r.0 × IsReadTo first_tables r.0 r.1 × (r.0.first ≡ first_gate)) }
     ensures fault { IfErr result (λ fault. HasFault first_tables (D.calls disk.new) fault) }
 {
     let mut tables = match Tables::first(alloc) {
         Ok(tables) => tables,
         Err(NoMemory) => return Err(JournalFault::NoMemory),
     };
-    let mut scan = Scan::new(alloc, size);
+    let mut scan = Scan::new(alloc, size, FIRST_GATE);
     match redo_all(alloc, disk, &mut scan, &mut tables) {
         Ok(()) => Ok((scan, tables)),
         Err(fault) => Err(fault),

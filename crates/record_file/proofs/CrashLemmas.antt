@@ -7,13 +7,13 @@ use Rattle.std.specs.List.{AllByRecursion}
 use Rattle.router_disk.specs.declared.disk_call.DiskCall.{DiskCall}
 use Rattle.router_disk.specs.declared.fault.Failed.{Failed}
 use Rattle.router_disk.specs.Disk.{overwritten, AreAnswers, Torn, IsImageSince}
-use Rattle.router_disk.proofs.DiskLemmas.{IsImageSince-now}
-use Rattle.record_file.specs.Records.{header, records, Fits, HasRecords, IsFileOf, IsText}
+use Rattle.router_disk.proofs.DiskLemmas.{IsImageSince-now, overwritten_within}
+use Rattle.record_file.specs.Records.{records, Fits, HasRecords, IsHeaded, IsText}
 use Rattle.record_file.specs.Kept.{IsSettled}
 use Rattle.record_file.specs.State.{IsAtRest}
 use Rattle.record_file.specs.Append.{IsWritten, AreAppended, last}
-use Rattle.record_file.proofs.RecordLemmas.{length-header, whole, whole_is, whole_begins, whole_has, whole_file, fit-append, joined, length-laid, records-append}
-use Rattle.record_file.proofs.MomentLemmas.{overwritten_within, leaves, settles, write_fits, written_front}
+use Rattle.record_file.proofs.RecordLemmas.{IsFront, front_is, past_front, whole, whole_is, whole_begins, whole_has, whole_file, fit-append, joined, length-laid, records-append}
+use Rattle.record_file.proofs.MomentLemmas.{leaves, settles, write_fits, written_front}
 
 -- a file as its front, one byte and the rest
 module _ (front : List ℕ) (place : ℕ) (size : length front ≡ place) where
@@ -64,89 +64,96 @@ module _ (front : List ℕ) (place : ℕ) (size : length front ≡ place) where
       ∙ ap (λ m. front ++ (1 ∷ m)) (after g t)
 
 -- the front of a file of records, up to the gate
-abbrev front_of : List (List ℕ) → List ℕ
-front_of ps = header ++ records ps
+abbrev front_of : List ℕ → List (List ℕ) → List ℕ
+front_of front ps = front ++ records ps
 
-whole_front : (ps : List (List ℕ)) (gate : ℕ) (rest : List ℕ) → whole ps gate rest ≡ front_of ps ++ (gate ∷ rest)
-whole_front ps gate rest = sym (append_assoc header (records ps) (gate ∷ rest))
+whole_front : (front : List ℕ) (ps : List (List ℕ)) (gate : ℕ) (rest : List ℕ) → whole front ps gate rest ≡ front_of front ps ++ (gate ∷ rest)
+whole_front front ps gate rest = sym (append_assoc front (records ps) (gate ∷ rest))
 
-length-front : (ps : List (List ℕ)) → length (front_of ps) ≡ 8 + length (records ps)
-length-front ps = omega (arith, length-append header (records ps), length-header)
+-- A file of the payloads before, or of these and more, whose first gate is at this place.
+abbrev pub Either : ℕ → List (List ℕ) → List (List ℕ) → List ℕ → Type 0
+Either at before more image = IsHeaded at image before ⊎ IsHeaded at image (before ++ more)
 
--- A file of the payloads before, or of these and more.
-abbrev pub Either : List (List ℕ) → List (List ℕ) → List ℕ → Type 0
-Either before more image = IsFileOf image before ⊎ IsFileOf image (before ++ more)
+module _ (at : ℕ) (first : List ℕ) (old : List DiskCall) (before more : List (List ℕ)) (place : ℕ) (text : List ℕ) (rests : IsAtRest at first old before place)
+    (said : IsText more text) where
+  -- what is before the first gate
+  abbrev front : List ℕ
+  front = take at rests.file
 
-module _ (first : List ℕ) (old : List DiskCall) (before more : List (List ℕ)) (place : ℕ) (text : List ℕ) (rests : IsAtRest first old before place) (said : IsText more text) where
-  size : length (front_of before) ≡ place
-  size = length-front before ∙ sym rests.gate_place
+  is_front : IsFront at front
+  is_front = front_is at rests.file (past_front at rests.file before rests.gate rests.rest rests.has) rests.after rests.begins
+
+  size : length (front_of front before) ≡ place
+  size = omega (arith, length-append front (records before), is_front.size, rests.gate_place)
 
   fit : AllByRecursion Fits before
   fit = rests.has.fit
 
-  file_is : rests.file ≡ front_of before ++ (rests.gate ∷ rests.rest)
-  file_is = whole_is rests.file before rests.gate rests.rest rests.begins rests.has ∙ whole_front before rests.gate rests.rest
+  file_is : rests.file ≡ front_of front before ++ (rests.gate ∷ rests.rest)
+  file_is = whole_is at rests.file before rests.gate rests.rest rests.has ∙ whole_front front before rests.gate rests.rest
 
   within : place + 1 ≤ length rests.file
-  within = omega (arith, ap (λ m. length m) file_is, long (front_of before) place size rests.gate rests.rest)
+  within = omega (arith, ap (λ m. length m) file_is, long (front_of front before) place size rests.gate rests.rest)
 
   place_is : min (place + 1) last ≡ place + 1
   place_is = omega (arith, rests.low)
 
   -- what is left after the text that is laid
   abbrev tail : List ℕ
-  tail = drop (place + 1 + length text) (front_of before ++ (rests.gate ∷ rests.rest))
+  tail = drop (place + 1 + length text) (front_of front before ++ (rests.gate ∷ rests.rest))
 
   abbrev laid_file : List ℕ
   laid_file = overwritten rests.file (place + 1) text
 
-  laid_is : laid_file ≡ front_of before ++ (rests.gate ∷ (text ++ tail))
-  laid_is = ap (λ f. overwritten f (place + 1) text) file_is ∙ lay_done (front_of before) place size rests.gate rests.rest text
+  laid_is : laid_file ≡ front_of front before ++ (rests.gate ∷ (text ++ tail))
+  laid_is = ap (λ f. overwritten f (place + 1) text) file_is ∙ lay_done (front_of front before) place size rests.gate rests.rest text
 
-  closed_file : (image t : List ℕ) (gate : ℕ) → gate ≢ 1 → image ≡ front_of before ++ (gate ∷ t) → IsFileOf image before
-  closed_file image t gate closed is = whole_file image before gate t fit closed (is ∙ sym (whole_front before gate t))
+  closed_file : (image t : List ℕ) (gate : ℕ) → gate ≢ 1 → image ≡ front_of front before ++ (gate ∷ t) → IsHeaded at image before
+  closed_file image t gate closed is = whole_file at front is_front image before gate t fit closed (is ∙ sym (whole_front front before gate t))
 
   -- while the text is laid the gate is closed
-  lay_leaves : (image : List ℕ) → Torn (place + 1) (length text) rests.file image → IsFileOf image before
+  lay_leaves : (image : List ℕ) → Torn (place + 1) (length text) rests.file image → IsHeaded at image before
   lay_leaves image torn =
-      let parts = lay_torn (front_of before) place size rests.gate rests.rest (length text) image (subst (λ f. Torn (place + 1) (length text) f image) file_is torn) in
+      let parts = lay_torn (front_of front before) place size rests.gate rests.rest (length text) image (subst (λ f. Torn (place + 1) (length text) f image) file_is torn) in
       closed_file image parts.0 rests.gate rests.closed parts.1
 
   -- the file with an open gate has all that was laid
-  open_is : (image : List ℕ) → image ≡ front_of before ++ (1 ∷ (text ++ tail)) → image ≡ whole (before ++ more) 0 tail
+  open_is : (image : List ℕ) → image ≡ front_of front before ++ (1 ∷ (text ++ tail)) → image ≡ whole front (before ++ more) 0 tail
   open_is image is =
-      is ∙ sym (whole_front before 1 (text ++ tail)) ∙ ap (λ m. whole before 1 (m ++ tail)) said.is ∙ joined before more tail said.some
+      is ∙ sym (whole_front front before 1 (text ++ tail)) ∙ ap (λ m. whole front before 1 (m ++ tail)) said.is ∙ joined front before more tail said.some
 
-  open_file : (image : List ℕ) → image ≡ front_of before ++ (1 ∷ (text ++ tail)) → IsFileOf image (before ++ more)
+  open_file : (image : List ℕ) → image ≡ front_of front before ++ (1 ∷ (text ++ tail)) → IsHeaded at image (before ++ more)
   open_file image is =
-      whole_file image (before ++ more) 0 tail (fit-append before more fit said.fit) (λ no. absurd (omega (arith, no))) (open_is image is)
+      whole_file at front is_front image (before ++ more) 0 tail (fit-append before more fit said.fit) (λ no. absurd (omega (arith, no))) (open_is image is)
 
-  open_leaves : (image : List ℕ) → Torn place 1 laid_file image → Either before more image
+  open_leaves : (image : List ℕ) → Torn place 1 laid_file image → Either at before more image
   open_leaves image torn =
-      let byte = open_torn (front_of before) place size rests.gate (text ++ tail) image (subst (λ f. Torn place 1 f image) laid_is torn) in
+      let byte = open_torn (front_of front before) place size rests.gate (text ++ tail) image (subst (λ f. Torn place 1 f image) laid_is torn) in
       elim (cases_eq byte.0 1) [
-        | inl one ↦ inr (open_file image (byte.1 ∙ ap (λ m. front_of before ++ (m ∷ (text ++ tail))) one))
+        | inl one ↦ inr (open_file image (byte.1 ∙ ap (λ m. front_of front before ++ (m ∷ (text ++ tail))) one))
         | inr closed ↦ inl (closed_file image (text ++ tail) byte.0 closed byte.1)
       ]
 
   open_rests : (new : List DiskCall) → IsSettled first new (overwritten laid_file place (1 ∷ [])) → place + length text < 2 ^ 63 →
-      IsAtRest first new (before ++ more) (place + length text)
+      IsAtRest at first new (before ++ more) (place + length text)
   open_rests new settled low =
-      let is = ap (λ f. overwritten f place (1 ∷ [])) laid_is ∙ open_done (front_of before) place size rests.gate (text ++ tail) in
+      let is = ap (λ f. overwritten f place (1 ∷ [])) laid_is ∙ open_done (front_of front before) place size rests.gate (text ++ tail) in
       let all = open_is _ is in
       record {
         file = overwritten laid_file place (1 ∷ []);
         settled = settled;
-        begins = ap (λ f. take 8 f) all ∙ whole_begins (before ++ more) 0 tail;
+        begins = ap (λ f. take 8 f) all ∙ whole_begins at front is_front (before ++ more) 0 tail;
+        after = rests.after;
         gate = 0;
         rest = tail;
-        has = subst (λ f. HasRecords 8 f (before ++ more) 0 tail) (sym all) (whole_has (before ++ more) 0 tail (fit-append before more fit said.fit));
+        has = subst (λ f. HasRecords at f (before ++ more) 0 tail) (sym all)
+            (whole_has at front is_front (before ++ more) 0 tail (fit-append before more fit said.fit));
         closed = λ no. absurd (omega (arith, no));
         gate_place = place_grows;
         low = low;
       }
     where
-      place_grows : place + length text ≡ 8 + length (records (before ++ more))
+      place_grows : place + length text ≡ at + length (records (before ++ more))
       place_grows =
           omega (
             arith,
@@ -164,31 +171,31 @@ module _ (first : List ℕ) (old : List DiskCall) (before more : List (List ℕ)
   laid_settled mid is = settles first old rests.file rests.settled (place + 1) text within mid (laid_written mid is)
 
   gate_within : place ≤ length laid_file
-  gate_within = omega (arith, ap (λ m. length m) laid_is, long (front_of before) place size rests.gate (text ++ tail))
+  gate_within = omega (arith, ap (λ m. length m) laid_is, long (front_of front before) place size rests.gate (text ++ tail))
 
   lay_since : (result : Result (Unit {0}) Failed) (mid : List DiskCall) → IsWritten old (min (place + 1) last) text result mid → (since : ℕ) (image : List ℕ) →
-      IsImageSince first mid since image → IsImageSince first old since image ⊎ Either before more image
+      IsImageSince first mid since image → IsImageSince first old since image ⊎ Either at before more image
   lay_since result mid is since image left =
-      leaves first old rests.file rests.settled (place + 1) text within (Either before more) (λ c torn. inl (lay_leaves c torn)) result mid
+      leaves first old rests.file rests.settled (place + 1) text within (Either at before more) (λ c torn. inl (lay_leaves c torn)) result mid
       (subst (λ (n : ℕ). IsWritten old n text result mid) place_is is) since image left
 
   open_since : (result : Result (Unit {0}) Failed) (mid new : List DiskCall) → IsWritten old (min (place + 1) last) text (Ok tt) mid →
       IsWritten mid place (1 ∷ []) result new → (since : ℕ) (image : List ℕ) → IsImageSince first new since image →
-      IsImageSince first old since image ⊎ Either before more image
+      IsImageSince first old since image ⊎ Either at before more image
   open_since result mid new is opens since image left =
       ⊎_elim (λ earlier. lay_since (Ok tt) mid is since image earlier) (λ now. inr now)
-      (leaves first mid laid_file (laid_settled mid is) place (1 ∷ []) gate_within (Either before more) open_leaves result new opens since image left)
+      (leaves first mid laid_file (laid_settled mid is) place (1 ∷ []) gate_within (Either at before more) open_leaves result new opens since image left)
 
   -- A crash since any moment might have left what it might have left before the append, or a file of the payloads before, or of all.
   pub append_leaves : (result : Result (Unit {0}) Failed) (new : List DiskCall) → AreAppended old place text result new → (since : ℕ) (image : List ℕ) →
-      IsImageSince first new since image → IsImageSince first old since image ⊎ Either before more image
+      IsImageSince first new since image → IsImageSince first old since image ⊎ Either at before more image
   append_leaves (Ok done) new calls since image left = open_since (Ok tt) calls.0 new calls.1 calls.2 since image left
   append_leaves (Err fault) new (inl is) since image left = lay_since (Err fault) new is since image left
   append_leaves (Err fault) new (inr calls) since image left = open_since (Err fault) calls.0 new calls.1 calls.2 since image left
 
   -- After an `Ok` the file is at rest again, with all payloads.
   pub append_rests : (new : List DiskCall) → AreAppended old place text (Ok tt) new → AreAnswers first new →
-      IsAtRest first new (before ++ more) (place + length text)
+      IsAtRest at first new (before ++ more) (place + length text)
   append_rests new calls answers =
       open_rests new (settles first calls.0 laid_file (laid_settled calls.0 calls.1) place (1 ∷ []) gate_within new calls.2)
       (grows (write_fits first old rests.file rests.settled (place + 1) text within calls.0 (laid_written calls.0 calls.1)
@@ -198,7 +205,7 @@ module _ (first : List ℕ) (old : List DiskCall) (before more : List (List ℕ)
       grows low = omega (arith, low)
 
   -- before the first call a crash leaves the file at rest
-  pub rests_before : (image : List ℕ) → IsImageSince first old (length old) image → IsFileOf image before
+  pub rests_before : (image : List ℕ) → IsImageSince first old (length old) image → IsHeaded at image before
   rests_before image left =
       let is = rests.settled.durable image (IsImageSince-now first old image left) in
       closed_file image rests.rest rests.gate rests.closed (is ∙ file_is)

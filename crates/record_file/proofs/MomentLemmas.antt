@@ -1,12 +1,11 @@
 -- What a write and the sync after it do to what a crash may leave. Callers cite `leaves`, `settles` and `write_fits`.
-use Rattle.std.proofs.Common.{◌≡◌, ◌⊎◌, ℕ, ◌+◌, ◌-◌, ◌^◌, ◌<◌, ◌≤◌, List, [], ◌∷◌, ◌++◌, length, take, drop, replicate, Option, Some, Result, Ok, Err}
-use Rattle.std.proofs.Common.{sym, ap, subst, inl, inr, ⊎_elim, ◌∙◌, arith, append_assoc, length-append, length-drop}
-use Rattle.std.proofs.lemmas.List.{take-append-drop, length-take}
+use Rattle.std.proofs.Common.{◌≡◌, ◌⊎◌, ℕ, ◌+◌, ◌^◌, ◌<◌, ◌≤◌, List, [], ◌∷◌, ◌++◌, length, Option, Some, Result, Ok, Err}
+use Rattle.std.proofs.Common.{sym, ap, subst, inl, inr, ⊎_elim, ◌∙◌, arith, append_assoc, length-append}
 use Rattle.router_disk.specs.declared.disk_call.DiskCall.{DiskCall}
 use Rattle.router_disk.specs.declared.disk_call.DiskCall.TheVariants.{Write, Sync}
 use Rattle.router_disk.specs.declared.fault.Failed.{Failed}
 use Rattle.router_disk.specs.Disk.{overwritten, file_after, file_of, IsAnswer, AreAnswers, Torn, images_after, IsImage, IsImageSince}
-use Rattle.router_disk.proofs.DiskLemmas.{file_from-append, AreAnswersFrom-front, AreAnswersFrom-rest, IsImage-push, IsImageSince-push}
+use Rattle.router_disk.proofs.DiskLemmas.{file_from-append, AreAnswersFrom-front, AreAnswersFrom-rest, IsImage-push, IsImageSince-push, overwritten_torn}
 use Rattle.record_file.specs.Kept.{IsSettled}
 use Rattle.record_file.specs.Append.{IsWritten}
 
@@ -35,36 +34,6 @@ pub written_front : (first : List ℕ) (old : List DiskCall) (at : ℕ) (bytes :
 written_front first old at bytes (Ok done) new is answers = AreAnswersFrom-front (Some first) old _ (subst (λ cs. AreAnswers first cs) is answers)
 written_front first old at bytes (Err fault) new (inl is) answers = AreAnswersFrom-front (Some first) old _ (subst (λ cs. AreAnswers first cs) is answers)
 written_front first old at bytes (Err fault) new (inr is) answers = AreAnswersFrom-front (Some first) old _ (subst (λ cs. AreAnswers first cs) is answers)
-
--- a write within the file, or at its end
-pub overwritten_within : (file : List ℕ) (at : ℕ) (bytes : List ℕ) → at ≤ length file →
-    overwritten file at bytes ≡ take at file ++ (bytes ++ drop (at + length bytes) file)
-overwritten_within file at [] le =
-    let same : at ≡ at + 0 = omega arith in
-    sym (take-append-drop at file) ∙ ap (λ (n : ℕ). take at file ++ drop n file) same
-overwritten_within file at (byte ∷ bytes) le =
-    let none : at - length file ≡ 0 = omega (arith, le) in
-    ap (λ (n : ℕ). take at file ++ (replicate n 0 ++ ((byte ∷ bytes) ++ drop (at + length (byte ∷ bytes)) file))) none
-
--- a disk as it reads is one of those that a torn write may leave
-pub overwritten_torn : (file : List ℕ) (at : ℕ) (bytes : List ℕ) → at ≤ length file → Torn at (length bytes) file (overwritten file at bytes)
-overwritten_torn file at bytes le =
-    let is = overwritten_within file at bytes le in
-    let len : length (overwritten file at bytes) ≡ at + (length bytes + (length file - (at + length bytes))) =
-    ap (λ m. length m) is ∙ lengths file at bytes le in
-    record { middle = bytes; is = is; no_shorter = omega (arith, len); no_longer = omega (arith, len, le) }
-  where
-    lengths : (file : List ℕ) (at : ℕ) (bytes : List ℕ) → at ≤ length file →
-        length (take at file ++ (bytes ++ drop (at + length bytes) file)) ≡ at + (length bytes + (length file - (at + length bytes)))
-    lengths file at bytes le =
-        omega (
-          arith,
-          le,
-          length-append (take at file) (bytes ++ drop (at + length bytes) file),
-          length-append bytes (drop (at + length bytes) file),
-          length-take at file,
-          length-drop (at + length bytes) file,
-        )
 
 module _ (first : List ℕ) (old : List DiskCall) (file : List ℕ) (settled : IsSettled first old file) (at : ℕ) (bytes : List ℕ) (within : at ≤ length file) where
   torn_one : (answer : Result (Unit {0}) Failed) (image : List ℕ) → IsImage first (old ++ Write at bytes answer ∷ []) image → Torn at (length bytes) file image

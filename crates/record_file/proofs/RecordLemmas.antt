@@ -1,11 +1,11 @@
 -- Records of payloads in a file. Callers cite `same_records`, `HasRecords-next`, `HasRecords-last`, `payload_same` and `whole_file`.
-use Rattle.std.proofs.Common.{◌≡◌, ◌≢◌, ◌⊎◌, ℕ, ◌+◌, ◌^◌, ◌<◌, List, [], ◌∷◌, ◌++◌, length, get_or, take, drop, refl, sym, ap, subst, inl, inr, ◌∙◌, arith}
-use Rattle.std.proofs.Common.{append_assoc, length-append}
-use Rattle.std.proofs.lemmas.List.{append-nil, take_at, drop_at, drop-drop, take-append-drop}
+use Rattle.std.proofs.Common.{◌≡◌, ◌≢◌, ◌⊎◌, ℕ, ◌+◌, ◌^◌, ◌<◌, ◌≤◌, List, [], ◌∷◌, ◌++◌, length, get_or, take, drop, refl, sym, ap, subst, inl, inr, ◌∙◌, arith}
+use Rattle.std.proofs.Common.{append_assoc, length-append, length-drop}
+use Rattle.std.proofs.lemmas.List.{append-nil, take_all, take_at, drop_at, drop-drop, take-append-drop, take-append-le, take-take, length-take}
 use Rattle.std.proofs.lemmas.Nat.{from_be_bytes-to_be_bytes_8}
 use Rattle.std.specs.Int.{w64, from_be_bytes}
 use Rattle.std.specs.List.{AllByRecursion}
-use Rattle.record_file.specs.Records.{header, length_bytes, record_bytes, records, Fits, HasRecords, IsFileOf, HasNoRecord, laid}
+use Rattle.record_file.specs.Records.{header, length_bytes, record_bytes, records, Fits, HasRecords, IsHeaded, HasNoRecord, laid}
 
 pub length-header : length header ≡ 8
 unfolding header
@@ -73,10 +73,10 @@ HasRecords-last at file ps p more gate has =
     )
 
 -- where the gate is
-pub gate_is : (file : List ℕ) (ps : List (List ℕ)) (gate : ℕ) (rest : List ℕ) → HasRecords 8 file ps gate rest →
-    drop (8 + length (records ps)) file ≡ gate ∷ rest
-gate_is file ps gate rest has =
-    sym (drop-drop (length (records ps)) 8 file) ∙ ap (λ m. drop (length (records ps)) m) has.is
+pub gate_is : (at : ℕ) (file : List ℕ) (ps : List (List ℕ)) (gate : ℕ) (rest : List ℕ) → HasRecords at file ps gate rest →
+    drop (at + length (records ps)) file ≡ gate ∷ rest
+gate_is at file ps gate rest has =
+    sym (drop-drop (length (records ps)) at file) ∙ ap (λ m. drop (length (records ps)) m) has.is
     ∙ drop_at (records ps) (gate ∷ rest) (length (records ps)) refl
 
 -- records with a gate after them begin with a gate
@@ -119,23 +119,46 @@ same_records (p ∷ ps) (q ∷ qs) gate_p gate_q rest_p rest_q fit_p fit_q ends_
     regroup x xs g r =
         append_assoc (length_bytes (length x) ++ x) xs (g ∷ r) ∙ append_assoc (length_bytes (length x)) x (xs ++ (g ∷ r))
 
--- the file, from the header, the records, a gate and a rest
-abbrev pub whole : List (List ℕ) → ℕ → List ℕ → List ℕ
-whole ps gate rest = header ++ (records ps ++ (gate ∷ rest))
+-- the file, from what is before the first gate, the records, a gate and a rest
+abbrev pub whole : List ℕ → List (List ℕ) → ℕ → List ℕ → List ℕ
+whole front ps gate rest = front ++ (records ps ++ (gate ∷ rest))
 
-pub whole_is : (file : List ℕ) (ps : List (List ℕ)) (gate : ℕ) (rest : List ℕ) → take 8 file ≡ header → HasRecords 8 file ps gate rest → file ≡ whole ps gate rest
-whole_is file ps gate rest begins has =
-    sym (take-append-drop 8 file) ∙ ap (λ m. m ++ drop 8 file) begins ∙ ap (λ m. header ++ m) has.is
+pub whole_is : (at : ℕ) (file : List ℕ) (ps : List (List ℕ)) (gate : ℕ) (rest : List ℕ) → HasRecords at file ps gate rest → file ≡ whole (take at file) ps gate rest
+whole_is at file ps gate rest has = sym (take-append-drop at file) ∙ ap (λ m. take at file ++ m) has.is
 
-pub whole_begins : (ps : List (List ℕ)) (gate : ℕ) (rest : List ℕ) → take 8 (whole ps gate rest) ≡ header
-whole_begins ps gate rest = take_at header (records ps ++ (gate ∷ rest)) 8 length-header
+-- there is a gate after the front
+pub past_front : (at : ℕ) (file : List ℕ) (ps : List (List ℕ)) (gate : ℕ) (rest : List ℕ) → HasRecords at file ps gate rest → at < length file
+past_front at file ps gate rest has =
+    omega (arith, ap (λ m. length m) has.is, length-drop at file, length-append (records ps) (gate ∷ rest))
 
-pub whole_has : (ps : List (List ℕ)) (gate : ℕ) (rest : List ℕ) → AllByRecursion Fits ps → HasRecords 8 (whole ps gate rest) ps gate rest
-whole_has ps gate rest fit = record { is = drop_at header (records ps ++ (gate ∷ rest)) 8 length-header; fit = fit }
+-- a front with the header
+pub record IsFront (at : ℕ) (front : List ℕ) : Type 0 where
+  pub size : length front ≡ at
+  pub after : 8 ≤ at
+  pub begins : take 8 front ≡ header
 
-pub whole_file : (image : List ℕ) (ps : List (List ℕ)) (gate : ℕ) (rest : List ℕ) → AllByRecursion Fits ps → gate ≢ 1 → image ≡ whole ps gate rest → IsFileOf image ps
-whole_file image ps gate rest fit closed is =
-    subst (λ m. IsFileOf m ps) (sym is) (inr (whole_begins ps gate rest, (gate, rest, whole_has ps gate rest fit, closed)))
+pub header_front : IsFront 8 header
+header_front = record { size = length-header; after = omega arith; begins = take_all 8 header (omega (arith, length-header)) }
+
+pub front_is : (at : ℕ) (file : List ℕ) → at < length file → 8 ≤ at → take 8 file ≡ header → IsFront at (take at file)
+front_is at file long after begins = record {
+  size = omega (arith, length-take at file, long);
+  after = after;
+  begins = take-take 8 at file after ∙ begins;
+}
+
+module _ (at : ℕ) (front : List ℕ) (is_front : IsFront at front) where
+  pub whole_begins : (ps : List (List ℕ)) (gate : ℕ) (rest : List ℕ) → take 8 (whole front ps gate rest) ≡ header
+  whole_begins ps gate rest =
+      take-append-le 8 front (records ps ++ (gate ∷ rest)) (omega (arith, is_front.size, is_front.after)) ∙ is_front.begins
+
+  pub whole_has : (ps : List (List ℕ)) (gate : ℕ) (rest : List ℕ) → AllByRecursion Fits ps → HasRecords at (whole front ps gate rest) ps gate rest
+  whole_has ps gate rest fit = record { is = drop_at front (records ps ++ (gate ∷ rest)) at is_front.size; fit = fit }
+
+  pub whole_file : (image : List ℕ) (ps : List (List ℕ)) (gate : ℕ) (rest : List ℕ) → AllByRecursion Fits ps → gate ≢ 1 → image ≡ whole front ps gate rest →
+      IsHeaded at image ps
+  whole_file image ps gate rest fit closed is =
+      subst (λ m. IsHeaded at m ps) (sym is) (whole_begins ps gate rest, (gate, rest, whole_has ps gate rest fit, closed))
 
 -- the text that is laid, after an open gate
 pub laid_open : (more : List (List ℕ)) → 0 < length more → 1 ∷ laid more ≡ records more ++ 0 ∷ []
@@ -147,9 +170,9 @@ length-laid more some =
     let same = ap (λ m. length m) (laid_open more some) in omega (arith, same, length-append (records more) (0 ∷ []))
 
 -- opening the gate joins the records that were laid
-pub joined : (ps more : List (List ℕ)) (tail : List ℕ) → 0 < length more → whole ps 1 (laid more ++ tail) ≡ whole (ps ++ more) 0 tail
-joined ps more tail some =
-    ap (λ m. header ++ m)
+pub joined : (front : List ℕ) (ps more : List (List ℕ)) (tail : List ℕ) → 0 < length more → whole front ps 1 (laid more ++ tail) ≡ whole front (ps ++ more) 0 tail
+joined front ps more tail some =
+    ap (λ m. front ++ m)
     (ap (λ m. records ps ++ (m ++ tail)) (laid_open more some)
     ∙ ap (λ m. records ps ++ m) (append_assoc (records more) (0 ∷ []) tail)
     ∙ sym (append_assoc (records ps) (records more) (0 ∷ tail))

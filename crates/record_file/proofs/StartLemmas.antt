@@ -5,20 +5,20 @@ use Rattle.std.proofs.lemmas.List.{drop_all, append-nil}
 use Rattle.router_disk.specs.declared.disk_call.DiskCall.{DiskCall}
 use Rattle.router_disk.specs.declared.fault.Failed.{Failed}
 use Rattle.router_disk.specs.Disk.{overwritten, AreAnswers, Torn, IsImageSince}
-use Rattle.router_disk.proofs.DiskLemmas.{IsImage_now}
-use Rattle.record_file.specs.Records.{header, HasRecords, IsFileOf}
+use Rattle.router_disk.proofs.DiskLemmas.{IsImage_now, overwritten_within}
+use Rattle.record_file.specs.Records.{first_gate, header, HasRecords, IsFileOf}
 use Rattle.record_file.specs.Kept.{IsKept, IsSettled, IsSettledSince, IsOpened}
 use Rattle.record_file.specs.State.{IsAtRest, IsEmptyFile}
 use Rattle.record_file.specs.Append.{IsWritten}
-use Rattle.record_file.proofs.RecordLemmas.{whole, whole_begins, whole_has}
-use Rattle.record_file.proofs.MomentLemmas.{overwritten_within, leaves, settles, written_longer, written_front}
+use Rattle.record_file.proofs.RecordLemmas.{header_front, whole, whole_begins, whole_has}
+use Rattle.record_file.proofs.MomentLemmas.{leaves, settles, written_longer, written_front}
 use Rattle.record_file.proofs.LookLemmas.{opened_settled}
 
 -- header and closed gate
 abbrev pub begun : List ℕ
 begun = 69 ∷ 66 ∷ 74 ∷ 82 ∷ 78 ∷ 76 ∷ 49 ∷ 10 ∷ 0 ∷ []
 
-begun_is : begun ≡ whole [] 0 []
+begun_is : begun ≡ whole header [] 0 []
 unfolding header
 begun_is = refl
 
@@ -53,23 +53,24 @@ module _ (old new : List DiskCall) (since : ℕ) (opened : IsOpened old since) (
   pub begun_kept : IsKept first new [] since [] []
   begun_kept = kept_all first new [] since (omega (arith, before.past, written_longer old 0 begun result new written)) each
 
-  shape : overwritten first 0 begun ≡ whole [] 0 []
+  shape : overwritten first 0 begun ≡ whole header [] 0 []
   shape =
       overwritten_within first 0 begun (omega arith) ∙ ap (λ m. begun ++ m) (drop_all 9 first (omega (arith, short))) ∙ begun_is
 
-  at_rest : IsWritten old 0 begun (Ok tt) new → IsAtRest first new [] 8
+  at_rest : IsWritten old 0 begun (Ok tt) new → IsAtRest first_gate first new [] 8
   at_rest ok = record {
     file = overwritten first 0 begun;
     settled = settles first old first settled 0 begun (omega arith) new ok;
-    begins = ap (λ f. take 8 f) shape ∙ whole_begins [] 0 [];
+    begins = ap (λ f. take 8 f) shape ∙ whole_begins 8 header header_front [] 0 [];
+    after = omega arith;
     gate = 0;
     rest = [];
-    has = subst (λ f. HasRecords 8 f [] 0 []) (sym shape) (whole_has [] 0 [] tt);
+    has = subst (λ f. HasRecords first_gate f [] 0 []) (sym shape) (whole_has 8 header header_front [] 0 [] tt);
     closed = λ no. absurd (omega (arith, no));
     gate_place = refl;
     low = omega arith;
   }
 
 pub begun_rests : (old new : List DiskCall) (since : ℕ) → IsOpened old since → IsEmptyFile old → IsWritten old 0 begun (Ok tt) new →
-    (first : List ℕ) → AreAnswers first new → IsAtRest first new [] 8
+    (first : List ℕ) → AreAnswers first new → IsAtRest first_gate first new [] 8
 begun_rests old new since opened empty written first answers = at_rest old new since opened empty (Ok tt) written first answers written

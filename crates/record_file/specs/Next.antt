@@ -43,10 +43,10 @@ PayloadIs size place len founds.NoMemory = ⊤
 -- What a scan met: a record, whose payload it shows and after which there is a gate; a closed gate; or an open gate with no record.
 -- Shown by: proofs alone.
 abbrev pub IsNext : List ℕ → Scan → Next → Type 0
-IsNext file s nexts.Record = (gate : ℕ) × (rest : List ℕ) × HasRecords 8 file (s.found ++ payload_of s ∷ []) gate rest
-    × (s.next_place ≡ 8 + length (records (s.found ++ payload_of s ∷ [])))
-IsNext file s nexts.Closed = (gate : ℕ) × (rest : List ℕ) × HasRecords 8 file s.found gate rest × (gate ≢ 1)
-IsNext file s nexts.Damaged = (rest : List ℕ) × HasRecords 8 file s.found 1 rest × HasNoRecord rest
+IsNext file s nexts.Record = (gate : ℕ) × (rest : List ℕ) × HasRecords s.first file (s.found ++ payload_of s ∷ []) gate rest
+    × (s.next_place ≡ s.first + length (records (s.found ++ payload_of s ∷ [])))
+IsNext file s nexts.Closed = (gate : ℕ) × (rest : List ℕ) × HasRecords s.first file s.found gate rest × (gate ≢ 1)
+IsNext file s nexts.Damaged = (rest : List ℕ) × HasRecords s.first file s.found 1 rest × HasNoRecord rest
 IsNext file s nexts.Failed = ⊤
 IsNext file s nexts.NoMemory = ⊤
 

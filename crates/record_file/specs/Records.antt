@@ -9,6 +9,11 @@ use Rattle.std.specs.Int.{w64, to_be_bytes}
 unfoldable pub header : List ℕ
 header = codes "EBJRNL1" ++ 10 ∷ []
 
+-- The place of the first gate: after the header.
+-- Shown by: proofs alone.
+abbrev pub first_gate : ℕ
+first_gate = 8
+
 -- A length in 8 bytes, the highest first.
 -- Shown by: proofs alone.
 unfoldable pub length_bytes : ℕ → List ℕ
@@ -41,10 +46,15 @@ pub record HasRecords (at : ℕ) (file : List ℕ) (payloads : List (List ℕ)) 
 abbrev pub AreFrom : ℕ → List ℕ → List (List ℕ) → Type 0
 AreFrom at file payloads = (gate : ℕ) × (rest : List ℕ) × HasRecords at file payloads gate rest × (gate ≢ 1)
 
+-- The file has the header, and from a place on the records of these payloads, a closed gate, and any rest.
+-- Shown by: proofs alone.
+abbrev pub IsHeaded : ℕ → List ℕ → List (List ℕ) → Type 0
+IsHeaded at file payloads = (take 8 file ≡ header) × AreFrom at file payloads
+
 -- The file has these payloads. A file of at most nine bytes was never begun, and has none.
 -- Shown by: proofs alone.
 abbrev pub IsFileOf : List ℕ → List (List ℕ) → Type 0
-IsFileOf file payloads = ((length file ≤ 9) × (payloads ≡ [])) ⊎ ((take 8 file ≡ header) × AreFrom 8 file payloads)
+IsFileOf file payloads = ((length file ≤ 9) × (payloads ≡ [])) ⊎ IsHeaded first_gate file payloads
 
 -- What follows an open gate begins with no payload, its length before it and a gate after it.
 -- Shown by: a_record_without_a_gate_after_it.edit.
@@ -52,17 +62,17 @@ abbrev pub HasNoRecord : List ℕ → Type 0
 HasNoRecord rest =
     (payload more : List ℕ) (gate : ℕ) → Fits payload → rest ≡ length_bytes (length payload) ++ (payload ++ (gate ∷ more)) → ⊥
 
--- The file is damaged after these payloads: an open gate comes next, and no record with a gate after it. The record's place counts from 1,
--- the byte is that of its gate.
+-- The file, whose first gate is at this place, is damaged after these payloads: an open gate comes next, and no record with a gate after it.
+-- The record's place counts from 1, the byte is that of its gate.
 -- Shown by: proofs alone.
-pub record IsDamagedAt (file : List ℕ) (payloads : List (List ℕ)) (place byte : ℕ) : Type 0 where
-  pub long : 9 < length file
+pub record IsDamagedAt (file : List ℕ) (at : ℕ) (payloads : List (List ℕ)) (place byte : ℕ) : Type 0 where
+  pub long : at + 1 < length file
   pub begins : take 8 file ≡ header
   pub rest : List ℕ
-  pub has : HasRecords 8 file payloads 1 rest
+  pub has : HasRecords at file payloads 1 rest
   pub none : HasNoRecord rest
   pub is_place : place ≡ length payloads + 1
-  pub is_byte : byte ≡ 8 + length (records payloads)
+  pub is_byte : byte ≡ at + length (records payloads)
 
 -- What an append writes after the closed gate: the records without their first gate, and a closed gate.
 -- Shown by: no_gate_after_the_record.edit.

@@ -8,7 +8,7 @@ use Rattle.router_disk.specs.Disk.{AreAnswers, file_of}
 use Rattle.record_file.specs.declared.record_file.RecordFile.{RecordFile}
 use Rattle.record_file.specs.declared.window.Window.{Window}
 use Rattle.record_file.specs.declared.scan.Scan.{Scan}
-use Rattle.record_file.specs.Records.{header, records, HasRecords}
+use Rattle.record_file.specs.Records.{first_gate, header, records, HasRecords}
 use Rattle.record_file.specs.Kept.{IsSettled}
 
 -- The payloads that a file of records has found and appended, in order.
@@ -16,24 +16,26 @@ use Rattle.record_file.specs.Kept.{IsSettled}
 abbrev pub payloads_of : {D : Type 0} → RecordFile D → List (List ℕ)
 payloads_of f = flat_map (λ pair. pair.0) f.appended.items
 
--- A read gives a file of these payloads, with the closed gate at a place, and a crash leaves nothing else.
+-- A read gives a file of these payloads, with its first gate at one place, after the header, and the closed gate at another; a crash leaves
+-- nothing else.
 -- Shown by: proofs alone.
-pub record IsAtRest (first : List ℕ) (calls : List DiskCall) (payloads : List (List ℕ)) (place : ℕ) : Type 0 where
+pub record IsAtRest (at : ℕ) (first : List ℕ) (calls : List DiskCall) (payloads : List (List ℕ)) (place : ℕ) : Type 0 where
   pub file : List ℕ
   pub settled : IsSettled first calls file
   pub begins : take 8 file ≡ header
+  pub after : 8 ≤ at
   pub gate : ℕ
   pub rest : List ℕ
-  pub has : HasRecords 8 file payloads gate rest
+  pub has : HasRecords at file payloads gate rest
   pub closed : gate ≢ 1
-  pub gate_place : place ≡ 8 + length (records payloads)
+  pub gate_place : place ≡ at + length (records payloads)
   pub low : place < 2 ^ 63
 
 -- A file of records is at rest between its calls, up to the first call that failed.
 -- Shown by: written_after_a_fault.edit.
 abbrev pub IsSound : {D : Type 0} → (D → List DiskCall) → RecordFile D → Type 0
 IsSound calls f =
-    f.broken ≡ false → (first : List ℕ) → AreAnswers first (calls f.disk) → IsAtRest first (calls f.disk) (payloads_of f) f.gate
+    f.broken ≡ false → (first : List ℕ) → AreAnswers first (calls f.disk) → IsAtRest first_gate first (calls f.disk) (payloads_of f) f.gate
 
 -- A call that changes nothing: a read, or a call for the length.
 -- Shown by: proofs alone.
@@ -75,18 +77,18 @@ piece_of w at len = take len (drop (at - w.at) w.bytes.items)
 abbrev pub payload_of : Scan → List ℕ
 payload_of s = piece_of s.window s.payload_at s.payload_len
 
--- A scan stands at a gate of a file, after the payloads that were admitted.
+-- A scan is at a gate of a file, after the payloads that were admitted.
 -- Shown by: proofs alone.
 pub record IsScanOf (file : List ℕ) (s : Scan) : Type 0 where
-  pub long : 9 < length file
+  pub long : s.first + 1 < length file
   pub short : length file < 2 ^ 63
   pub begins : take 8 file ≡ header
   pub size : s.size ≡ length file
   pub window : IsWindowOf file s.window
   pub gate : ℕ
   pub rest : List ℕ
-  pub has : HasRecords 8 file s.found gate rest
-  pub place : s.place ≡ 8 + length (records s.found)
+  pub has : HasRecords s.first file s.found gate rest
+  pub place : s.place ≡ s.first + length (records s.found)
   pub count : s.count ≡ length s.found
 
 -- A scan of what a disk's reads give, if that is known and the answers are those of the model.

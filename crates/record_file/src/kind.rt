@@ -12,6 +12,9 @@ use router_disk::{Disk, Failed};
 // The first bytes of a file of records.
 const HEADER: [u8; 8] = *b"EBJRNL1\n";
 
+/// The place of the first gate, after the header.
+pub const FIRST_GATE: u64 = 8;
+
 // A file with no record: header and closed gate.
 pub(crate) const BEGUN: [u8; 9] = *b"EBJRNL1\n\0";
 

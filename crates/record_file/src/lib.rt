@@ -10,7 +10,7 @@ mod scan;
 mod text;
 mod window;
 
-pub use kind::{FileKind, file_kind, settle};
+pub use kind::{FIRST_GATE, FileKind, file_kind, settle};
 pub use laws::one_reading;
 pub use record_file::RecordFile;
 pub use scan::{Next, Scan};

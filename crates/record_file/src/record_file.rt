@@ -6,7 +6,7 @@ ghost use Rattle.record_file.specs.Append.{LeavesBoth, StaysKept};
 
 use crate::Scan;
 use crate::halves::{append_text, write};
-use crate::kind::BEGUN;
+use crate::kind::{BEGUN, FIRST_GATE};
 use http_server::Log;
 use router_disk::{Disk, Failed, Pieces};
 
@@ -21,7 +21,7 @@ pub struct RecordFile<D> {
 }
 
 impl<D: Disk> RecordFile<D> {
-    ghost use Rattle.record_file.specs.Records.{IsText};
+    ghost use Rattle.record_file.specs.Records.{IsText, first_gate};
     ghost use Rattle.record_file.specs.Kept.{IsKept, IsOpened};
     ghost use Rattle.record_file.specs.State.{IsEmptyFile, IsScan, IsSound, disk_in, payloads_of};
     ghost use Rattle.record_file.specs.Next.{IsClosedScan};
@@ -36,6 +36,7 @@ impl<D: Disk> RecordFile<D> {
         ensures broken { self.new.broken ≡ is_err result }
         ensures no_more { self.old.broken ≡ true → IsErr result × (self.new ≡ self.old) }
         ensures count { self.old.broken ≡ false → CountsFaults (D.faults self.old.disk) (D.faults self.new.disk) result }
+        ensures answers { (first : List ℕ) → AreAnswers first (D.calls self.new.disk) → AreAnswers first (D.calls self.old.disk) }
         ensures any_moment { self.old.broken ≡ false →
             LeavesBoth (D.calls self.old.disk) (D.calls self.new.disk) (payloads_of self.old) payloads.now }
         ensures kept { self.old.broken ≡ false →
@@ -74,7 +75,7 @@ impl<D: Disk> RecordFile<D> {
         match write(&mut disk, 0, &BEGUN) {
             Ok(()) => Ok(RecordFile {
                 disk,
-                gate: 8,
+                gate: FIRST_GATE,
                 appended,
                 broken: false,
             }),
@@ -86,6 +87,7 @@ impl<D: Disk> RecordFile<D> {
     pub fn resume(disk: D, scan: Scan) -> RecordFile<D>
         requires scan { IsScan (D.calls disk) scan }
         requires closed { IsClosedScan (D.calls disk) scan }
+        requires first { scan.first ≡ first_gate }
         ensures made { (result.disk ≡ disk) × (payloads_of result ≡ scan.found) × (result.broken ≡ false) }
         ensures sound { (since : ℕ) → IsOpened (D.calls disk) since → IsSound D.calls result }
         ensures kept { (since : ℕ) → IsOpened (D.calls disk) since → (first : List ℕ) → AreAnswers first (D.calls disk) →

@@ -25,6 +25,8 @@ pub enum Next {
 #[derive(Drop)]
 pub struct Scan {
     pub size: u64,
+    /// The place of the first gate.
+    pub first: u64,
     pub place: u64,
     pub next_place: u64,
     pub payload_at: u64,
@@ -42,18 +44,20 @@ impl Scan {
     ghost use Rattle.record_file.specs.State.{Counts, IsScan, IsScanOf, OnlyLooks, payload_of};
     ghost use Rattle.record_file.specs.Next.{IsNext, next_outcome};
 
-    /// A scan from the first record on of a file of `size` bytes.
-    pub fn new(alloc: Global, size: u64) -> Scan
-        requires { 9 < size }
+    /// A scan from the first record on of a file of `size` bytes, whose first gate is at the place `first`.
+    pub fn new(alloc: Global, size: u64, first: u64) -> Scan
+        requires { first + 1 < size }
         ensures found { result.found ≡ [] }
+        ensures first { result.first ≡ first }
         ensures scan { (file : List ℕ) → size ≡ length file → length file < 2 ^ 63 → take 8 file ≡ header → IsScanOf file result }
     {
         let window = Window::new(alloc);
         let found = Pieces::new();
         Scan {
             size,
-            place: 8,
-            next_place: 8,
+            first,
+            place: first,
+            next_place: first,
             payload_at: 0,
             payload_len: 0,
             count: 0,
@@ -69,6 +73,7 @@ impl Scan {
         ensures found { self.new.found ≡ self.old.found }
         ensures place { self.new.place ≡ self.old.place }
         ensures size { self.new.size ≡ self.old.size }
+        ensures first { self.new.first ≡ self.old.first }
         ensures ahead { result ≡ Next.Record → self.new.place < self.new.next_place }
         ensures opened { (since : ℕ) → IsOpened (D.calls disk.old) since → IsOpened (D.calls disk.new) since }
         ensures scan { IsScan (D.calls disk.old) self.old → IsScan (D.calls disk.new) self.new }
@@ -97,6 +102,7 @@ impl Scan {
         ensures found { self.new.found ≡ self.old.found ++ payload_of self.old ∷ [] }
         ensures place { self.new.place ≡ self.old.next_place }
         ensures size { self.new.size ≡ self.old.size }
+        ensures first { self.new.first ≡ self.old.first }
         ensures scan { (file : List ℕ) → IsScanOf file self.old → IsNext file self.old Next.Record → IsScanOf file self.new }
     {
         self.found
@@ -116,9 +122,9 @@ impl Scan {
     /// The place of the record that comes next, counted from 1, and that of its gate's byte.
     pub fn place(&self) -> (u64, u64)
         ensures at { (file : List ℕ) → IsScanOf file self.now →
-            (result.0 ≡ length self.now.found + 1) × (result.1 ≡ 8 + length (records self.now.found)) }
+            (result.0 ≡ length self.now.found + 1) × (result.1 ≡ self.now.first + length (records self.now.found)) }
         ensures damaged { (file : List ℕ) → IsScanOf file self.now → IsNext file self.now Next.Damaged →
-            IsDamagedAt file self.now.found result.0 result.1 }
+            IsDamagedAt file self.now.first self.now.found result.0 result.1 }
     {
         let record = self.count.saturating_add(1);
         (record, self.place)

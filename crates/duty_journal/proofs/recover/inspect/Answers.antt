@@ -17,7 +17,7 @@ returns-in-Ok-clause-found g c =
 pub returns-in-Ok-clause-journal : goal.returns-in-Ok-clause-journal
 returns-in-Ok-clause-journal g c =
     let ok = c.in-Ok.ensures.ok in
-    file_so first_tables c.found_in.result c.in-Ok.scan c.in-Ok.tables (g.D.Disk.calls c.read_records.new.disk) c.found_in.ensures.batches ok.2 ok.0 ok.1
+    file_so first_tables c.found_in.result c.in-Ok.scan c.in-Ok.tables (g.D.Disk.calls c.read_records.new.disk) c.found_in.ensures.batches ok.2 ok.0 ok.1 ok.3
 
 pub returns-in-Empty-clause-journal : goal.returns-in-Empty-clause-journal
 returns-in-Empty-clause-journal g c =

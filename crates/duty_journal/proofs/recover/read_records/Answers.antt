@@ -1,4 +1,4 @@
-use Rattle.std.proofs.Common.{[]}
+use Rattle.std.proofs.Common.{[], ◌∙◌}
 use Rattle.router_core.specs.Tables.{first_tables}
 use Rattle.record_file.specs.State.{IsScan}
 use Rattle.duty_journal.specs.Recovery.{IsReadTo}
@@ -12,7 +12,7 @@ returns-in-Ok-redo_all-clause-ok g c =
     λ first file answers known. let r = c.requires.records first file answers known in c.new-scan.ensures.scan file r.0 r.1 r.2 in
     let read : IsReadTo first_tables c.new-scan.result c.in-Ok.tables =
     record { batches = []; payloads = c.new-scan.ensures.found; recordable = tt; tables = c.in-Ok.ensures } in
-    (end.scan scan, end.closed scan, end.read first_tables read)
+    (end.scan scan, end.closed scan, end.read first_tables read, end.first ∙ c.new-scan.ensures.first)
 
 pub returns-in-Err-redo_all-clause-fault : goal.returns-in-Err-redo_all-clause-fault
 returns-in-Err-redo_all-clause-fault g c =
@@ -21,4 +21,4 @@ returns-in-Err-redo_all-clause-fault g c =
     let read : IsReadTo first_tables c.new-scan.result c.in-Ok.tables =
     record { batches = []; payloads = c.new-scan.ensures.found; recordable = tt; tables = c.in-Ok.ensures } in
     fault_of_read first_tables (g.D.Disk.calls c.args.disk.now) (g.D.Disk.calls c.redo_all.new.disk) c.new-scan.result c.redo_all.new.scan c.in-Ok.tables c.redo_all.new.tables
-    c.in-Err-redo_all.fault read scan c.in-Err-redo_all.ensures.read
+    c.in-Err-redo_all.fault c.new-scan.ensures.first read scan c.in-Err-redo_all.ensures.read

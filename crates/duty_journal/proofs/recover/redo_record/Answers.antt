@@ -19,6 +19,7 @@ returns-in-Ok-replay_batch c =
       found = c.admit.ensures.found;
       place = c.admit.ensures.place;
       size = c.admit.ensures.size;
+      first = c.admit.ensures.first;
       scan = c.admit.ensures.scan;
     }
 

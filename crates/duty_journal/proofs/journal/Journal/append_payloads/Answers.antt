@@ -13,6 +13,7 @@ returns-in-Ok g c = λ start more same recordable.
       broken = e.broken;
       no_more = e.no_more;
       count = e.count;
+      answers = e.answers;
       any_moment = e.any_moment;
       kept = e.kept;
     }) start more same recordable
@@ -27,6 +28,7 @@ returns-in-Err g c = λ start more same recordable.
       broken = e.broken;
       no_more = e.no_more;
       count = e.count;
+      answers = e.answers;
       any_moment = e.any_moment;
       kept = e.kept;
     }) start more same recordable

@@ -52,7 +52,7 @@ returns-in-Ok-read_records-clause-opened g c = λ first answers.
     OnlyLooks-opened (g.D.Disk.calls c.file_kind.new.disk) calls e.looks 1 (c.in-Records.ensures.opened 1 c.in-Ok.ensures.opened) in
     let now = opened first own in
     let journal = file_so first_tables found c.in-Ok-read_records.scan c.in-Ok-read_records.tables calls c.found_in-found.ensures.batches e.ok.2 e.ok.0
-    e.ok.1 first first own now.known in
+    e.ok.1 e.ok.3 first first own now.known in
     subst (λ cs. HasOpened first cs (batches_found found)) (sym same) (opened_so first calls (batches_found found) now journal)
 
 pub returns-in-Err-read_records-clause-unwritten : goal.returns-in-Err-read_records-clause-unwritten

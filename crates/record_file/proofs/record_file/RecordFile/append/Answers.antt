@@ -1,4 +1,5 @@
 use Rattle.std.proofs.Common.{◌≡◌, ◌+◌, ◌++◌, length, Ok, Err, arith}
+use Rattle.record_file.specs.Records.{first_gate}
 use Rattle.record_file.specs.State.{payloads_of}
 use Rattle.record_file.proofs.CrashLemmas.{append_rests}
 use Rattle.record_file.proofs.KeptLemmas.{appended_front, both, stays}
@@ -22,10 +23,20 @@ returns-in-Ok-clause-sound g c = λ whole first answers.
     let text = c.args.text.now in
     let calls = c.in-Ok.ensures.calls in
     let rests = c.requires.sound c.if-self.false first (appended_front first old new place text (Ok tt) calls answers) in
-    let done = append_rests first old before more place text rests c.requires.text new calls answers in
+    let done = append_rests first_gate first old before more place text rests c.requires.text new calls answers in
     let grown : place + length text ≡ c.saturating_add-gate.result = omega (arith, c.saturating_add-gate.ensures, done.low) in
-    moved first new (before ++ more) _ (place + length text) c.saturating_add-gate.result
+    moved first_gate first new (before ++ more) _ (place + length text) c.saturating_add-gate.result
     (shown_push c.args.self.now.appended.items c.and-appended.result.items more c.and-appended.ensures) grown done
+
+pub returns-in-Ok-clause-answers : goal.returns-in-Ok-clause-answers
+returns-in-Ok-clause-answers g c = λ first answers.
+    appended_front first (g.D.Disk.calls c.args.self.now.disk) (g.D.Disk.calls c.append_text.new.disk) c.args.self.now.gate c.args.text.now (Ok tt)
+    c.in-Ok.ensures.calls answers
+
+pub returns-in-Err-clause-answers : goal.returns-in-Err-clause-answers
+returns-in-Err-clause-answers g c = λ first answers.
+    appended_front first (g.D.Disk.calls c.args.self.now.disk) (g.D.Disk.calls c.append_text.new.disk) c.args.self.now.gate c.args.text.now
+    (Err c.in-Err.field-0) c.in-Err.ensures.calls answers
 
 pub returns-in-Ok-clause-any_moment : goal.returns-in-Ok-clause-any_moment
 returns-in-Ok-clause-any_moment g c = λ whole first answers image left.

@@ -1,4 +1,5 @@
 use Rattle.std.proofs.Common.{[], Ok, Err, refl}
+use Rattle.record_file.specs.Records.{first_gate}
 use Rattle.record_file.proofs.MomentLemmas.{written_front}
 use Rattle.record_file.proofs.StartLemmas.{begun_kept, begun_rests}
 use Rattle.record_file.proofs.StateLemmas.{moved, shown_none}
@@ -8,7 +9,7 @@ pub returns-in-Ok-clause-sound : goal.returns-in-Ok-clause-sound
 returns-in-Ok-clause-sound g c = λ since opened whole first answers.
     let old = g.D.Disk.calls c.args.disk in
     let new = g.D.Disk.calls c.write.new.disk in
-    moved first new [] _ 8 8 (shown_none c.new-appended.result.items c.new-appended.ensures) refl
+    moved first_gate first new [] _ 8 8 (shown_none c.new-appended.result.items c.new-appended.ensures) refl
     (begun_rests old new since opened c.requires c.in-Ok.ensures.calls first answers)
 
 pub returns-in-Ok-clause-kept : goal.returns-in-Ok-clause-kept

@@ -1,4 +1,6 @@
-use Rattle.std.proofs.Common.{refl, sym}
+use Rattle.std.proofs.Common.{ℕ, ◌≤◌, refl, sym, subst, arith}
+use Rattle.record_file.specs.Records.{first_gate, AreFrom}
+use Rattle.record_file.specs.State.{IsAtRest}
 use Rattle.record_file.proofs.StateLemmas.{moved, resumed, resumed_kept, shown_one}
 use Rattle.record_file.proofs.record_file.RecordFile.resume.Goals as goal
 
@@ -10,13 +12,17 @@ returns-clause-sound g c = λ since opened whole first answers.
     let calls = g.D.Disk.calls c.args.disk in
     let o = opened first answers in
     let s = c.requires.scan first first answers o.known in
-    moved first calls c.args.scan.found _ c.args.scan.place c.args.scan.place
-    (shown_one c.new-log.result.items c.and-appended.result.items c.args.scan.found c.new-log.ensures c.and-appended.ensures) refl
-    (resumed first calls since c.args.scan.found c.args.scan.place o s.short s.begins s.place (c.requires.closed first first answers o.known))
+    let scan = c.args.scan in
+    let after : 8 ≤ scan.first = omega (arith, c.requires.first) in
+    moved first_gate first calls scan.found _ scan.place scan.place
+    (shown_one c.new-log.result.items c.and-appended.result.items scan.found c.new-log.ensures c.and-appended.ensures) refl
+    (subst (λ (at : ℕ). IsAtRest at first calls scan.found scan.place) c.requires.first
+    (resumed scan.first first calls since scan.found scan.place after o s.short s.begins s.place (c.requires.closed first first answers o.known)))
 
 pub returns-clause-kept : goal.returns-clause-kept
 returns-clause-kept g c = λ since opened first answers.
     let calls = g.D.Disk.calls c.args.disk in
     let o = opened first answers in
     let s = c.requires.scan first first answers o.known in
-    resumed_kept first calls since c.args.scan.found o s.begins (c.requires.closed first first answers o.known)
+    resumed_kept first calls since c.args.scan.found o s.begins
+    (subst (λ (at : ℕ). AreFrom at first c.args.scan.found) c.requires.first (c.requires.closed first first answers o.known))

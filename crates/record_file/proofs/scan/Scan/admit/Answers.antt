@@ -21,7 +21,7 @@ returns-clause-scan c = λ file scan next.
       end,
       more,
       scan.short,
-      length-drop 8 file,
+      length-drop old.first file,
       length-append (records (old.found ++ payload_of old ∷ [])) (next.0 ∷ next.1),
     ) in record {
       long = scan.long;
@@ -31,7 +31,7 @@ returns-clause-scan c = λ file scan next.
       window = scan.window;
       gate = next.0;
       rest = next.1;
-      has = subst (λ ps. HasRecords 8 file ps next.0 next.1) (sym same) next.2;
-      place = next.3 ∙ ap (λ (ps : List (List ℕ)). 8 + length (records ps)) (sym same);
+      has = subst (λ ps. HasRecords old.first file ps next.0 next.1) (sym same) next.2;
+      place = next.3 ∙ ap (λ (ps : List (List ℕ)). old.first + length (records ps)) (sym same);
       count = counted ∙ ap (λ (ps : List (List ℕ)). length ps) (sym same);
     }

@@ -124,7 +124,7 @@ returns-in-Closed-clause-next g c = λ scanned first file answers known.
     let new = g.D.Disk.calls c.find-met.new.disk in
     let before = sym (OnlyLooks-file first old new c.find-met.ensures.looks) ∙ known in
     let o = scanned first file (OnlyLooks-answers first old new c.find-met.ensures.looks answers) before in
-    next_closed file c.args.self.now.found c.args.self.now.place o.gate o.rest o.has o.place (c.in-Closed.ensures.found first file answers before o.window o.size)
+    next_closed c.args.self.now.first file c.args.self.now.found c.args.self.now.place o.gate o.rest o.has o.place (c.in-Closed.ensures.found first file answers before o.window o.size)
 
 pub returns-in-Damaged-clause-next : goal.returns-in-Damaged-clause-next
 returns-in-Damaged-clause-next g c = λ scanned first file answers known.
@@ -132,7 +132,7 @@ returns-in-Damaged-clause-next g c = λ scanned first file answers known.
     let new = g.D.Disk.calls c.find-met.new.disk in
     let before = sym (OnlyLooks-file first old new c.find-met.ensures.looks) ∙ known in
     let o = scanned first file (OnlyLooks-answers first old new c.find-met.ensures.looks answers) before in
-    next_damaged file c.args.self.now.found c.args.self.now.place o.gate o.rest o.has o.place (c.in-Damaged.ensures.found first file answers before o.window o.size)
+    next_damaged c.args.self.now.first file c.args.self.now.found c.args.self.now.place o.gate o.rest o.has o.place (c.in-Damaged.ensures.found first file answers before o.window o.size)
 
 pub returns-in-Record-clause-next : goal.returns-in-Record-clause-next
 returns-in-Record-clause-next g c = λ scanned first file answers known.
@@ -143,6 +143,6 @@ returns-in-Record-clause-next g c = λ scanned first file answers known.
     let both = c.in-Record.ensures.covers c.in-Record.len refl in
     let window = c.find-met.ensures.window first file answers before o.window in
     let place = c.args.self.now.place in
-    next_record file c.args.self.now.found place o.gate o.rest o.has o.place c.in-Record.len _ (omega (arith, both.1, o.size, o.short))
+    next_record c.args.self.now.first file c.args.self.now.found place o.gate o.rest o.has o.place c.in-Record.len _ (omega (arith, both.1, o.size, o.short))
     (window_piece file c.find-met.new.window (place + 9) c.in-Record.len window both.0)
     (c.in-Record.ensures.found first file answers before o.window o.size)

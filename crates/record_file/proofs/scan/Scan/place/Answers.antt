@@ -16,7 +16,7 @@ returns-clause-at c = λ file scan.
       low,
       end,
       scan.short,
-      length-drop 8 file,
+      length-drop s.first file,
       length-append (records s.found) (scan.gate ∷ scan.rest),
     ) in (counted, scan.place)
 
@@ -24,4 +24,4 @@ pub returns-clause-damaged : goal.returns-clause-damaged
 returns-clause-damaged c = λ file scan next.
     let s = c.args.self.now in
     let at = returns-clause-at c file scan in
-    damaged file s.found c.saturating_add-record.result s.place scan.long scan.begins at.0 scan.place next
+    damaged file s.first s.found c.saturating_add-record.result s.place scan.long scan.begins at.0 scan.place next
