@@ -6,7 +6,7 @@ use Rattle.clap.specs.Faults.{built_fault, fault_of, level_fault}
 use Rattle.clap.specs.Simple.{Shape, built, entered, names_of, subcommand_of}
 use Rattle.clap.specs.Takes.{is_given}
 use Rattle.clap.specs.Walk.{Row, Rule, Text, first_of, nothing_held, rows_after, stop_after}
-use Rattle.command_line.specs.Command.{CommandView, HasValues, IsCommand, IsEntered, IsOptional, name_of, subcommand_for, serve, once, check, drill}
+use Rattle.command_line.specs.Command.{CommandView, HasValues, IsCommand, IsEntered, IsOptional, name_of, subcommand_for, serve, once, drill}
 use Rattle.command_line.specs.Line.{AreOptions, IsLine, value_of, words_of}
 use Rattle.command_line.specs.Number.{IsNumber}
 use Rattle.command_line.specs.Table as table
@@ -48,15 +48,12 @@ found word leaf names pick enters plain program os h needs = go (good leaf names
 
 -- other ways to find the same values
 alike : (f g : Text → Option Text) → ((name : Text) → f name ≡ g name) → (c : CommandView) → HasValues f c → HasValues g c
-alike f g same (serve port workers connections journal) h = (
+alike f g same (serve port workers connections) h = (
   subst (λ (o : Option Text). MatchOption o (port ≡ 9100) (λ word. IsNumber 1 65535 word port)) (same (codes "port")) h.0,
   subst (λ (o : Option Text). MatchOption o (workers ≡ 64) (λ word. IsNumber 1 1024 word workers)) (same (codes "workers")) h.1,
   subst (λ (o : Option Text). IsOptional 1 1000000 o connections) (same (codes "connections")) h.2,
-  sym (same (codes "journal")) ∙ h.3,
 )
-alike f g same (once journal now) h =
-    (sym (same (codes "journal")) ∙ h.0, subst (λ (o : Option Text). IsOptional 0 250000000000 o now) (same (codes "now")) h.1)
-alike f g same (check journal) h = sym (same (codes "journal")) ∙ h
+alike f g same (once now) h = subst (λ (o : Option Text). IsOptional 0 250000000000 o now) (same (codes "now")) h
 alike f g same (drill seed events) h = (
   subst (λ (o : Option Text). IsSomeAnd o (λ word. IsNumber 0 2147483647 word seed)) (same (codes "seed")) h.0,
   subst (λ (o : Option Text). IsSomeAnd o (λ word. IsNumber 1 100000 word events)) (same (codes "events")) h.1,
@@ -78,18 +75,14 @@ line_is words c h = subst (λ (ws : List Text). IsCommand ws c) (sym h.spelled) 
   where
     go : (c : CommandView) (program : Text) (os : List (Text × Text)) → AreOptions (map (λ rule. rule.id) (subcommand_for c).top.rules) os
         → HasValues (λ name. value_of name os) c → IsCommand (program ∷ (name_of c ∷ words_of os)) c
-    go (serve port workers connections journal) program os named values =
-        is_command (program ∷ (codes "serve" ∷ words_of os)) (codes "serve") os (serve port workers connections journal) refl values
+    go (serve port workers connections) program os named values =
+        is_command (program ∷ (codes "serve" ∷ words_of os)) (codes "serve") os (serve port workers connections) refl values
         (found (codes "serve") (of.leaf_of table.serve) (map (λ rule. rule.id) table.serve.top.rules) of.pick_serve of.enters_serve of.plain_serve program os named
         (of.needs_serve (λ name. is_some (value_of name os))))
-    go (once journal now) program os named values =
-        is_command (program ∷ (codes "once" ∷ words_of os)) (codes "once") os (once journal now) refl values
+    go (once now) program os named values =
+        is_command (program ∷ (codes "once" ∷ words_of os)) (codes "once") os (once now) refl values
         (found (codes "once") (of.leaf_of table.once) (map (λ rule. rule.id) table.once.top.rules) of.pick_once of.enters_once of.plain_once program os named
         (of.needs_once (λ name. is_some (value_of name os))))
-    go (check journal) program os named values =
-        is_command (program ∷ (codes "check" ∷ words_of os)) (codes "check") os (check journal) refl values
-        (found (codes "check") (of.leaf_of table.check) (map (λ rule. rule.id) table.check.top.rules) of.pick_check of.enters_check of.plain_check program os named
-        (of.needs_check (λ name. is_some (value_of name os)) (ap is_some values)))
     go (drill seed events) program os named values =
         is_command (program ∷ (codes "drill" ∷ words_of os)) (codes "drill") os (drill seed events) refl values
         (found (codes "drill") (of.leaf_of table.drill) (map (λ rule. rule.id) table.drill.top.rules) of.pick_drill of.enters_drill of.plain_drill program os named

@@ -1,5 +1,5 @@
 -- Which words are which command.
-use Rattle.std.specs.Prelude.{◌≡◌, ℕ, List, [], Option, Some, None, MatchOption, IsSomeAnd, codes, option_map}
+use Rattle.std.specs.Prelude.{◌≡◌, ℕ, List, [], Option, Some, None, MatchOption, IsSomeAnd, codes}
 use Rattle.clap.specs.Walk.{Row, Text, first_of}
 use Rattle.clap.specs.Simple.{App, subcommand_of}
 use Rattle.clap.specs.Faults.{fault_of}
@@ -8,36 +8,32 @@ use Rattle.command_line.specs.Table as table
 use Rattle.command_line.specs.declared.command.Command.{Command}
 use Rattle.command_line.specs.declared.command.Command.TheVariants as commands
 
--- A command as contracts see it: numbers, and texts of paths.
+-- A command as contracts see it.
 -- Shown by: command_tests test_command_line.rt: words_are_read_to_their_command.
 pub data CommandView : Type 0 where
-  serve : (port workers : ℕ) (connections : Option ℕ) (journal : Option Text) → CommandView
-  once : (journal : Option Text) (now : Option ℕ) → CommandView
-  check : (journal : Text) → CommandView
+  serve : (port workers : ℕ) (connections : Option ℕ) → CommandView
+  once : (now : Option ℕ) → CommandView
   drill : (seed events : ℕ) → CommandView
 
 -- What contracts see of a command.
 -- Shown by: command_tests test_command_line.rt: words_are_read_to_their_command.
 abbrev pub command_view : Command → CommandView
-command_view (commands.Serve port workers connections journal) = serve port workers connections (option_map (λ s. s.now) journal)
-command_view (commands.Once journal now) = once (option_map (λ s. s.now) journal) now
-command_view (commands.Check journal) = check journal.now
+command_view (commands.Serve port workers connections) = serve port workers connections
+command_view (commands.Once now) = once now
 command_view (commands.Drill seed events) = drill seed events
 
 -- The subcommand of a command.
 -- Shown by: command_tests test_command_line.rt: words_are_read_to_their_command.
 abbrev pub subcommand_for : CommandView → App
-subcommand_for (serve port workers connections journal) = table.serve
-subcommand_for (once journal now) = table.once
-subcommand_for (check journal) = table.check
+subcommand_for (serve port workers connections) = table.serve
+subcommand_for (once now) = table.once
 subcommand_for (drill seed events) = table.drill
 
 -- The name of a command's subcommand.
 -- Shown by: command_tests test_command_line.rt: words_are_read_to_their_command.
 abbrev pub name_of : CommandView → Text
-name_of (serve port workers connections journal) = codes "serve"
-name_of (once journal now) = codes "once"
-name_of (check journal) = codes "check"
+name_of (serve port workers connections) = codes "serve"
+name_of (once now) = codes "once"
 name_of (drill seed events) = codes "drill"
 
 -- An option that may be absent: a number in its bounds if it is there.
@@ -48,16 +44,14 @@ IsOptional least most (Some word) number = IsSomeAnd number (IsNumber least most
 
 -- The members of a command are what the options give, which a function finds by their names: `--port` 1 to 65,535, or 9,100 if it is
 -- absent; `--workers` 1 to 1,024, or 64; `--connections` 1 to 1,000,000; `--now` 0 to 250,000,000,000; `--seed` 0 to 2,147,483,647;
--- `--events` 1 to 100,000; `--journal` a path. That these are the names of the table is shown by law lines_are_commands.
+-- `--events` 1 to 100,000. That these are the names of the table is shown by law lines_are_commands.
 -- Shown by: a_number_out_of_range_is_read.edit; connections_are_required.edit.
 abbrev pub HasValues : (Text → Option Text) → CommandView → Type 0
-HasValues given (serve port workers connections journal) =
+HasValues given (serve port workers connections) =
     MatchOption (given (codes "port")) (port ≡ 9100) (λ word. IsNumber 1 65535 word port)
     × MatchOption (given (codes "workers")) (workers ≡ 64) (λ word. IsNumber 1 1024 word workers)
     × IsOptional 1 1000000 (given (codes "connections")) connections
-    × (given (codes "journal") ≡ journal)
-HasValues given (once journal now) = (given (codes "journal") ≡ journal) × IsOptional 0 250000000000 (given (codes "now")) now
-HasValues given (check journal) = given (codes "journal") ≡ Some journal
+HasValues given (once now) = IsOptional 0 250000000000 (given (codes "now")) now
 HasValues given (drill seed events) =
     IsSomeAnd (given (codes "seed")) (λ word. IsNumber 0 2147483647 word seed)
     × IsSomeAnd (given (codes "events")) (λ word. IsNumber 1 100000 word events)

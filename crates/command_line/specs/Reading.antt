@@ -9,13 +9,13 @@ use Rattle.command_line.specs.declared.fault.WordsFault.TheVariants as faults
 
 -- a refusal, or memory ran out
 abbrev pub IsRefusal : WordsFault → Type 0
-IsRefusal (faults.Asked text) = ⊥
+IsRefusal (faults.Help text) = ⊥
 IsRefusal (faults.Refused text) = Unit {0}
 IsRefusal faults.NoMemory = Unit {0}
 
 -- a refusal only if the fact does not hold
 abbrev pub Denies : Type 0 → WordsFault → Type 0
-Denies A (faults.Asked text) = ⊥
+Denies A (faults.Help text) = ⊥
 Denies A (faults.Refused text) = ¬ A
 Denies A faults.NoMemory = Unit {0}
 
@@ -25,6 +25,6 @@ IsRead name rows command = (name ≡ name_of command) × HasValues (λ option. f
 
 -- what an error of a kind means
 abbrev pub Means : ErrorKind → WordsFault → Type 0
-Means kind (faults.Asked text) = (kind ≡ kinds.DisplayHelp) ⊎ (kind ≡ kinds.DisplayVersion)
+Means kind (faults.Help text) = (kind ≡ kinds.DisplayHelp) ⊎ (kind ≡ kinds.DisplayVersion)
 Means kind (faults.Refused text) = (kind ≢ kinds.OutOfMemory) × (kind ≢ kinds.DisplayHelp) × (kind ≢ kinds.DisplayVersion)
 Means kind faults.NoMemory = Unit {0}

@@ -13,7 +13,7 @@ use std::alloc::{AllocError, Global};
 #[derive(Debug, Drop)]
 pub enum WordsFault {
     /// They ask for help or for the version. The text is the whole output.
-    Asked(Text),
+    Help(Text),
     /// They are no command. The text says why.
     Refused(Text),
     /// Out of memory.
@@ -40,7 +40,7 @@ fn with_text(kind: ErrorKind, text: Result<String, AllocError>) -> WordsFault
     match text {
         Ok(text) => {
             if kind == ErrorKind::DisplayHelp || kind == ErrorKind::DisplayVersion {
-                WordsFault::Asked(Text::from(text))
+                WordsFault::Help(Text::from(text))
             } else {
                 WordsFault::Refused(Text::from(text))
             }

@@ -5,28 +5,23 @@ ghost use Rattle.clap.specs.Faults.{fault_of};
 ghost use Rattle.clap.specs.declared.builder.command.Command.TheViews.{out-Command};
 ghost use Rattle.command_line.specs.Table as table;
 
-use clap::builder::ValueParser;
 use clap::{Arg, ArgMatches, Command, Error};
 use std::alloc::{AllocError, Global};
 
 /// What the help of `serve` says after its options.
 const SERVE_MANUAL: &str = "\
-Prints `listening` and the port, then serves clients on 127.0.0.1 alone. With no
---journal all is lost when it ends. With --connections N it ends after N
+Prints `listening` and the port, then serves clients on 127.0.0.1 alone. All is
+in memory, and lost when it ends. With --connections N it ends after N
 connections and prints a summary.
 
-To stop it, send SIGTERM or SIGINT: it ends at once, without a summary. With
---journal this is always safe: what was acknowledged is found again. A request
-without a reply may have been carried out, and a send without a record is
-repeated. To repeat none: stop the publishers, wait until DutyCounts shows
-\"Pending\":0, then send SIGTERM.
+To stop it, send SIGTERM or SIGINT: it ends at once, without a summary. What
+was not delivered is lost. To lose none: stop the publishers, wait until
+DutyCounts shows \"Pending\":0, then send SIGTERM.
 
 The last line on standard error names the status; lines before it say why:
   0  the connections are served, and no line is printed
   2  bad arguments
   4  the output failed
-  5  the disk failed
-  6  the journal is damaged, or no journal
   7  out of memory
   8  the port or the link to endpoints failed
 
@@ -52,13 +47,6 @@ fn number<'a>(alloc: Global, name: &'a str, help: &'a str) -> Arg<'a>
     option(alloc, name, "N", help)
 }
 
-fn journal<'a>(alloc: Global, help: &'a str) -> Arg<'a>
-    ensures rule { rule_of result ≡ table.journal }
-    ensures local { result.global ≡ false }
-{
-    option(alloc, "journal", "FILE", help).value_parser(ValueParser::NonEmptyString)
-}
-
 fn described_serve<'a>(alloc: Global) -> Command<'a>
     ensures { (app_of result ≡ new_app (codes "serve")) × ((out-Command result).has_globals ≡ false) }
 {
@@ -78,8 +66,7 @@ fn serve<'a>(alloc: Global) -> Result<Command<'a>, AllocError>
             alloc,
             "connections",
             "End after N connections, 1 to 1000000",
-        ))?
-        .arg(journal(alloc, "Keep every change in FILE, and go on from it"))
+        ))
 }
 
 #[tactic(auto, unfolding(crate::specs::Table::once))]
@@ -88,21 +75,11 @@ fn once<'a>(alloc: Global) -> Result<Command<'a>, AllocError>
 {
     Command::new(alloc, "once")
         .about("Read requests from standard input, write replies to standard output")
-        .arg(journal(alloc, "Keep every change in FILE, and go on from it"))?
         .arg(number(
             alloc,
             "now",
             "Every clock reading, 0 to 250000000000 s since 1970",
         ))
-}
-
-#[tactic(auto, unfolding(crate::specs::Table::check))]
-fn check<'a>(alloc: Global) -> Result<Command<'a>, AllocError>
-    ensures { IfOk result (λ c. (app_of c ≡ table.check) × ((out-Command c).has_globals ≡ false)) }
-{
-    Command::new(alloc, "check")
-        .about("Read a journal without changing it, and print what it counts")
-        .arg(journal(alloc, "The journal").required(true))
 }
 
 #[tactic(auto, unfolding(crate::specs::Table::drill))]
@@ -140,9 +117,7 @@ fn first_two<'a>(alloc: Global) -> Result<Command<'a>, AllocError>
 fn ebusd<'a>(alloc: Global) -> Result<Command<'a>, AllocError>
     ensures { IfOk result (λ c. app_of c ≡ table.ebusd) }
 {
-    first_two(alloc)?
-        .subcommand(check(alloc)?)?
-        .subcommand(drill(alloc)?)
+    first_two(alloc)?.subcommand(drill(alloc)?)
 }
 
 /// What clap finds in the words.
