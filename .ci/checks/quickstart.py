@@ -20,7 +20,7 @@ PATIENCE = 120  # seconds for all lines
 AGAIN = 100  # times that a PeekMessages is run again, a tenth of a second apart
 EMPTY = '{"Messages":[]}'
 SLOW = "bin/try "  # takes a minute, so it runs only by the word `all`
-NEEDED = (SLOW, "bin/ebusd once ", "bin/ebusd serve ", "PutEvents", "PeekMessages")  # each is in some line
+NEEDED = (SLOW, "bin/ebusd serve ", "PutEvents", "PeekMessages")  # each is in some line
 
 
 def lines_of(text):

@@ -11,6 +11,7 @@ A word names another program to run. `--crowd PORT` are the clients of `a_full_d
 `N passed, M failed`.
 """
 import http.server
+import itertools
 import json
 import os
 import queue
@@ -683,9 +684,36 @@ def bad_words():
     cases += [["--port", port, "--workers", it] for it in ("0", "1025", "02", "")]
     cases += [[*good, "--connections", it] for it in ("0", "1000001", "01", "")]
     cases += [[*good, *it] for it in (good[:2], good[2:], ["--connections", "1", "--connections", "1"], ["--now", "0"], ["x"])]
-    cases += [[*good, "--journal", "J"], ["--journal", "J", *good], [], ["--port", port], ["--workers", "2"], ["--port"], [*good, "--connections"]]
+    cases += [[*good, "--journal", "J"], ["--journal", "J", *good], ["--prot", port], ["--port"], [*good, "--connections"]]
     for words in cases:
-        expect(f"serve {' '.join(words)}", run("serve", *words), (b"", b"ebusd: bad arguments\n", 2))
+        output, faults, status = run("serve", *words)
+        last = faults.splitlines()[-1:]
+        expect(f"serve {' '.join(words)}", (output, last, status), (b"", [b"ebusd: bad arguments"], 2))
+        if not faults.startswith(b"error: "):
+            raise Failure(f"serve {' '.join(words)}: {faults[:200]!r} does not say why")
+
+
+def options_in_any_order():
+    """A connection ends the process, whatever the order of its options and the form of their values."""
+    for order in itertools.permutations(["--port", "--workers", "--connections"]):
+        for sign in (" ", "="):
+            port = free_port()
+            values = {"--port": port, "--workers": 2, "--connections": 1}
+            words = " ".join(f"{it}{sign}{values[it]}" for it in order).split()
+            with Served(port=port, words=words) as it:
+                with it.client() as client:
+                    client.ask("DutyCounts")
+                expect(f"the status of serve {' '.join(words)}", it.over()[1], 0)
+
+
+def workers_if_none_are_asked_for():
+    """64, so that 63 clients are served at once."""
+    with Served(words=[]) as it:
+        clients = [it.client() for _ in range(63)]
+        for client in clients:
+            client.ask("DutyCounts")
+        for client in clients:
+            client.close()
 
 
 def no_output():
@@ -921,6 +949,8 @@ CASES = [
     a_port_in_use,
     ended_by_a_signal,
     bad_words,
+    options_in_any_order,
+    workers_if_none_are_asked_for,
     no_output,
     first_run_by_one_worker,
     first_run_by_two_workers,

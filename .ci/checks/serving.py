@@ -42,14 +42,16 @@ def run(*words, stdout=subprocess.PIPE):
 
 
 class Served:
-    """A process that serves. It is ended with the case by SIGTERM. Standard error has to be these lines."""
+    """A process that serves. It is ended with the case by SIGTERM. Standard error has to be these lines. `words` are in place of its options,
+    and if they are given with a port, of all of them."""
 
-    def __init__(self, workers=3, connections=None, port=None, files=None, faults=b""):
+    def __init__(self, workers=3, connections=None, port=None, files=None, faults=b"", words=None):
         self.faults = faults
         more = [] if connections is None else ["--connections", str(connections)]
+        options = ["--workers", str(workers), *more] if words is None else words
         for _ in range(1 if port else TRIES):
             self.port = port or free_port()
-            words = ["serve", "--workers", str(workers), *more, "--port", str(self.port)]
+            words = ["serve", *options] if port and words else ["serve", *options, "--port", str(self.port)]
             pipes = {"stdin": subprocess.DEVNULL, "stdout": subprocess.PIPE, "stderr": subprocess.PIPE}
             few = ["prlimit", f"--nofile={files}:"] if files else []
             self.ran = subprocess.Popen([*few, "env", "--default-signal=INT,TERM", *COMMAND, *words], **pipes)

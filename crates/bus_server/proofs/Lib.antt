@@ -7,6 +7,9 @@
 -- what the methods need, and `serve_door` shows it once, as `works`.
 -- A step on the way of `serve` is a function with a record of its own (`IsOpened`, `IsAnnounced`, `ServesBy`, then `Serves`), and one lemma
 -- to the next.
+-- A clause for every line of words: state it for each command that the words could be read to; one lemma (`command_once` of command_line) says
+-- that there is one reading.
+pub mod DrillLemmas
 pub mod FoldLemmas
 pub mod OnceLemmas
 pub mod QuietLemmas
@@ -14,3 +17,4 @@ pub mod RecordedLemmas
 pub mod RunLemmas
 pub mod ServeLemmas
 pub mod VisitLemmas
+pub mod WordsLemmas

@@ -1,5 +1,5 @@
--- The run of a program. Other files cite `runs_once`, `run_linked`, `run_still`, `run_clocked` and `unlinked` (its session), and `end_faults` and
--- `no_door_fault` (its faults).
+-- The run of a program. Other files cite `of_one_pass`, `runs_once`, `run_linked`, `run_still`, `run_clocked` and `unlinked` (its session), and
+-- `faultless`, `end_faults`, `no_door_fault` and `no_usage` (its faults).
 use Rattle.std.proofs.Common.{◌≡◌, ◌≢◌, ℕ, ◌≤◌, ◌⊎◌, inl, inr, List, [], ◌∷◌, ◌++◌, Option, Some, None, refl, sym, ap, ◌∙◌, subst}
 use Rattle.std.specs.Prelude.{All}
 use Rattle.router_disk.specs.Faults.{Rose}
@@ -14,10 +14,21 @@ use Rattle.router_sessions.specs.Book.{opening, IsBook, Rests}
 use Rattle.router_sessions.specs.Acts.{World, world}
 use Rattle.router_sessions.specs.Session.{IsSession}
 use Rattle.router_sessions.proofs.BookLemmas.{book_first, added_legal, legal_later}
-use Rattle.bus_server.specs.Run.{status_of, only_seat, RunsOnce, RunsBy, around, IsUnbegun, IsRun, FaultsMatch}
+use Rattle.bus_server.specs.Run.{status_of, only_seat, IsOfOnePass, RunsOnce, RunsBy, Around, around, IsUnbegun, IsRun, FaultsMatch}
 use Rattle.bus_server.proofs.FoldLemmas.{folds_book}
 use Rattle.bus_server.proofs.RecordedLemmas.{session_recorded}
 use Rattle.bus_server.proofs.OnceLemmas.{all_own, none_open, first_none}
+
+-- a history whose turns after the first are all of pass 0, which has no open claim
+pub of_one_pass : (turns : List Turn) → IsBook turns → Rests 0 turns → ((n : ℕ) → 1 ≤ n → turns_by n turns ≡ []) → IsOfOnePass turns
+of_one_pass turns book rests unmade =
+    let later_unmade : (n : ℕ) → 1 ≤ n → turns_by n book.later ≡ [] = λ n most. first_none n book.later (ap (turns_by n) (sym book.opened) ∙ unmade n most) in
+    record {
+      book = book;
+      alone = all_own (begun first_tables) book.later (legal_later turns book) later_unmade;
+      none_open = none_open turns rests unmade;
+      tables = folds_book turns book;
+    }
 
 -- a session over the book that was just opened, whose pass made all turns after the first
 pub runs_once : (old new : World) (end : SessionEnd) (status : Status) → old.turns ≡ opening ∷ [] → IsSession only_seat old new end → IsBook new.turns
@@ -26,8 +37,6 @@ runs_once old new end status first session book rests unmade ends =
     let (acts, ended, does) = session in
     let old_book : IsBook old.turns = book_first old.turns first in
     let legal : AreTurnsFrom (state_of old.turns) does.makes.added = added_legal old.turns new.turns does.makes.added old_book book does.makes.turns in
-    let later_unmade : (n : ℕ) → 1 ≤ n → turns_by n book.later ≡ [] = λ n most. first_none n book.later (ap (turns_by n) (sym book.opened) ∙ unmade n most) in
-    let own : All (λ t. t.pass ≡ Some 0) book.later = all_own (begun first_tables) book.later (legal_later new.turns book) later_unmade in
     let added_unmade : (n : ℕ) → 1 ≤ n → turns_by n does.makes.added ≡ [] = λ n most.
     first_none n does.makes.added (ap (λ (ts : List Turn). turns_by n (ts ++ does.makes.added)) (sym first) ∙ ap (turns_by n) (sym does.makes.turns) ∙ unmade n most) in
     record {
@@ -37,10 +46,7 @@ runs_once old new end status first session book rests unmade ends =
           (record { happens = does.makes.happens; legal = legal; own = all_own (state_of old.turns) does.makes.added legal added_unmade }) ended;
       first = first;
       ends = ends;
-      book = book;
-      alone = own;
-      none_open = none_open new.turns rests unmade;
-      tables = folds_book new.turns book;
+      history = of_one_pass new.turns book rests unmade;
     }
 
 -- the host gave no link, or out of memory
@@ -50,7 +56,8 @@ pub unlinked : {L : Type 0} (answered : L → List Exchange) (faults : L → ℕ
 unlinked answered faults now gave written readings given given_new back back_new status is same_given same_back =
     let old = around gave written readings given back in
     let new = around gave written readings given_new back_new in
-    let none : IsUnbegun old new = record { unread = refl; unwritten = refl; unclocked = refl; none_given = same_given; none_back = same_back } in
+    let none : IsUnbegun old new =
+    record { untouched = record { unread = refl; unclocked = refl; none_given = same_given; none_back = same_back }; unwritten = refl } in
     inr (is, none)
 
 -- a link was given, had a session, and was taken back
@@ -94,8 +101,28 @@ no_door_fault ends.ReadFault status is e = cc
 no_door_fault ends.WriteFault status is e = cc
 no_door_fault ends.NoMemory status is e = cc
 
+no_usage_end : (end : SessionEnd) (status : Status) → status ≡ status_of end → status ≢ statuses.Usage
+no_usage_end ends.Closed status is e = cc
+no_usage_end ends.Cut status is e = cc
+no_usage_end ends.Refused status is e = cc
+no_usage_end ends.Long status is e = cc
+no_usage_end ends.ReadFault status is e = cc
+no_usage_end ends.WriteFault status is e = cc
+no_usage_end ends.NoMemory status is e = cc
+
+no_usage_by : (now : Option ℕ) (old new : World) (status : Status) → RunsBy now old new status → status ≢ statuses.Usage
+no_usage_by None old new status runs = no_usage_end runs.end status runs.ends
+no_usage_by (Some moment) old new status (readings, each, runs, same) = no_usage_end runs.end status runs.ends
+
+-- a run of `once` does not end with `Usage`
+pub no_usage : {L : Type 0} (answered : L → List Exchange) (faults : L → ℕ) (now : Option ℕ) (old new : Around L) (status : Status)
+    → IsRun answered faults now old new status → status ≢ statuses.Usage
+no_usage answered faults now old new status (inl linked) = no_usage_by now _ _ status linked.runs
+no_usage answered faults now old new status (inr (inl is, none)) = λ e. cc
+no_usage answered faults now old new status (inr (inr is, none)) = λ e. cc
+
 -- a status without a fault
-faultless : (status : Status) (reads reads_new writes writes_new : ℕ) → status ≢ statuses.ReadFault → status ≢ statuses.WriteFault
+pub faultless : (status : Status) (reads reads_new writes writes_new : ℕ) → status ≢ statuses.ReadFault → status ≢ statuses.WriteFault
     → reads_new ≡ reads → writes_new ≡ writes → FaultsMatch status reads reads_new writes writes_new
 faultless status reads reads_new writes writes_new no_read no_write same_reads same_writes = record {
   read_fault = λ e. absurd (no_read e);

@@ -1,5 +1,5 @@
 -- The program: its session, its status, and the line that reports the status.
-use Rattle.std.specs.Prelude.{◌≡◌, ◌≢◌, ℕ, ◌⊎◌, List, [], ◌∷◌, ◌++◌, Option, Some, None, Result, All, Contains}
+use Rattle.std.specs.Prelude.{◌≡◌, ◌≢◌, ℕ, ◌≤◌, ◌⊎◌, List, [], ◌∷◌, ◌++◌, Option, Some, None, Result, All, Contains}
 use Rattle.router_disk.specs.Faults.{CountsFaults, Rose}
 use Rattle.router_disk.specs.Link.{Exchange}
 use Rattle.router_disk.specs.Sink.{AddsBytes}
@@ -37,6 +37,15 @@ abbrev pub IsReported : Status → List ℕ → List ℕ → ℕ → ℕ → Typ
 IsReported status old new faults faults_new =
     (result : Result (Unit {0}) Failed) × AddsBytes old new result (fault_line status) × CountsFaults faults faults_new result
 
+-- Something may have been written before, which says why, with or without faults; and then the status is `IsReported`. So its line is the last
+-- one.
+-- Shown by: bad-arguments; help-of-serve.
+pub record IsReportedLast (status : Status) (old new : List ℕ) (faults faults_new : ℕ) : Type 0 where
+  pub why : List ℕ
+  pub faults_before : ℕ
+  pub later : faults ≤ faults_before
+  pub reported : IsReported status (old ++ why) new faults_before faults_new
+
 -- The source's count of faults rose, or was at its last value, if the status is `ReadFault`, and is unchanged at every other status. The
 -- same holds of the sink's count and `WriteFault`.
 -- Shown by: always_answers_write_fault.edit.
@@ -57,20 +66,25 @@ abbrev pub AreRecorded : List Act → Type 0
 AreRecorded acts = (t : Try) → Contains (tries_in acts) t → NeedsSend t.claim
     → (p : Placed) × (fate : Fate) × Contains acts (makes p) × (p.turn.ask ≡ records (record { claim = t.claim; outcome = t.outcome; fate = fate }))
 
--- One session over a book that was just opened with the first tables, with the status of its end. No other pass made a turn, and each attempt
--- whose text was sent is recorded. The history is legal (`IsBook`), no claim is open after it, and the tables, claims set aside, are the
--- fold of its batches.
--- Shown by: first-run; each_request_is_made_twice.edit.
+-- The history of a router that one pass changed, from the first tables on: it is legal (`IsBook`), no claim is open after it, and the tables,
+-- claims set aside, are the fold of its batches.
+-- Shown by: first-run.
+pub record IsOfOnePass (turns : List Turn) : Type 0 where
+  pub book : IsBook turns
+  pub alone : All (λ t. t.pass ≡ Some 0) book.later
+  pub none_open : (state_of turns).open_claims ≡ []
+  pub tables : without_claims (state_of turns).tables ≡ tables_after (batches_of turns) first_tables
+
+-- One session over a book that was just opened with the first tables, with the status of its end. Its history is `IsOfOnePass`, and each
+-- attempt whose text was sent is recorded.
+-- Shown by: first-run.
 pub record RunsOnce (old new : World) (status : Status) : Type 0 where
   pub end : SessionEnd
   pub session : IsSession only_seat old new end
   pub recorded : AreRecorded session.0
   pub first : old.turns ≡ opening ∷ []
   pub ends : status ≡ status_of end
-  pub book : IsBook new.turns
-  pub alone : All (λ t. t.pass ≡ Some 0) book.later
-  pub none_open : (state_of new.turns).open_claims ≡ []
-  pub tables : without_claims (state_of new.turns).tables ≡ tables_after (batches_of new.turns) first_tables
+  pub history : IsOfOnePass new.turns
 
 -- What is known around a run: what the reads gave, the bytes written and the readings of the clock; the links that the host gave, and those
 -- that it took back.
@@ -87,24 +101,29 @@ pub record Around (L : Type 0) : Type 0 where
 abbrev pub around : {L : Type 0} → List (List ℕ) → List ℕ → List ℕ → List L → List L → Around L
 around gave written readings given back = record { gave = gave; written = written; readings = readings; given = given; back = back }
 
--- Nothing was read or written, no reading was taken, and no link was given or taken back.
--- Shown by: bad-arguments.
-pub record IsUnbegun {L : Type 0} (old new : Around L) : Type 0 where
+-- Nothing was read, no reading was taken, and no link was given or taken back.
+-- Shown by: drill-three-events; the_drill_reads_the_clock.edit.
+pub record IsUntouched {L : Type 0} (old new : Around L) : Type 0 where
   pub unread : new.gave ≡ old.gave
-  pub unwritten : new.written ≡ old.written
   pub unclocked : new.readings ≡ old.readings
   pub none_given : new.given ≡ old.given
   pub none_back : new.back ≡ old.back
 
+-- `IsUntouched`, and nothing was written.
+-- Shown by: bad-arguments.
+pub record IsUnbegun {L : Type 0} (old new : Around L) : Type 0 where
+  pub untouched : IsUntouched old new
+  pub unwritten : new.written ≡ old.written
+
 -- `RunsOnce` by the clock, or with every reading the given one while the clock is not read.
--- Shown by: the_clock_stands_still.edit.
+-- Shown by: first-run; .ci/checks/deliveries.py.
 abbrev pub RunsBy : Option ℕ → World → World → Status → Type 0
 RunsBy None old new status = RunsOnce old new status
 RunsBy (Some moment) old new status = (readings : List ℕ) × All (λ r. r ≡ moment) readings
     × RunsOnce (record old { readings = [] }) (record new { readings = readings }) status × (new.readings ≡ old.readings)
 
 -- The host gave one link, a session had it (`RunsBy`), and the host took it back. `answered` and `faults` are what a link shows.
--- Shown by: program_tests program.rt: a_run_gives_its_link_back; delivers_by_its_own_link.edit; a_text_is_sent_beside.edit.
+-- Shown by: program_tests program.rt: a_run_gives_its_link_back; delivers_by_its_own_link.edit.
 pub record RunsLinked {L : Type 0} (answered : L → List Exchange) (faults : L → ℕ) (now : Option ℕ) (old new : Around L) (status : Status)
     : Type 0 where
   -- the link as it was given, and as it was taken back

@@ -1,10 +1,12 @@
-//! The program: one session over its streams, or workers that serve the connections of a port side by side.
+//! The program: one session over its streams, workers that serve the connections of a port side by side, or a drill.
 #![tactic(auto)]
 
 mod clerk;
 mod door;
+mod drill;
 mod places;
 mod program;
+mod script;
 mod serve;
 mod still;
 

@@ -1,27 +1,33 @@
 //! The program.
-ghost use Rattle.std.specs.Prelude.{◌≡◌, ◌≢◌, ◌∷◌, ℕ, List, [], All, Option, map, string_bytes};
-ghost use Rattle.program_lines.specs.Command.{IsCommand};
-ghost use Rattle.program_lines.specs.declared.command.Command.{Command as Action};
-ghost use Rattle.program_lines.specs.declared.command.Command.TheVariants as commands;
+ghost use Rattle.std.specs.Prelude.{◌≡◌, ◌≢◌, ◌⊎◌, ◌∷◌, ◌++◌, ◌≤◌, ℕ, List, [], All, Option, map, string_bytes};
+ghost use Rattle.command_line.specs.Command.{CommandView, IsCommand, command_view};
+ghost use Rattle.command_line.specs.Command as commands;
+ghost use Rattle.command_line.specs.Fault.{AreRefused};
+ghost use Rattle.command_line.specs.Line.{IsLine};
+ghost use Rattle.program_lines.specs.Files.{workers_for};
 ghost use Rattle.program_lines.specs.declared.status.Status.TheVariants as statuses;
 ghost use Rattle.turn_book.specs.Passes.{view, IsFree};
-ghost use Rattle.bus_server.specs.Run.{IsRun, RunsBy, RunsOnce, IsUnbegun, IsReported, FaultsMatch, HostMatches};
+ghost use Rattle.bus_server.specs.Run.{IsRun, RunsBy, RunsOnce, IsUntouched, IsReported, IsReportedLast, FaultsMatch, HostMatches};
 ghost use Rattle.bus_server.specs.Run.{around, status_of};
+ghost use Rattle.bus_server.specs.Words.{EndsBy, EndsUnread};
 ghost use Rattle.router_sessions.specs.History.{Turn};
 ghost use Rattle.router_sessions.specs.Book.{opening};
 ghost use Rattle.router_sessions.specs.Desk.{turns_seen};
 ghost use Rattle.bus_host.specs.Host.{SameGiven};
 ghost use Rattle.shared_door.specs.Shown.{shown_by};
 ghost use Rattle.bus_server.specs.Serve.{around_door, IsServe};
+ghost use Rattle.bus_server.specs.Drill.{IsDrill};
 ghost use Rattle.router_sessions.specs.Visit.{IsVisit};
 ghost use Rattle.router_sessions.specs.Acts.{world};
 
+use crate::drill::drill;
 use crate::serve::serve;
 use crate::still::{Moment, StillClock};
 use bus_host::{Host, HostFault, NoGate};
+use command_line::{Command, WordsFault, read_command};
 use json_text::NoMemory;
-use program_lines::{Command, Status, read_command};
-use router_disk::{Clock, Link, Sink, Source};
+use program_lines::{Status, fitting_workers};
+use router_disk::{Clock, Failed, Link, Sink, Source};
 use router_sessions::{Book, SessionEnd, serve_session};
 use std::alloc::Global;
 use std::marker::Brand;
@@ -30,70 +36,178 @@ use std::thread::Threads;
 use turn_book::{Hall, Pass};
 
 /// The number of the connection in a program that serves one session.
-const ONLY_CONNECTION: u64 = 0;
+pub(crate) const ONLY_CONNECTION: u64 = 0;
 
 /// Runs the program on its arguments. The first is its name. With `once` it serves one session over its input and output; after
-/// `--now S`, S is every reading of the clock, in seconds. With `serve` it serves connections to a port, each as a session of
-/// its own. Arguments are checked first; then memory is allocated, then the host gives links and a door. A program that serves
-/// needs memory once more after it printed its port, and at its end.
+/// `--now S`, S is every reading of the clock, in seconds. With `serve` it serves connections to a port, each as a session of its own,
+/// with fewer workers if the process may not have as many open files (`files`) as they need. With `drill` it serves sessions over
+/// messages that it makes. Arguments are read first; then memory is allocated, then the host gives links and a door. A program that
+/// serves needs memory once more after it printed its port, and at its end. Before the line of the status, `faults` gets why words are
+/// refused, or how many workers there are if they are fewer.
 pub fn run<Rt: Wait + Threads + Sync, S: Source, K: Sink, E: Sink, H: Host, C: Clock>(
     rt: &Rt,
     alloc: Global,
     words: &[String],
+    files: u64,
     input: &mut S,
     output: &mut K,
     faults: &mut E,
     host: &mut H,
     clock: &mut C,
 ) -> Status
-    ensures run { (now : Option ℕ) → IsCommand (map string_bytes words.now) (commands.Once now) → IsRun H.Link.exchanges H.Link.faults now
+    ensures run { (now : Option ℕ) → IsCommand (map string_bytes words.now) (commands.once now) → IsRun H.Link.exchanges H.Link.faults now
         (around (S.gave input.old) (K.wrote output.old) (C.gave clock.old) (H.links_given host.old) (H.links_back host.old))
         (around (S.gave input.new) (K.wrote output.new) (C.gave clock.new) (H.links_given host.new) (H.links_back host.new)) result }
-    ensures serve { (port workers : ℕ) (connections : Option ℕ) → IsCommand (map string_bytes words.now) (commands.Serve port workers connections)
+    ensures serve { (port workers : ℕ) (connections : Option ℕ) → IsCommand (map string_bytes words.now) (commands.serve port workers connections)
         → (S.gave input.new ≡ S.gave input.old) × IsServe (shown_by H.Door.faults H.Door.ahead H.Door.given H.Door.ended H.Door.gave H.Door.took_back H.Door.closed)
-        (IsVisit H.Door.In.gave H.Door.Out.wrote H.Door.In.faults H.Door.Out.faults) port workers connections
+        (IsVisit H.Door.In.gave H.Door.Out.wrote H.Door.In.faults H.Door.Out.faults) port (workers_for files workers) connections
         (around_door (K.wrote output.old) (H.doors_given host.old) (H.doors_back host.old) (H.links_given host.old) (H.links_back host.old)
         (H.door_faults host.old) (H.link_faults host.old))
         (around_door (K.wrote output.new) (H.doors_given host.new) (H.doors_back host.new) (H.links_given host.new) (H.links_back host.new)
         (H.door_faults host.new) (H.link_faults host.new)) result }
-    ensures usage { ((c : Action) → ¬ IsCommand (map string_bytes words.now) c)
-        → (result ≡ statuses.Usage) × IsUnbegun
+    ensures drill { (seed events : ℕ) → IsCommand (map string_bytes words.now) (commands.drill seed events) → IsUntouched
         (around (S.gave input.old) (K.wrote output.old) (C.gave clock.old) (H.links_given host.old) (H.links_back host.old))
-        (around (S.gave input.new) (K.wrote output.new) (C.gave clock.new) (H.links_given host.new) (H.links_back host.new)) }
-    ensures reported { IsReported result (E.wrote faults.old) (E.wrote faults.new) (E.faults faults.old) (E.faults faults.new) }
+        (around (S.gave input.new) (K.wrote output.new) (C.gave clock.new) (H.links_given host.new) (H.links_back host.new))
+        × IsDrill seed events (K.wrote output.old) (K.wrote output.new) result }
+    ensures unread { ((c : CommandView) → ¬ IsCommand (map string_bytes words.now) c) → IsUntouched
+        (around (S.gave input.old) (K.wrote output.old) (C.gave clock.old) (H.links_given host.old) (H.links_back host.old))
+        (around (S.gave input.new) (K.wrote output.new) (C.gave clock.new) (H.links_given host.new) (H.links_back host.new))
+        × EndsUnread (map string_bytes words.now) (K.wrote output.old) (K.wrote output.new) result }
+    ensures usage { result ≡ statuses.Usage → AreRefused (map string_bytes words.now) }
+    ensures line { (c : CommandView) → IsLine (map string_bytes words.now) c → result ≢ statuses.Usage }
+    ensures last { IsReportedLast result (E.wrote faults.old) (E.wrote faults.new) (E.faults faults.old) (E.faults faults.new) }
+    ensures reported { result ≢ statuses.Usage
+        → ((port workers : ℕ) (connections : Option ℕ) → ¬ IsCommand (map string_bytes words.now) (commands.serve port workers connections))
+        → IsReported result (E.wrote faults.old) (E.wrote faults.new) (E.faults faults.old) (E.faults faults.new) }
     ensures counts { FaultsMatch result (S.faults input.old) (S.faults input.new) (K.faults output.old) (K.faults output.new) }
     ensures disk { H.disk_faults host.new ≡ H.disk_faults host.old }
-    ensures host { ((port workers : ℕ) (connections : Option ℕ) → ¬ IsCommand (map string_bytes words.now) (commands.Serve port workers connections))
+    ensures host { ((port workers : ℕ) (connections : Option ℕ) → ¬ IsCommand (map string_bytes words.now) (commands.serve port workers connections))
         → HostMatches H.disk_faults H.door_faults H.link_faults result host.old host.new × SameGiven H.doors_given H.doors_back host.old host.new }
 {
-    match read_command(words) {
-        Some(Command::Once { now }) => {
+    match read_command(alloc, words) {
+        Ok(command) => obey(
+            rt, alloc, command, files, input, output, faults, host, clock,
+        ),
+        Err(fault) => explain(fault, output, faults),
+    }
+}
+
+/// Carries out a command, and reports the status.
+fn obey<Rt: Wait + Threads + Sync, S: Source, K: Sink, E: Sink, H: Host, C: Clock>(
+    rt: &Rt,
+    alloc: Global,
+    command: Command,
+    files: u64,
+    input: &mut S,
+    output: &mut K,
+    faults: &mut E,
+    host: &mut H,
+    clock: &mut C,
+) -> Status
+    requires workers { (port workers : ℕ) (connections : Option ℕ) → command_view command ≡ commands.serve port workers connections
+        → (1 ≤ workers) × (workers ≤ 1024) }
+    ensures run { (now : Option ℕ) → command_view command ≡ commands.once now → IsRun H.Link.exchanges H.Link.faults now
+        (around (S.gave input.old) (K.wrote output.old) (C.gave clock.old) (H.links_given host.old) (H.links_back host.old))
+        (around (S.gave input.new) (K.wrote output.new) (C.gave clock.new) (H.links_given host.new) (H.links_back host.new)) result }
+    ensures serve { (port workers : ℕ) (connections : Option ℕ) → command_view command ≡ commands.serve port workers connections
+        → (S.gave input.new ≡ S.gave input.old) × IsServe (shown_by H.Door.faults H.Door.ahead H.Door.given H.Door.ended H.Door.gave H.Door.took_back H.Door.closed)
+        (IsVisit H.Door.In.gave H.Door.Out.wrote H.Door.In.faults H.Door.Out.faults) port (workers_for files workers) connections
+        (around_door (K.wrote output.old) (H.doors_given host.old) (H.doors_back host.old) (H.links_given host.old) (H.links_back host.old)
+        (H.door_faults host.old) (H.link_faults host.old))
+        (around_door (K.wrote output.new) (H.doors_given host.new) (H.doors_back host.new) (H.links_given host.new) (H.links_back host.new)
+        (H.door_faults host.new) (H.link_faults host.new)) result }
+    ensures drill { (seed events : ℕ) → command_view command ≡ commands.drill seed events → IsUntouched
+        (around (S.gave input.old) (K.wrote output.old) (C.gave clock.old) (H.links_given host.old) (H.links_back host.old))
+        (around (S.gave input.new) (K.wrote output.new) (C.gave clock.new) (H.links_given host.new) (H.links_back host.new))
+        × IsDrill seed events (K.wrote output.old) (K.wrote output.new) result }
+    ensures usage { result ≢ statuses.Usage }
+    ensures last { IsReportedLast result (E.wrote faults.old) (E.wrote faults.new) (E.faults faults.old) (E.faults faults.new) }
+    ensures reported { ((port workers : ℕ) (connections : Option ℕ) → command_view command ≢ commands.serve port workers connections)
+        → IsReported result (E.wrote faults.old) (E.wrote faults.new) (E.faults faults.old) (E.faults faults.new) }
+    ensures counts { FaultsMatch result (S.faults input.old) (S.faults input.new) (K.faults output.old) (K.faults output.new) }
+    ensures disk { H.disk_faults host.new ≡ H.disk_faults host.old }
+    ensures host { ((port workers : ℕ) (connections : Option ℕ) → command_view command ≢ commands.serve port workers connections)
+        → HostMatches H.disk_faults H.door_faults H.link_faults result host.old host.new × SameGiven H.doors_given H.doors_back host.old host.new }
+{
+    match command {
+        Command::Once { now } => {
             let status = once(rt, alloc, now, input, output, host, clock);
             report(faults, status);
             status
         }
-        Some(
-            Command::Serve {
-                port,
-                workers,
-                connections,
-            },
-        ) => {
-            let status = serve(rt, alloc, port, workers, connections, output, host, clock);
+        Command::Serve {
+            port,
+            workers,
+            connections,
+        } => {
+            let fitting = fitting_workers(files, workers);
+            announce(alloc, faults, files, workers, fitting);
+            let status = serve(rt, alloc, port, fitting, connections, output, host, clock);
             report(faults, status);
             status
         }
-        None => refuse(faults),
+        Command::Drill { seed, events } => {
+            let status = drill(rt, alloc, seed, events, output);
+            report(faults, status);
+            status
+        }
     }
 }
 
-/// Reports bad arguments.
-fn refuse<E: Sink>(faults: &mut E) -> Status
-    ensures usage { result ≡ statuses.Usage }
-    ensures reported { IsReported result (E.wrote faults.old) (E.wrote faults.new) (E.faults faults.old) (E.faults faults.new) }
+/// Writes what words get that are not carried out, and reports the status.
+fn explain<K: Sink, E: Sink>(fault: WordsFault, output: &mut K, faults: &mut E) -> Status
+    ensures ends { EndsBy fault (K.wrote output.old) (K.wrote output.new) result }
+    ensures last { IsReportedLast result (E.wrote faults.old) (E.wrote faults.new) (E.faults faults.old) (E.faults faults.new) }
+    ensures reported { result ≢ statuses.Usage → IsReported result (E.wrote faults.old) (E.wrote faults.new) (E.faults faults.old) (E.faults faults.new) }
+    ensures counts { (reads : ℕ) → FaultsMatch result reads reads (K.faults output.old) (K.faults output.new) }
 {
-    report(faults, Status::Usage);
-    Status::Usage
+    match fault {
+        WordsFault::Help(text) => {
+            let status = show(output, text.as_str());
+            report(faults, status);
+            status
+        }
+        WordsFault::Refused(text) => {
+            say(faults, text.as_str());
+            report(faults, Status::Usage);
+            Status::Usage
+        }
+        WordsFault::NoMemory => {
+            report(faults, Status::NoMemory);
+            Status::NoMemory
+        }
+    }
+}
+
+/// Writes a text that was asked for.
+fn show<K: Sink>(output: &mut K, text: &str) -> Status
+    ensures shown { ((result ≡ statuses.Done) ⊎ (result ≡ statuses.WriteFault))
+        × ((written : List ℕ) × (K.wrote output.new ≡ K.wrote output.old ++ written)) }
+    ensures counts { (reads : ℕ) → FaultsMatch result reads reads (K.faults output.old) (K.faults output.new) }
+{
+    match output.write_all(text.as_bytes()) {
+        Ok(()) => Status::Done,
+        Err(Failed) => Status::WriteFault,
+    }
+}
+
+/// Says so if there are fewer workers than asked for. If memory runs out, nothing is said.
+fn announce<E: Sink>(alloc: Global, faults: &mut E, files: u64, workers: u16, fitting: u16)
+    ensures { (why : List ℕ) × (E.wrote faults.new ≡ E.wrote faults.old ++ why) × (E.faults faults.old ≤ E.faults faults.new) }
+{
+    if fitting < workers {
+        match format!(in alloc; "ebusd: {files} open files are allowed: {fitting} workers\n") {
+            Ok(line) => say(faults, line.as_str()),
+            Err(_refused) => (),
+        }
+    }
+}
+
+/// Writes a text. A failed write changes only the sink.
+fn say<E: Sink>(faults: &mut E, text: &str)
+    ensures { (why : List ℕ) × (E.wrote faults.new ≡ E.wrote faults.old ++ why) × (E.faults faults.old ≤ E.faults faults.new) }
+{
+    let _ = faults.write_all(text.as_bytes());
 }
 
 /// Writes the line of the status. A failed write changes only the sink.

@@ -322,7 +322,7 @@ fn end_status<K: Sink>(alloc: Global, end: DoorEnd, tables: &Tables, output: &mu
 }
 
 /// Prints the summary.
-fn sum_up<K: Sink>(alloc: Global, tables: &Tables, output: &mut K) -> Status
+pub(crate) fn sum_up<K: Sink>(alloc: Global, tables: &Tables, output: &mut K) -> Status
     ensures summed { IsSummed tables.now (K.wrote output.old) (K.wrote output.new) result }
     ensures write_fault { result ≡ statuses.WriteFault → Rose (K.faults output.old) (K.faults output.new) }
     ensures output_faultless { result ≢ statuses.WriteFault → K.faults output.new ≡ K.faults output.old }

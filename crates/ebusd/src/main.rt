@@ -1,10 +1,10 @@
-//! The program `ebusd`: an event router over standard input and output, or over connections to a port.
+//! The program `ebusd`: an event router over standard input and output, or over connections to a port, or a drill.
 #![tactic(auto)]
 
 use bus_server::run;
 use libc::types::rlimit;
 use libc::{RLIMIT_NOFILE, getrlimit};
-use program_lines::{Command, fitting_workers, read_command};
+use program_lines::Status;
 use router_disk::{ReaderSource, SystemClock, WriterSink};
 use std::io::Write;
 use std::process::ExitCode;
@@ -12,7 +12,9 @@ use std::{env, io};
 use tcp_host::TcpHost;
 
 fn main(rt: HostRuntime) -> io::Result<ExitCode> {
-    let words = fitting(&rt, words(&rt)?)?;
+    let Some(words) = words(&rt)? else {
+        return Ok(ExitCode::from(refuse(&rt).code()));
+    };
     let mut input = ReaderSource::new(rt.stdin());
     let mut output = WriterSink::new(rt.stdout());
     let mut faults = WriterSink::new(rt.stderr());
@@ -22,6 +24,7 @@ fn main(rt: HostRuntime) -> io::Result<ExitCode> {
         &rt,
         rt.alloc(),
         words.as_slice(),
+        open_files(),
         &mut input,
         &mut output,
         &mut faults,
@@ -31,30 +34,20 @@ fn main(rt: HostRuntime) -> io::Result<ExitCode> {
     Ok(ExitCode::from(status.code()))
 }
 
-/// The process's arguments. If one is not UTF-8, returns an empty list; `run` reports that as bad arguments.
-fn words(rt: &HostRuntime) -> io::Result<Vec<String>> {
+/// The process's arguments. `None` if one is not UTF-8.
+fn words(rt: &HostRuntime) -> io::Result<Option<Vec<String>>> {
     match env::args(rt) {
-        Ok(words) => Ok(words.collect(rt.alloc())?),
-        Err(fault) if fault.kind() == io::ErrorKind::InvalidData => Ok(Vec::new(rt.alloc())),
+        Ok(words) => Ok(Some(words.collect(rt.alloc())?)),
+        Err(fault) if fault.kind() == io::ErrorKind::InvalidData => Ok(None),
         Err(fault) => Err(fault),
     }
 }
 
-/// The words; with fewer workers if the system allows fewer open files than those asked for need. Then a line says so.
-fn fitting(rt: &HostRuntime, words: Vec<String>) -> io::Result<Vec<String>> {
-    let Some(Command::Serve { workers, .. }) = read_command(words.as_slice()) else {
-        return Ok(words);
-    };
-    let files = open_files();
-    let fitting = fitting_workers(files, workers);
-    if fitting == workers {
-        return Ok(words);
-    }
-    let line = format!(in rt.alloc();
-        "ebusd: {files} open files are allowed: {fitting} workers\n"
-    )?;
-    let _ = rt.stderr().write_all(line.as_bytes());
-    with_workers(rt, words, fitting)
+/// Reports an argument that is not UTF-8.
+fn refuse(rt: &HostRuntime) -> Status {
+    let _ = rt.stderr().write_all(b"ebusd: an argument is not UTF-8\n");
+    let _ = rt.stderr().write_all(Status::Usage.line());
+    Status::Usage
 }
 
 /// How many files the process may have open. If the system does not say, any number.
@@ -65,21 +58,4 @@ fn open_files() -> u64 {
     };
     getrlimit(RLIMIT_NOFILE, &mut limit);
     limit.rlim_cur
-}
-
-/// The words of a command, with another number after `--workers`.
-fn with_workers(rt: &HostRuntime, words: Vec<String>, workers: u16) -> io::Result<Vec<String>> {
-    let mut others = Vec::new(rt.alloc());
-    let mut is_number = false;
-    for word in words {
-        let is_name = word.as_str() == "--workers";
-        let other = if is_number {
-            format!(in rt.alloc(); "{workers}")?
-        } else {
-            word
-        };
-        others.push(other)?;
-        is_number = is_name;
-    }
-    Ok(others)
 }

@@ -1,15 +1,16 @@
 //! What follows from the clauses of `run` alone.
 ghost use Rattle.std.specs.Prelude.{◌≡◌, ◌⊎◌, ℕ, Option, map, string_bytes};
 ghost use Rattle.std.specs.List.{concat};
-ghost use Rattle.program_lines.specs.Command.{IsCommand};
-ghost use Rattle.program_lines.specs.declared.command.Command.TheVariants as commands;
+ghost use Rattle.command_line.specs.Command.{IsCommand};
+ghost use Rattle.command_line.specs.Command as commands;
 ghost use Rattle.program_lines.specs.declared.status.Status.TheVariants as statuses;
 ghost use Rattle.program_tests.specs.Printed.{IsPrinted};
 
-use crate::runs::words;
+use crate::runs::{ANY_FILES, words};
 use bus_host::{Host, MemDoor, MemHost};
 use bus_server::run;
-use program_lines::{Command, Status, read_command};
+use command_line::{Command, read_command};
+use program_lines::Status;
 use router_disk::{Clock, LinkFault, MemClock, MemLink, MemSink, MemSource, Sink, Source};
 use std::alloc::Global;
 use std::collections::LinkedList;
@@ -29,12 +30,14 @@ fn once_of_nothing<R: Wait + Threads + Sync, S: Source, K: Sink, E: Sink, H: Hos
     host: &mut H,
     clock: &mut C,
 ) -> Status
-    requires once { (now : Option ℕ) × IsCommand (map string_bytes words.now) (commands.Once now) }
+    requires once { (now : Option ℕ) × IsCommand (map string_bytes words.now) (commands.once now) }
     ensures silent { concat (S.gave input.new) ≡ concat (S.gave input.old) → K.wrote output.new ≡ K.wrote output.old }
     ensures ends { concat (S.gave input.new) ≡ concat (S.gave input.old)
         → (result ≡ statuses.Done) ⊎ ((result ≡ statuses.NoMemory) ⊎ ((result ≡ statuses.ReadFault) ⊎ (result ≡ statuses.DoorFault))) }
 {
-    run(rt, alloc, words, input, output, faults, host, clock)
+    run(
+        rt, alloc, words, ANY_FILES, input, output, faults, host, clock,
+    )
 }
 
 /// Runs `serve`. If it ends as done, it printed its port, and then the summary of a legal history (`IsPrinted`).
@@ -51,11 +54,13 @@ fn serve_to_the_end<R: Wait + Threads + Sync, S: Source, K: Sink, E: Sink, H: Ho
     host: &mut H,
     clock: &mut C,
 ) -> Status
-    requires serve { IsCommand (map string_bytes words.now) (commands.Serve port workers connections) }
+    requires serve { IsCommand (map string_bytes words.now) (commands.serve port workers connections) }
     ensures unread { S.gave input.new ≡ S.gave input.old }
     ensures printed { result ≡ statuses.Done → IsPrinted port (K.wrote output.old) (K.wrote output.new) }
 {
-    run(rt, alloc, words, input, output, faults, host, clock)
+    run(
+        rt, alloc, words, ANY_FILES, input, output, faults, host, clock,
+    )
 }
 
 /// Runs the command of these words, by the two calls above.
@@ -69,8 +74,8 @@ fn done<R: Wait + Threads + Sync, H: Host>(
     let mut input = MemSource::new(Vec::new(alloc));
     let mut faults = MemSink::new(alloc);
     let mut clock = MemClock::always(alloc, NOW);
-    match read_command(words) {
-        Some(Command::Once { now: _ }) => Some(once_of_nothing(
+    match read_command(alloc, words) {
+        Ok(Command::Once { now: _ }) => Some(once_of_nothing(
             rt,
             alloc,
             words,
@@ -80,7 +85,7 @@ fn done<R: Wait + Threads + Sync, H: Host>(
             host,
             &mut clock,
         )),
-        Some(
+        Ok(
             Command::Serve {
                 port,
                 workers,
@@ -99,7 +104,8 @@ fn done<R: Wait + Threads + Sync, H: Host>(
             host,
             &mut clock,
         )),
-        None => None,
+        Ok(Command::Drill { .. }) => None,
+        Err(_fault) => None,
     }
 }
 

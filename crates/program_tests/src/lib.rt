@@ -4,6 +4,8 @@
 #[cfg(test)]
 mod clauses;
 #[cfg(test)]
+mod drill;
+#[cfg(test)]
 mod program;
 #[cfg(test)]
 mod runs;

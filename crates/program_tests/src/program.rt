@@ -43,6 +43,7 @@ fn a_host_without_memory_ends_a_run(rt: HostRuntime) {
 
 #[test]
 fn the_words_are_checked_before_a_link_is_given(rt: HostRuntime) {
-    let want = "Usage 2|ebusd: bad arguments\n||0 0|";
+    let want =
+        "Usage 2|error: unrecognized subcommand 'twice'\n\nUsage: ebusd <COMMAND>\n\nFor more information, try '--help'.\nebusd: bad arguments\n||0 0|";
     meet(&rt, rt.alloc(), "ebusd twice||closed|0 200|", want);
 }

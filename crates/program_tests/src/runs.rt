@@ -12,6 +12,9 @@ use std::thread::Threads;
 use test_exchanges::{NOW, messages, wanted};
 use test_rows::{four, two};
 
+/// No limit of open files.
+pub(crate) const ANY_FILES: u64 = u64::MAX;
+
 /// A host over connections in memory.
 pub(crate) type Served = MemHost<MemSource, MemSink>;
 
@@ -87,7 +90,9 @@ fn ran<R: Wait + Threads + Sync>(
     host: &mut Served,
     clock: &mut MemClock,
 ) -> Status {
-    run(rt, alloc, words, input, output, faults, host, clock)
+    run(
+        rt, alloc, words, ANY_FILES, input, output, faults, host, clock,
+    )
 }
 
 /// What a host has back: for each link a `+` with its faults and its answers, for a door `door` with its faults, and the replies of each

@@ -135,7 +135,9 @@ fn without_its_first_line_nothing_is_served(rt: HostRuntime) {
 #[test]
 fn bad_words_open_no_port(rt: HostRuntime) {
     let row = "ebusd serve --port 0 --workers 2||quiet|16 200|";
-    meet(&rt, rt.alloc(), row, "Usage 2|ebusd: bad arguments\n||0 0|");
+    let want =
+        "Usage 2|error: invalid value '0' for '--port <N>': not a whole number from 1 to 65535\n\nFor more information, try '--help'.\nebusd: bad arguments\n||0 0|";
+    meet(&rt, rt.alloc(), row, want);
 }
 
 /// How often the gate looks before it gives up.

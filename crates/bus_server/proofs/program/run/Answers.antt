@@ -1,41 +1,92 @@
-use Rattle.std.proofs.Common.{◌≡◌, ℕ, Option, map, refl, subst, Global}
+use Rattle.std.proofs.Common.{◌≡◌, ◌≢◌, ℕ, List, map, Option, inr, refl, subst, Global}
 use Rattle.std.specs.Prelude.{string_bytes}
-use Rattle.program_lines.specs.declared.command.Command.TheVariants as commands
-use Rattle.program_lines.proofs.OptionLemmas.{command_once}
-use Rattle.shared_door.specs.Shown.{shown_by}
-use Rattle.router_sessions.specs.Visit.{IsVisit}
-use Rattle.bus_server.specs.Run.{IsRun, around}
-use Rattle.bus_server.specs.Serve.{IsServe, around_door}
+use Rattle.command_line.specs.Command.{IsCommand, command_view, once, serve, drill}
+use Rattle.command_line.proofs.LineLemmas.{line_is}
+use Rattle.command_line.proofs.ValueLemmas.{command_once, workers_within}
+use Rattle.program_lines.specs.Files.{workers_for}
+use Rattle.program_lines.specs.declared.status.Status.TheVariants as statuses
+use Rattle.bus_server.specs.Run.{IsUntouched, around}
+use Rattle.bus_server.proofs.WordsLemmas.{unread_by, refused_by, unread_command, unread_once, unread_serve, unread_host, no_door_unread}
 use Rattle.bus_server.proofs.program.run.Goals as goal
 
-pub returns-in-Some-Once-clause-run : goal.returns-in-Some-Once-clause-run
-returns-in-Some-Once-clause-run g c = λ now line.
-    let one = command_once (map (string_bytes {Z = Global}) c.args.words.now) c.in-Some-Once.field-0 (commands.Once now)
-    c.in-Some-Once.ensures.command line in
-    let same : c.in-Some-Once.now ≡ now = cc in
-    subst (λ (n : Option ℕ). IsRun g.H.Link.Link.exchanges g.H.Link.Link.faults n
-    (around (g.S.Source.gave c.args.input.now) (g.K.Sink.wrote c.args.output.now) (g.C.Clock.gave c.args.clock.now)
-    (g.H.Host.links_given c.args.host.now) (g.H.Host.links_back c.args.host.now))
-    (around (g.S.Source.gave c.once-status.new.input) (g.K.Sink.wrote c.once-status.new.output) (g.C.Clock.gave c.once-status.new.clock)
-    (g.H.Host.links_given c.once-status.new.host) (g.H.Host.links_back c.once-status.new.host)) c.once-status.result)
-    same c.once-status.ensures.run
+pub obey-requires-clause-workers : goal.obey-requires-clause-workers
+obey-requires-clause-workers g c κs lives = λ port workers connections is.
+    workers_within (map (string_bytes {Z = Global}) c.args.words.now) port workers connections
+    (subst (IsCommand (map (string_bytes {Z = Global}) c.args.words.now)) is c.in-Ok.ensures.command)
 
-pub returns-in-Some-Serve-clause-serve : goal.returns-in-Some-Serve-clause-serve
-returns-in-Some-Serve-clause-serve g c = λ port workers connections line.
-    let h = g.H.Host in
-    let old = c.args.host.now in let new = c.serve-status.new.host in
-    let one = command_once (map (string_bytes {Z = Global}) c.args.words.now) c.in-Some-Serve.field-0 (commands.Serve port workers connections)
-    c.in-Some-Serve.ensures.command line in
-    let same_port : c.in-Some-Serve.port ≡ port = cc in
-    let same_workers : c.in-Some-Serve.workers ≡ workers = cc in
-    let same_connections : c.in-Some-Serve.connections ≡ connections = cc in
-    let Is : ℕ → ℕ → Option ℕ → Type 0 = λ p w k. IsServe (shown_by g.H.Door.Door.faults g.H.Door.Door.ahead g.H.Door.Door.given g.H.Door.Door.ended g.H.Door.Door.gave g.H.Door.Door.took_back g.H.Door.Door.closed)
-    (IsVisit g.H.Door.In.Source.gave g.H.Door.Out.Sink.wrote g.H.Door.In.Source.faults g.H.Door.Out.Sink.faults) p w k
-    (around_door (g.K.Sink.wrote c.args.output.now) (h.doors_given old) (h.doors_back old) (h.links_given old) (h.links_back old) (h.door_faults old) (h.link_faults old))
-    (around_door (g.K.Sink.wrote c.serve-status.new.output) (h.doors_given new) (h.doors_back new) (h.links_given new) (h.links_back new) (h.door_faults new)
-    (h.link_faults new)) c.serve-status.result in (
-      refl,
-      subst (λ (k : Option ℕ). Is port workers k) same_connections
-          (subst (λ (w : ℕ). Is port w c.in-Some-Serve.connections) same_workers
-          (subst (λ (p : ℕ). Is p c.in-Some-Serve.workers c.in-Some-Serve.connections) same_port c.serve-status.ensures.serve)),
-    )
+pub returns-in-Ok-clause-run : goal.returns-in-Ok-clause-run
+returns-in-Ok-clause-run g c = λ now is. c.obey.ensures.run now
+    (command_once (map (string_bytes {Z = Global}) c.args.words.now) (command_view c.in-Ok.command) (once now) c.in-Ok.ensures.command is)
+
+pub returns-in-Ok-clause-serve : goal.returns-in-Ok-clause-serve
+returns-in-Ok-clause-serve g c = λ port workers connections is. c.obey.ensures.serve port workers connections
+    (command_once (map (string_bytes {Z = Global}) c.args.words.now) (command_view c.in-Ok.command) (serve port workers connections) c.in-Ok.ensures.command is)
+
+pub returns-in-Ok-clause-drill : goal.returns-in-Ok-clause-drill
+returns-in-Ok-clause-drill g c = λ seed events is. c.obey.ensures.drill seed events
+    (command_once (map (string_bytes {Z = Global}) c.args.words.now) (command_view c.in-Ok.command) (drill seed events) c.in-Ok.ensures.command is)
+
+pub returns-in-Ok-clause-unread : goal.returns-in-Ok-clause-unread
+returns-in-Ok-clause-unread g c = λ none. absurd (none (command_view c.in-Ok.command) c.in-Ok.ensures.command)
+
+pub returns-in-Ok-clause-usage : goal.returns-in-Ok-clause-usage
+returns-in-Ok-clause-usage g c = λ is. absurd (c.obey.ensures.usage is)
+
+pub returns-in-Ok-clause-line : goal.returns-in-Ok-clause-line
+returns-in-Ok-clause-line g c = λ command line. c.obey.ensures.usage
+
+pub returns-in-Ok-clause-reported : goal.returns-in-Ok-clause-reported
+returns-in-Ok-clause-reported g c = λ other none. c.obey.ensures.reported (λ port workers connections is. none port workers connections
+    (subst (IsCommand (map (string_bytes {Z = Global}) c.args.words.now)) is c.in-Ok.ensures.command))
+
+pub returns-in-Ok-clause-host : goal.returns-in-Ok-clause-host
+returns-in-Ok-clause-host g c = λ none. c.obey.ensures.host (λ port workers connections is. none port workers connections
+    (subst (IsCommand (map (string_bytes {Z = Global}) c.args.words.now)) is c.in-Ok.ensures.command))
+
+pub returns-in-Err-clause-run : goal.returns-in-Err-clause-run
+returns-in-Err-clause-run g c = λ now is.
+    unread_once g.H.Link.Link.exchanges g.H.Link.Link.faults now _ _ _ _ _ _ c.explain.result
+    (unread_command (map (string_bytes {Z = Global}) c.args.words.now) (once now) c.in-Err.fault _ _ c.explain.result is c.in-Err.ensures.fault c.explain.ensures.ends)
+
+pub returns-in-Err-clause-serve : goal.returns-in-Err-clause-serve
+returns-in-Err-clause-serve g c = λ port workers connections is. (
+  refl,
+  inr (unread_serve port (workers_for c.args.files workers) _ _ _ _ _ _ _ _ c.explain.result
+      (unread_command (map (string_bytes {Z = Global}) c.args.words.now) (serve port workers connections) c.in-Err.fault _ _ c.explain.result is c.in-Err.ensures.fault
+      c.explain.ensures.ends)),
+)
+
+pub returns-in-Err-clause-drill : goal.returns-in-Err-clause-drill
+returns-in-Err-clause-drill g c = λ seed events is. (
+  record { unread = refl; unclocked = refl; none_given = refl; none_back = refl },
+  inr (unread_command (map (string_bytes {Z = Global}) c.args.words.now) (drill seed events) c.in-Err.fault _ _ c.explain.result is c.in-Err.ensures.fault
+      c.explain.ensures.ends),
+)
+
+pub returns-in-Err-clause-unread : goal.returns-in-Err-clause-unread
+returns-in-Err-clause-unread g c = λ none. (
+  record { unread = refl; unclocked = refl; none_given = refl; none_back = refl },
+  unread_by (map (string_bytes {Z = Global}) c.args.words.now) c.in-Err.fault _ _ c.explain.result c.in-Err.ensures.fault c.explain.ensures.ends,
+)
+
+pub returns-in-Err-clause-usage : goal.returns-in-Err-clause-usage
+returns-in-Err-clause-usage g c = λ is.
+    refused_by (map (string_bytes {Z = Global}) c.args.words.now) c.in-Err.fault _ _ c.explain.result c.in-Err.ensures.fault c.explain.ensures.ends is
+
+pub returns-in-Err-clause-line : goal.returns-in-Err-clause-line
+returns-in-Err-clause-line g c = λ command line is.
+    (refused_by (map (string_bytes {Z = Global}) c.args.words.now) c.in-Err.fault _ _ c.explain.result c.in-Err.ensures.fault c.explain.ensures.ends is).0
+    command (line_is (map (string_bytes {Z = Global}) c.args.words.now) command line)
+
+pub returns-in-Err-clause-reported : goal.returns-in-Err-clause-reported
+returns-in-Err-clause-reported g c = λ other none. c.explain.ensures.reported other
+
+pub returns-in-Err-clause-counts : goal.returns-in-Err-clause-counts
+returns-in-Err-clause-counts g c = c.explain.ensures.counts (g.S.Source.faults c.args.input.now)
+
+pub returns-in-Err-clause-host : goal.returns-in-Err-clause-host
+returns-in-Err-clause-host g c = λ none. (
+  unread_host g.H.Host.disk_faults g.H.Host.door_faults g.H.Host.link_faults c.explain.result c.args.host.now
+      (no_door_unread c.in-Err.fault _ _ c.explain.result c.explain.ensures.ends),
+  record { same_given = refl; same_back = refl },
+)

@@ -1,0 +1,180 @@
+-- Words that are not carried out. Other files cite `unread_by`, `refused_by`, `unread_command` with `unread_once`, `unread_serve` and `unread_drill` (a
+-- command for which there is no memory), `no_door_unread`, `no_usage_serve`, `no_usage_drill`, `said`, `reported_last`,
+-- `reported_alone`; `same_once` and the others of commands.
+use Rattle.std.proofs.Common.{◌≡◌, ◌≢◌, ℕ, ◌<◌, ◌≤◌, ◌⊎◌, inl, inr, Bool, List, [], ◌++◌, Option, Result, Ok, Err, refl, sym, subst, arith, append-nil}
+use Rattle.program_lines.specs.declared.status.Status.{Status}
+use Rattle.program_lines.specs.declared.status.Status.TheVariants as statuses
+use Rattle.command_line.specs.Command.{CommandView, IsCommand, once, serve, drill}
+use Rattle.command_line.specs.Fault.{AreRefused, IsFault}
+use Rattle.command_line.specs.declared.fault.WordsFault.{WordsFault}
+use Rattle.command_line.specs.declared.fault.WordsFault.TheVariants as faults
+use Rattle.command_line.proofs.FaultLemmas.{command_asks}
+use Rattle.router_disk.specs.Faults.{CountsFaults, Rose}
+use Rattle.router_disk.specs.Link.{Exchange}
+use Rattle.router_disk.specs.Sink.{AddsBytes}
+use Rattle.shared_door.specs.Shown.{Shown}
+use Rattle.door_workers.specs.declared.door.DoorEnd.{DoorEnd}
+use Rattle.door_workers.specs.declared.door.DoorEnd.TheVariants as ends
+use Rattle.router_core.specs.Tables.{Tables}
+use Rattle.router_sessions.specs.declared.history.Turn.{Turn}
+use Rattle.router_sessions.specs.History.{state_of}
+use Rattle.bus_server.specs.Drill.{IsDrill}
+use Rattle.program_lines.specs.Files.{workers_for}
+use Rattle.bus_server.specs.Run.{FaultsMatch, HostMatches, IsReported, IsReportedLast, IsRun, IsUnbegun, around}
+use Rattle.bus_server.specs.Serve.{AroundDoor, EndsServing, EndsUnserved, IsServe, IsSummed, IsUnserved, around_door}
+use Rattle.bus_server.specs.Words.{EndsBy, EndsUnread}
+use Rattle.bus_server.proofs.ServeLemmas.{no_room}
+
+-- what comes of words, by why they are not carried out
+pub unread_by : (words : List (List ℕ)) (fault : WordsFault) (old new : List ℕ) (status : Status) → IsFault words fault → EndsBy fault old new status
+    → EndsUnread words old new status
+unread_by words (faults.Help help) old new status is (ends, (text, written)) = inl (is, ends, (text, written))
+unread_by words (faults.Refused text) old new status is (ends, same) = inr (inl (ends, is, same))
+unread_by words faults.NoMemory old new status is (ends, same) = inr (inr (ends, same))
+
+-- only refused words end so
+pub refused_by : (words : List (List ℕ)) (fault : WordsFault) (old new : List ℕ) (status : Status) → IsFault words fault → EndsBy fault old new status
+    → status ≡ statuses.Usage → AreRefused words
+refused_by words (faults.Help text) old new status is (inl done, written) usage = cc
+refused_by words (faults.Help text) old new status is (inr fault, written) usage = cc
+refused_by words (faults.Refused text) old new status is ends usage = is
+refused_by words faults.NoMemory old new status is (ends, same) usage = cc
+
+-- a command that is not carried out: memory ran out
+pub unread_command : (words : List (List ℕ)) (c : CommandView) (fault : WordsFault) (old new : List ℕ) (status : Status) → IsCommand words c → IsFault words fault
+    → EndsBy fault old new status → (status ≡ statuses.NoMemory) × (new ≡ old)
+unread_command words c (faults.Help text) old new status command asks ends = absurd (command_asks words c command asks)
+unread_command words c (faults.Refused text) old new status command refused ends = absurd (refused.0 c command)
+unread_command words c faults.NoMemory old new status command is ends = ends
+
+pub no_door_unread : (fault : WordsFault) (old new : List ℕ) (status : Status) → EndsBy fault old new status → status ≢ statuses.DoorFault
+no_door_unread (faults.Help text) old new status (inl done, written) = λ e. cc
+no_door_unread (faults.Help text) old new status (inr is, written) = λ e. cc
+no_door_unread (faults.Refused text) old new status (is, same) = λ e. cc
+no_door_unread faults.NoMemory old new status (is, same) = λ e. cc
+
+-- nothing was begun, given that nothing was written
+pub unread_once : {L : Type 0} (answered : L → List Exchange) (faults : L → ℕ) (now : Option ℕ) (gave : List (List ℕ)) (written written_new readings : List ℕ)
+    (given back : List L) (status : Status) → (status ≡ statuses.NoMemory) × (written_new ≡ written)
+    → IsRun answered faults now (around gave written readings given back) (around gave written_new readings given back) status
+unread_once answered faults now gave written written_new readings given back status (is, same) =
+    let none : IsUnbegun (around gave written readings given back) (around gave written_new readings given back) =
+    record { untouched = record { unread = refl; unclocked = refl; none_given = refl; none_back = refl }; unwritten = same } in
+    inr (inl is, none)
+
+pub unread_serve : {D L : Type 0} (port workers : ℕ) (written written_new : List ℕ) (doors : List (ℕ × D)) (doors_back : List D) (links links_back : List L)
+    (door_faults link_faults : ℕ) (status : Status) → (status ≡ statuses.NoMemory) × (written_new ≡ written)
+    → IsUnserved port workers (around_door written doors doors_back links links_back door_faults link_faults)
+    (around_door written_new doors doors_back links links_back door_faults link_faults) status
+unread_serve {D} {L} port workers written written_new doors doors_back links links_back door_faults link_faults status (is, same) =
+    subst (λ (w : List ℕ). IsUnserved port workers (around_door written doors doors_back links links_back door_faults link_faults)
+    (around_door w doors doors_back links links_back door_faults link_faults) status) (sym same)
+    (no_room port workers (around_door written doors doors_back links links_back door_faults link_faults) status is)
+
+no_usage_summed : (t : Tables) (old new : List ℕ) (status : Status) → IsSummed t old new status → status ≢ statuses.Usage
+no_usage_summed t old new status (inl (is, written)) = λ e. cc
+no_usage_summed t old new status (inr (inl (is, written))) = λ e. cc
+no_usage_summed t old new status (inr (inr (is, written))) = λ e. cc
+
+no_usage_ending : (end : DoorEnd) (t : Tables) (old new : List ℕ) (status : Status) → EndsServing end t old new status → status ≢ statuses.Usage
+no_usage_ending ends.Done t old new status is = no_usage_summed t old new status is
+no_usage_ending ends.DoorFault t old new status (is, same) = λ e. cc
+no_usage_ending ends.NoMemory t old new status is = absurd is
+
+no_usage_unserved : {D L : Type 0} (port : ℕ) (old new : AroundDoor D L) (status : Status) → EndsUnserved port old new status → status ≢ statuses.Usage
+no_usage_unserved port old new status (inl (is, same, one)) = λ e. cc
+no_usage_unserved port old new status (inr (inl (is, part))) = λ e. cc
+no_usage_unserved port old new status (inr (inr (is, written))) = λ e. cc
+
+pub no_usage_serve : {D L I O : Type 0} (show : D → Shown I O) (fits : ℕ → I × O → I × O → Bool → List Turn → List Turn → Type 0) (port workers : ℕ)
+    (connections : Option ℕ) (old new : AroundDoor D L) (status : Status) → IsServe show fits port workers connections old new status → status ≢ statuses.Usage
+no_usage_serve show fits port workers connections old new status (inl served) =
+    no_usage_ending served.opened.end _ _ new.written status served.opened.ends
+no_usage_serve show fits port workers connections old new status (inr unserved) = no_usage_unserved port old new status unserved.cause
+
+pub no_usage_drill : (seed events : ℕ) (old new : List ℕ) (status : Status) → IsDrill seed events old new status → status ≢ statuses.Usage
+no_usage_drill seed events old new status (inl (turns, drilled, one, summed)) = no_usage_summed (state_of turns).tables old new status summed
+no_usage_drill seed events old new status (inr (is, same)) = λ e. cc
+
+-- a text was written, or a first part of it
+pub said : {T E : Type 0} (old new : List ℕ) (result : Result T E) (bytes : List ℕ) (faults faults_new : ℕ) → AddsBytes old new result bytes
+    → CountsFaults faults faults_new result → (why : List ℕ) × (new ≡ old ++ why) × (faults ≤ faults_new)
+said old new (Ok done) bytes faults faults_new is count = (bytes, is, count.later)
+said old new (Err fault) bytes faults faults_new (first, rest, whole, is) count = (first, is, count.later)
+
+-- the status's line after what may have been written before
+pub reported_last : (status : Status) (old mid new : List ℕ) (faults faults_mid faults_new : ℕ) → ((why : List ℕ) × (mid ≡ old ++ why) × (faults ≤ faults_mid))
+    → IsReported status mid new faults_mid faults_new → IsReportedLast status old new faults faults_new
+reported_last status old mid new faults faults_mid faults_new (why, is, later) reported = record {
+  why = why;
+  faults_before = faults_mid;
+  later = later;
+  reported = subst (λ (b : List ℕ). IsReported status b new faults_mid faults_new) is reported;
+}
+
+pub reported_alone : (status : Status) (old new : List ℕ) (faults faults_new : ℕ) → IsReported status old new faults faults_new
+    → IsReportedLast status old new faults faults_new
+reported_alone status old new faults faults_new reported = reported_last status old old new faults faults faults_new
+    ([], sym (append-nil old), omega arith) reported
+
+-- a host that was asked nothing
+pub unread_host : {H : Type 0} (disk door link : H → ℕ) (status : Status) (host : H) → status ≢ statuses.DoorFault → HostMatches disk door link status host host
+unread_host disk door link status host other =
+    record { same_disk = refl; same_door = refl; door_fault = λ is. absurd (other is); link_faultless = λ _. refl }
+
+-- as many workers as files are allowed for
+pub fitting_within : (files asked : ℕ) → 1 ≤ asked → asked ≤ 1024 → (0 < workers_for files asked) × (workers_for files asked ≤ 1024)
+fitting_within files asked low high = (grind arith, grind arith)
+
+-- a drill has no fault of the input
+no_door_summed : (t : Tables) (old new : List ℕ) (status : Status) → IsSummed t old new status → (status ≢ statuses.DoorFault) × (status ≢ statuses.ReadFault)
+no_door_summed t old new status (inl (is, written)) = ((λ e. cc), (λ e. cc))
+no_door_summed t old new status (inr (inl (is, written))) = ((λ e. cc), (λ e. cc))
+no_door_summed t old new status (inr (inr (is, written))) = ((λ e. cc), (λ e. cc))
+
+pub no_door_drill : (seed events : ℕ) (old new : List ℕ) (status : Status) → IsDrill seed events old new status
+    → (status ≢ statuses.DoorFault) × (status ≢ statuses.ReadFault)
+no_door_drill seed events old new status (inl (turns, drilled, one, summed)) = no_door_summed (state_of turns).tables old new status summed
+no_door_drill seed events old new status (inr (is, same)) = ((λ e. cc), (λ e. cc))
+
+no_read_summed : (end : DoorEnd) (t : Tables) (old new : List ℕ) (status : Status) → EndsServing end t old new status → status ≢ statuses.ReadFault
+no_read_summed ends.Done t old new status is = (no_door_summed t old new status is).1
+no_read_summed ends.DoorFault t old new status (is, same) = λ e. cc
+no_read_summed ends.NoMemory t old new status is = absurd is
+
+no_read_unserved : {D L : Type 0} (port : ℕ) (old new : AroundDoor D L) (status : Status) → EndsUnserved port old new status → status ≢ statuses.ReadFault
+no_read_unserved port old new status (inl (is, same, one)) = λ e. cc
+no_read_unserved port old new status (inr (inl (is, part))) = λ e. cc
+no_read_unserved port old new status (inr (inr (is, written))) = λ e. cc
+
+pub no_read_serve : {D L I O : Type 0} (show : D → Shown I O) (fits : ℕ → I × O → I × O → Bool → List Turn → List Turn → Type 0) (port workers : ℕ)
+    (connections : Option ℕ) (old new : AroundDoor D L) (status : Status) → IsServe show fits port workers connections old new status → status ≢ statuses.ReadFault
+no_read_serve show fits port workers connections old new status (inl served) =
+    no_read_summed served.opened.end _ _ new.written status served.opened.ends
+no_read_serve show fits port workers connections old new status (inr unserved) = no_read_unserved port old new status unserved.cause
+
+-- the faults of a program that does not read
+pub unread_counts : (status : Status) (reads writes writes_new : ℕ) → status ≢ statuses.ReadFault → (status ≡ statuses.WriteFault → Rose writes writes_new)
+    → (status ≢ statuses.WriteFault → writes_new ≡ writes) → FaultsMatch status reads reads writes writes_new
+unread_counts status reads writes writes_new other rose same =
+    record { read_fault = λ is. absurd (other is); input_faultless = λ _. refl; write_fault = rose; output_faultless = same }
+
+-- ---- commands apart
+
+pub same_once : (a b : Option ℕ) → once a ≡ once b → a ≡ b
+same_once a b is = cc
+
+pub same_serve : (p w p2 w2 : ℕ) (k k2 : Option ℕ) → serve p w k ≡ serve p2 w2 k2 → (p ≡ p2) × (w ≡ w2) × (k ≡ k2)
+same_serve p w p2 w2 k k2 is = (cc, cc, cc)
+
+pub same_drill : (s e s2 e2 : ℕ) → drill s e ≡ drill s2 e2 → (s ≡ s2) × (e ≡ e2)
+same_drill s e s2 e2 is = (cc, cc)
+
+pub once_serve : (a : Option ℕ) (p w : ℕ) (k : Option ℕ) → once a ≡ serve p w k → ⊥
+once_serve a p w k is = cc
+
+pub once_drill : (a : Option ℕ) (s e : ℕ) → once a ≡ drill s e → ⊥
+once_drill a s e is = cc
+
+pub serve_drill : (p w : ℕ) (k : Option ℕ) (s e : ℕ) → serve p w k ≡ drill s e → ⊥
+serve_drill p w k s e is = cc

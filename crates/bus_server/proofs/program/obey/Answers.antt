@@ -1,0 +1,107 @@
+use Rattle.std.proofs.Common.{◌≡◌, ◌∙◌, ◌<◌, ◌≤◌, ℕ, Option, ap, refl, subst, sym}
+use Rattle.command_line.specs.Command.{command_view}
+use Rattle.program_lines.specs.Files.{workers_for}
+use Rattle.shared_door.specs.Shown.{shown_by}
+use Rattle.router_sessions.specs.Visit.{IsVisit}
+use Rattle.bus_server.specs.Drill.{IsDrill}
+use Rattle.bus_server.specs.Run.{IsRun, around}
+use Rattle.bus_server.specs.Serve.{IsServe, around_door}
+use Rattle.bus_server.proofs.RunLemmas.{no_usage}
+use Rattle.bus_server.proofs.WordsLemmas.{fitting_within, no_door_drill, no_usage_drill, no_usage_serve, reported_alone, reported_last, unread_counts, unread_host, once_drill, once_serve, same_drill, same_once, same_serve, serve_drill}
+use Rattle.bus_server.proofs.program.obey.Goals as goal
+
+pub returns-in-Once-clause-run : goal.returns-in-Once-clause-run
+returns-in-Once-clause-run g c = λ now is.
+    let same : c.in-Once.now ≡ now = same_once c.in-Once.now now (sym (ap command_view c.in-Once.is) ∙ is) in
+    subst (λ (n : Option ℕ). IsRun g.H.Link.Link.exchanges g.H.Link.Link.faults n
+    (around (g.S.Source.gave c.args.input.now) (g.K.Sink.wrote c.args.output.now) (g.C.Clock.gave c.args.clock.now)
+    (g.H.Host.links_given c.args.host.now) (g.H.Host.links_back c.args.host.now))
+    (around (g.S.Source.gave c.once-status.new.input) (g.K.Sink.wrote c.once-status.new.output) (g.C.Clock.gave c.once-status.new.clock)
+    (g.H.Host.links_given c.once-status.new.host) (g.H.Host.links_back c.once-status.new.host)) c.once-status.result)
+    same c.once-status.ensures.run
+
+pub returns-in-Once-clause-serve : goal.returns-in-Once-clause-serve
+returns-in-Once-clause-serve g c = λ port workers connections is. absurd (once_serve c.in-Once.now port workers connections (sym (ap command_view c.in-Once.is) ∙ is))
+
+pub returns-in-Once-clause-drill : goal.returns-in-Once-clause-drill
+returns-in-Once-clause-drill g c = λ seed events is. absurd (once_drill c.in-Once.now seed events (sym (ap command_view c.in-Once.is) ∙ is))
+
+pub returns-in-Once-clause-usage : goal.returns-in-Once-clause-usage
+returns-in-Once-clause-usage g c = no_usage g.H.Link.Link.exchanges g.H.Link.Link.faults c.in-Once.now _ _ c.once-status.result c.once-status.ensures.run
+
+pub returns-in-Once-clause-last : goal.returns-in-Once-clause-last
+returns-in-Once-clause-last g c = reported_alone c.once-status.result _ _ _ _ c.report.ensures
+
+pub serve-status-requires-clause-workers : goal.serve-status-requires-clause-workers
+serve-status-requires-clause-workers g c κs lives =
+    let asked = c.requires.workers c.in-Serve.port c.in-Serve.workers c.in-Serve.connections (ap command_view c.in-Serve.is) in
+    subst (λ (n : ℕ). (0 < n) × (n ≤ 1024)) (sym c.fitting_workers-fitting.ensures) (fitting_within c.args.files c.in-Serve.workers asked.0 asked.1)
+
+pub returns-in-Serve-clause-run : goal.returns-in-Serve-clause-run
+returns-in-Serve-clause-run g c = λ now is. absurd (once_serve now c.in-Serve.port c.in-Serve.workers c.in-Serve.connections (sym is ∙ ap command_view c.in-Serve.is))
+
+pub returns-in-Serve-clause-drill : goal.returns-in-Serve-clause-drill
+returns-in-Serve-clause-drill g c = λ seed events is. absurd (serve_drill c.in-Serve.port c.in-Serve.workers c.in-Serve.connections seed events (sym (ap command_view c.in-Serve.is) ∙ is))
+
+pub returns-in-Serve-clause-serve : goal.returns-in-Serve-clause-serve
+returns-in-Serve-clause-serve g c = λ port workers connections is.
+    let h = g.H.Host in
+    let old = c.args.host.now in let new = c.serve-status.new.host in
+    let (same_port, same_workers, same_connections) =
+    same_serve c.in-Serve.port c.in-Serve.workers port workers c.in-Serve.connections connections (sym (ap command_view c.in-Serve.is) ∙ is) in
+    let Is : ℕ → ℕ → Option ℕ → Type 0 = λ p w k. IsServe (shown_by g.H.Door.Door.faults g.H.Door.Door.ahead g.H.Door.Door.given g.H.Door.Door.ended g.H.Door.Door.gave g.H.Door.Door.took_back g.H.Door.Door.closed)
+    (IsVisit g.H.Door.In.Source.gave g.H.Door.Out.Sink.wrote g.H.Door.In.Source.faults g.H.Door.Out.Sink.faults) p w k
+    (around_door (g.K.Sink.wrote c.args.output.now) (h.doors_given old) (h.doors_back old) (h.links_given old) (h.links_back old) (h.door_faults old) (h.link_faults old))
+    (around_door (g.K.Sink.wrote c.serve-status.new.output) (h.doors_given new) (h.doors_back new) (h.links_given new) (h.links_back new) (h.door_faults new)
+    (h.link_faults new)) c.serve-status.result in (
+      refl,
+      subst (λ (k : Option ℕ). Is port (workers_for c.args.files workers) k) same_connections
+          (subst (λ (w : ℕ). Is port (workers_for c.args.files w) c.in-Serve.connections) same_workers
+          (subst (λ (p : ℕ). Is p (workers_for c.args.files c.in-Serve.workers) c.in-Serve.connections) same_port
+          (subst (λ (w : ℕ). Is c.in-Serve.port w c.in-Serve.connections) c.fitting_workers-fitting.ensures c.serve-status.ensures.serve))),
+    )
+
+pub returns-in-Serve-clause-usage : goal.returns-in-Serve-clause-usage
+returns-in-Serve-clause-usage g c = no_usage_serve _ _ c.in-Serve.port c.fitting_workers-fitting.result c.in-Serve.connections _ _ c.serve-status.result c.serve-status.ensures.serve
+
+pub returns-in-Serve-clause-last : goal.returns-in-Serve-clause-last
+returns-in-Serve-clause-last g c = reported_last c.serve-status.result _ _ _ _ _ _ c.announce.ensures c.report-in-Serve.ensures
+
+pub returns-in-Serve-clause-reported : goal.returns-in-Serve-clause-reported
+returns-in-Serve-clause-reported g c = λ none. absurd (none c.in-Serve.port c.in-Serve.workers c.in-Serve.connections (ap command_view c.in-Serve.is))
+
+pub returns-in-Serve-clause-host : goal.returns-in-Serve-clause-host
+returns-in-Serve-clause-host g c = λ none. absurd (none c.in-Serve.port c.in-Serve.workers c.in-Serve.connections (ap command_view c.in-Serve.is))
+
+pub returns-in-Drill-clause-run : goal.returns-in-Drill-clause-run
+returns-in-Drill-clause-run g c = λ now is. absurd (once_drill now c.in-Drill.seed c.in-Drill.events (sym is ∙ ap command_view c.in-Drill.is))
+
+pub returns-in-Drill-clause-serve : goal.returns-in-Drill-clause-serve
+returns-in-Drill-clause-serve g c = λ port workers connections is. absurd (serve_drill port workers connections c.in-Drill.seed c.in-Drill.events (sym is ∙ ap command_view c.in-Drill.is))
+
+pub returns-in-Drill-clause-drill : goal.returns-in-Drill-clause-drill
+returns-in-Drill-clause-drill g c = λ seed events is.
+    let (same_seed, same_events) = same_drill c.in-Drill.seed c.in-Drill.events seed events (sym (ap command_view c.in-Drill.is) ∙ is) in (
+      record { unread = refl; unclocked = refl; none_given = refl; none_back = refl },
+      subst (λ (n : ℕ). IsDrill seed n (g.K.Sink.wrote c.args.output.now) (g.K.Sink.wrote c.drill-status.new.output) c.drill-status.result) same_events
+          (subst (λ (n : ℕ). IsDrill n c.in-Drill.events (g.K.Sink.wrote c.args.output.now) (g.K.Sink.wrote c.drill-status.new.output) c.drill-status.result) same_seed
+          c.drill-status.ensures.drill),
+    )
+
+pub returns-in-Drill-clause-usage : goal.returns-in-Drill-clause-usage
+returns-in-Drill-clause-usage g c = no_usage_drill c.in-Drill.seed c.in-Drill.events _ _ c.drill-status.result c.drill-status.ensures.drill
+
+pub returns-in-Drill-clause-last : goal.returns-in-Drill-clause-last
+returns-in-Drill-clause-last g c = reported_alone c.drill-status.result _ _ _ _ c.report-in-Drill.ensures
+
+pub returns-in-Drill-clause-counts : goal.returns-in-Drill-clause-counts
+returns-in-Drill-clause-counts g c = unread_counts c.drill-status.result _ _ _
+    (no_door_drill c.in-Drill.seed c.in-Drill.events _ _ c.drill-status.result c.drill-status.ensures.drill).1 c.drill-status.ensures.write_fault
+    c.drill-status.ensures.output_faultless
+
+pub returns-in-Drill-clause-host : goal.returns-in-Drill-clause-host
+returns-in-Drill-clause-host g c = λ none. (
+  unread_host g.H.Host.disk_faults g.H.Host.door_faults g.H.Host.link_faults c.drill-status.result c.args.host.now
+      (no_door_drill c.in-Drill.seed c.in-Drill.events _ _ c.drill-status.result c.drill-status.ensures.drill).0,
+  record { same_given = refl; same_back = refl },
+)
