@@ -1,7 +1,7 @@
 -- The files of a host in memory, and the disks over them.
 use Rattle.std.specs.Prelude.{◌≡◌, ◌⊎◌, ℕ, List, [], ◌∷◌, ◌++◌, Result, Ok, Err}
 use Rattle.router_disk.specs.Faults.{last_count}
-use Rattle.router_disk.specs.MemoryDisk.{HeldDisk}
+use Rattle.memory_disk.specs.HeldDisk.{HeldDisk}
 use Rattle.bus_host.specs.declared.host.HostFault.{HostFault}
 use Rattle.bus_host.specs.declared.host.HostFault.TheVariants.{Failed, NoMemory}
 use Rattle.bus_host.specs.declared.mem_files.MemFile.{MemFile}
@@ -23,15 +23,15 @@ disk_over file = record { first = file.bytes.items; calls = []; plan = file.fail
 
 -- What a call returns if this was planned for it: a disk over the file, unless memory is refused, or the planned fault.
 -- Shown by: outside_tests test_bus_host.rt: a_host_in_memory_opens_its_files.
-abbrev pub IsOpened : Result MemFile HostFault → Result HeldDisk HostFault → Type 0
-IsOpened (Ok file) result = (result ≡ Ok (disk_over file)) ⊎ (result ≡ Err NoMemory)
-IsOpened (Err fault) result = result ≡ Err fault
+abbrev pub OpensPlanned : Result MemFile HostFault → Result HeldDisk HostFault → Type 0
+OpensPlanned (Ok file) result = (result ≡ Ok (disk_over file)) ⊎ (result ≡ Err NoMemory)
+OpensPlanned (Err fault) result = result ≡ Err fault
 
 -- The first planned result, and the rest stays planned; a failure if nothing was planned.
 -- Shown by: outside_tests test_bus_host.rt: a_host_in_memory_opens_its_files.
 abbrev pub OpensFirst : List (Result MemFile HostFault) → List (Result MemFile HostFault) → Result HeldDisk HostFault → Type 0
 OpensFirst [] new result = (result ≡ Err Failed) × (new ≡ [])
-OpensFirst (first ∷ later) new result = IsOpened first result × (new ≡ later)
+OpensFirst (first ∷ later) new result = OpensPlanned first result × (new ≡ later)
 
 -- A call opens the file that is planned first (`OpensFirst`). At the last count it fails, and the plan stays.
 -- Shown by: outside_tests test_bus_host.rt: a_host_in_memory_opens_its_files.

@@ -6,7 +6,8 @@ ghost use Rattle.bus_host.specs.Files.{OpensByPlan, TookDiskBack};
 
 use crate::{HostFault, raise};
 use http_server::Log;
-use router_disk::{Heard, MemoryDisk};
+use memory_disk::MemoryDisk;
+use router_disk::Heard;
 use std::alloc::Global;
 use std::collections::LinkedList;
 use std::marker::Model;

@@ -7,7 +7,8 @@ ghost use Rattle.bus_host.specs.Stock.{Gave, GoesByPlan, TookBack};
 
 use crate::{Host, HostFault, MemDoor, MemFile, MemFiles, Stock};
 use http_server::Log;
-use router_disk::{MemLink, MemoryDisk, Sink, Source};
+use memory_disk::MemoryDisk;
+use router_disk::{MemLink, Sink, Source};
 use std::alloc::Global;
 use std::collections::LinkedList;
 

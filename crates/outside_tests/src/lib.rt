@@ -14,6 +14,8 @@ mod test_door_workers;
 #[cfg(test)]
 mod test_http_target;
 #[cfg(test)]
+mod test_memory_disk;
+#[cfg(test)]
 mod test_program_lines;
 #[cfg(test)]
 mod test_router_disk;

@@ -1,12 +1,12 @@
 -- What several calls of a disk do. Callers cite `file_from-append`, `AreAnswers-front`, `IsImage-push`, `IsImageSince-push`, `IsImage_now`,
 -- `overwritten_within` and `overwritten_torn`.
-use Rattle.std.proofs.Common.{◌≡◌, ◌⊎◌, ℕ, zero, suc, ◌+◌, ◌-◌, ◌<◌, ◌≤◌, List, [], ◌∷◌, ◌++◌, length, take, drop, replicate, Option, Some, None, Result, Ok, Err}
+use Rattle.std.proofs.Common.{◌≡◌, ◌⊎◌, ℕ, ◌+◌, ◌-◌, ◌≤◌, List, [], ◌∷◌, ◌++◌, length, take, drop, replicate, Option, Some}
 use Rattle.std.specs.Prelude.{⊤}
 use Rattle.std.proofs.Common.{refl, sym, ap, subst, inl, inr, ◌∙◌, arith, append_assoc, length-append, length-drop}
 use Rattle.std.proofs.lemmas.Bool.{cases_lt}
 use Rattle.std.proofs.lemmas.List.{take_all, take-append-le, take-append-drop, drop-drop, length-take}
 use Rattle.router_disk.specs.declared.disk_call.DiskCall.{DiskCall}
-use Rattle.router_disk.specs.Disk.{overwritten, Torn, file_after, file_from, file_of, IsAnswer, AreAnswersFrom, AreAnswers, images_after, images_from, IsImage, IsImageSince}
+use Rattle.router_disk.specs.Disk.{overwritten, Torn, file_after, file_from, file_of, AreAnswersFrom, images_after, images_from, IsImage, IsImageSince}
 
 pub file_from-append : (known : Option (List ℕ)) (calls more : List DiskCall) → file_from known (calls ++ more) ≡ file_from (file_from known calls) more
 file_from-append known [] more = refl

@@ -7,4 +7,3 @@ pub mod ClockLemmas
 pub mod StreamLemmas
 pub mod DiskLemmas
 mod SourceLemmas
-mod MemoryDiskLemmas

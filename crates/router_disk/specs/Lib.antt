@@ -5,5 +5,3 @@ pub mod Clock
 pub mod Memory
 pub mod Link
 pub mod Disk
-pub mod Tape
-pub mod MemoryDisk

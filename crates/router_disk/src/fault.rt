@@ -18,8 +18,8 @@ pub(crate) fn fail<T>(faults: &mut u64) -> Result<T, Failed>
     Err(Failed)
 }
 
-/// Counts a fault if the answer is one.
-pub(crate) fn counted<T>(faults: &mut u64, answer: Result<T, Failed>) -> Result<T, Failed>
+/// The answer of a call, counted if it is a failure. For objects whose every error is a failure.
+pub fn counted<T>(faults: &mut u64, answer: Result<T, Failed>) -> Result<T, Failed>
     requires { faults.old ≡ last_count → IsErr answer }
     ensures same { result ≡ answer }
     ensures count { CountsFaults faults.old faults.new answer }
