@@ -9,9 +9,6 @@
 -- to the next.
 -- A clause for every line of words: state it for each command that the words could be read to; one lemma (`command_once` of command_line) says
 -- that there is one reading.
-pub mod DrillLemmas
-pub mod FoldLemmas
-pub mod OnceLemmas
 pub mod QuietLemmas
 pub mod RecordedLemmas
 pub mod RunLemmas

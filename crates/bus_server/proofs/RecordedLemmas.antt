@@ -26,7 +26,7 @@ use Rattle.router_sessions.specs.Session.{Answers, Serving, begun, reads_on, ans
 use Rattle.router_sessions.proofs.TurnLemmas.{state_append, turns_back}
 use Rattle.router_sessions.proofs.ActLemmas.{state_here}
 use Rattle.bus_server.specs.Run.{AreRecorded}
-use Rattle.bus_server.proofs.OnceLemmas.{others_none, all_front, all_back}
+use Rattle.drill_run.proofs.OnePassLemmas.{others_none, all_front, all_back}
 
 -- these acts happened by turns that are legal and all of the one pass
 pub record Alone (s : State) (added : List Turn) (acts : List Act) : Type 0 where

@@ -1,4 +1,4 @@
--- The run of a program. Other files cite `of_one_pass`, `runs_once`, `run_linked`, `run_still`, `run_clocked` and `unlinked` (its session), and
+-- The run of a program. Other files cite `runs_once`, `run_linked`, `run_still`, `run_clocked` and `unlinked` (its session), and
 -- `faultless`, `end_faults`, `no_door_fault` and `no_usage` (its faults).
 use Rattle.std.proofs.Common.{◌≡◌, ◌≢◌, ℕ, ◌≤◌, ◌⊎◌, inl, inr, List, [], ◌∷◌, ◌++◌, Option, Some, None, refl, sym, ap, ◌∙◌, subst}
 use Rattle.std.specs.Prelude.{All}
@@ -6,29 +6,17 @@ use Rattle.router_disk.specs.Faults.{Rose}
 use Rattle.router_disk.specs.Link.{Exchange}
 use Rattle.program_lines.specs.declared.status.Status.{Status}
 use Rattle.program_lines.specs.declared.status.Status.TheVariants as statuses
-use Rattle.router_core.specs.Tables.{first_tables}
 use Rattle.message_streams.specs.declared.farewell.SessionEnd.{SessionEnd}
 use Rattle.message_streams.specs.declared.farewell.SessionEnd.TheVariants as ends
-use Rattle.router_sessions.specs.History.{Turn, AreTurnsFrom, state_of, turns_by, begun}
+use Rattle.router_sessions.specs.History.{Turn, AreTurnsFrom, state_of, turns_by}
 use Rattle.router_sessions.specs.Book.{opening, IsBook, Rests}
 use Rattle.router_sessions.specs.Acts.{World, world}
 use Rattle.router_sessions.specs.Session.{IsSession}
-use Rattle.router_sessions.proofs.BookLemmas.{book_first, added_legal, legal_later}
-use Rattle.bus_server.specs.Run.{status_of, only_seat, IsOfOnePass, RunsOnce, RunsBy, Around, around, IsUnbegun, IsRun, FaultsMatch}
-use Rattle.bus_server.proofs.FoldLemmas.{folds_book}
+use Rattle.router_sessions.proofs.BookLemmas.{book_first, added_legal}
+use Rattle.drill_run.specs.OnePass.{only_seat}
+use Rattle.drill_run.proofs.OnePassLemmas.{all_own, first_none, of_one_pass}
+use Rattle.bus_server.specs.Run.{status_of, RunsOnce, RunsBy, Around, around, IsUnbegun, IsRun, FaultsMatch}
 use Rattle.bus_server.proofs.RecordedLemmas.{session_recorded}
-use Rattle.bus_server.proofs.OnceLemmas.{all_own, none_open, first_none}
-
--- a history whose turns after the first are all of pass 0, which has no open claim
-pub of_one_pass : (turns : List Turn) → IsBook turns → Rests 0 turns → ((n : ℕ) → 1 ≤ n → turns_by n turns ≡ []) → IsOfOnePass turns
-of_one_pass turns book rests unmade =
-    let later_unmade : (n : ℕ) → 1 ≤ n → turns_by n book.later ≡ [] = λ n most. first_none n book.later (ap (turns_by n) (sym book.opened) ∙ unmade n most) in
-    record {
-      book = book;
-      alone = all_own (begun first_tables) book.later (legal_later turns book) later_unmade;
-      none_open = none_open turns rests unmade;
-      tables = folds_book turns book;
-    }
 
 -- a session over the book that was just opened, whose pass made all turns after the first
 pub runs_once : (old new : World) (end : SessionEnd) (status : Status) → old.turns ≡ opening ∷ [] → IsSession only_seat old new end → IsBook new.turns

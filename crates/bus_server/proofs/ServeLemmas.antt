@@ -18,7 +18,8 @@ use Rattle.door_workers.proofs.ServingLemmas.{served_later}
 use Rattle.router_sessions.specs.declared.book.Book.{Book}
 use Rattle.router_sessions.specs.declared.history.Turn.{Turn}
 use Rattle.router_sessions.specs.Book.{IsKept, recorded_in}
-use Rattle.bus_server.specs.Serve.{AroundDoor, EndsServing, EndsUnserved, IsOpened, IsUnserved, IsServe, WritesPart, around_door}
+use Rattle.tables_summary.specs.Summary.{WritesPart}
+use Rattle.bus_server.specs.Serve.{AroundDoor, EndsServing, EndsUnserved, IsOpened, IsUnserved, IsServe, around_door}
 use Rattle.bus_server.specs.Opened.{status_of_host, CountsHost, IsUnopened, IsAnnounced, IsUnannounced, ServesBy, IsUnservedBy}
 
 module _ {D I O : Type 0} (show : D → Shown I O) (fits : ℕ → I × O → I × O → Bool → List Turn → List Turn → Type 0)

@@ -18,10 +18,11 @@ use Rattle.door_workers.specs.declared.door.DoorEnd.TheVariants as ends
 use Rattle.router_core.specs.Tables.{Tables}
 use Rattle.router_sessions.specs.declared.history.Turn.{Turn}
 use Rattle.router_sessions.specs.History.{state_of}
-use Rattle.bus_server.specs.Drill.{IsDrill}
+use Rattle.drill_run.specs.Drill.{IsDrill}
+use Rattle.tables_summary.specs.Summary.{IsSummed}
 use Rattle.program_lines.specs.Files.{workers_for}
 use Rattle.bus_server.specs.Run.{FaultsMatch, HostMatches, IsReported, IsReportedLast, IsRun, IsUnbegun, around}
-use Rattle.bus_server.specs.Serve.{AroundDoor, EndsServing, EndsUnserved, IsServe, IsSummed, IsUnserved, around_door}
+use Rattle.bus_server.specs.Serve.{AroundDoor, EndsServing, EndsUnserved, IsServe, IsUnserved, around_door}
 use Rattle.bus_server.specs.Words.{EndsBy, EndsUnread}
 use Rattle.bus_server.proofs.ServeLemmas.{no_room}
 

@@ -8,7 +8,8 @@ use Rattle.program_lines.specs.declared.status.Status.TheVariants as statuses
 use Rattle.program_lines.specs.Printed.{listening_text}
 use Rattle.shared_door.specs.Shown.{Shown}
 use Rattle.router_sessions.specs.declared.history.Turn.{Turn}
-use Rattle.bus_server.specs.Serve.{AroundDoor, EndsUnserved, IsOpened, WritesPart}
+use Rattle.tables_summary.specs.Summary.{WritesPart}
+use Rattle.bus_server.specs.Serve.{AroundDoor, EndsUnserved, IsOpened}
 
 -- the status of a host that gave no link or no door
 abbrev pub status_of_host : HostFault → Status

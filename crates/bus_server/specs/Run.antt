@@ -8,17 +8,15 @@ use Rattle.delivery_duties.specs.declared.outcome.Fate.{Fate}
 use Rattle.program_lines.specs.declared.status.Status.{Status}
 use Rattle.program_lines.specs.declared.status.Status.TheVariants as statuses
 use Rattle.program_lines.specs.Status.{fault_line}
-use Rattle.router_core.specs.Tables.{first_tables, tables_after}
 use Rattle.courier_run.specs.Claim.{NeedsSend}
 use Rattle.courier_run.specs.Act.{Try, makes, tries_in}
-use Rattle.router_sessions.specs.declared.book.Seat.{Seat}
 use Rattle.message_streams.specs.declared.farewell.SessionEnd.{SessionEnd}
 use Rattle.message_streams.specs.declared.farewell.SessionEnd.TheVariants as ends
-use Rattle.router_sessions.specs.History.{Turn, Placed, records, state_of, batches_of}
-use Rattle.bus_server.specs.Folds.{without_claims}
-use Rattle.router_sessions.specs.Book.{opening, IsBook}
+use Rattle.router_sessions.specs.History.{Turn, Placed, records}
+use Rattle.router_sessions.specs.Book.{opening}
 use Rattle.router_sessions.specs.Acts.{Act, World, world}
 use Rattle.router_sessions.specs.Session.{IsSession}
+use Rattle.drill_run.specs.OnePass.{only_seat, IsOfOnePass}
 
 -- The status of a session's end. `Closed` is `Done`; each other end has the status of its own name.
 -- Shown by: cut-message.
@@ -55,25 +53,11 @@ pub record FaultsMatch (status : Status) (reads reads_new writes writes_new : �
   pub write_fault : status ≡ statuses.WriteFault → Rose writes writes_new
   pub output_faultless : status ≢ statuses.WriteFault → writes_new ≡ writes
 
--- The seat of the one session of a run: pass 0, connection 0.
--- Shown by: proofs alone.
-abbrev pub only_seat : Seat
-only_seat = record { pass = 0; connection = Some 0 }
-
 -- Each attempt whose text was sent is recorded by a turn, with its outcome.
 -- Shown by: recorded_without_a_send.edit.
 abbrev pub AreRecorded : List Act → Type 0
 AreRecorded acts = (t : Try) → Contains (tries_in acts) t → NeedsSend t.claim
     → (p : Placed) × (fate : Fate) × Contains acts (makes p) × (p.turn.ask ≡ records (record { claim = t.claim; outcome = t.outcome; fate = fate }))
-
--- The history of a router that one pass changed, from the first tables on: it is legal (`IsBook`), no claim is open after it, and the tables,
--- claims set aside, are the fold of its batches.
--- Shown by: first-run.
-pub record IsOfOnePass (turns : List Turn) : Type 0 where
-  pub book : IsBook turns
-  pub alone : All (λ t. t.pass ≡ Some 0) book.later
-  pub none_open : (state_of turns).open_claims ≡ []
-  pub tables : without_claims (state_of turns).tables ≡ tables_after (batches_of turns) first_tables
 
 -- One session over a book that was just opened with the first tables, with the status of its end. Its history is `IsOfOnePass`, and each
 -- attempt whose text was sent is recorded.

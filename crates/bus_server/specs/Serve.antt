@@ -1,12 +1,9 @@
 -- The program while it serves connections to a port.
 use Rattle.std.specs.Prelude.{◌≡◌, ◌≢◌, ℕ, ◌≤◌, ◌⊎◌, Bool, List, [], ◌∷◌, ◌++◌, length, map, Option}
 use Rattle.router_disk.specs.Faults.{Rose}
-use Rattle.delivery_duties.specs.Duties.{delivered_of, dead_lettered_of, dropped_of}
-use Rattle.delivery_queues.specs.Queues.{message_count}
-use Rattle.program_lines.specs.declared.printed.Summary.{Summary}
 use Rattle.program_lines.specs.declared.status.Status.{Status}
 use Rattle.program_lines.specs.declared.status.Status.TheVariants as statuses
-use Rattle.program_lines.specs.Printed.{listening_text, summary_lines}
+use Rattle.program_lines.specs.Printed.{listening_text}
 use Rattle.shared_door.specs.Shown.{Shown}
 use Rattle.router_core.specs.Tables.{Tables}
 use Rattle.door_workers.specs.declared.door.DoorEnd.{DoorEnd}
@@ -15,6 +12,7 @@ use Rattle.door_workers.specs.Serving.{HasServed}
 use Rattle.router_sessions.specs.declared.history.Turn.{Turn}
 use Rattle.router_sessions.specs.History.{state_of}
 use Rattle.router_sessions.specs.Book.{turn_of, IsBook}
+use Rattle.tables_summary.specs.Summary.{IsSummed, WritesPart}
 
 -- What is known around a program that serves: the bytes written; the doors, each after its port, and the links that the host gave, and those
 -- that it took back; and the host's counts of faults of doors and of links.
@@ -40,37 +38,6 @@ around_door written doors doors_back links links_back door_faults link_faults = 
   door_faults = door_faults;
   link_faults = link_faults;
 }
-
--- What the tables count: batches, their operations and configuration changes, events, deliveries by their states, and messages in queues.
--- Archived events and replays are 0.
--- Shown by: program_tests serve.rt: two_workers_serve_the_first_run.
-abbrev pub summary_of : Tables → Summary
-summary_of t = record {
-  records = t.batches;
-  entries = t.entries;
-  control = t.set.count;
-  events = t.events;
-  archived = 0;
-  replays = 0;
-  duties = t.duties.created;
-  pending = length t.duties.pending;
-  delivered = delivered_of t.duties.ended;
-  dead_lettered = dead_lettered_of t.duties.ended;
-  dropped = dropped_of t.duties.ended;
-  messages = message_count t.duties.queues;
-}
-
--- A first part of these bytes was written, perhaps none.
--- Shown by: program_tests serve.rt: without_its_first_line_nothing_is_served.
-abbrev pub WritesPart : List ℕ → List ℕ → List ℕ → Type 0
-WritesPart old new bytes = (first rest : List ℕ) × (bytes ≡ first ++ rest) × (new ≡ old ++ first)
-
--- The summary was written, with `Done`; a first part of it, with `WriteFault`; or nothing, with `NoMemory`.
--- Shown by: program_tests serve.rt: a_rule_of_one_connection_holds_for_the_next.
-abbrev pub IsSummed : Tables → List ℕ → List ℕ → Status → Type 0
-IsSummed t old new status =
-    ((status ≡ statuses.Done) × (new ≡ old ++ summary_lines (summary_of t)))
-    ⊎ (((status ≡ statuses.WriteFault) × WritesPart old new (summary_lines (summary_of t))) ⊎ ((status ≡ statuses.NoMemory) × (new ≡ old)))
 
 -- The status, and what was written after the workers had ended: `IsSummed` if the door is done; `DoorFault` and nothing if it failed.
 -- Shown by: program_tests serve.rt: a_door_that_fails_ends_the_run; a_failed_door_is_done.edit.

@@ -3,12 +3,9 @@
 
 mod clerk;
 mod door;
-mod drill;
 mod places;
 mod program;
-mod script;
 mod serve;
-mod still;
 
 pub use door::serve_door;
 pub use door_workers::{DoorEnd, Serving};

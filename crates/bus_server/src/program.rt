@@ -16,15 +16,14 @@ ghost use Rattle.router_sessions.specs.Desk.{turns_seen};
 ghost use Rattle.bus_host.specs.Host.{SameGiven};
 ghost use Rattle.shared_door.specs.Shown.{shown_by};
 ghost use Rattle.bus_server.specs.Serve.{around_door, IsServe};
-ghost use Rattle.bus_server.specs.Drill.{IsDrill};
+ghost use Rattle.drill_run.specs.Drill.{IsDrill};
 ghost use Rattle.router_sessions.specs.Visit.{IsVisit};
 ghost use Rattle.router_sessions.specs.Acts.{world};
 
-use crate::drill::drill;
 use crate::serve::serve;
-use crate::still::{Moment, StillClock};
 use bus_host::{Host, HostFault, NoGate};
 use command_line::{Command, WordsFault, read_command};
+use drill_run::{Moment, ONLY_CONNECTION, StillClock, drill};
 use json_text::NoMemory;
 use program_lines::{Status, fitting_workers};
 use router_disk::{Clock, Failed, Link, Sink, Source};
@@ -34,9 +33,6 @@ use std::marker::Brand;
 use std::sync::Wait;
 use std::thread::Threads;
 use turn_book::{Hall, Pass};
-
-/// The number of the connection in a program that serves one session.
-pub(crate) const ONLY_CONNECTION: u64 = 0;
 
 /// Runs the program on its arguments. The first is its name. With `once` it serves one session over its input and output; after
 /// `--now S`, S is every reading of the clock, in seconds. With `serve` it serves connections to a port, each as a session of its own,

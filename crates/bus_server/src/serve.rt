@@ -6,7 +6,7 @@ ghost use Rattle.bus_host.specs.Host.{SameFaults, SameGiven};
 ghost use Rattle.program_lines.specs.declared.status.Status.TheVariants as statuses;
 ghost use Rattle.program_lines.specs.Printed.{listening_text};
 ghost use Rattle.shared_door.specs.Shown.{shown_by};
-ghost use Rattle.bus_server.specs.Serve.{around_door, summary_of, EndsServing, IsOpened, IsServe, IsSummed};
+ghost use Rattle.bus_server.specs.Serve.{around_door, EndsServing, IsOpened, IsServe};
 ghost use Rattle.bus_server.specs.Opened.{status_of_host, CountsHost, IsUnopened, IsAnnounced, IsUnannounced, ServesBy, IsUnservedBy};
 ghost use Rattle.router_sessions.specs.Visit.{IsVisit};
 
@@ -14,13 +14,14 @@ use crate::door::serve_door;
 use bus_host::{Door, Host, HostFault, NoGate};
 use door_workers::{DoorEnd, Serving};
 use json_text::Bytes;
-use program_lines::{Status, Summary, listening_line, summary_text};
+use program_lines::{Status, listening_line};
 use router_core::Tables;
 use router_disk::{Clock, Failed, Link, Sink, Source};
 use router_sessions::Book;
 use std::alloc::Global;
 use std::sync::Wait;
 use std::thread::Threads;
+use tables_summary::sum_up;
 use turn_book::{Hall, Pass};
 
 /// A door and its links once no worker is left, and the status of the program.
@@ -318,41 +319,5 @@ fn end_status<K: Sink>(alloc: Global, end: DoorEnd, tables: &Tables, output: &mu
         DoorEnd::Done => sum_up(alloc, tables, output),
         DoorEnd::DoorFault => Status::DoorFault,
         DoorEnd::NoMemory => Status::NoMemory,
-    }
-}
-
-/// Prints the summary.
-pub(crate) fn sum_up<K: Sink>(alloc: Global, tables: &Tables, output: &mut K) -> Status
-    ensures summed { IsSummed tables.now (K.wrote output.old) (K.wrote output.new) result }
-    ensures write_fault { result ≡ statuses.WriteFault → Rose (K.faults output.old) (K.faults output.new) }
-    ensures output_faultless { result ≢ statuses.WriteFault → K.faults output.new ≡ K.faults output.old }
-{
-    match summary_text(alloc, &summary(tables)) {
-        Ok(text) => match output.write_all(text.as_slice()) {
-            Ok(()) => Status::Done,
-            Err(Failed) => Status::WriteFault,
-        },
-        Err(_) => Status::NoMemory,
-    }
-}
-
-/// What the tables count.
-fn summary(tables: &Tables) -> Summary
-    ensures { result ≡ summary_of tables.now }
-{
-    let counts = tables.duties().counts();
-    Summary {
-        records: tables.batches(),
-        entries: tables.entries(),
-        control: tables.set().control_count(),
-        events: tables.events(),
-        archived: 0,
-        replays: 0,
-        duties: counts.created,
-        pending: counts.pending,
-        delivered: counts.delivered,
-        dead_lettered: counts.dead_lettered,
-        dropped: counts.dropped,
-        messages: tables.messages(),
     }
 }

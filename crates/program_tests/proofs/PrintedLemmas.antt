@@ -12,7 +12,8 @@ use Rattle.router_core.specs.Tables.{first_tables}
 use Rattle.router_sessions.specs.declared.history.Turn as code
 use Rattle.router_sessions.specs.History.{Turn, Ask, opens, asked, claims, records, puts_back, begun, state_of, after_turn, IsLegal, IsTurnFor, AreTurnsFrom}
 use Rattle.router_sessions.specs.Book.{opening, IsBook, turn_of}
-use Rattle.bus_server.specs.Serve.{AroundDoor, summary_of, EndsServing, IsServe}
+use Rattle.tables_summary.specs.Summary.{summary_of}
+use Rattle.bus_server.specs.Serve.{AroundDoor, EndsServing, IsServe}
 use Rattle.program_tests.specs.Printed.{zeros, IsPrinted}
 
 -- before any duty was made, only a turn for a request can be made, and that names a connection

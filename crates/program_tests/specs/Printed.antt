@@ -4,7 +4,7 @@ use Rattle.program_lines.specs.declared.printed.Summary.{Summary}
 use Rattle.program_lines.specs.Printed.{listening_text, summary_lines}
 use Rattle.router_sessions.specs.History.{Turn, state_of}
 use Rattle.router_sessions.specs.Book.{IsBook}
-use Rattle.bus_server.specs.Serve.{summary_of}
+use Rattle.tables_summary.specs.Summary.{summary_of}
 
 -- A summary of zeros.
 -- Shown by: program_tests clauses.rt: a_door_that_closes_at_once_leaves_zeros.

@@ -3,7 +3,7 @@ use Rattle.command_line.specs.Command.{command_view}
 use Rattle.program_lines.specs.Files.{workers_for}
 use Rattle.shared_door.specs.Shown.{shown_by}
 use Rattle.router_sessions.specs.Visit.{IsVisit}
-use Rattle.bus_server.specs.Drill.{IsDrill}
+use Rattle.drill_run.specs.Drill.{IsDrill}
 use Rattle.bus_server.specs.Run.{IsRun, around}
 use Rattle.bus_server.specs.Serve.{IsServe, around_door}
 use Rattle.bus_server.proofs.RunLemmas.{no_usage}

@@ -6,9 +6,9 @@ use Rattle.router_sessions.specs.Book.{opening, Rests, recorded_in}
 use Rattle.router_sessions.specs.Desk.{turns_seen, seen_by}
 use Rattle.router_sessions.specs.Acts.{World, world}
 use Rattle.router_sessions.specs.Session.{IsSession}
-use Rattle.bus_server.specs.Run.{only_seat}
+use Rattle.drill_run.specs.OnePass.{only_seat}
 use Rattle.router_sessions.proofs.DeskLemmas.{maker}
-use Rattle.bus_server.proofs.OnceLemmas.{only_pass}
+use Rattle.drill_run.proofs.OnePassLemmas.{only_pass}
 use Rattle.bus_server.proofs.RunLemmas.{runs_once, end_faults, no_door_fault}
 use Rattle.bus_server.proofs.program.over.Goals as goal
 

@@ -1,7 +1,7 @@
 use Rattle.std.proofs.Common.{◌≡◌, ℕ, List, ◌++◌, arith, refl, subst, ◌∙◌}
 use Rattle.shared_door.specs.Shown.{shown_by}
 use Rattle.router_sessions.specs.Visit.{IsVisit}
-use Rattle.bus_server.specs.Serve.{WritesPart}
+use Rattle.tables_summary.specs.Summary.{WritesPart}
 use Rattle.bus_server.proofs.ServeLemmas.{announced, unannounced}
 use Rattle.bus_server.proofs.serve.announce.Goals as goal
 

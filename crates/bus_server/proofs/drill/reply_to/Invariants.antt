@@ -1,4 +1,0 @@
-use Rattle.bus_server.proofs.drill.reply_to.Given as goal
-
-abbrev pub ghosts-reply_by : goal.ghosts-reply_by
-ghosts-reply_by g a = record { bytes = a.message.items }
