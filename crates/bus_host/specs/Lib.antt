@@ -5,3 +5,4 @@ pub mod Doors
 pub mod Plans
 pub mod Stock
 pub mod Files
+pub mod Clocks

@@ -29,8 +29,8 @@ GoesByPlan old new result =
 
 -- What a call gave is now the last that was given; a call that gave nothing changes nothing.
 -- Shown by: outside_tests test_bus_host.rt: a_host_in_memory_gives_what_it_plans.
-abbrev pub Gave : {T E : Type 0} → List T → List T → Result T E → Type 0
-Gave old new result = MatchResult result (λ given. new ≡ old ++ given ∷ []) (λ _. new ≡ old)
+abbrev pub GivesOne : {T E : Type 0} → List T → List T → Result T E → Type 0
+GivesOne old new result = MatchResult result (λ given. new ≡ old ++ given ∷ []) (λ _. new ≡ old)
 
 -- One came back: it is the last of those that did, and nothing else changed. It is held, unless memory is refused.
 -- Shown by: an_object_that_was_taken_back_is_forgotten.edit.

@@ -1,6 +1,7 @@
-//! The host as traits: doors, disks, links and a gate; a host that opens nothing; a host and a door in memory.
+//! The host as traits: doors, disks, links, clocks that are lent, and a gate; a host that opens nothing; a host, a door and clocks in memory.
 #![tactic(auto)]
 
+mod clocks;
 mod count;
 mod door;
 mod gate;
@@ -11,6 +12,7 @@ mod mem_host;
 mod no_host;
 mod stock;
 
+pub use clocks::{Clocks, MemClocks};
 pub use count::raise;
 pub use door::{Door, Ended, Knock};
 pub use gate::{Gate, NoGate, Point};

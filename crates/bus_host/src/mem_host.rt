@@ -3,7 +3,7 @@ ghost use Rattle.std.specs.Prelude.{◌≡◌, [], ◌∷◌, ◌++◌, IfOk, Ma
 ghost use Rattle.router_disk.specs.Faults.{CountsFaults};
 ghost use Rattle.bus_host.specs.HostFault.{host_outcome};
 ghost use Rattle.bus_host.specs.Files.{OpensByPlan, TookDiskBack};
-ghost use Rattle.bus_host.specs.Stock.{Gave, GoesByPlan, TookBack};
+ghost use Rattle.bus_host.specs.Stock.{GivesOne, GoesByPlan, TookBack};
 
 use crate::{Host, HostFault, MemDoor, MemFile, MemFiles, Stock};
 use http_server::Log;
@@ -96,7 +96,7 @@ impl<I: Source + Drop, O: Sink + Drop> Host for MemHost<I, O> {
     fn door(&mut self, port: u16) -> Result<MemDoor<I, O>, HostFault>
         ensures count { CountsFaults self.old.doors.faults self.new.doors.faults (host_outcome result) }
         ensures plan { GoesByPlan self.old.doors self.new.doors result }
-        ensures given { Gave self.old.doors.given self.new.doors.given result }
+        ensures given { GivesOne self.old.doors.given self.new.doors.given result }
         ensures back { self.new.doors.back ≡ self.old.doors.back }
         ensures port { MatchResult result (λ door. self.new.ports.items ≡ self.old.ports.items ++ (port, door) ∷ [])
             (λ _. self.new.ports.items ≡ self.old.ports.items) }
@@ -114,7 +114,7 @@ impl<I: Source + Drop, O: Sink + Drop> Host for MemHost<I, O> {
     fn link(&mut self) -> Result<MemLink, HostFault>
         ensures count { CountsFaults self.old.links.faults self.new.links.faults (host_outcome result) }
         ensures plan { GoesByPlan self.old.links self.new.links result }
-        ensures given { Gave self.old.links.given self.new.links.given result }
+        ensures given { GivesOne self.old.links.given self.new.links.given result }
         ensures back { self.new.links.back ≡ self.old.links.back }
         ensures rest { self.new ≡ record self.old { links = self.new.links } }
     {

@@ -2,7 +2,7 @@
 ghost use Rattle.std.specs.Prelude.{◌≡◌, [], map};
 ghost use Rattle.router_disk.specs.Faults.{CountsFaults};
 ghost use Rattle.bus_host.specs.HostFault.{host_outcome};
-ghost use Rattle.bus_host.specs.Stock.{Gave, GoesByPlan, TookBack};
+ghost use Rattle.bus_host.specs.Stock.{GivesOne, GoesByPlan, TookBack};
 
 use crate::{HostFault, raise};
 use http_server::Log;
@@ -68,7 +68,7 @@ impl<T: Drop> Stock<T> {
     pub(crate) fn give(&mut self) -> Result<T, HostFault>
         ensures count { CountsFaults self.old.faults self.new.faults (host_outcome result) }
         ensures plan { GoesByPlan self.old self.new result }
-        ensures given { Gave self.old.given self.new.given result }
+        ensures given { GivesOne self.old.given self.new.given result }
         ensures back { (self.new.back ≡ self.old.back) × (self.new.held ≡ self.old.held) }
     {
         if self.faults == u64::MAX {

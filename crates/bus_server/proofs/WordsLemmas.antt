@@ -22,6 +22,7 @@ use Rattle.drill_run.specs.Drill.{IsDrill}
 use Rattle.tables_summary.specs.Summary.{IsSummed}
 use Rattle.program_lines.specs.Files.{workers_for}
 use Rattle.bus_server.specs.Run.{FaultsMatch, HostMatches, IsReported, IsReportedLast, IsRun, IsUnbegun, around}
+use Rattle.door_workers.specs.Serving.{Session}
 use Rattle.bus_server.specs.Serve.{AroundDoor, EndsServing, EndsUnserved, IsServe, IsUnserved, around_door}
 use Rattle.bus_server.specs.Words.{EndsBy, EndsUnread}
 use Rattle.bus_server.proofs.ServeLemmas.{no_room}
@@ -63,14 +64,14 @@ unread_once answered faults now gave written written_new readings given back sta
     record { untouched = record { unread = refl; unclocked = refl; none_given = refl; none_back = refl }; unwritten = same } in
     inr (inl is, none)
 
-pub unread_serve : {D L : Type 0} (port workers : ℕ) (written written_new : List ℕ) (doors : List (ℕ × D)) (doors_back : List D) (links links_back : List L)
-    (door_faults link_faults : ℕ) (status : Status) → (status ≡ statuses.NoMemory) × (written_new ≡ written)
-    → IsUnserved port workers (around_door written doors doors_back links links_back door_faults link_faults)
-    (around_door written_new doors doors_back links links_back door_faults link_faults) status
-unread_serve {D} {L} port workers written written_new doors doors_back links links_back door_faults link_faults status (is, same) =
-    subst (λ (w : List ℕ). IsUnserved port workers (around_door written doors doors_back links links_back door_faults link_faults)
-    (around_door w doors doors_back links links_back door_faults link_faults) status) (sym same)
-    (no_room port workers (around_door written doors doors_back links links_back door_faults link_faults) status is)
+pub unread_serve : {D L C : Type 0} (port workers : ℕ) (written written_new : List ℕ) (doors : List (ℕ × D)) (doors_back : List D) (links links_back : List L)
+    (clocks clocks_back : List C) (door_faults link_faults : ℕ) (status : Status) → (status ≡ statuses.NoMemory) × (written_new ≡ written)
+    → IsUnserved port workers (around_door written doors doors_back links links_back clocks clocks_back door_faults link_faults)
+    (around_door written_new doors doors_back links links_back clocks clocks_back door_faults link_faults) status
+unread_serve {D} {L} {C} port workers written written_new doors doors_back links links_back clocks clocks_back door_faults link_faults status (is, same) =
+    subst (λ (w : List ℕ). IsUnserved port workers (around_door written doors doors_back links links_back clocks clocks_back door_faults link_faults)
+    (around_door w doors doors_back links links_back clocks clocks_back door_faults link_faults) status) (sym same)
+    (no_room port workers (around_door written doors doors_back links links_back clocks clocks_back door_faults link_faults) status is)
 
 no_usage_summed : (t : Tables) (old new : List ℕ) (status : Status) → IsSummed t old new status → status ≢ statuses.Usage
 no_usage_summed t old new status (inl (is, written)) = λ e. cc
@@ -82,16 +83,17 @@ no_usage_ending ends.Done t old new status is = no_usage_summed t old new status
 no_usage_ending ends.DoorFault t old new status (is, same) = λ e. cc
 no_usage_ending ends.NoMemory t old new status is = absurd is
 
-no_usage_unserved : {D L : Type 0} (port : ℕ) (old new : AroundDoor D L) (status : Status) → EndsUnserved port old new status → status ≢ statuses.Usage
+no_usage_unserved : {D L C : Type 0} (port : ℕ) (old new : AroundDoor D L C) (status : Status) → EndsUnserved port old new status → status ≢ statuses.Usage
 no_usage_unserved port old new status (inl (is, same, one)) = λ e. cc
 no_usage_unserved port old new status (inr (inl (is, part))) = λ e. cc
 no_usage_unserved port old new status (inr (inr (is, written))) = λ e. cc
 
-pub no_usage_serve : {D L I O : Type 0} (show : D → Shown I O) (fits : ℕ → I × O → I × O → Bool → List Turn → List Turn → Type 0) (port workers : ℕ)
-    (connections : Option ℕ) (old new : AroundDoor D L) (status : Status) → IsServe show fits port workers connections old new status → status ≢ statuses.Usage
-no_usage_serve show fits port workers connections old new status (inl served) =
+pub no_usage_serve : {D L C I O : Type 0} (show : D → Shown I O) (fits : ℕ → I × O → I × O → Bool → List Turn → List Turn → Type 0)
+    (did : ℕ → L × C → L × C → List (Session I O Turn) → List Turn → Type 0) (port workers : ℕ)
+    (connections : Option ℕ) (old new : AroundDoor D L C) (status : Status) → IsServe show fits did port workers connections old new status → status ≢ statuses.Usage
+no_usage_serve show fits did port workers connections old new status (inl served) =
     no_usage_ending served.opened.end _ _ new.written status served.opened.ends
-no_usage_serve show fits port workers connections old new status (inr unserved) = no_usage_unserved port old new status unserved.cause
+no_usage_serve show fits did port workers connections old new status (inr unserved) = no_usage_unserved port old new status unserved.cause
 
 pub no_usage_drill : (seed events : ℕ) (old new : List ℕ) (status : Status) → IsDrill seed events old new status → status ≢ statuses.Usage
 no_usage_drill seed events old new status (inl (turns, drilled, one, summed)) = no_usage_summed (state_of turns).tables old new status summed
@@ -143,16 +145,17 @@ no_read_summed ends.Done t old new status is = (no_door_summed t old new status 
 no_read_summed ends.DoorFault t old new status (is, same) = λ e. cc
 no_read_summed ends.NoMemory t old new status is = absurd is
 
-no_read_unserved : {D L : Type 0} (port : ℕ) (old new : AroundDoor D L) (status : Status) → EndsUnserved port old new status → status ≢ statuses.ReadFault
+no_read_unserved : {D L C : Type 0} (port : ℕ) (old new : AroundDoor D L C) (status : Status) → EndsUnserved port old new status → status ≢ statuses.ReadFault
 no_read_unserved port old new status (inl (is, same, one)) = λ e. cc
 no_read_unserved port old new status (inr (inl (is, part))) = λ e. cc
 no_read_unserved port old new status (inr (inr (is, written))) = λ e. cc
 
-pub no_read_serve : {D L I O : Type 0} (show : D → Shown I O) (fits : ℕ → I × O → I × O → Bool → List Turn → List Turn → Type 0) (port workers : ℕ)
-    (connections : Option ℕ) (old new : AroundDoor D L) (status : Status) → IsServe show fits port workers connections old new status → status ≢ statuses.ReadFault
-no_read_serve show fits port workers connections old new status (inl served) =
+pub no_read_serve : {D L C I O : Type 0} (show : D → Shown I O) (fits : ℕ → I × O → I × O → Bool → List Turn → List Turn → Type 0)
+    (did : ℕ → L × C → L × C → List (Session I O Turn) → List Turn → Type 0) (port workers : ℕ)
+    (connections : Option ℕ) (old new : AroundDoor D L C) (status : Status) → IsServe show fits did port workers connections old new status → status ≢ statuses.ReadFault
+no_read_serve show fits did port workers connections old new status (inl served) =
     no_read_summed served.opened.end _ _ new.written status served.opened.ends
-no_read_serve show fits port workers connections old new status (inr unserved) = no_read_unserved port old new status unserved.cause
+no_read_serve show fits did port workers connections old new status (inr unserved) = no_read_unserved port old new status unserved.cause
 
 -- the faults of a program that does not read
 pub unread_counts : (status : Status) (reads writes writes_new : ℕ) → status ≢ statuses.ReadFault → (status ≡ statuses.WriteFault → Rose writes writes_new)

@@ -2,4 +2,3 @@ pub mod Run
 pub mod Serve
 pub mod Words
 pub mod Opened
-pub mod Clerk

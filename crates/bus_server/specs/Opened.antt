@@ -8,8 +8,9 @@ use Rattle.program_lines.specs.declared.status.Status.TheVariants as statuses
 use Rattle.program_lines.specs.Printed.{listening_text}
 use Rattle.shared_door.specs.Shown.{Shown}
 use Rattle.router_sessions.specs.declared.history.Turn.{Turn}
+use Rattle.door_workers.specs.Serving.{Session}
 use Rattle.tables_summary.specs.Summary.{WritesPart}
-use Rattle.bus_server.specs.Serve.{AroundDoor, EndsUnserved, IsOpened}
+use Rattle.bus_server.specs.Serve.{AroundDoor, AtDoor, links_of, clocks_of, EndsUnserved, IsOpened}
 
 -- the status of a host that gave no link or no door
 abbrev pub status_of_host : HostFault → Status
@@ -23,47 +24,54 @@ CountsHost (Err host.Failed) before now = Rose before now
 CountsHost (Err host.NoMemory) before now = now ≡ before
 
 -- the door and its links are as they were, and nothing was written: there was no memory for the workers
-pub record IsUnopened {D L : Type 0} (lent returned : D) (links links_back : List L) (old new : List ℕ) (status : Status) : Type 0 where
-  pub same_door : returned ≡ lent
-  pub same_links : links_back ≡ links
+pub record IsUnopened {D Own : Type 0} (old new : AtDoor D Own) (status : Status) : Type 0 where
+  pub same_door : new.door ≡ old.door
+  pub same_owns : new.owns ≡ old.owns
+  pub unwritten : new.written ≡ old.written
   pub no_memory : status ≡ statuses.NoMemory
-  pub unwritten : new ≡ old
 
--- the port was printed, and the door served, with a link for each worker
-pub record IsAnnounced {D L I O : Type 0} (show : D → Shown I O) (fits : ℕ → I × O → I × O → Bool → List Turn → List Turn → Type 0) (port : ℕ)
-    (connections : Option ℕ) (lent returned : D) (links links_back : List L) (old new : List ℕ) (status : Status) : Type 0 where
-  pub all_back : length links_back ≡ length links
-  pub opened : IsOpened show fits connections lent returned (old ++ listening_text port) new status
+-- the same with the line of the port before, or a first part of it
+pub record IsUnannounced {D Own : Type 0} (port : ℕ) (old new : AtDoor D Own) (status : Status) : Type 0 where
+  pub same_door : new.door ≡ old.door
+  pub same_owns : new.owns ≡ old.owns
+  pub cause : ((status ≡ statuses.WriteFault) × WritesPart old.written new.written (listening_text port))
+      ⊎ ((status ≡ statuses.NoMemory) × (new.written ≡ old.written ++ listening_text port))
 
--- the door and its links are as they were: the port could not be printed, or there was no memory for the workers
-pub record IsUnannounced {D L : Type 0} (port : ℕ) (lent returned : D) (links links_back : List L) (old new : List ℕ) (status : Status)
-    : Type 0 where
-  pub same_door : returned ≡ lent
-  pub same_links : links_back ≡ links
-  pub cause : ((status ≡ statuses.WriteFault) × WritesPart old new (listening_text port))
-      ⊎ ((status ≡ statuses.NoMemory) × (new ≡ old ++ listening_text port))
+-- what is known at a door once the port was printed
+abbrev pub printed : {D Own : Type 0} → ℕ → AtDoor D Own → AtDoor D Own
+printed port old = record old { written = old.written ++ listening_text port }
 
--- `Serves`, by links that the host had given
-pub record ServesBy {D L I O : Type 0} (show : D → Shown I O) (fits : ℕ → I × O → I × O → Bool → List Turn → List Turn → Type 0) (port : ℕ)
-    (connections : Option ℕ) (links : List L) (old new : AroundDoor D L) (status : Status) : Type 0 where
-  pub lent : D
-  pub returned : D
-  pub doors : new.doors ≡ old.doors ++ (port, lent) ∷ []
-  pub doors_back : new.doors_back ≡ old.doors_back ++ returned ∷ []
-  pub links_returned : List L
-  pub same_links : new.links ≡ old.links
-  pub links_back : new.links_back ≡ old.links_back ++ links_returned
-  pub faultless : (new.door_faults ≡ old.door_faults) × (new.link_faults ≡ old.link_faults)
-  pub announced : IsAnnounced show fits port connections lent returned links links_returned old.written new.written status
+module _ {D L C I O : Type 0} (show : D → Shown I O) (fits : ℕ → I × O → I × O → Bool → List Turn → List Turn → Type 0)
+    (did : ℕ → L × C → L × C → List (Session I O Turn) → List Turn → Type 0) where
+  -- the port was printed, and the door served, with a link for each worker; or it was not served
+  abbrev pub Announces : ℕ → Option ℕ → AtDoor D (L × C) → AtDoor D (L × C) → Status → Type 0
+  Announces port connections old new status =
+      ((length new.owns ≡ length old.owns) × IsOpened show fits did connections (printed port old) new status) ⊎ IsUnannounced port old new status
 
--- `IsUnserved`, with links that the host had given
-pub record IsUnservedBy {D L : Type 0} (port : ℕ) (links : List L) (old new : AroundDoor D L) (status : Status) : Type 0 where
+  -- `Serves`, by links and clocks that were given before
+  pub record ServesBy (port : ℕ) (connections : Option ℕ) (owns : List (L × C)) (old new : AroundDoor D L C) (status : Status) : Type 0 where
+    pub lent : D
+    pub returned : D
+    pub doors : new.doors ≡ old.doors ++ (port, lent) ∷ []
+    pub doors_back : new.doors_back ≡ old.doors_back ++ returned ∷ []
+    pub owns_back : List (L × C)
+    pub same_given : (new.links ≡ old.links) × (new.clocks ≡ old.clocks)
+    pub links_back : new.links_back ≡ old.links_back ++ links_of owns_back
+    pub clocks_back : new.clocks_back ≡ old.clocks_back ++ clocks_of owns_back
+    pub faultless : (new.door_faults ≡ old.door_faults) × (new.link_faults ≡ old.link_faults)
+    pub all_back : length owns_back ≡ length owns
+    pub opened : IsOpened show fits did connections (record { door = lent; owns = owns; written = old.written ++ listening_text port })
+        (record { door = returned; owns = owns_back; written = new.written }) status
+
+-- `IsUnserved`, with links and clocks that were given before
+pub record IsUnservedBy {D L C : Type 0} (port : ℕ) (owns : List (L × C)) (old new : AroundDoor D L C) (status : Status) : Type 0 where
   pub cause : EndsUnserved port old new status
   pub lent : List D
   pub one : length lent ≤ 1
   pub opened_first : status ≡ statuses.WriteFault → length lent ≡ 1
   pub doors : new.doors ≡ old.doors ++ map (λ (d : D). (port, d)) lent
   pub doors_back : new.doors_back ≡ old.doors_back ++ lent
-  pub same_links : new.links ≡ old.links
-  pub links_back : new.links_back ≡ old.links_back ++ links
+  pub same_given : (new.links ≡ old.links) × (new.clocks ≡ old.clocks)
+  pub links_back : new.links_back ≡ old.links_back ++ links_of owns
+  pub clocks_back : new.clocks_back ≡ old.clocks_back ++ clocks_of owns
   pub faultless : status ≢ statuses.DoorFault → (new.door_faults ≡ old.door_faults) × (new.link_faults ≡ old.link_faults)

@@ -15,13 +15,14 @@ ghost use Rattle.router_sessions.specs.Book.{opening};
 ghost use Rattle.router_sessions.specs.Desk.{turns_seen};
 ghost use Rattle.bus_host.specs.Host.{SameGiven};
 ghost use Rattle.shared_door.specs.Shown.{shown_by};
+ghost use Rattle.session_workers.specs.Jobs.{did_by};
 ghost use Rattle.bus_server.specs.Serve.{around_door, IsServe};
 ghost use Rattle.drill_run.specs.Drill.{IsDrill};
 ghost use Rattle.router_sessions.specs.Visit.{IsVisit};
 ghost use Rattle.router_sessions.specs.Acts.{world};
 
 use crate::serve::serve;
-use bus_host::{Host, HostFault, NoGate};
+use bus_host::{Clocks, Host, HostFault, NoGate};
 use command_line::{Command, WordsFault, read_command};
 use drill_run::{Moment, ONLY_CONNECTION, StillClock, drill};
 use json_text::NoMemory;
@@ -35,12 +36,12 @@ use std::thread::Threads;
 use turn_book::{Hall, Pass};
 
 /// Runs the program on its arguments. The first is its name. With `once` it serves one session over its input and output; after
-/// `--now S`, S is every reading of the clock, in seconds. With `serve` it serves connections to a port, each as a session of its own,
-/// with fewer workers if the process may not have as many open files (`files`) as they need. With `drill` it serves sessions over
-/// messages that it makes. Arguments are read first; then memory is allocated, then the host gives links and a door. A program that
-/// serves needs memory once more after it printed its port, and at its end. Before the line of the status, `faults` gets why words are
-/// refused, or how many workers there are if they are fewer.
-pub fn run<Rt: Wait + Threads + Sync, S: Source, K: Sink, E: Sink, H: Host, C: Clock>(
+/// `--now S`, S is every reading of the clock, in seconds. With `serve` it serves connections to a port, each as a session of its own, by
+/// workers that each have a link and a clock of their own, with fewer workers if the process may not have as many open files (`files`)
+/// as they need. With `drill` it serves sessions over messages that it makes. Arguments are read first; then memory is allocated, then
+/// the host gives links and a door. A program that serves needs memory once more after it printed its port, and at its end. Before the
+/// line of the status, `faults` gets why words are refused, or how many workers there are if they are fewer.
+pub fn run<Rt: Wait + Threads + Sync, S: Source, K: Sink, E: Sink, H: Host, C: Clocks>(
     rt: &Rt,
     alloc: Global,
     words: &[String],
@@ -55,12 +56,13 @@ pub fn run<Rt: Wait + Threads + Sync, S: Source, K: Sink, E: Sink, H: Host, C: C
         (around (S.gave input.old) (K.wrote output.old) (C.gave clock.old) (H.links_given host.old) (H.links_back host.old))
         (around (S.gave input.new) (K.wrote output.new) (C.gave clock.new) (H.links_given host.new) (H.links_back host.new)) result }
     ensures serve { (port workers : ℕ) (connections : Option ℕ) → IsCommand (map string_bytes words.now) (commands.serve port workers connections)
-        → (S.gave input.new ≡ S.gave input.old) × IsServe (shown_by H.Door.faults H.Door.ahead H.Door.given H.Door.ended H.Door.gave H.Door.took_back H.Door.closed)
-        (IsVisit H.Door.In.gave H.Door.Out.wrote H.Door.In.faults H.Door.Out.faults) port (workers_for files workers) connections
+        → (S.gave input.new ≡ S.gave input.old) × (C.gave clock.new ≡ C.gave clock.old) × IsServe (shown_by H.Door.faults H.Door.ahead H.Door.given H.Door.ended H.Door.gave H.Door.took_back H.Door.closed)
+        (IsVisit H.Door.In.gave H.Door.Out.wrote H.Door.In.faults H.Door.Out.faults)
+        (did_by H.Door.In.gave H.Door.Out.wrote C.Lent.gave H.Link.exchanges H.Link.faults) port (workers_for files workers) connections
         (around_door (K.wrote output.old) (H.doors_given host.old) (H.doors_back host.old) (H.links_given host.old) (H.links_back host.old)
-        (H.door_faults host.old) (H.link_faults host.old))
+        (C.clocks_given clock.old) (C.clocks_back clock.old) (H.door_faults host.old) (H.link_faults host.old))
         (around_door (K.wrote output.new) (H.doors_given host.new) (H.doors_back host.new) (H.links_given host.new) (H.links_back host.new)
-        (H.door_faults host.new) (H.link_faults host.new)) result }
+        (C.clocks_given clock.new) (C.clocks_back clock.new) (H.door_faults host.new) (H.link_faults host.new)) result }
     ensures drill { (seed events : ℕ) → IsCommand (map string_bytes words.now) (commands.drill seed events) → IsUntouched
         (around (S.gave input.old) (K.wrote output.old) (C.gave clock.old) (H.links_given host.old) (H.links_back host.old))
         (around (S.gave input.new) (K.wrote output.new) (C.gave clock.new) (H.links_given host.new) (H.links_back host.new))
@@ -89,7 +91,7 @@ pub fn run<Rt: Wait + Threads + Sync, S: Source, K: Sink, E: Sink, H: Host, C: C
 }
 
 /// Carries out a command, and reports the status.
-fn obey<Rt: Wait + Threads + Sync, S: Source, K: Sink, E: Sink, H: Host, C: Clock>(
+fn obey<Rt: Wait + Threads + Sync, S: Source, K: Sink, E: Sink, H: Host, C: Clocks>(
     rt: &Rt,
     alloc: Global,
     command: Command,
@@ -106,12 +108,13 @@ fn obey<Rt: Wait + Threads + Sync, S: Source, K: Sink, E: Sink, H: Host, C: Cloc
         (around (S.gave input.old) (K.wrote output.old) (C.gave clock.old) (H.links_given host.old) (H.links_back host.old))
         (around (S.gave input.new) (K.wrote output.new) (C.gave clock.new) (H.links_given host.new) (H.links_back host.new)) result }
     ensures serve { (port workers : ℕ) (connections : Option ℕ) → command_view command ≡ commands.serve port workers connections
-        → (S.gave input.new ≡ S.gave input.old) × IsServe (shown_by H.Door.faults H.Door.ahead H.Door.given H.Door.ended H.Door.gave H.Door.took_back H.Door.closed)
-        (IsVisit H.Door.In.gave H.Door.Out.wrote H.Door.In.faults H.Door.Out.faults) port (workers_for files workers) connections
+        → (S.gave input.new ≡ S.gave input.old) × (C.gave clock.new ≡ C.gave clock.old) × IsServe (shown_by H.Door.faults H.Door.ahead H.Door.given H.Door.ended H.Door.gave H.Door.took_back H.Door.closed)
+        (IsVisit H.Door.In.gave H.Door.Out.wrote H.Door.In.faults H.Door.Out.faults)
+        (did_by H.Door.In.gave H.Door.Out.wrote C.Lent.gave H.Link.exchanges H.Link.faults) port (workers_for files workers) connections
         (around_door (K.wrote output.old) (H.doors_given host.old) (H.doors_back host.old) (H.links_given host.old) (H.links_back host.old)
-        (H.door_faults host.old) (H.link_faults host.old))
+        (C.clocks_given clock.old) (C.clocks_back clock.old) (H.door_faults host.old) (H.link_faults host.old))
         (around_door (K.wrote output.new) (H.doors_given host.new) (H.doors_back host.new) (H.links_given host.new) (H.links_back host.new)
-        (H.door_faults host.new) (H.link_faults host.new)) result }
+        (C.clocks_given clock.new) (C.clocks_back clock.new) (H.door_faults host.new) (H.link_faults host.new)) result }
     ensures drill { (seed events : ℕ) → command_view command ≡ commands.drill seed events → IsUntouched
         (around (S.gave input.old) (K.wrote output.old) (C.gave clock.old) (H.links_given host.old) (H.links_back host.old))
         (around (S.gave input.new) (K.wrote output.new) (C.gave clock.new) (H.links_given host.new) (H.links_back host.new))

@@ -6,35 +6,37 @@ ghost use Rattle.bus_host.specs.Host.{SameFaults, SameGiven};
 ghost use Rattle.program_lines.specs.declared.status.Status.TheVariants as statuses;
 ghost use Rattle.program_lines.specs.Printed.{listening_text};
 ghost use Rattle.shared_door.specs.Shown.{shown_by};
-ghost use Rattle.bus_server.specs.Serve.{around_door, EndsServing, IsOpened, IsServe};
-ghost use Rattle.bus_server.specs.Opened.{status_of_host, CountsHost, IsUnopened, IsAnnounced, IsUnannounced, ServesBy, IsUnservedBy};
+ghost use Rattle.session_workers.specs.Jobs.{did_by};
+ghost use Rattle.bus_server.specs.Serve.{around_door, links_of, clocks_of, EndsServing, IsOpened, IsServe};
+ghost use Rattle.bus_server.specs.Opened.{status_of_host, CountsHost, IsUnopened, Announces, ServesBy, IsUnservedBy};
+ghost use Rattle.router_sessions.specs.Book.{opening};
+ghost use Rattle.router_sessions.specs.Desk.{turns_seen};
 ghost use Rattle.router_sessions.specs.Visit.{IsVisit};
 
-use crate::door::serve_door;
-use bus_host::{Door, Host, HostFault, NoGate};
-use door_workers::{DoorEnd, Serving};
+use bus_host::{Clocks, Door, Host, HostFault, NoGate};
 use json_text::Bytes;
 use program_lines::{Status, listening_line};
 use router_core::Tables;
 use router_disk::{Clock, Failed, Link, Sink, Source};
 use router_sessions::Book;
+use session_workers::{DoorEnd, Serving, serve_door};
 use std::alloc::Global;
 use std::sync::Wait;
 use std::thread::Threads;
 use tables_summary::sum_up;
 use turn_book::{Hall, Pass};
 
-/// A door and its links once no worker is left, and the status of the program.
-struct Left<D, L> {
+/// A door, its links and their clocks once no worker is left, and the status of the program.
+struct Left<D, L, C> {
     door: D,
-    links: Vec<L>,
+    owns: Vec<(L, C)>,
     status: Status,
 }
 
-/// Serves connections to the port with so many workers, each with a link of the host, until the host's door gives no more or gave
-/// `connections`. Memory for the tables and the first line is allocated first; then the host gives the links, and the door. Memory for the
-/// workers is allocated after the first line is written, and for the summary at the end.
-pub(crate) fn serve<Rt: Wait + Threads + Sync, K: Sink, H: Host, C: Clock>(
+/// Serves connections to the port with so many workers, each with a link of the host and a clock that is lent, until the host's door gives
+/// no more or gave `connections`. Memory for the tables and the first line is allocated first; then the host gives the links, and the door.
+/// Memory for the workers is allocated after the first line is written, and for the summary at the end.
+pub(crate) fn serve<Rt: Wait + Threads + Sync, K: Sink, H: Host, C: Clocks>(
     rt: &Rt,
     alloc: Global,
     port: u16,
@@ -45,32 +47,33 @@ pub(crate) fn serve<Rt: Wait + Threads + Sync, K: Sink, H: Host, C: Clock>(
     clock: &mut C,
 ) -> Status
     requires workers { (0 < workers) × (workers ≤ 1024) }
-    ensures serve { IsServe (shown_by H.Door.faults H.Door.ahead H.Door.given H.Door.ended H.Door.gave H.Door.took_back H.Door.closed) (IsVisit H.Door.In.gave H.Door.Out.wrote H.Door.In.faults H.Door.Out.faults) port workers
-        connections
+    ensures serve { IsServe (shown_by H.Door.faults H.Door.ahead H.Door.given H.Door.ended H.Door.gave H.Door.took_back H.Door.closed) (IsVisit H.Door.In.gave H.Door.Out.wrote H.Door.In.faults H.Door.Out.faults)
+        (did_by H.Door.In.gave H.Door.Out.wrote C.Lent.gave H.Link.exchanges H.Link.faults) port workers connections
         (around_door (K.wrote output.old) (H.doors_given host.old) (H.doors_back host.old) (H.links_given host.old) (H.links_back host.old)
-        (H.door_faults host.old) (H.link_faults host.old))
+        (C.clocks_given clock.old) (C.clocks_back clock.old) (H.door_faults host.old) (H.link_faults host.old))
         (around_door (K.wrote output.new) (H.doors_given host.new) (H.doors_back host.new) (H.links_given host.new) (H.links_back host.new)
-        (H.door_faults host.new) (H.link_faults host.new)) result }
+        (C.clocks_given clock.new) (C.clocks_back clock.new) (H.door_faults host.new) (H.link_faults host.new)) result }
     ensures write_fault { result ≡ statuses.WriteFault → Rose (K.faults output.old) (K.faults output.new) }
     ensures output_faultless { result ≢ statuses.WriteFault → K.faults output.new ≡ K.faults output.old }
+    ensures unread { C.gave clock.new ≡ C.gave clock.old }
     ensures disk { H.disk_faults host.new ≡ H.disk_faults host.old }
 {
     let count = usize::from(workers);
-    let mut links = Vec::new(alloc);
-    if links.try_reserve(count).is_err() {
-        links.destroy_empty();
+    let mut owns = Vec::new(alloc);
+    if owns.try_reserve(count).is_err() {
+        owns.destroy_empty();
         return Status::NoMemory;
     }
     match Book::first(alloc) {
         Ok(book) => match Hall::make(alloc, book, u32::from(workers) + 2) {
             Ok((hall, pass)) => match listening_line(alloc, port) {
-                Ok(listening) => match take_links(host, &mut links, count) {
+                Ok(listening) => match take_owns(host, clock, &mut owns, count) {
                     Ok(()) => at_port(
                         rt,
                         alloc,
                         hall,
                         pass,
-                        links,
+                        owns,
                         &listening,
                         port,
                         connections,
@@ -79,63 +82,72 @@ pub(crate) fn serve<Rt: Wait + Threads + Sync, K: Sink, H: Host, C: Clock>(
                         clock,
                     ),
                     Err(fault) => {
-                        give_links(host, links);
+                        give_owns(host, clock, owns);
                         host_status(fault)
                     }
                 },
                 Err(_) => {
-                    links.destroy_empty();
+                    owns.destroy_empty();
                     Status::NoMemory
                 }
             },
             Err((_, _)) => {
-                links.destroy_empty();
+                owns.destroy_empty();
                 Status::NoMemory
             }
         },
         Err(_) => {
-            links.destroy_empty();
+            owns.destroy_empty();
             Status::NoMemory
         }
     }
 }
 
-/// Takes so many links of the host. After an error there are fewer.
-fn take_links<H: Host>(
+/// Takes so many links of the host, each with a clock. After an error there are fewer.
+fn take_owns<H: Host, C: Clocks>(
     host: &mut H,
-    links: &mut Vec<H::Link>,
+    clock: &mut C,
+    owns: &mut Vec<(H::Link, C::Lent)>,
     count: usize,
 ) -> Result<(), HostFault>
-    requires room { (links.old.items ≡ []) × (count ≤ vec_capacity links.old) }
-    ensures given { H.links_given host.new ≡ H.links_given host.old ++ links.new.items }
+    requires room { (owns.old.items ≡ []) × (count ≤ vec_capacity owns.old) }
+    ensures given { H.links_given host.new ≡ H.links_given host.old ++ links_of owns.new.items }
     ensures back { H.links_back host.new ≡ H.links_back host.old }
-    ensures few { vec_len links.new ≤ count }
-    ensures all { IfOk result (λ _. vec_len links.new ≡ count) }
+    ensures clocks { C.clocks_given clock.new ≡ C.clocks_given clock.old ++ clocks_of owns.new.items }
+    ensures clocks_back { C.clocks_back clock.new ≡ C.clocks_back clock.old }
+    ensures unread { C.gave clock.new ≡ C.gave clock.old }
+    ensures few { vec_len owns.new ≤ count }
+    ensures all { IfOk result (λ _. vec_len owns.new ≡ count) }
     ensures doors { SameGiven H.doors_given H.doors_back host.old host.new }
     ensures counts { CountsHost result (H.link_faults host.old) (H.link_faults host.new) }
     ensures same { (H.door_faults host.new ≡ H.door_faults host.old) × (H.disk_faults host.new ≡ H.disk_faults host.old) }
 {
-    while links.len() < count {
+    while owns.len() < count {
         match host.link() {
-            Ok(link) => links.push_reserved(link),
+            Ok(link) => owns.push_reserved((link, clock.lend())),
             Err(fault) => return Err(fault),
         }
     }
     Ok(())
 }
 
-/// Gives the links back, in their order.
-fn give_links<H: Host>(host: &mut H, links: Vec<H::Link>)
-    ensures back { H.links_back host.new ≡ H.links_back host.old ++ links.items }
+/// Gives the links and their clocks back, in their order.
+fn give_owns<H: Host, C: Clocks>(host: &mut H, clock: &mut C, owns: Vec<(H::Link, C::Lent)>)
+    ensures back { H.links_back host.new ≡ H.links_back host.old ++ links_of owns.items }
     ensures given { H.links_given host.new ≡ H.links_given host.old }
+    ensures clocks_back { C.clocks_back clock.new ≡ C.clocks_back clock.old ++ clocks_of owns.items }
+    ensures clocks { C.clocks_given clock.new ≡ C.clocks_given clock.old }
+    ensures unread { C.gave clock.new ≡ C.gave clock.old }
     ensures doors { SameGiven H.doors_given H.doors_back host.old host.new }
     ensures faults { SameFaults H.disk_faults H.door_faults H.link_faults host.old host.new }
 {
-    let mut links = links;
-    while !links.is_empty() {
-        host.back_link(links.remove(0));
+    let mut owns = owns;
+    while !owns.is_empty() {
+        let (link, lent) = owns.remove(0);
+        host.back_link(link);
+        clock.back(lent);
     }
-    links.destroy_empty();
+    owns.destroy_empty();
 }
 
 /// The status of a host that gave no link or no door.
@@ -148,13 +160,13 @@ fn host_status(fault: HostFault) -> Status
     }
 }
 
-/// Serves a door of the host at the port. Door and links then go back to the host.
-fn at_port<Rt: Wait + Threads + Sync, K: Sink, H: Host, C: Clock>(
+/// Serves a door of the host at the port. Door and links then go back to the host, and the clocks to the one that lent them.
+fn at_port<Rt: Wait + Threads + Sync, K: Sink, H: Host, C: Clocks>(
     rt: &Rt,
     alloc: Global,
     hall: Hall<Book>,
     pass: Pass<Book>,
-    links: Vec<H::Link>,
+    owns: Vec<(H::Link, C::Lent)>,
     listening: &Bytes,
     port: u16,
     connections: Option<u64>,
@@ -163,23 +175,25 @@ fn at_port<Rt: Wait + Threads + Sync, K: Sink, H: Host, C: Clock>(
     clock: &mut C,
 ) -> Status
     requires here { pass.seat.table_id ≡ hall.table.shared.table_id }
-    requires opener { (view pass.seat).made ≡ 1 }
+    requires opener { ((view pass.seat).number ≡ 0) × ((view pass.seat).made ≡ 1) × (turns_seen pass.seat ≡ opening ∷ []) }
     requires free { IsFree pass.seat }
-    requires seats { vec_len links + 2 ≤ hall.seats }
-    requires links { (0 < vec_len links) × (vec_len links ≤ 1024) }
+    requires seats { vec_len owns + 2 ≤ hall.seats }
+    requires owns { (0 < vec_len owns) × (vec_len owns ≤ 1024) }
     requires listening { listening.now ≡ listening_text port }
-    ensures served { ServesBy (shown_by H.Door.faults H.Door.ahead H.Door.given H.Door.ended H.Door.gave H.Door.took_back H.Door.closed) (IsVisit H.Door.In.gave H.Door.Out.wrote H.Door.In.faults H.Door.Out.faults) port connections links.items
+    ensures served { ServesBy (shown_by H.Door.faults H.Door.ahead H.Door.given H.Door.ended H.Door.gave H.Door.took_back H.Door.closed) (IsVisit H.Door.In.gave H.Door.Out.wrote H.Door.In.faults H.Door.Out.faults)
+        (did_by H.Door.In.gave H.Door.Out.wrote C.Lent.gave H.Link.exchanges H.Link.faults) port connections owns.items
         (around_door (K.wrote output.old) (H.doors_given host.old) (H.doors_back host.old) (H.links_given host.old) (H.links_back host.old)
-        (H.door_faults host.old) (H.link_faults host.old))
+        (C.clocks_given clock.old) (C.clocks_back clock.old) (H.door_faults host.old) (H.link_faults host.old))
         (around_door (K.wrote output.new) (H.doors_given host.new) (H.doors_back host.new) (H.links_given host.new) (H.links_back host.new)
-        (H.door_faults host.new) (H.link_faults host.new)) result
-        ⊎ IsUnservedBy port links.items
+        (C.clocks_given clock.new) (C.clocks_back clock.new) (H.door_faults host.new) (H.link_faults host.new)) result
+        ⊎ IsUnservedBy port owns.items
         (around_door (K.wrote output.old) (H.doors_given host.old) (H.doors_back host.old) (H.links_given host.old) (H.links_back host.old)
-        (H.door_faults host.old) (H.link_faults host.old))
+        (C.clocks_given clock.old) (C.clocks_back clock.old) (H.door_faults host.old) (H.link_faults host.old))
         (around_door (K.wrote output.new) (H.doors_given host.new) (H.doors_back host.new) (H.links_given host.new) (H.links_back host.new)
-        (H.door_faults host.new) (H.link_faults host.new)) result }
+        (C.clocks_given clock.new) (C.clocks_back clock.new) (H.door_faults host.new) (H.link_faults host.new)) result }
     ensures write_fault { result ≡ statuses.WriteFault → Rose (K.faults output.old) (K.faults output.new) }
     ensures output_faultless { result ≢ statuses.WriteFault → K.faults output.new ≡ K.faults output.old }
+    ensures unread { C.gave clock.new ≡ C.gave clock.old }
     ensures disk { H.disk_faults host.new ≡ H.disk_faults host.old }
 {
     match host.door(port) {
@@ -189,25 +203,20 @@ fn at_port<Rt: Wait + Threads + Sync, K: Sink, H: Host, C: Clock>(
                 alloc,
                 hall,
                 pass,
-                links,
+                owns,
                 door,
                 listening,
                 port,
                 connections,
                 output,
-                clock,
             );
-            let Left {
-                door,
-                links,
-                status,
-            } = left;
+            let Left { door, owns, status } = left;
             host.back_door(door);
-            give_links(host, links);
+            give_owns(host, clock, owns);
             status
         }
         Err(fault) => {
-            give_links(host, links);
+            give_owns(host, clock, owns);
             host_status(fault)
         }
     }
@@ -219,41 +228,30 @@ fn announce<Rt: Wait + Threads + Sync, K: Sink, D: Door, L: Link, C: Clock>(
     alloc: Global,
     hall: Hall<Book>,
     pass: Pass<Book>,
-    links: Vec<L>,
+    owns: Vec<(L, C)>,
     door: D,
     listening: &Bytes,
     port: u16,
     connections: Option<u64>,
     output: &mut K,
-    clock: &mut C,
-) -> Left<D, L>
+) -> Left<D, L, C>
     requires here { pass.seat.table_id ≡ hall.table.shared.table_id }
-    requires opener { (view pass.seat).made ≡ 1 }
+    requires opener { ((view pass.seat).number ≡ 0) × ((view pass.seat).made ≡ 1) × (turns_seen pass.seat ≡ opening ∷ []) }
     requires free { IsFree pass.seat }
-    requires seats { vec_len links + 2 ≤ hall.seats }
-    requires links { (0 < vec_len links) × (vec_len links ≤ 1024) }
+    requires seats { vec_len owns + 2 ≤ hall.seats }
+    requires owns { (0 < vec_len owns) × (vec_len owns ≤ 1024) }
     requires listening { listening.now ≡ listening_text port }
-    ensures announced { IsAnnounced (shown_by D.faults D.ahead D.given D.ended D.gave D.took_back D.closed) (IsVisit ⟦<D::In as Source>⟧.gave ⟦<D::Out as Sink>⟧.wrote ⟦<D::In as Source>⟧.faults ⟦<D::Out as Sink>⟧.faults) port connections door result.door
-        links.items result.links.items (K.wrote output.old) (K.wrote output.new) result.status
-        ⊎ IsUnannounced port door result.door links.items result.links.items (K.wrote output.old) (K.wrote output.new) result.status }
+    ensures announced { Announces (shown_by D.faults D.ahead D.given D.ended D.gave D.took_back D.closed) (IsVisit ⟦<D::In as Source>⟧.gave ⟦<D::Out as Sink>⟧.wrote ⟦<D::In as Source>⟧.faults ⟦<D::Out as Sink>⟧.faults)
+        (did_by ⟦<D::In as Source>⟧.gave ⟦<D::Out as Sink>⟧.wrote C.gave L.exchanges L.faults) port connections
+        (record { door = door; owns = owns.items; written = K.wrote output.old }) (record { door = result.door; owns = result.owns.items; written = K.wrote output.new }) result.status }
     ensures write_fault { result.status ≡ statuses.WriteFault → Rose (K.faults output.old) (K.faults output.new) }
     ensures output_faultless { result.status ≢ statuses.WriteFault → K.faults output.new ≡ K.faults output.old }
 {
     match output.write_all(listening.as_slice()) {
-        Ok(()) => open(
-            rt,
-            alloc,
-            hall,
-            pass,
-            links,
-            door,
-            connections,
-            output,
-            clock,
-        ),
+        Ok(()) => open(rt, alloc, hall, pass, owns, door, connections, output),
         Err(Failed) => Left {
             door,
-            links,
+            owns,
             status: Status::WriteFault,
         },
     }
@@ -265,20 +263,20 @@ fn open<Rt: Wait + Threads + Sync, K: Sink, D: Door, L: Link, C: Clock>(
     alloc: Global,
     hall: Hall<Book>,
     mut pass: Pass<Book>,
-    links: Vec<L>,
+    owns: Vec<(L, C)>,
     door: D,
     connections: Option<u64>,
     output: &mut K,
-    clock: &mut C,
-) -> Left<D, L>
+) -> Left<D, L, C>
     requires here { pass.seat.table_id ≡ hall.table.shared.table_id }
-    requires opener { (view pass.seat).made ≡ 1 }
+    requires opener { ((view pass.seat).number ≡ 0) × ((view pass.seat).made ≡ 1) × (turns_seen pass.seat ≡ opening ∷ []) }
     requires free { IsFree pass.seat }
-    requires seats { vec_len links + 2 ≤ hall.seats }
-    requires links { (0 < vec_len links) × (vec_len links ≤ 1024) }
-    ensures opened { ((vec_len result.links ≡ vec_len links) × IsOpened (shown_by D.faults D.ahead D.given D.ended D.gave D.took_back D.closed)
-        (IsVisit ⟦<D::In as Source>⟧.gave ⟦<D::Out as Sink>⟧.wrote ⟦<D::In as Source>⟧.faults ⟦<D::Out as Sink>⟧.faults) connections door result.door (K.wrote output.old) (K.wrote output.new) result.status)
-        ⊎ IsUnopened door result.door links.items result.links.items (K.wrote output.old) (K.wrote output.new) result.status }
+    requires seats { vec_len owns + 2 ≤ hall.seats }
+    requires owns { (0 < vec_len owns) × (vec_len owns ≤ 1024) }
+    ensures opened { ((vec_len result.owns ≡ vec_len owns) × IsOpened (shown_by D.faults D.ahead D.given D.ended D.gave D.took_back D.closed) (IsVisit ⟦<D::In as Source>⟧.gave ⟦<D::Out as Sink>⟧.wrote ⟦<D::In as Source>⟧.faults ⟦<D::Out as Sink>⟧.faults)
+        (did_by ⟦<D::In as Source>⟧.gave ⟦<D::Out as Sink>⟧.wrote C.gave L.exchanges L.faults) connections
+        (record { door = door; owns = owns.items; written = K.wrote output.old }) (record { door = result.door; owns = result.owns.items; written = K.wrote output.new }) result.status)
+        ⊎ IsUnopened (record { door = door; owns = owns.items; written = K.wrote output.old }) (record { door = result.door; owns = result.owns.items; written = K.wrote output.new }) result.status }
     ensures write_fault { result.status ≡ statuses.WriteFault → Rose (K.faults output.old) (K.faults output.new) }
     ensures output_faultless { result.status ≢ statuses.WriteFault → K.faults output.new ≡ K.faults output.old }
 {
@@ -287,25 +285,20 @@ fn open<Rt: Wait + Threads + Sync, K: Sink, D: Door, L: Link, C: Clock>(
         alloc,
         &hall,
         &mut pass,
-        links,
+        owns,
         door,
-        clock,
         connections,
         &NoGate,
     );
     let Serving {
         door,
-        owns: links,
+        owns,
         passes,
         end,
     } = serving;
     let book = hall.close(pass, passes);
     let status = end_status(alloc, end, book.tables(), output);
-    Left {
-        door,
-        links,
-        status,
-    }
+    Left { door, owns, status }
 }
 
 /// The status of a door that is served no longer. If it gave all that it should, the summary is printed.

@@ -1,16 +1,16 @@
 //! A door served by workers side by side.
-ghost use Rattle.std.specs.Prelude.{◌≡◌, ◌≢◌, ◌+◌, ◌<◌, ◌≤◌, All, None, [], length, vec_len, vec_capacity};
+ghost use Rattle.std.specs.Prelude.{◌≡◌, ◌≢◌, ◌+◌, ◌<◌, ◌≤◌, All, None, [], length, map, vec_len, vec_capacity};
 ghost use Rattle.router_disk.specs.Faults.{Rose};
-ghost use Rattle.turn_book.specs.Rule.{Learns};
-ghost use Rattle.turn_book.specs.Passes.{view};
+ghost use Rattle.turn_book.specs.Rule.{Learns, turns_by};
+ghost use Rattle.turn_book.specs.Passes.{view, known_by};
 ghost use Rattle.shared_door.specs.Shown.{shown_by};
 ghost use Rattle.shared_door.specs.Acts.{IsOver};
 ghost use Rattle.shared_door.specs.Visits.{Gave, Visited};
-ghost use Rattle.door_workers.specs.Serving.{over_of, IsIdlePass, IsRestingPass, IsHired, HasServed};
+ghost use Rattle.door_workers.specs.Serving.{over_of, IsIdlePass, IsRestingPass, IsHired, HasServed, HasWorked, AreDone, hired_by};
 
 use crate::counts::Counts;
 use crate::site::{Site, attend};
-use crate::staff::{Room, gather, hire, room_for};
+use crate::staff::{Room, gather, hire, longest, room_for};
 use crate::worker::{Work, Worker};
 use bus_host::Door;
 use growing_list::GrowingList;
@@ -37,9 +37,9 @@ pub enum DoorEnd {
 #[derive(Drop)]
 pub struct Serving<V: Story, D, Own> {
     pub door: D,
-    /// What the workers had, in any order.
+    /// What the workers had, in the order of the loan.
     pub owns: Vec<Own>,
-    /// The passes that were made: close the hall with them.
+    /// The passes that were made: the workers' in the same order, and then the door's. Close the hall with them.
     pub passes: Vec<Pass<V>>,
     pub end: DoorEnd,
 }
@@ -74,8 +74,9 @@ pub fn serve_door<
     ensures passes { All (λ p. IsIdlePass hall.now.table.shared.table_id p.seat) result.passes.items }
     ensures rests { All (λ p. V.rests (view p.seat).number (view p.seat).seen) result.passes.items }
     ensures owns { vec_len result.owns ≡ vec_len owns }
-    ensures served { result.end ≢ DoorEnd.NoMemory → HasServed connections (shown_by D.faults D.ahead D.given D.ended D.gave D.took_back D.closed door)
-        (shown_by D.faults D.ahead D.given D.ended D.gave D.took_back D.closed result.door) V.fits (view pass.new.seat).seen result.end }
+    ensures served { result.end ≢ DoorEnd.NoMemory → (h : HasServed connections (shown_by D.faults D.ahead D.given D.ended D.gave D.took_back D.closed door)
+        (shown_by D.faults D.ahead D.given D.ended D.gave D.took_back D.closed result.door) V.fits (view pass.new.seat).seen result.end)
+        × AreDone W.did h.acts V.made_by (view pass.old.seat).made owns.items result.owns.items (map (λ p. known_by p.seat) result.passes.items) }
     ensures door_fault { result.end ≡ DoorEnd.DoorFault → Rose (D.faults door) (D.faults result.door) }
     ensures no_memory { result.end ≡ DoorEnd.NoMemory → (result.door ≡ door) × (result.owns.items ≡ owns.items)
         × (result.passes.items ≡ []) × (pass.new ≡ pass.old) }
@@ -117,7 +118,7 @@ fn serve_in<
     requires owns { 0 < vec_len owns }
     requires seats { (view pass.old.seat).made + vec_len owns + 1 ≤ hall.now.seats }
     requires tickets { (room.tickets.given ≡ 0) × (room.tickets.seat.me.0.back ≡ []) }
-    requires workers { (vec_len room.workers ≡ 0) × (vec_len owns ≤ vec_capacity room.workers) }
+    requires workers { (room.workers.items ≡ []) × (vec_len owns ≤ vec_capacity room.workers) }
     requires passes { (room.passes.items ≡ []) × (vec_len owns + 1 ≤ vec_capacity room.passes) }
     ensures pass { IsIdlePass hall.now.table.shared.table_id pass.new.seat × ((view pass.new.seat).number ≡ (view pass.old.seat).number) }
     ensures more { Learns V.made_by (view pass.old.seat) (view pass.new.seat).seen }
@@ -125,8 +126,9 @@ fn serve_in<
     ensures passes { All (λ p. IsIdlePass hall.now.table.shared.table_id p.seat) result.passes.items }
     ensures rests { All (λ p. V.rests (view p.seat).number (view p.seat).seen) result.passes.items }
     ensures owns { vec_len result.owns ≡ vec_len owns }
-    ensures served { HasServed connections (shown_by D.faults D.ahead D.given D.ended D.gave D.took_back D.closed door)
-        (shown_by D.faults D.ahead D.given D.ended D.gave D.took_back D.closed result.door) V.fits (view pass.new.seat).seen result.end }
+    ensures served { (h : HasServed connections (shown_by D.faults D.ahead D.given D.ended D.gave D.took_back D.closed door)
+        (shown_by D.faults D.ahead D.given D.ended D.gave D.took_back D.closed result.door) V.fits (view pass.new.seat).seen result.end)
+        × AreDone W.did h.acts V.made_by (view pass.old.seat).made owns.items result.owns.items (map (λ p. known_by p.seat) result.passes.items) }
     ensures door_fault { result.end ≡ DoorEnd.DoorFault → Rose (D.faults door) (D.faults result.door) }
     ensures memory { result.end ≢ DoorEnd.NoMemory }
 {
@@ -156,16 +158,9 @@ fn serve_in<
         door,
         pass: last,
         standing,
-        acts: _,
+        acts,
     } = parts;
-    gather::<V, D::In, D::Out, Own, Act<D::In, D::Out, V::Turn>>(
-        hall,
-        pass,
-        workers,
-        last,
-        &mut owns,
-        &mut passes,
-    );
+    gather::<V, D::In, D::Out, Own, W>(hall, pass, workers, last, &acts, &mut owns, &mut passes);
     Serving {
         door,
         owns,
@@ -208,16 +203,21 @@ fn open_by<
 ) -> Parts<V, D>
     requires works { W.works work.now }
     requires hall { hall.now.table.shared.table_id ≡ N.hall }
-    requires last { IsRestingPass V.rests N.hall last.seat }
+    requires last { IsIdlePass N.hall last.seat }
+    requires unturned { ((view last.seat).number ≡ N.pass) × (turns_by V.made_by N.pass (view last.seat).seen ≡ []) }
     requires tickets { (tickets.seat.table_id ≡ N.tickets) × (tickets.given ≡ 0) × (tickets.seat.me.0.back ≡ []) }
     requires acts { (acts.name ≡ N.acts) × (acts.items ≡ []) }
     requires door { shown_by D.faults D.ahead D.given D.ended D.gave D.took_back D.closed door ≡ N.start }
     requires most { connections ≡ N.most }
     requires some { 0 < length workers.old }
     requires workers { All (λ w. IsHired V.rests N.hall N.acts w.pass.seat w.front) workers.old }
+    requires worked { All (λ w. HasWorked W.did w.front.items w.pass.seat w.lent.value w.own) workers.old }
     ensures workers { All (λ w. IsRestingPass V.rests N.hall w.pass.seat) workers.new }
+    ensures worked { All (λ w. HasWorked W.did result.acts.items w.pass.seat w.lent.value w.own) workers.new }
+    ensures same { map (λ w. hired_by w.pass.seat w.lent.value) workers.new ≡ map (λ w. hired_by w.pass.seat w.lent.value) workers.old }
     ensures count { length workers.new ≡ length workers.old }
-    ensures pass { IsRestingPass V.rests N.hall result.pass.seat }
+    ensures pass { IsIdlePass N.hall result.pass.seat }
+    ensures unturned { ((view result.pass.seat).number ≡ N.pass) × (turns_by V.made_by N.pass (view result.pass.seat).seen ≡ []) }
     ensures over { result.standing.over ≢ None }
     ensures gave { Gave N.most N.start (shown_by D.faults D.ahead D.given D.ended D.gave D.took_back D.closed result.door) result.standing result.acts.items }
     ensures visited { Visited N.start (shown_by D.faults D.ahead D.given D.ended D.gave D.took_back D.closed result.door)
@@ -227,7 +227,7 @@ fn open_by<
     let porch: Porch<'_, V, D, N> = Porch::open(door, hall, last, tickets, acts, connections);
     let porch = Mutex::new(porch);
     work_all(rt, hall, &porch, &counts, work, workers);
-    let over = workers[0].front.again();
+    let over = longest::<V, D, N, Own>(workers);
     porch.into_inner().into_parts(over)
 }
 
@@ -251,8 +251,11 @@ fn work_all<
     requires hall { hall.now.table.shared.table_id ≡ N.hall }
     requires some { 0 < length workers.old }
     requires workers { All (λ w. IsHired V.rests N.hall N.acts w.pass.seat w.front) workers.old }
+    requires worked { All (λ w. HasWorked W.did w.front.items w.pass.seat w.lent.value w.own) workers.old }
     ensures workers { All (λ w. IsRestingPass V.rests N.hall w.pass.seat) workers.new }
     ensures over { All (λ w. (w.front.name ≡ N.acts) × IsOver w.front.items) workers.new }
+    ensures worked { All (λ w. HasWorked W.did w.front.items w.pass.seat w.lent.value w.own) workers.new }
+    ensures same { map (λ w. hired_by w.pass.seat w.lent.value) workers.new ≡ map (λ w. hired_by w.pass.seat w.lent.value) workers.old }
     ensures count { length workers.new ≡ length workers.old }
 {
     let threads = workers.len();
@@ -263,9 +266,12 @@ fn work_all<
         &|_, worker: &mut Worker<V, Own, Act<D::In, D::Out, V::Turn>>|
             requires works { W.works work.now }
             requires hall { hall.now.table.shared.table_id ≡ N.hall }
-            requires idle { IsRestingPass V.rests N.hall worker.old.pass.seat }
+            requires hired { IsHired V.rests N.hall N.acts worker.old.pass.seat worker.old.front }
+            requires worked { HasWorked W.did worker.old.front.items worker.old.pass.seat worker.old.lent.value worker.old.own }
             ensures idle { IsRestingPass V.rests N.hall worker.new.pass.seat }
             ensures over { (worker.new.front.name ≡ N.acts) × IsOver worker.new.front.items }
+            ensures worked { HasWorked W.did worker.new.front.items worker.new.pass.seat worker.new.lent.value worker.new.own }
+            ensures same { ((view worker.new.pass.seat).number ≡ (view worker.old.pass.seat).number) × (worker.new.lent ≡ worker.old.lent) }
         {
             let site = Site {
                 rt,

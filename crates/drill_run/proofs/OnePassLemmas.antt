@@ -1,4 +1,5 @@
--- A history of one pass. Other files cite `of_one_pass`, `only_pass`, `all_own`, `first_none`, `others_none`, `all_front` and `all_back`.
+-- A history of one pass. Other files cite `of_one_pass`, `has_pass`, `first_none`, `no_claims`, `only_pass`, `all_own`, `others_none`, `all_front` and
+-- `all_back`.
 use Rattle.std.proofs.Common.{◌≡◌, ℕ, ◌≤◌, zero, suc, true, false, cond, List, [], ◌∷◌, ◌++◌, map, Option, Some, None, refl, sym, ap, ◌∙◌, subst, arith}
 use Rattle.std.specs.Prelude.{◌==◌, IsSome, All}
 use Rattle.std.proofs.lemmas.Bool.{eq-eqb}
@@ -43,7 +44,7 @@ only_pass seen all (rest, is) unmade n most =
     (ap (turns_by n) (sym (map_more seen rest) ∙ ap (map turn_of) is) ∙ own_turns n all ∙ ap (map turn_of) (unmade n most))
 
 -- a turn after the first has a pass
-has_pass : (s : State) (turn : Turn) (ask : Ask) → IsTurnFor s turn ask → IsSome turn.pass
+pub has_pass : (s : State) (turn : Turn) (ask : Ask) → IsTurnFor s turn ask → IsSome turn.pass
 has_pass s turn (opens start found) is = absurd is
 has_pass s turn (asked request) is = is.0
 has_pass s turn (claims c) is = subst (λ (p : Option ℕ). IsSome p) (sym is.by) refl
@@ -71,7 +72,7 @@ pub first_none : (n : ℕ) (turns : List Turn) → turns_by n (opening ∷ turns
 first_none n turns none = (first_other n opening turns none).1
 
 -- if no pass has a claim, none is open
-no_claims : (cs : List OpenClaim) → ((n : ℕ) → claims_of n cs ≡ []) → cs ≡ []
+pub no_claims : (cs : List OpenClaim) → ((n : ℕ) → claims_of n cs ≡ []) → cs ≡ []
 no_claims [] none = refl
 no_claims (c ∷ cs) none =
     let there : c ∷ claims_of c.pass cs ≡ [] =

@@ -5,11 +5,11 @@ use bus_server::run;
 use libc::types::rlimit;
 use libc::{RLIMIT_NOFILE, getrlimit};
 use program_lines::Status;
-use router_disk::{ReaderSource, SystemClock, WriterSink};
+use router_disk::{ReaderSource, WriterSink};
 use std::io::Write;
 use std::process::ExitCode;
 use std::{env, io};
-use tcp_host::TcpHost;
+use tcp_host::{SystemClocks, TcpHost};
 
 fn main(rt: HostRuntime) -> io::Result<ExitCode> {
     let Some(words) = words(&rt)? else {
@@ -19,7 +19,7 @@ fn main(rt: HostRuntime) -> io::Result<ExitCode> {
     let mut output = WriterSink::new(rt.stdout());
     let mut faults = WriterSink::new(rt.stderr());
     let mut host = TcpHost::new(rt.alloc(), rt);
-    let mut clock = SystemClock::new(rt);
+    let mut clock = SystemClocks::new(rt);
     let status = run(
         &rt,
         rt.alloc(),

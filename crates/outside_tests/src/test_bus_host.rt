@@ -1,9 +1,10 @@
 //! A host that opens nothing, and a door and a host in memory.
 use crate::ledger::{door, knock};
 use bus_host::{
-    Door, Host, HostFault, Knock, MemDoor, MemFile, MemHost, NoDisk, NoDoor, NoHost, NoLink,
+    Clocks, Door, Host, HostFault, Knock, MemClocks, MemDoor, MemFile, MemHost, NoDisk, NoDoor,
+    NoHost, NoLink,
 };
-use router_disk::{Disk, Failed, Link, LinkFault, MemLink, MemSink, MemSource};
+use router_disk::{Clock, Disk, Failed, Link, LinkFault, MemClock, MemLink, MemSink, MemSource};
 use std::alloc::Global;
 use std::collections::LinkedList;
 use std::process::Abort;
@@ -157,4 +158,27 @@ fn a_host_in_memory_opens_its_files(rt: HostRuntime) {
     for disk in host.disks.held() {
         assert_eq!(rt; disk.bytes(), b"abc".as_slice());
     }
+}
+
+/// The first reading of the next clock that is lent, and the second.
+fn readings<C: Clocks>(clock: &mut C) -> (u64, u64) {
+    let mut lent = clock.lend();
+    let first = lent.now();
+    let second = lent.now();
+    clock.back(lent);
+    (first, second)
+}
+
+#[test]
+fn a_clock_in_memory_lends_what_it_plans(rt: HostRuntime) {
+    let alloc = rt.alloc();
+    let mut planned = LinkedList::new(alloc);
+    let later = Vec::from_array(alloc, [8]).expect(&rt, "readings");
+    planned
+        .push_back(MemClock::new(7, later))
+        .expect(&rt, "clocks");
+    let mut clock = MemClocks::new(alloc, 5, planned);
+    assert_eq!(rt; readings(&mut clock), (7, 8));
+    assert_eq!(rt; readings(&mut clock), (5, 5), "no further plan");
+    assert_eq!(rt; clock.now(), 5);
 }

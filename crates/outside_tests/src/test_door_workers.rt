@@ -20,7 +20,17 @@ struct Adding<'a, R> {
 }
 
 impl<R: Wait, I, O> Work<Ledger, I, O, u32> for Adding<'_, R> {
+    ghost use Rattle.std.specs.Prelude.{◌≤◌, ◌+◌, length};
+    ghost use Rattle.std.proofs.Common.{le_refl};
+
     ghost works = { λ _. Unit {0} };
+
+    // A worker counts up.
+    ghost did = { λ _ lent now _ _. lent ≤ now };
+
+    ghost unturned = { λ _ lent _ _. le_refl lent };
+
+    ghost lasts = { λ _ _ _ _ _ _ _ _ h. h };
 
     fn serve(
         &self,

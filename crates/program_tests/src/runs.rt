@@ -1,5 +1,5 @@
 //! Runs of the program over streams, a clock and a host in memory, and what each leaves.
-use bus_host::{Door, Host, HostFault, MemDoor, MemHost, Plan};
+use bus_host::{Door, Host, HostFault, MemClocks, MemDoor, MemHost, Plan};
 use bus_server::run;
 use program_lines::Status;
 use router_disk::{Failing, LinkFault, MemClock, MemLink, MemSink, MemSource};
@@ -88,7 +88,7 @@ fn ran<R: Wait + Threads + Sync>(
     output: &mut Failing<MemSink>,
     faults: &mut MemSink,
     host: &mut Served,
-    clock: &mut MemClock,
+    clock: &mut MemClocks,
 ) -> Status {
     run(
         rt, alloc, words, ANY_FILES, input, output, faults, host, clock,
@@ -141,6 +141,7 @@ pub(crate) fn left<R: Wait + Threads + Sync + Abort>(
     sent: &str,
     writes: &str,
     host: &mut Served,
+    clock: &mut MemClocks,
 ) -> String {
     let messages = messages(alloc, sent).expect(rt, "messages");
     let mut input = Failing {
@@ -154,7 +155,6 @@ pub(crate) fn left<R: Wait + Threads + Sync + Abort>(
         faults: 0,
     };
     let mut faults = MemSink::new(alloc);
-    let mut clock = MemClock::always(alloc, NOW);
     let words = words(rt, alloc, line);
     let status = ran(
         rt,
@@ -164,7 +164,7 @@ pub(crate) fn left<R: Wait + Threads + Sync + Abort>(
         &mut output,
         &mut faults,
         host,
-        &mut clock,
+        clock,
     );
     let (code, read) = (status.code(), if input.faults == 0 { "" } else { " read" });
     let (fault, output) = (
@@ -189,7 +189,24 @@ pub(crate) fn left_by<R: Wait + Threads + Sync + Abort>(
     let (line, sent, door, rest) = four(row);
     let (link, writes) = two(rest);
     let mut host = host(rt, alloc, door, link);
-    left(rt, alloc, line, sent, writes, &mut host)
+    let mut clock = clocks(rt, alloc, "");
+    left(rt, alloc, line, sent, writes, &mut host, &mut clock)
+}
+
+/// A clock that stands at `NOW`. It lends a clock for each of these, apart by `;`, whose readings are so many seconds later.
+pub(crate) fn clocks<R: Abort>(rt: &R, alloc: Global, plans: &str) -> MemClocks {
+    let mut planned = LinkedList::new(alloc);
+    for plan in plans.split_terminator(';') {
+        let mut later = Vec::new(alloc);
+        for seconds in plan.split(' ') {
+            let seconds = u64::from(seconds.parse::<u32>().expect(rt, "seconds"));
+            later.push(NOW + seconds).expect(rt, "readings");
+        }
+        planned
+            .push_back(MemClock::new(NOW, later))
+            .expect(rt, "clocks");
+    }
+    MemClocks::new(alloc, NOW, planned)
 }
 
 /// Fails unless a run by the row leaves what it wants.

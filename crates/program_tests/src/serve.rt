@@ -1,8 +1,9 @@
 //! Tests of the program while it serves connections, over a host in memory. The form of a row is that of `left_by` in runs.rt.
-use crate::runs::{door, host, left, left_by, meet};
+use crate::runs::{clocks, door, host, left, left_by, meet};
 use bus_host::{Door, Gate, Point};
-use bus_server::{Book, DoorEnd, Serving, serve_door};
 use router_disk::{LinkFault, MemClock, MemLink};
+use router_sessions::Book;
+use session_workers::{DoorEnd, Serving, serve_door};
 use std::alloc::Global;
 use std::hint::spin_loop;
 use std::process::Abort;
@@ -43,6 +44,40 @@ duties 1 pending 0 delivered 1 dead-lettered 0 dropped 0
 messages 0
 |0 0|+0 200 http://127.0.0.1:9000/x {"version":"0","id":"00000000-0000-8000-8000-000000000001","detail-type":"Order","source":"shop.orders","account":"111122223333","time":"2023-11-14T22:13:20Z","region":"us-east-1","resources":[],"detail":{"total":12.50}}|door 0|=queue rule address event delivered peek-none"#;
     meet(&rt, rt.alloc(), row, want);
+}
+
+// The fourth reading of the worker's clock is that of the event, 5 seconds after the first. The clock of the program is not read.
+#[test]
+fn a_lent_clock_gives_the_moments_of_its_workers_turns(rt: HostRuntime) {
+    let alloc = rt.alloc();
+    let line = "ebusd serve --port 8080 --workers 1 --connections 1";
+    let mut host = host(&rt, alloc, "queue rule address event delivered", "1 200");
+    let mut clock = clocks(&rt, alloc, "1 2 5 7;");
+    let left = left(&rt, alloc, line, "", "", &mut host, &mut clock);
+    assert!(rt; left.as_str().starts_with("|Done 0||listening 8080\n"));
+    assert!(rt; left.as_str().contains("\"time\":\"2023-11-14T22:13:25Z\""));
+}
+
+// Each event is owed to an endpoint, and each attempt that was recorded as delivered is an answer of a worker's link.
+#[test]
+fn the_recorded_attempts_are_the_answers_of_all_links(rt: HostRuntime) {
+    let more = ";quiet;event event"
+        .repeat(rt.alloc(), 10)
+        .expect(&rt, "plans");
+    let more = more.as_str();
+    let row = format!(in rt.alloc();
+        "ebusd serve --port 8080 --workers 4||queue rule address{more}|4 200|"
+    ).expect(&rt, "a row");
+    let left = left_by(&rt, rt.alloc(), row.as_str());
+    let answers = left
+        .as_str()
+        .matches(" 200 http://127.0.0.1:9000/x ")
+        .count();
+    let delivered = format!(in rt.alloc(); " delivered {answers} dead-lettered 0 ").expect(
+        &rt, "a count",
+    );
+    assert!(rt; left.as_str().contains("\nevents 20 archived 0 replays 0\n"));
+    assert!(rt; left.as_str().contains(delivered.as_str()));
 }
 
 #[test]
@@ -108,12 +143,13 @@ fn a_port_that_is_not_open_serves_nothing(rt: HostRuntime) {
     let alloc = rt.alloc();
     let line = "ebusd serve --port 8080 --workers 2";
     let mut host = host(&rt, alloc, "closed", "2 200");
-    let first = left(&rt, alloc, line, "", "", &mut host);
+    let mut clock = clocks(&rt, alloc, "");
+    let first = left(&rt, alloc, line, "", "", &mut host, &mut clock);
     assert_eq!(rt;
         first.as_str(),
         "|DoorFault 8|ebusd: door failed\n||0 1|+0+0"
     );
-    let second = left(&rt, alloc, line, "", "", &mut host);
+    let second = left(&rt, alloc, line, "", "", &mut host, &mut clock);
     assert_eq!(rt;
         second.as_str(),
         "|DoorFault 8|ebusd: door failed\n||1 1|+0+0",
@@ -177,18 +213,21 @@ fn gated<R: Wait + Threads + Sync + Abort, D: Door, G: Gate + Sync>(
     door: D,
     gate: &G,
 ) -> D {
-    let links = [
-        MemLink::always(alloc, Err(LinkFault::Failed)),
-        MemLink::always(alloc, Err(LinkFault::Failed)),
+    let owns = [
+        (
+            MemLink::always(alloc, Err(LinkFault::Failed)),
+            MemClock::always(alloc, NOW),
+        ),
+        (
+            MemLink::always(alloc, Err(LinkFault::Failed)),
+            MemClock::always(alloc, NOW),
+        ),
     ];
-    let links = Vec::from_array(alloc, links).expect(rt, "links");
-    let mut clock = MemClock::always(alloc, NOW);
+    let owns = Vec::from_array(alloc, owns).expect(rt, "links and clocks");
     let book = Book::first(alloc).expect(rt, "a book");
     match Hall::make(alloc, book, 4) {
         Ok((hall, mut pass)) => {
-            let serving = serve_door(
-                rt, alloc, &hall, &mut pass, links, door, &mut clock, None, gate,
-            );
+            let serving = serve_door(rt, alloc, &hall, &mut pass, owns, door, None, gate);
             let Serving {
                 door,
                 owns: _,

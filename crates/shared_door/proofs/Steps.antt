@@ -13,7 +13,7 @@ use lib.ListN.{get_elem?}
 use Rattle.atomic_table.specs.Table.{State, Me, step, keeps, Allows, Splits, Joins}
 use Rattle.atomic_table.proofs.Lists.{at_set, set_else}
 use Rattle.shared_door.specs.declared.known.Known.{Known}
-use Rattle.shared_door.specs.Tickets.{IsPlace, HasOtherNumber, keeper, holder, ticket, Apart, Fits, Kept, Holds, without_ticket, ticket_of, with_ticket, numbered, ended}
+use Rattle.shared_door.specs.Tickets.{IsPlace, HasOtherNumber, keeper, holder, ticket, Apart, Fits, AreTickets, Holds, without_ticket, ticket_of, with_ticket, numbered, ended}
 
 module _ {A : Type 0} where
   at_end : (l : List A) (a b : A) (j : ℕ) → get_elem? (l ++ a ∷ []) j ≡ some b → (get_elem? l j ≡ some b) ⊎ ((j ≡ length l) × (a ≡ b))
@@ -90,7 +90,7 @@ module _ {C : Type 0} where
   abbrev Below : List C → ℕ × C → Type 0
   Below given t = t.0 ≤ length given
 
-  pub opens : Kept (keeper {C = C} [] [] ∷ [])
+  pub opens : AreTickets (keeper {C = C} [] [] ∷ [])
   opens = record {
     given = [];
     back = [];
@@ -102,15 +102,15 @@ module _ {C : Type 0} where
   }
 
   -- what the rule says, in the keeper's words
-  known : (views : List (Known C)) (k : Kept views) (id : ℕ) (v : Known C) → get_elem? views id ≡ some v → 0 < v.keeps
+  known : (views : List (Known C)) (k : AreTickets views) (id : ℕ) (v : Known C) → get_elem? views id ≡ some v → 0 < v.keeps
       → ((j : ℕ) (u : Known C) → get_elem? views j ≡ some u → Fits v.given v.back u) × All (Below v.given) v.back
   known views k id v at l = let (p, q) = (k.each id v at).keeps l in
       subst (λ (x : List C × List (ℕ × C)). ((j : ℕ) (u : Known C) → get_elem? views j ≡ some u → Fits x.0 x.1 u) × All (Below x.0) x.1)
       (λ i. (sym p i, sym q i)) (k.each, k.bound)
 
   -- The next number goes to a thing
-  numbers : (views : List (Known C)) (k : Kept views) (id : ℕ) (g : List C) (b : List (ℕ × C)) (c : C) → get_elem? views id ≡ some (keeper g b)
-      → Kept (set views id (holder (g ++ c ∷ []) b (suc (length g)) (c ∷ [])))
+  numbers : (views : List (Known C)) (k : AreTickets views) (id : ℕ) (g : List C) (b : List (ℕ × C)) (c : C) → get_elem? views id ≡ some (keeper g b)
+      → AreTickets (set views id (holder (g ++ c ∷ []) b (suc (length g)) (c ∷ [])))
   numbers views k id g b c at = let w = holder (g ++ c ∷ []) b (suc (length g)) (c ∷ []) in
       let (each, bound) = known views k id (keeper g b) at (omega arith) in record {
         given = g ++ c ∷ [];
@@ -145,9 +145,9 @@ module _ {C : Type 0} where
   nothing_apart u = (record { keepers = λ l. absurd (omega arith); numbers = λ l. absurd (omega arith) }, record { keepers = λ _. refl; numbers = λ l e. absurd (omega arith) })
 
   -- A ticket that is back ends
-  stops : (views : List (Known C)) (k : Kept views) (id : ℕ) (v : Known C) (c : C) → get_elem? views id ≡ some v → 0 < v.keeps → 0 < v.number
+  stops : (views : List (Known C)) (k : AreTickets views) (id : ℕ) (v : Known C) (c : C) → get_elem? views id ≡ some v → 0 < v.keeps → 0 < v.number
       → IsPlace v.given (v.number, c)
-      → Kept (set views id (keeper v.given (v.back ++ (v.number, c) ∷ [])))
+      → AreTickets (set views id (keeper v.given (v.back ++ (v.number, c) ∷ [])))
   stops views k id v c at keeping has place = let w = keeper v.given (v.back ++ (v.number, c) ∷ []) in
       let (each, bound) = known views k id v at keeping in record {
         given = v.given;

@@ -77,10 +77,12 @@ Knocks tickets name old new (knocked.Failed f) =
     × IsOverBy name new f over.Failed
 
 module _ {D T I O : Type 0} where
-  -- The act by which this connection ended. Before its session its pass had seen `before`, and now the porch's has seen `seen`.
+  -- The act by which this connection ended, after a session of this pass. The pass had seen `before` when the session began, and now the
+  -- porch's has seen `seen`.
   -- Shown by: a_cut_is_not_shown.edit.
-  pub record IsEndOf (c : Connection D T I O) (before : List T) (cut : Bool) (seen : List T) (v : Visit I O T) : Type 0 where
+  pub record IsEndOf (c : Connection D T I O) (pass : ℕ) (before : List T) (cut : Bool) (seen : List T) (v : Visit I O T) : Type 0 where
     pub number : v.number ≡ number_of c
+    pub pass_is : v.pass ≡ pass
     pub arrival : v.arrival.value ≡ arrival_of c
     pub went : v.went.value ≡ (c.input, c.output)
     pub cut_is : v.cut ≡ cut
@@ -89,5 +91,5 @@ module _ {D T I O : Type 0} where
 
   -- The connection came back to the porch.
   -- Shown by: a_cut_is_not_shown.edit.
-  abbrev pub CameBack : PorchState I O T → PorchState I O T → Connection D T I O → List T → Bool → Type 0
-  CameBack old new c before cut = (v : Visit I O T) × IsEndOf c before cut new.seen v × (new.acts ≡ old.acts ++ act.Ended v ∷ [])
+  abbrev pub CameBack : PorchState I O T → PorchState I O T → Connection D T I O → ℕ → List T → Bool → Type 0
+  CameBack old new c pass before cut = (v : Visit I O T) × IsEndOf c pass before cut new.seen v × (new.acts ≡ old.acts ++ act.Ended v ∷ [])

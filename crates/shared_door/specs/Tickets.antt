@@ -46,7 +46,7 @@ module _ {C : Type 0} where
     pub out : 0 < v.number → IsNew back v.number
 
   -- what was given, and the tickets that came back
-  pub record Kept (views : List (Known C)) : Type 0 where
+  pub record AreTickets (views : List (Known C)) : Type 0 where
     pub given : List C
     pub back : List (ℕ × C)
     pub each : (i : ℕ) (v : Known C) → get_elem? views i ≡ some v → Fits given back v
@@ -64,10 +64,10 @@ module _ {C : Type 0} where
   with_ticket v w = record v { number = w.number; came = w.came }
 
 module _ {S C : Type 0} where
-  -- The rule of the table of tickets: `Kept` of its views.
+  -- The rule of the table of tickets: `AreTickets` of its views.
   -- Shown by: outside_tests test_shared_door.rt: two_threads_serve_four_connections.
   abbrev pub Holds : State S (Known C) → Type 0
-  Holds s = Kept s.views
+  Holds s = AreTickets s.views
 
   -- the thing that the step announces has the next number
   abbrev pub numbered : (S → C) → Step S → Me S (Known C) → ℕ → Me S (Known C) → Type 0

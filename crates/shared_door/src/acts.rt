@@ -31,10 +31,11 @@ pub struct Arrival<I, O, T> {
     pub seen: Listed<T>,
 }
 
-/// A connection that ended: its number, how it came, what its pass had seen when its session began, its streams as they were at
-/// the end, whether out of memory ended it, and what the porch's pass had seen then.
+/// A connection that ended: its number, how it came, the number of its session's pass and what that had seen when the session began,
+/// its streams as they were at the end, whether out of memory ended it, and what the porch's pass had seen then.
 pub struct Visit<I, O, T> {
     pub number: u64,
+    pub pass: u64,
     pub arrival: Snapshot<Arrival<I, O, T>>,
     pub before: Listed<T>,
     pub went: Snapshot<(I, O)>,
@@ -66,6 +67,7 @@ impl<I, O, T> Drop for Visit<I, O, T> {
     fn drop(self) {
         let Visit {
             number: _,
+            pass: _,
             arrival: _,
             before: _,
             went: _,

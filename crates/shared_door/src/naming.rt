@@ -14,6 +14,9 @@ pub trait Naming<I, O> {
     // The tickets.
     ghost tickets: { TableId };
 
+    // The number of the porch's pass.
+    ghost pass: { ℕ };
+
     // The porch's list of acts.
     ghost acts: { ℕ };
 
@@ -31,6 +34,8 @@ impl<I, O> Naming<I, O> for Brand {
     ghost hall = { no_table };
 
     ghost tickets = { no_table };
+
+    ghost pass = { 0 };
 
     ghost acts = { 0 };
 

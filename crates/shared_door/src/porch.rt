@@ -1,7 +1,7 @@
 //! The porch: what the door's lock has.
 ghost use Rattle.std.specs.Prelude.{◌≡◌, ◌≢◌, ◌+◌, ◌-◌, ◌^◌, ◌<◌, Some, None, [], ◌∷◌, ◌++◌, MatchBool};
 ghost use mathlib.Core.List.{IsPrefix};
-ghost use Rattle.turn_book.specs.Rule.{Learns};
+ghost use Rattle.turn_book.specs.Rule.{Learns, turns_by};
 ghost use Rattle.turn_book.specs.Passes.{view, IsFree, IsSamePass};
 ghost use Rattle.shared_door.specs.declared.acts.Act.TheVariants as act;
 ghost use Rattle.shared_door.specs.Shown.{shown_by};
@@ -33,7 +33,8 @@ pub struct Porch<'a, V: Served<D::In, D::Out>, D: Door, N: Naming<D::In, D::Out>
 }
 
 impl<'a, V: Served<D::In, D::Out>, D: Door, N: Naming<D::In, D::Out>> Model for Porch<'a, V, D, N> {
-    ghost use Rattle.std.specs.Prelude.{◌≡◌};
+    ghost use Rattle.std.specs.Prelude.{◌≡◌, []};
+    ghost use Rattle.turn_book.specs.Rule.{turns_by};
     ghost use Rattle.turn_book.specs.Passes.{IsFree};
     ghost use Rattle.shared_door.specs.Shown.{shown_by};
     ghost use Rattle.shared_door.specs.Porches.{PorchState, Keeps};
@@ -43,14 +44,15 @@ impl<'a, V: Served<D::In, D::Out>, D: Door, N: Naming<D::In, D::Out>> Model for 
     ghost view = { λ p. record { standing = p.standing; acts = p.acts.items; seen = p.pass.seat.me.0.seen } };
 
     ghost invariant = { λ p.
-        ((p.hall.now.table.shared.table_id ≡ N.hall) × (p.pass.seat.table_id ≡ N.hall) × IsFree p.pass.seat × V.rests p.pass.seat.me.0.number p.pass.seat.me.0.seen)
+        ((p.hall.now.table.shared.table_id ≡ N.hall) × (p.pass.seat.table_id ≡ N.hall) × IsFree p.pass.seat
+        × (p.pass.seat.me.0.number ≡ N.pass) × (turns_by V.made_by N.pass p.pass.seat.me.0.seen ≡ []))
         × ((p.tickets.seat.table_id ≡ N.tickets) × (p.tickets.given ≡ p.standing.gave) × (p.acts.name ≡ N.acts))
         × Keeps N.most N.start (shown_by D.faults D.ahead D.given D.ended D.gave D.took_back D.closed p.door)
         V.fits (record { standing = p.standing; acts = p.acts.items; seen = p.pass.seat.me.0.seen }) p.tickets.seat.me.0.given p.tickets.seat.me.0.back };
 }
 
 impl<'a, V: Served<D::In, D::Out>, D: Door, N: Naming<D::In, D::Out>> Porch<'a, V, D, N> {
-    /// The porch of a door. `connections` is how many it may give; `None` is no limit.
+    /// The porch of a door. Its pass made no turn. `connections` is how many it may give; `None` is no limit.
     pub fn open(
         door: D,
         hall: &'a Hall<V>,
@@ -60,7 +62,7 @@ impl<'a, V: Served<D::In, D::Out>, D: Door, N: Naming<D::In, D::Out>> Porch<'a, 
         connections: Option<u64>,
     ) -> Porch<'a, V, D, N>
         requires here { (hall.now.table.shared.table_id ≡ N.hall) × (pass.seat.table_id ≡ N.hall) × IsFree pass.seat }
-        requires rests { V.rests (view pass.seat).number (view pass.seat).seen }
+        requires unturned { ((view pass.seat).number ≡ N.pass) × (turns_by V.made_by N.pass (view pass.seat).seen ≡ []) }
         requires tickets { (tickets.seat.table_id ≡ N.tickets) × (tickets.given ≡ 0) × (tickets.seat.me.0.back ≡ []) }
         requires acts { (acts.name ≡ N.acts) × (acts.items ≡ []) }
         requires most { connections ≡ N.most }
@@ -172,19 +174,21 @@ impl<'a, V: Served<D::In, D::Out>, D: Door, N: Naming<D::In, D::Out>> Porch<'a, 
         requires after { IsPrefix (seen_of connection) before.items }
         requires fits { V.fits (number_of connection) (came_of connection) (connection.input, connection.output) cut before.items (view session.old.seat).seen }
         ensures same { self.new.standing ≡ self.old.standing }
-        ensures acts { CameBack self.old self.new connection before.items cut }
+        ensures acts { CameBack self.old self.new connection (view session.old.seat).number before.items cut }
         ensures front { (result.name ≡ N.acts) × (result.items ≡ self.new.acts) }
         ensures pass { IsSamePass session.old.seat session.new.seat × IsFree session.new.seat × Learns V.made_by (view session.old.seat) (view session.new.seat).seen }
         ensures seen { IsPrefix self.old.seen self.new.seen × IsPrefix self.new.seen (view session.new.seat).seen }
     {
+        let pass = session.number();
         self.meet(session);
-        self.leave(connection, before, cut)
+        self.leave(connection, pass, before, cut)
     }
 
     // Takes back a connection that fits what the porch's pass has seen.
     fn leave(
         &mut self,
         connection: Connection<D, V::Turn>,
+        pass: u64,
         before: Listed<V::Turn>,
         cut: bool,
     ) -> Front<Act<D::In, D::Out, V::Turn>>
@@ -192,7 +196,7 @@ impl<'a, V: Served<D::In, D::Out>, D: Door, N: Naming<D::In, D::Out>> Porch<'a, 
         requires after { IsPrefix (seen_of connection) before.items }
         requires fits { V.fits (number_of connection) (came_of connection) (connection.input, connection.output) cut before.items self.old.seen }
         ensures same { (self.new.standing ≡ self.old.standing) × (self.new.seen ≡ self.old.seen) }
-        ensures acts { CameBack self.old self.new connection before.items cut }
+        ensures acts { CameBack self.old self.new connection pass before.items cut }
         ensures front { (result.name ≡ N.acts) × (result.items ≡ self.new.acts) }
     {
         let Connection {
@@ -204,6 +208,7 @@ impl<'a, V: Served<D::In, D::Out>, D: Door, N: Naming<D::In, D::Out>> Porch<'a, 
         let (number, arrival) = self.tickets.take(ticket);
         let visit = Visit {
             number,
+            pass,
             arrival,
             before,
             went: Snapshot::of(&went),
@@ -223,7 +228,7 @@ impl<'a, V: Served<D::In, D::Out>, D: Door, N: Naming<D::In, D::Out>> Porch<'a, 
         ensures acts { (result.acts.items ≡ self.entry.acts) × IsPrefix over.items result.acts.items }
         ensures over { result.standing.over ≢ None }
         ensures pass { (result.pass.seat.table_id ≡ N.hall) × IsFree result.pass.seat }
-        ensures rests { V.rests (view result.pass.seat).number (view result.pass.seat).seen }
+        ensures unturned { ((view result.pass.seat).number ≡ N.pass) × (turns_by V.made_by N.pass (view result.pass.seat).seen ≡ []) }
         ensures gave { Gave N.most N.start (shown_by D.faults D.ahead D.given D.ended D.gave D.took_back D.closed result.door) result.standing result.acts.items }
         ensures visited { Visited N.start (shown_by D.faults D.ahead D.given D.ended D.gave D.took_back D.closed result.door)
             V.fits (view result.pass.seat).seen result.acts.items }

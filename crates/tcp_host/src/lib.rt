@@ -1,4 +1,4 @@
-//! The host of the program: disks over files, links to endpoints and a door for clients over TCP.
+//! The host of the program: disks over files, links to endpoints and a door for clients over TCP, and the system's clocks.
 #![tactic(auto)]
 
 mod alone;
@@ -7,6 +7,7 @@ mod heads;
 mod http_link;
 mod journal_file;
 mod listening;
+mod system_clocks;
 mod tcp_door;
 mod tcp_host;
 mod tcp_sink;
@@ -14,6 +15,7 @@ mod tcp_source;
 mod waiting;
 
 pub use http_link::HttpLink;
+pub use system_clocks::{LentClock, SystemClocks};
 pub use tcp_door::TcpDoor;
 pub use tcp_host::TcpHost;
 pub use tcp_sink::TcpSink;

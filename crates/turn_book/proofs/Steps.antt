@@ -1,7 +1,7 @@
--- Each step on the hall's table keeps its rule: `opens`, `asks`, `comes`, `gives`, `looks`, `notes`, `makes`, `joins`. At the end the value is at home: `closes`.
-use Rattle.std.proofs.Common.{◌≡◌, ◌≢◌, ◌⊎◌, ℕ, zero, suc, ◌+◌, ◌%◌, ◌^◌, ◌<◌, ◌≤◌, Bool, true, false, eqb, List, [], ◌∷◌, ◌++◌, length, get_or, set, Option, Some, None, MatchBool, sym, refl, ap, ◌∙◌, subst, ⊎_elim, inl, inr, arith, append-nil, append_assoc, mod-eq_of_lt, eq-eqb, ne_eqb}
+-- Each step on the hall's table keeps its rule: `opens`, `asks`, `comes`, `gives`, `looks`, `notes`, `makes`, `joins`, `gathers`. At the end the value is at home: `closes`.
+use Rattle.std.proofs.Common.{◌≡◌, ◌≢◌, ◌⊎◌, ℕ, zero, suc, ◌+◌, ◌%◌, ◌^◌, ◌<◌, ◌≤◌, Bool, true, false, eqb, List, [], ◌∷◌, ◌++◌, length, get_or, set, map, All, Option, Some, None, MatchBool, sym, refl, ap, ◌∙◌, subst, ⊎_elim, inl, inr, arith, append-nil, append_assoc, mod-eq_of_lt, eq-eqb, ne_eqb}
 use Rattle.std.proofs.lemmas.Bool.Decides.{nat_tests}
-use Rattle.std.proofs.lemmas.List.Elements.{filter-append, All-head, All-tail}
+use Rattle.std.proofs.lemmas.List.Elements.{filter-append, All-head, All-tail, All-nil, All-cons, All-weaker}
 use mathlib.Core.Logic.{dite}
 use mathlib.Core.Option.{none, some, some-injective, some-ne-none}
 use mathlib.Core.Option as maybe
@@ -12,7 +12,7 @@ use prog.Atomic.{either}
 use Rattle.atomic_table.specs.Table.{State, Me, step, Act, keeps, takes, gives, Valid, homes_after, carried_after, Allows, Splits, Joins, opening, Final, Seen}
 use Rattle.atomic_table.proofs.Lists.{at_set, set_here, set_else, set_again}
 use Rattle.turn_book.specs.declared.view.View.{View}
-use Rattle.turn_book.specs.Rule.{is_number, turns_by, total, Apart, Fits, IsHome, Kept, Holds, opener, note, newcomer, making, learning, waiting, holding, giving, looking, Learns, names_only, AreOf, asked, came, gave, looked, IsUnmade}
+use Rattle.turn_book.specs.Rule.{is_number, turns_by, total, Apart, IsJoined, Fits, IsHome, Kept, Holds, opener, note, newcomer, making, learning, gathering, waiting, holding, giving, looking, Learns, names_only, AreOf, asked, came, gave, looked, IsUnmade}
 
 abbrev Homes : Type 0 → Type 0
 Homes V = List (maybe.Option (Option V))
@@ -46,6 +46,14 @@ module _ {A : Type 0} where
   pub prefix_trans : (xs ys zs : List A) → IsPrefix xs ys → IsPrefix ys zs → IsPrefix xs zs
   prefix_trans xs ys zs (r, e) (q, f) = (r ++ q, sym (append_assoc xs r q) ∙ (ap (λ (l : List A). l ++ q) e ∙ f))
 
+  -- two places may be set in either order
+  set_swap : (l : List A) (i j : ℕ) (a b : A) → i ≢ j → set (set l i a) j b ≡ set (set l j b) i a
+  set_swap [] i j a b ne = refl
+  set_swap (x ∷ xs) zero zero a b ne = absurd (ne refl)
+  set_swap (x ∷ xs) zero (suc j) a b ne = refl
+  set_swap (x ∷ xs) (suc i) zero a b ne = refl
+  set_swap (x ∷ xs) (suc i) (suc j) a b ne = ap (λ (l : List A). x ∷ l) (set_swap xs i j a b (λ e. ne (ap suc e)))
+
   nil_left : (xs ys : List A) → xs ++ ys ≡ [] → xs ≡ []
   nil_left [] ys e = refl
   nil_left (x ∷ xs) ys e = absurd (let h : suc (length (xs ++ ys)) ≡ 0 = ap length e in omega arith)
@@ -68,7 +76,22 @@ module _ {T : Type 0} (made_by : T → Option ℕ) where
   unchanged : (k n : ℕ) (xs ts : List T) → k ≢ n → AreOf made_by n ts → own k (xs ++ ts) ≡ own k xs
   unchanged k n xs ts ne all = filter-append (λ t. is_number (made_by t) k) xs ts ∙ (ap (λ (l : List T). own k xs ++ l) (others k n ts ne all) ∙ append-nil (own k xs))
 
+  -- a pass that was joined, in a longer history without more turns of it; and once one more pass is made
+  joined_later : (made n : ℕ) (log longer : List T) (p : ℕ × List T) → IsPrefix log longer → own p.0 log ≡ own p.0 longer → IsJoined made_by made n log p
+      → IsJoined made_by made n longer p
+  joined_later made n log longer p after same j = record { seen = prefix_trans p.1 log longer j.seen after; own = sym same ∙ j.own; below = j.below; other = j.other }
+
+  joined_below : (made n : ℕ) (log : List T) (p : ℕ × List T) → IsJoined made_by made n log p → IsJoined made_by (suc made) n log p
+  joined_below made n log p j = record { seen = j.seen; own = j.own; below = let b = j.below in omega arith; other = j.other }
+
+  none_joined : (made n : ℕ) (log : List T) → All (IsJoined made_by made n log) []
+  none_joined made n log = All-nil (IsJoined made_by made n log)
+
 module _ {T : Type 0} where
+  -- no pass is joined to a seat that represents no other
+  none_apart : (n : ℕ) → All (λ (p : ℕ × List T). p.0 ≢ n) []
+  none_apart n = All-nil (λ (p : ℕ × List T). p.0 ≢ n)
+
   total_set : (vs : List (View T)) (i : ℕ) (v w : View T) → get_elem? vs i ≡ some v → total (set vs i w) + v.passes ≡ total vs + w.passes
   total_set [] i v w e = absurd (some-ne-none v (sym e))
   total_set (x ∷ xs) zero v w e = let h : x.passes ≡ v.passes = ap (λ (z : View T). z.passes) (some-injective x v e) in omega arith
@@ -208,6 +231,7 @@ module _ {V T : Type 0} (turns : V → List T) (made_by : T → Option ℕ) (sou
           maker = f.maker;
           waits = λ _. (one, bound, omega arith);
           holds = λ l. absurd (omega arith);
+          joined = f.joined;
         }
         (λ j u ne there. let g = k.each j u there in
         record {
@@ -219,11 +243,12 @@ module _ {V T : Type 0} (turns : V → List T) (made_by : T → Option ℕ) (sou
           waits = λ l. let (p, a, b) = g.waits l in
               (p, a, omega arith);
           holds = g.holds;
+          joined = g.joined;
         });
     apart = apart_set views id (waiting v ticket) k.apart (λ j u ne there. let g = k.each j u there in
         let one_way = k.apart id j v u (λ e. ne (sym e)) at there in let other_way = k.apart j id u v ne there at in (
-          record { numbers = one_way.numbers; tickets = λ _ l e. let (p, a, b) = g.waits l in omega arith; makers = one_way.makers },
-          record { numbers = other_way.numbers; tickets = λ l _ e. let (p, a, b) = g.waits l in omega arith; makers = other_way.makers },
+          record { numbers = one_way.numbers; tickets = λ _ l e. let (p, a, b) = g.waits l in omega arith; makers = one_way.makers; joined = one_way.joined },
+          record { numbers = other_way.numbers; tickets = λ l _ e. let (p, a, b) = g.waits l in omega arith; makers = other_way.makers; joined = other_way.joined },
         ));
     home = home_set k.log homes views id v (waiting v ticket) at (λ l. absurd (omega arith)) k.home;
     passes = same_total views id v (waiting v ticket) at refl ∙ k.passes;
@@ -275,12 +300,13 @@ module _ {V T : Type 0} (turns : V → List T) (made_by : T → Option ℕ) (sou
               maker = f.maker;
               waits = λ _. f.waits (omega arith);
               holds = λ _. (sym is, story);
+              joined = f.joined;
             }
             (λ j u ne there. k.each j u there);
         apart = apart_set views id w k.apart (λ j u ne there. let one_way = k.apart id j v u (λ e. ne (sym e)) at there in
             let other_way = k.apart j id u v ne there at in (
-              record { numbers = one_way.numbers; tickets = λ _. one_way.tickets (omega arith); makers = one_way.makers },
-              record { numbers = other_way.numbers; tickets = λ l _. other_way.tickets l (omega arith); makers = other_way.makers },
+              record { numbers = one_way.numbers; tickets = λ _. one_way.tickets (omega arith); makers = one_way.makers; joined = one_way.joined },
+              record { numbers = other_way.numbers; tickets = λ l _. other_way.tickets l (omega arith); makers = other_way.makers; joined = other_way.joined },
             ));
         home = inr (ap (λ (hs : Homes V). set hs 0 none) full, (id, w, set_here views id w (inside views id v at), omega arith));
         passes = same_total views id v w at refl ∙ k.passes;
@@ -347,6 +373,8 @@ module _ {V T : Type 0} (turns : V → List T) (made_by : T → Option ℕ) (sou
               maker = f.maker;
               waits = λ l. absurd (omega arith);
               holds = λ l. absurd (omega arith);
+              joined = All-weaker (IsJoined made_by k.made v.number k.log) (IsJoined made_by k.made v.number (turns x))
+                  (λ p j. joined_later made_by k.made v.number k.log (turns x) p after (same p.0 j.other) j) v.joined f.joined;
             }
             (λ j u ne there. let g = k.each j u there in let a = k.apart j id u v ne there at in
             record {
@@ -357,11 +385,13 @@ module _ {V T : Type 0} (turns : V → List T) (made_by : T → Option ℕ) (sou
               maker = g.maker;
               waits = λ l. let (p, b, c) = g.waits l in let d : u.ticket ≢ v.ticket = a.tickets l (omega arith) in (p, omega arith, c);
               holds = λ l. absurd (a.tickets (omega arith) (omega arith) ((g.holds l).0 ∙ sym mine));
+              joined = λ i d inside. joined_later made_by k.made u.number k.log (turns x) (get_or u.joined i d) after
+                  (same (get_or u.joined i d).0 (a.joined one i d inside)) (g.joined i d inside);
             });
         apart = apart_set views id w k.apart (λ j u ne there. let one_way = k.apart id j v u (λ e. ne (sym e)) at there in
             let other_way = k.apart j id u v ne there at in (
-              record { numbers = one_way.numbers; tickets = λ l. absurd (omega arith); makers = one_way.makers },
-              record { numbers = other_way.numbers; tickets = λ _ l. absurd (omega arith); makers = other_way.makers },
+              record { numbers = one_way.numbers; tickets = λ l. absurd (omega arith); makers = one_way.makers; joined = one_way.joined },
+              record { numbers = other_way.numbers; tickets = λ _ l. absurd (omega arith); makers = other_way.makers; joined = other_way.joined },
             ));
         home = inl (
           x,
@@ -412,12 +442,13 @@ module _ {V T : Type 0} (turns : V → List T) (made_by : T → Option ℕ) (sou
           maker = f.maker;
           waits = f.waits;
           holds = λ l. ((f.holds l).0, refl);
+          joined = f.joined;
         }
         (λ j u ne there. k.each j u there);
     apart = apart_set views id w k.apart (λ j u ne there. let one_way = k.apart id j v u (λ e. ne (sym e)) at there in
         let other_way = k.apart j id u v ne there at in (
-          record { numbers = one_way.numbers; tickets = one_way.tickets; makers = one_way.makers },
-          record { numbers = other_way.numbers; tickets = other_way.tickets; makers = other_way.makers },
+          record { numbers = one_way.numbers; tickets = one_way.tickets; makers = one_way.makers; joined = one_way.joined },
+          record { numbers = other_way.numbers; tickets = other_way.tickets; makers = other_way.makers; joined = other_way.joined },
         ));
     home = home_set k.log homes views id v w at (λ l. l) k.home;
     passes = same_total views id v w at refl ∙ k.passes;
@@ -446,12 +477,13 @@ module _ {V T : Type 0} (turns : V → List T) (made_by : T → Option ℕ) (sou
     maker = λ l. absurd (omega arith);
     waits = λ l. absurd (omega arith);
     holds = λ l. absurd (omega arith);
+    joined = none_joined made_by made 0 log;
   }
 
   note_apart : (xs : List T) (u : View T) → Apart (note xs) u × Apart u (note xs)
   note_apart xs u = (
-    record { numbers = λ l. absurd (omega arith); tickets = λ l. absurd (omega arith); makers = λ l. absurd (omega arith) },
-    record { numbers = λ _ l. absurd (omega arith); tickets = λ _ l. absurd (omega arith); makers = λ _. refl },
+    record { numbers = λ l. absurd (omega arith); tickets = λ l. absurd (omega arith); makers = λ l. absurd (omega arith); joined = λ _. none_apart u.number },
+    record { numbers = λ _ l. absurd (omega arith); tickets = λ _ l. absurd (omega arith); makers = λ _. refl; joined = λ l. absurd (omega arith) },
   )
 
   pub notes : (id : ℕ) (v : View T) → Splits Rule id v v (note v.seen)
@@ -479,6 +511,8 @@ module _ {V T : Type 0} (turns : V → List T) (made_by : T → Option ℕ) (sou
   pub makes : (id : ℕ) (v : View T) → 0 < v.made → Splits Rule id v (making v) (newcomer v.made v.seen)
   makes id v maker s h at = let k = h.kept in let f = k.each id v at in let w = making v in let n = newcomer v.made v.seen in let is = f.maker maker in
       let empty : turns_by made_by v.made k.log ≡ [] = k.later v.made (omega arith) in
+      let not_made : (u : View T) → All (IsJoined made_by k.made u.number k.log) u.joined → All (λ (p : ℕ × List T). p.0 ≢ v.made) u.joined =
+      λ u all. All-weaker (IsJoined made_by k.made u.number k.log) (λ (p : ℕ × List T). p.0 ≢ v.made) (λ p j e. let b = j.below in omega arith) u.joined all in
       record {
         ticket = h.ticket;
         serving = h.serving;
@@ -496,6 +530,7 @@ module _ {V T : Type 0} (turns : V → List T) (made_by : T → Option ℕ) (sou
                 maker = λ l. absurd (omega arith);
                 waits = λ l. absurd (omega arith);
                 holds = λ l. absurd (omega arith);
+                joined = none_joined made_by (suc k.made) v.made k.log;
               }
               (each_set (FitsAt (suc k.made) h.ticket h.serving k.log) s.views id w
               record {
@@ -507,6 +542,8 @@ module _ {V T : Type 0} (turns : V → List T) (made_by : T → Option ℕ) (sou
                 maker = λ _. ap suc is;
                 waits = f.waits;
                 holds = f.holds;
+                joined = All-weaker (IsJoined made_by k.made v.number k.log) (IsJoined made_by (suc k.made) v.number k.log)
+                    (λ p j. joined_below made_by k.made v.number k.log p j) v.joined f.joined;
               }
               (λ j u ne there. let g = k.each j u there in let a = k.apart id j v u (λ e. ne (sym e)) at there in
               record {
@@ -518,20 +555,22 @@ module _ {V T : Type 0} (turns : V → List T) (made_by : T → Option ℕ) (sou
                 maker = λ l. let b = a.makers maker in absurd (omega arith);
                 waits = g.waits;
                 holds = g.holds;
+                joined = All-weaker (IsJoined made_by k.made u.number k.log) (IsJoined made_by (suc k.made) u.number k.log)
+                    (λ p j. joined_below made_by k.made u.number k.log p j) u.joined g.joined;
               }));
           apart = apart_end (set s.views id w) n
               (apart_set s.views id w k.apart (λ j u ne there. let one_way = k.apart id j v u (λ e. ne (sym e)) at there in
               let other_way = k.apart j id u v ne there at in (
-                record { numbers = one_way.numbers; tickets = one_way.tickets; makers = λ _. one_way.makers maker },
-                record { numbers = other_way.numbers; tickets = other_way.tickets; makers = λ l. let b = one_way.makers maker in absurd (omega arith) },
+                record { numbers = one_way.numbers; tickets = one_way.tickets; makers = λ _. one_way.makers maker; joined = one_way.joined },
+                record { numbers = other_way.numbers; tickets = other_way.tickets; makers = λ l. let b = one_way.makers maker in absurd (omega arith); joined = other_way.joined },
               )))
               (each_set (λ (u : View T). Apart n u × Apart u n) s.views id w (
-                record { numbers = λ _ l e. let b = f.number l in omega arith; tickets = λ l. absurd (omega arith); makers = λ l. absurd (omega arith) },
-                record { numbers = λ l _ e. let b = f.number l in omega arith; tickets = λ _ l. absurd (omega arith); makers = λ _. refl },
+                record { numbers = λ _ l e. let b = f.number l in omega arith; tickets = λ l. absurd (omega arith); makers = λ l. absurd (omega arith); joined = λ _. none_apart v.number },
+                record { numbers = λ l _ e. let b = f.number l in omega arith; tickets = λ _ l. absurd (omega arith); makers = λ _. refl; joined = λ _. not_made v f.joined },
               )
               (λ j u ne there. let g = k.each j u there in (
-                record { numbers = λ _ l e. let b = g.number l in omega arith; tickets = λ l. absurd (omega arith); makers = λ l. absurd (omega arith) },
-                record { numbers = λ l _ e. let b = g.number l in omega arith; tickets = λ _ l. absurd (omega arith); makers = λ _. refl },
+                record { numbers = λ _ l e. let b = g.number l in omega arith; tickets = λ l. absurd (omega arith); makers = λ l. absurd (omega arith); joined = λ _. none_apart u.number },
+                record { numbers = λ l _ e. let b = g.number l in omega arith; tickets = λ _ l. absurd (omega arith); makers = λ _. refl; joined = λ _. not_made u g.joined },
               )));
           home = home_end k.log s.homes (set s.views id w) (n ∷ []) (home_set k.log s.homes s.views id v w at (λ l. l) k.home);
           passes = let a = total_end (set s.views id w) n in let b = same_total s.views id v w at refl in let c = k.passes in omega arith;
@@ -561,15 +600,63 @@ module _ {V T : Type 0} (turns : V → List T) (made_by : T → Option ℕ) (sou
                 maker = f.maker;
                 waits = λ p. let (a, b, c) = f.waits p in (omega arith, b, c);
                 holds = f.holds;
+                joined = f.joined;
               }
               (λ j u ne there. k.each j u there) j u there);
           apart = apart_set (set s.views id l) other (note [])
               (apart_set s.views id l k.apart (λ j u ne there. let one_way = k.apart id j v u (λ e. ne (sym e)) at there in
               let other_way = k.apart j id u v ne there at in (
-                record { numbers = λ _. one_way.numbers one; tickets = one_way.tickets; makers = one_way.makers },
-                record { numbers = λ p _. other_way.numbers p one; tickets = other_way.tickets; makers = other_way.makers },
+                record { numbers = λ _. one_way.numbers one; tickets = one_way.tickets; makers = one_way.makers; joined = one_way.joined },
+                record { numbers = λ p _. other_way.numbers p one; tickets = other_way.tickets; makers = other_way.makers; joined = λ _. other_way.joined one },
               )))
               (λ j u ne there. note_apart [] u);
+          home = home_set k.log s.homes (set s.views id l) other w (note []) there (λ p. absurd (omega arith)) (home_set k.log s.homes s.views id v l at (λ p. p) k.home);
+          passes = let a = total_set s.views id v l at in let b = total_set (set s.views id l) other w (note []) there in let c = k.passes in omega arith;
+          later = k.later;
+        };
+      }
+
+  pub gathers : (id other : ℕ) (v w : View T) → 0 < v.passes → 0 < w.passes → w.stage ≡ 0 → Joins Rule id v other w (gathering v w) (note [])
+  gathers id other v w one pass idle s h at not there = let k = h.kept in let f = k.each id v at in let l = gathering v w in
+      let beside : get_elem? s.views other ≡ some w = sym (set_else s.views id other l not) ∙ there in
+      let g = k.each other w beside in let theirs = k.apart other id w v not beside at in
+      record {
+        ticket = h.ticket;
+        serving = h.serving;
+        words = h.words;
+        kept = record {
+          made = k.made;
+          log = k.log;
+          bound = k.bound;
+          each = each_set (FitsAt k.made h.ticket h.serving k.log) (set s.views id l) other (note []) (note_fits k.made h.ticket h.serving k.log [] (k.log, refl))
+              (λ j u ne there. each_set (FitsAt k.made h.ticket h.serving k.log) s.views id l
+              record {
+                seen = f.seen;
+                also = g.seen;
+                own = λ _. f.own one;
+                number = λ _. f.number one;
+                maker = f.maker;
+                waits = λ p. let (a, b, c) = f.waits p in (omega arith, b, c);
+                holds = f.holds;
+                joined = All-cons (IsJoined made_by k.made v.number k.log) (w.number, w.seen) v.joined
+                    record { seen = g.seen; own = sym (g.own pass); below = g.number pass; other = theirs.numbers pass one } f.joined;
+              }
+              (λ j u ne there. k.each j u there) j u there);
+          apart = subst AllApart (sym (set_swap s.views id other l (note []) (λ e. not (sym e))))
+              (apart_set (set s.views other (note [])) id l (apart_set s.views other (note []) k.apart (λ j u ne there. note_apart [] u))
+              (λ j u ne there. ⊎_elim
+              (λ (t : (j ≡ other) × (note [] ≡ u)). subst (λ (z : View T). Apart l z × Apart z l) t.1 ((note_apart [] l).1, (note_apart [] l).0))
+              (λ (t : (j ≢ other) × (get_elem? s.views j ≡ some u)). let one_way = k.apart id j v u (λ e. ne (sym e)) at t.1 in
+              let other_way = k.apart j id u v ne t.1 at in let third = k.apart other j w u (λ e. t.0 (sym e)) beside t.1 in (
+                record {
+                  numbers = λ _. one_way.numbers one;
+                  tickets = one_way.tickets;
+                  makers = one_way.makers;
+                  joined = λ p. All-cons (λ (q : ℕ × List T). q.0 ≢ u.number) (w.number, w.seen) v.joined (third.numbers pass p) (one_way.joined p);
+                },
+                record { numbers = λ p _. other_way.numbers p one; tickets = other_way.tickets; makers = other_way.makers; joined = λ _. other_way.joined one },
+              ))
+              (at_set s.views other j (note []) u there)));
           home = home_set k.log s.homes (set s.views id l) other w (note []) there (λ p. absurd (omega arith)) (home_set k.log s.homes s.views id v l at (λ p. p) k.home);
           passes = let a = total_set s.views id v l at in let b = total_set (set s.views id l) other w (note []) there in let c = k.passes in omega arith;
           later = k.later;
@@ -594,6 +681,7 @@ module _ {V T : Type 0} (turns : V → List T) (made_by : T → Option ℕ) (sou
             maker = λ _. refl;
             waits = λ l. absurd (omega arith);
             holds = λ l. absurd (omega arith);
+            joined = none_joined made_by 1 0 (turns x);
           }
           (λ j u there. absurd (some-ne-none u (sym there)));
       apart = apart_end [] w (λ i j a b ne there. absurd (some-ne-none a (sym there))) (λ j u there. absurd (some-ne-none u (sym there)));
@@ -607,6 +695,7 @@ module _ {V T : Type 0} (turns : V → List T) (made_by : T → Option ℕ) (sou
   pub closes : (id : ℕ) (v : View T) (s : State (Option V) (View T)) → Rule s → get_elem? s.views id ≡ some v → 0 < v.made → v.passes ≡ v.made
       → v.stage ≡ 0
       → (x : V) × (s.homes ≡ some (Some x) ∷ []) × sound x × Learns made_by v (turns x) × IsUnmade made_by v.made (turns x)
+      × All (λ p. IsPrefix p.1 (turns x) × (turns_by made_by p.0 (turns x) ≡ turns_by made_by p.0 p.1)) v.joined
   closes id v s h at maker whole idle = let k = h.kept in let f = k.each id v at in let is = f.maker maker in let all = k.passes in ⊎_elim
       (λ (t : (x : V) × (s.homes ≡ some (Some x) ∷ []) × (turns x ≡ k.log) × sound x). let (x, full, story, fine) = t in (
         x,
@@ -614,6 +703,8 @@ module _ {V T : Type 0} (turns : V → List T) (made_by : T → Option ℕ) (sou
         fine,
         (subst (IsPrefix v.seen) (sym story) f.seen, ap (turns_by made_by v.number) story ∙ sym (f.own (omega arith))),
         λ n most. ap (turns_by made_by n) story ∙ k.later n (omega (arith, is, most)),
+        All-weaker (IsJoined made_by k.made v.number k.log) (λ p. IsPrefix p.1 (turns x) × (turns_by made_by p.0 (turns x) ≡ turns_by made_by p.0 p.1))
+            (λ p j. (subst (IsPrefix p.1) (sym story) j.seen, ap (turns_by made_by p.0) story ∙ j.own)) v.joined f.joined,
       ))
       (λ (t : (s.homes ≡ none ∷ []) × ((i : ℕ) × (u : View T) × (get_elem? s.views i ≡ some u) × (1 < u.stage))). let (
         empty,
@@ -629,6 +720,12 @@ module _ {V T : Type 0} (turns : V → List T) (made_by : T → Option ℕ) (sou
       (λ (not : i ≢ id). let two = total_two s.views i id u v not there at in let (p, _, _) = (k.each i u there).waits (omega arith) in
       absurd (omega arith)))
       k.home
+
+-- what holds of the images of a list, and of more, holds of each image
+pub of_images : {A B : Type 0} (P : B → Type 0) (f : A → B) (xs : List A) (more : List B) → All P (map f xs ++ more) → All (λ x. P (f x)) xs
+of_images P f [] more all = All-nil (λ x. P (f x))
+of_images P f (x ∷ xs) more all =
+    All-cons (λ x. P (f x)) x xs (All-head P (f x) (map f xs ++ more) all) (of_images P f xs more (All-tail P (f x) (map f xs ++ more) all))
 
 -- What a `MatchBool` on a test of two numbers says, once they are known to be equal
 pub if_equal : (P Q : Type 0) (n m : ℕ) → n ≡ m → MatchBool (eqb n m) P Q → P
@@ -646,6 +743,17 @@ module _ {V T : Type 0} (made_by : T → Option ℕ) where
     subst (λ (m : Seated V T). Learns made_by m.0 log) j learns,
   )
 
+module _ {V T : Type 0} (made_by : T → Option ℕ) where
+  -- The same, if the seat then represents the other one's pass too
+  pub gathered : (v w : View T) (held : List (ℕ × Option V)) (joined new : Seated V T) → joined ≡ (gathering v w, held)
+      → looked made_by (step 0 0 0 0 none) joined 0 new
+      → (log : List T) × (new ≡ (looking (gathering v w) log, held)) × Learns made_by v log
+  gathered v w held joined new j (log, is, also, learns, _) = (
+    log,
+    is ∙ ap (λ (m : Seated V T). (looking m.0 log, m.1)) j,
+    subst (λ (m : Seated V T). Learns made_by m.0 log) j learns,
+  )
+
 pub learns_twice : {T : Type 0} (made_by : T → Option ℕ) (u v : View T) (log : List T) → v.number ≡ u.number → Learns made_by u v.seen
     → Learns made_by v log → Learns made_by u log
 learns_twice made_by u v log same (front, own_same) (further, then) = (
@@ -658,6 +766,7 @@ module _ {V T : Type 0} (turns : V → List T) (made_by : T → Option ℕ) (sou
   abbrev pub IsLast : View T → Option V → Type 0
   IsLast v None = 1 < 1
   IsLast v (Some x) = sound x × Learns made_by v (turns x) × IsUnmade made_by v.made (turns x)
+      × All (λ p. IsPrefix p.1 (turns x) × (turns_by made_by p.0 (turns x) ≡ turns_by made_by p.0 p.1)) v.joined
 
   pub taken : (id : ℕ) (v : View T) (words : List ℕ) (slots : List (Option V)) (r : Option V)
       → Final (Seen (Holds turns made_by sound) id v) words slots → get_elem? slots 0 ≡ some r
@@ -668,6 +777,7 @@ module _ {V T : Type 0} (turns : V → List T) (made_by : T → Option ℕ) (sou
     fine,
     learns,
     unmade,
+    joined,
   ) = closes turns made_by sound id v s h at maker whole idle in
       let is : Some x ≡ r = one_there slots 0 (Some x) r (same 0 (Some x) (ap (λ (hs : Homes V). get_elem? hs 0) full)) there in
-      subst (IsLast v) is (fine, learns, unmade)
+      subst (IsLast v) is (fine, learns, unmade, joined)

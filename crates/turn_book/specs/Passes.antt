@@ -11,6 +11,11 @@ module _ {V T : Type 0} where
   abbrev pub view : Seat (Option V) (View T) → View T
   view seat = seat.me.0
 
+  -- The number of a pass and the turns that it has seen.
+  -- Shown by: outside_tests test_turn_book.rt: four_threads_share_one_history.
+  abbrev pub known_by : Seat (Option V) (View T) → ℕ × List T
+  known_by seat = (seat.me.0.number, seat.me.0.seen)
+
   -- The pass has no turn and waits for none.
   -- Shown by: outside_tests test_turn_book.rt: one_pass_gives_its_turns.
   abbrev pub IsFree : Seat (Option V) (View T) → Type 0

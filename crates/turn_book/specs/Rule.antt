@@ -25,13 +25,23 @@ abbrev pub total : {T : Type 0} → List (View T) → ℕ
 total [] = 0
 total (v ∷ vs) = v.passes + total vs
 
--- two seats are never the same pass, never have the same ticket, and only one makes passes
+-- two seats are never the same pass, never have the same ticket, and only one makes passes; no pass that a seat represents beside its own is
+-- another seat's
 pub record Apart {T : Type 0} (v w : View T) : Type 0 where
   pub numbers : 0 < v.passes → 0 < w.passes → v.number ≢ w.number
   pub tickets : 0 < v.stage → 0 < w.stage → v.ticket ≢ w.ticket
   pub makers : 0 < v.made → w.made ≡ 0
+  pub joined : 0 < w.passes → All (λ p. p.0 ≢ w.number) v.joined
 
 module _ {T : Type 0} (made_by : T → Option ℕ) where
+  -- a pass that a seat represents beside its own, the one with number n: the history begins with what that pass had seen, and has no other
+  -- turns of it
+  pub record IsJoined (made n : ℕ) (log : List T) (p : ℕ × List T) : Type 0 where
+    pub seen : IsPrefix p.1 log
+    pub own : turns_by made_by p.0 log ≡ turns_by made_by p.0 p.1
+    pub below : p.0 < made
+    pub other : p.0 ≢ n
+
   -- the history begins with what the seat has seen, and has no other turns of its pass
   pub record Fits (made ticket serving : ℕ) (log : List T) (v : View T) : Type 0 where
     pub seen : IsPrefix v.seen log
@@ -41,6 +51,7 @@ module _ {T : Type 0} (made_by : T → Option ℕ) where
     pub maker : 0 < v.made → v.made ≡ made
     pub waits : 0 < v.stage → (0 < v.passes) × (serving ≤ v.ticket) × (v.ticket < ticket)
     pub holds : 1 < v.stage → (v.ticket ≡ serving) × (v.seen ≡ log)
+    pub joined : All (IsJoined made v.number log) v.joined
 
   module _ {V : Type 0} (turns : V → List T) (sound : V → Type 0) where
     -- the value is in its slot and represents the history, or some seat holds the turn
@@ -69,22 +80,25 @@ module _ {T : Type 0} where
   -- The first pass: number 0, one pass made, and it has seen the value's own turns.
   -- Shown by: outside_tests test_turn_book.rt: one_pass_gives_its_turns.
   abbrev pub opener : List T → View T
-  opener log = record { number = 0; stage = 0; ticket = 0; made = 1; passes = 1; seen = log; also = [] }
+  opener log = record { number = 0; stage = 0; ticket = 0; made = 1; passes = 1; seen = log; also = []; joined = [] }
 
   -- a seat for moving what was seen
   abbrev pub note : List T → View T
-  note log = record { number = 0; stage = 0; ticket = 0; made = 0; passes = 0; seen = log; also = [] }
+  note log = record { number = 0; stage = 0; ticket = 0; made = 0; passes = 0; seen = log; also = []; joined = [] }
 
   -- A new pass with this number, which has seen this history and has no turn.
   -- Shown by: a_turn_names_another_pass.edit.
   abbrev pub newcomer : ℕ → List T → View T
-  newcomer n log = record { number = n; stage = 0; ticket = 0; made = 0; passes = 1; seen = log; also = [] }
+  newcomer n log = record { number = n; stage = 0; ticket = 0; made = 0; passes = 1; seen = log; also = []; joined = [] }
 
   abbrev pub making : View T → View T
   making v = record v { made = suc v.made }
 
   abbrev pub learning : View T → View T → View T
   learning v w = record v { also = w.seen; passes = v.passes + w.passes }
+
+  abbrev pub gathering : View T → View T → View T
+  gathering v w = record (learning v w) { joined = (w.number, w.seen) ∷ v.joined }
 
   abbrev pub waiting : View T → ℕ → View T
   waiting v t = record v { stage = 1; ticket = t }

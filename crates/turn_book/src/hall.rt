@@ -1,12 +1,12 @@
 //! The hall, which keeps the value, and its passes.
-ghost use Rattle.std.specs.Prelude.{◌≡◌, ℕ, ◌+◌, ◌<◌, [], ◌∷◌, length, All, IfOk, IfErr, IfSome, IfNone, None};
+ghost use Rattle.std.specs.Prelude.{◌≡◌, ℕ, ◌+◌, ◌<◌, [], ◌∷◌, ◌++◌, length, map, All, IfOk, IfErr, IfSome, IfNone, None};
 ghost use mathlib.Core.List.{IsPrefix};
 ghost use Rattle.turn_book.specs.Rule.{turns_by, opener, newcomer, waiting, holding, Learns, IsUnmade};
-ghost use Rattle.turn_book.specs.Passes.{view, IsFree, HasTurn, IsSamePass, HasSameTurn, Extends};
+ghost use Rattle.turn_book.specs.Passes.{view, known_by, IsFree, HasTurn, IsSamePass, HasSameTurn, Extends};
 
 use crate::fault::NoMemory;
 use crate::story::Story;
-use crate::view::{Another, Ask, Come, Give, Learn, Look, Note, Turns, View};
+use crate::view::{Another, Ask, Come, Gather, Give, Learn, Look, Note, Turns, View};
 use atomic_table::{Seat, Table};
 use std::alloc::Global;
 use std::hint::spin_loop;
@@ -292,7 +292,7 @@ impl<V: Story> Hall<V> {
         ensures same { (seat.new.table_id ≡ seat.old.table_id) × HasSameTurn seat.old seat.new × ((view seat.new).made ≡ (view seat.old).made) × ((view seat.new).number ≡ (view seat.old).number) }
         ensures all { (view seat.new).passes ≡ (view seat.old).passes + length others.items }
         ensures learns { Learns V.made_by (view seat.old) (view seat.new).seen }
-        ensures others { All (λ p. IsPrefix (view p.seat).seen (view seat.new).seen) others.items }
+        ensures joined { (view seat.new).joined ≡ map (λ p. known_by p.seat) others.items ++ (view seat.old).joined }
     {
         let mut others = others;
         while let Some(other) = others.pop() {
@@ -301,7 +301,7 @@ impl<V: Story> Hall<V> {
                 number: _,
                 made: _,
             } = other;
-            self.table.shared.join_seat::<Learn>(seat, other);
+            self.table.shared.join_seat::<Gather>(seat, other);
             self.table.shared.load::<Look>(seat, TICKET);
         }
     }
@@ -311,6 +311,7 @@ impl<V: Story> Hall<V> {
         requires here { seat.table_id ≡ self.table.shared.table_id }
         requires all { (0 < (view seat).made) × ((view seat).passes ≡ (view seat).made) × ((view seat).stage ≡ 0) }
         ensures history { Learns V.made_by (view seat) (V.turns result) }
+        ensures joined { All (λ p. IsPrefix p.1 (V.turns result) × (turns_by V.made_by p.0 (V.turns result) ≡ turns_by V.made_by p.0 p.1)) (view seat).joined }
         ensures unmade { IsUnmade V.made_by (view seat).made (V.turns result) }
         ensures sound { V.sound result }
     {
@@ -327,13 +328,14 @@ impl<V: Story> Hall<V> {
         value
     }
 
-    /// The value, in return for all passes. Its history begins with what each pass has seen, and has no turn of any other pass.
+    /// The value, in return for all passes. Its history begins with what each pass has seen, and has no more turns of it, and none of
+    /// any other pass.
     pub fn close(self, pass: Pass<V>, others: Vec<Pass<V>>) -> V
         requires pass { (pass.seat.table_id ≡ self.table.shared.table_id) × IsFree pass.seat }
         requires others { All (λ p. (p.seat.table_id ≡ self.table.shared.table_id) × IsFree p.seat) others.items }
         requires all { (view pass.seat).made ≡ 1 + length others.items }
         ensures history { Learns V.made_by (view pass.seat) (V.turns result) }
-        ensures others { All (λ p. IsPrefix (view p.seat).seen (V.turns result)) others.items }
+        ensures others { All (λ p. Learns V.made_by (view p.seat) (V.turns result)) others.items }
         ensures unmade { IsUnmade V.made_by (view pass.seat).made (V.turns result) }
         ensures sound { V.sound result }
     {

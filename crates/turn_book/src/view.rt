@@ -19,6 +19,8 @@ pub struct View<T> {
     pub seen: LinkedList<T>,
     /// What another pass had seen, until the next load.
     pub also: LinkedList<T>,
+    /// The passes that this seat represents beside its own, last one first: each one's number, and what it had seen.
+    pub joined: LinkedList<(u64, LinkedList<T>)>,
 }
 
 /// The rule of a hall.
@@ -100,6 +102,18 @@ impl<T> Join<View<T>> for Learn {
     ghost use Rattle.turn_book.specs.Rule.{note, learning};
 
     ghost both = { learning };
+
+    ghost spent = { note [] };
+}
+
+/// A pass represents another one too.
+pub(crate) struct Gather;
+
+impl<T> Join<View<T>> for Gather {
+    ghost use Rattle.std.specs.Prelude.{[]};
+    ghost use Rattle.turn_book.specs.Rule.{note, gathering};
+
+    ghost both = { gathering };
 
     ghost spent = { note [] };
 }

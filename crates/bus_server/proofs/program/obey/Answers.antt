@@ -5,6 +5,7 @@ use Rattle.shared_door.specs.Shown.{shown_by}
 use Rattle.router_sessions.specs.Visit.{IsVisit}
 use Rattle.drill_run.specs.Drill.{IsDrill}
 use Rattle.bus_server.specs.Run.{IsRun, around}
+use Rattle.session_workers.specs.Jobs.{did_by}
 use Rattle.bus_server.specs.Serve.{IsServe, around_door}
 use Rattle.bus_server.proofs.RunLemmas.{no_usage}
 use Rattle.bus_server.proofs.WordsLemmas.{fitting_within, no_door_drill, no_usage_drill, no_usage_serve, reported_alone, reported_last, unread_counts, unread_host, once_drill, once_serve, same_drill, same_once, same_serve, serve_drill}
@@ -45,16 +46,19 @@ returns-in-Serve-clause-drill g c = λ seed events is. absurd (serve_drill c.in-
 
 pub returns-in-Serve-clause-serve : goal.returns-in-Serve-clause-serve
 returns-in-Serve-clause-serve g c = λ port workers connections is.
-    let h = g.H.Host in
+    let h = g.H.Host in let t = g.C.Clocks in
     let old = c.args.host.now in let new = c.serve-status.new.host in
     let (same_port, same_workers, same_connections) =
     same_serve c.in-Serve.port c.in-Serve.workers port workers c.in-Serve.connections connections (sym (ap command_view c.in-Serve.is) ∙ is) in
     let Is : ℕ → ℕ → Option ℕ → Type 0 = λ p w k. IsServe (shown_by g.H.Door.Door.faults g.H.Door.Door.ahead g.H.Door.Door.given g.H.Door.Door.ended g.H.Door.Door.gave g.H.Door.Door.took_back g.H.Door.Door.closed)
-    (IsVisit g.H.Door.In.Source.gave g.H.Door.Out.Sink.wrote g.H.Door.In.Source.faults g.H.Door.Out.Sink.faults) p w k
-    (around_door (g.K.Sink.wrote c.args.output.now) (h.doors_given old) (h.doors_back old) (h.links_given old) (h.links_back old) (h.door_faults old) (h.link_faults old))
-    (around_door (g.K.Sink.wrote c.serve-status.new.output) (h.doors_given new) (h.doors_back new) (h.links_given new) (h.links_back new) (h.door_faults new)
-    (h.link_faults new)) c.serve-status.result in (
+    (IsVisit g.H.Door.In.Source.gave g.H.Door.Out.Sink.wrote g.H.Door.In.Source.faults g.H.Door.Out.Sink.faults)
+    (did_by g.H.Door.In.Source.gave g.H.Door.Out.Sink.wrote g.C.Lent.Clock.gave g.H.Link.Link.exchanges g.H.Link.Link.faults) p w k
+    (around_door (g.K.Sink.wrote c.args.output.now) (h.doors_given old) (h.doors_back old) (h.links_given old) (h.links_back old)
+    (t.clocks_given c.args.clock.now) (t.clocks_back c.args.clock.now) (h.door_faults old) (h.link_faults old))
+    (around_door (g.K.Sink.wrote c.serve-status.new.output) (h.doors_given new) (h.doors_back new) (h.links_given new) (h.links_back new)
+    (t.clocks_given c.serve-status.new.clock) (t.clocks_back c.serve-status.new.clock) (h.door_faults new) (h.link_faults new)) c.serve-status.result in (
       refl,
+      c.serve-status.ensures.unread,
       subst (λ (k : Option ℕ). Is port (workers_for c.args.files workers) k) same_connections
           (subst (λ (w : ℕ). Is port (workers_for c.args.files w) c.in-Serve.connections) same_workers
           (subst (λ (p : ℕ). Is p (workers_for c.args.files c.in-Serve.workers) c.in-Serve.connections) same_port
@@ -62,7 +66,7 @@ returns-in-Serve-clause-serve g c = λ port workers connections is.
     )
 
 pub returns-in-Serve-clause-usage : goal.returns-in-Serve-clause-usage
-returns-in-Serve-clause-usage g c = no_usage_serve _ _ c.in-Serve.port c.fitting_workers-fitting.result c.in-Serve.connections _ _ c.serve-status.result c.serve-status.ensures.serve
+returns-in-Serve-clause-usage g c = no_usage_serve _ _ _ c.in-Serve.port c.fitting_workers-fitting.result c.in-Serve.connections _ _ c.serve-status.result c.serve-status.ensures.serve
 
 pub returns-in-Serve-clause-last : goal.returns-in-Serve-clause-last
 returns-in-Serve-clause-last g c = reported_last c.serve-status.result _ _ _ _ _ _ c.announce.ensures c.report-in-Serve.ensures

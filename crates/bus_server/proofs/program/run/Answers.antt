@@ -51,7 +51,8 @@ returns-in-Err-clause-run g c = λ now is.
 pub returns-in-Err-clause-serve : goal.returns-in-Err-clause-serve
 returns-in-Err-clause-serve g c = λ port workers connections is. (
   refl,
-  inr (unread_serve port (workers_for c.args.files workers) _ _ _ _ _ _ _ _ c.explain.result
+  refl,
+  inr (unread_serve port (workers_for c.args.files workers) _ _ _ _ _ _ _ _ _ _ c.explain.result
       (unread_command (map (string_bytes {Z = Global}) c.args.words.now) (serve port workers connections) c.in-Err.fault _ _ c.explain.result is c.in-Err.ensures.fault
       c.explain.ensures.ends)),
 )

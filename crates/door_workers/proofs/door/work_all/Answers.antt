@@ -1,5 +1,5 @@
 use denote.Param as param
-use denote.Param.Send.{IsSend, IsSync, sendable, shr_sync, param_sync, arg_sync, recorded_sync, struct_sync}
+use denote.Param.Send.{IsSend, IsSync, sendable, shr_sync, param_send, param_sync, arg_send, arg_sync, recorded_sync, struct_sync}
 use denote.RattleType.{RattleType}
 use mir.Syntax.{named, Sym, ty_struct, tcons, tnil, ty_ptr}
 use denote.Exit as exit
@@ -8,16 +8,23 @@ use denote.Struct.Tuple as tuple
 use denote.Struct.Field as field
 use denote.Struct.Declared as declared
 use Rattle.std.specs.Prelude.{[], ◌∷◌}
-use Rattle.std.proofs.Common.{◌≡◌, length, subst, arith, rules}
+use Rattle.std.proofs.Common.{◌≡◌, ℕ, length, subst, ap, sym, ◌∙◌, arith, rules}
 use Rattle.std.proofs.Crossing.{crosses}
 use Rattle.std.specs.contracts.sync.Mutex as mutex
 use Rattle.turn_book.specs.contracts.hall.Hall as hall
 use Rattle.shared_door.specs.contracts.porch.Porch as porch
+use Rattle.shared_door.specs.contracts.acts.Act as act
+use Rattle.turn_book.specs.declared.story.Story as story
+use Rattle.door_workers.specs.contracts.worker.Worker as worker
 use Rattle.shared_door.proofs.CrossingLemmas.{hall_sync, porch_send}
 use Rattle.shared_door.specs.Acts.{IsOver}
 use Rattle.shared_door.specs.declared.acts.Act.{Act}
+use Rattle.atomic_table.proofs.shared.Seat.TheSendSync as seat_sends
+use Rattle.growing_list.proofs.list.Front.TheSendSync as front_sends
 use Rattle.door_workers.specs.declared.worker.Worker.{Worker}
 use Rattle.door_workers.specs.contracts.counts.Counts as counts
+use Rattle.door_workers.specs.Serving.{HasWorked}
+use Rattle.door_workers.proofs.ServingLemmas.{same_images, same_pair}
 use Rattle.door_workers.proofs.door.work_all.Goals as goal
 
 five_sync : (ν : Sym) (A B C D E : RattleType) → IsSync A → IsSync B → IsSync C → IsSync D → IsSync E
@@ -51,9 +58,36 @@ for_each_mut-requires-sync-F g c κs lives =
     param_sync 2 _ (arg_sync (ty_struct [] (tcons ty_ptr (tcons ty_ptr (tcons ty_ptr (tcons ty_ptr (tcons ty_ptr tnil)))))) exit.no _
     (five_sync _ _ _ _ _ _ a b d e f))
 
+worker_send : (V Own A T : RattleType) (s : story.Ghosts V.Denot T.Denot) → IsSend V → IsSend Own → IsSend (worker.the_row V Own A T s)
+worker_send V Own A T s a b = search (sendable, crosses, seat_sends.the_send, front_sends.the_send) depth 30 fits 20000
+
+pub for_each_mut-requires-send-T : goal.for_each_mut-requires-send-T
+for_each_mut-requires-send-T g c κs lives =
+    let V = param.param 1 g.row.V in let Own = param.param 4 g.row.Own in let T = param.param 6 g.row.V-Turn in let I = param.param 7 g.row.D-In in
+    let O = param.param 8 g.row.D-Out in
+    let value : IsSend V = search (sendable, c.type_bounds.send-V) in
+    let own : IsSend Own = search (sendable, c.type_bounds.send-Own) in
+    param_send 1 _ (arg_send _ exit.no _ (worker_send V Own (act.the_row I O T) T g.V.Story value own))
+
 pub returns-clause-over : goal.returns-clause-over
 returns-clause-over g c = λ k d below.
     let W : Type 0 = Worker g.row.V.Denot g.row.Own.Denot (Act g.row.D-In.Denot g.row.D-Out.Denot g.row.V-Turn.Denot) g.row.V-Turn.Denot g.V.Story in
     let Q : W → Type 0 = λ w. (w.front.name ≡ g.N.Naming.acts) × IsOver w.front.items in
     let same : length c.for_each_mut.new.s ≡ length c.args.workers.now = search rules in
-    let at = (c.for_each_mut.ensures k d (omega (arith, below, same))).1 in subst Q at.left at.call.1
+    let at = (c.for_each_mut.ensures k d (omega (arith, below, same))).1 in subst Q at.left at.call.1.0
+
+pub returns-clause-worked : goal.returns-clause-worked
+returns-clause-worked g c = λ k d below.
+    let W : Type 0 = Worker g.row.V.Denot g.row.Own.Denot (Act g.row.D-In.Denot g.row.D-Out.Denot g.row.V-Turn.Denot) g.row.V-Turn.Denot g.V.Story in
+    let Q : W → Type 0 = λ w. HasWorked g.W.Work.did w.front.items w.pass.seat w.lent.value w.own in
+    let same : length c.for_each_mut.new.s ≡ length c.args.workers.now = search rules in
+    let at = (c.for_each_mut.ensures k d (omega (arith, below, same))).1 in subst Q at.left at.call.1.1.0
+
+pub returns-clause-same : goal.returns-clause-same
+returns-clause-same g c =
+    let W : Type 0 = Worker g.row.V.Denot g.row.Own.Denot (Act g.row.D-In.Denot g.row.D-Out.Denot g.row.V-Turn.Denot) g.row.V-Turn.Denot g.V.Story in
+    let pair : W → ℕ × g.row.Own.Denot = λ w. (w.pass.seat.me.0.number, w.lent.value) in
+    let same : length c.for_each_mut.new.s ≡ length c.args.workers.now = search rules in
+    same_images pair c.for_each_mut.new.s c.args.workers.now same (λ k d below.
+    let at = (c.for_each_mut.ensures k d below).1 in
+    sym (ap pair at.left) ∙ (same_pair _ _ _ _ at.call.1.1.1.0 (ap (λ s. s.value) at.call.1.1.1.1) ∙ ap pair at.argument_is))

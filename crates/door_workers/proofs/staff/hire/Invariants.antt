@@ -1,6 +1,7 @@
-use Rattle.std.proofs.Common.{◌≡◌, ◌+◌, All}
+use Rattle.std.proofs.Common.{◌≡◌, ◌≢◌, ◌+◌, ◌++◌, ◌<◌, ◌≤◌, ℕ, [], map, reverse, All, Contains}
+use Rattle.std.specs.List.{AllPairs}
 use Rattle.std.specs.Prelude.{vec_len, vec_capacity}
-use Rattle.turn_book.specs.Rule.{Learns}
+use Rattle.turn_book.specs.Rule.{Learns, turns_by}
 use Rattle.turn_book.specs.Passes.{view, HasSameTurn}
 use Rattle.door_workers.specs.Serving.{IsHired}
 use Rattle.door_workers.proofs.staff.hire.Given as goal
@@ -15,6 +16,11 @@ invariant-loop-own g l = record {
   count : vec_len l.workers + vec_len l.owns ≡ vec_len l.initial.owns;
   room : vec_capacity l.workers ≡ vec_capacity l.initial.workers;
   owns_room : vec_capacity l.owns ≡ vec_capacity l.initial.owns;
+  fresh : All (λ w. (turns_by g.V.Story.made_by (view w.pass.seat).number (view w.pass.seat).seen ≡ []) × (w.lent.value ≡ w.own)) l.workers.items;
+  lent : l.initial.owns.items ≡ l.owns.items ++ reverse (map (λ w. w.lent.value) l.workers.items);
+  numbers : (n : ℕ) → (view l.initial.pass.seat).made ≤ n → n < (view l.pass.seat).made → Contains (map (λ w. (view w.pass.seat).number) l.workers.items) n;
+  distinct : AllPairs (λ n m. n ≢ m) (map (λ w. (view w.pass.seat).number) l.workers.items);
+  below : All (λ n. n < (view l.pass.seat).made) (map (λ w. (view w.pass.seat).number) l.workers.items);
   hired : All (λ w. IsHired g.V.Served.rests l.initial.hall.table.shared.table_id l.initial.acts.name w.pass.seat w.front) l.workers.items;
 }
 

@@ -16,15 +16,15 @@ invariant_of-self g c = let p = c.self.inside in let a = c.args.connection in le
       leaves g.N.Naming.most g.N.Naming.start g.V.Served.fits g.V.Served.lasts (shown_by d.faults d.ahead d.given d.ended d.gave d.took_back d.closed p.door)
           (shown_by d.faults d.ahead d.given d.ended d.gave d.took_back d.closed c.done.new.self) p.pass.seat.me.0.seen p.standing p.acts.items c.push.new.self.items p.tickets.seat.me.0.given c.take-number.new.self.seat.me.0.given
           p.tickets.seat.me.0.back c.take-number.new.self.seat.me.0.back
-          record { number = c.take-number.result.0; arrival = c.take-number.result.1; before = c.args.before; went = c.of.result; cut = c.args.cut; seen = c.turns_seen.result }
+          record { number = c.take-number.result.0; pass = c.args.pass; arrival = c.take-number.result.1; before = c.args.before; went = c.of.result; cut = c.args.cut; seen = c.turns_seen.result }
           t.number t.came.value went k done.faults done.given done.ahead done.gave done.over done.ended done.took_back took.given took.back c.push.ensures.1
           took.once.0 took.once.1 took.ticket.0 took.ticket.1 c.of.ensures c.turns_seen.ensures c.requires.after fit,
     )
 
 pub returns-clause-acts : goal.returns-clause-acts
 returns-clause-acts g c = let took = c.take-number.ensures in
-    let v : Visit g.row.D-In.Denot g.row.D-Out.Denot g.row.V-Turn.Denot = record { number = c.take-number.result.0; arrival = c.take-number.result.1; before = c.args.before; went = c.of.result; cut = c.args.cut; seen = c.turns_seen.result } in (
+    let v : Visit g.row.D-In.Denot g.row.D-Out.Denot g.row.V-Turn.Denot = record { number = c.take-number.result.0; pass = c.args.pass; arrival = c.take-number.result.1; before = c.args.before; went = c.of.result; cut = c.args.cut; seen = c.turns_seen.result } in (
       v,
-      record { number = took.ticket.0; arrival = took.ticket.1; went = c.of.ensures; cut_is = refl; before_is = refl; seen_is = c.turns_seen.ensures },
+      record { number = took.ticket.0; pass_is = refl; arrival = took.ticket.1; went = c.of.ensures; cut_is = refl; before_is = refl; seen_is = c.turns_seen.ensures },
       c.push.ensures.1 ∙ ap (λ s. s.acts ++ act.Ended v ∷ []) c.self.view_is,
     )

@@ -25,3 +25,9 @@ returns-clause-unmade g c = let (maker, whole, idle) = c.requires.all in
     let last = taken g.V.Story.turns g.V.Story.made_by g.V.Story.sound c.args.seat.id c.args.seat.me.0 _ _ c.take-value.result
     c.close_with-closed.ensures.values.2 c.take-value.ensures.value maker whole idle in
     (subst (IsLast g.V.Story.turns g.V.Story.made_by g.V.Story.sound c.args.seat.me.0) c.in-Some.is last).2
+
+pub returns-clause-joined : goal.returns-clause-joined
+returns-clause-joined g c = let (maker, whole, idle) = c.requires.all in
+    let last = taken g.V.Story.turns g.V.Story.made_by g.V.Story.sound c.args.seat.id c.args.seat.me.0 _ _ c.take-value.result
+    c.close_with-closed.ensures.values.2 c.take-value.ensures.value maker whole idle in
+    (subst (IsLast g.V.Story.turns g.V.Story.made_by g.V.Story.sound c.args.seat.me.0) c.in-Some.is last).3

@@ -1,21 +1,21 @@
-use Rattle.std.proofs.Common.{rules, ◌≡◌, [], ◌∷◌, ◌++◌, length, All, IfSome, sym, ap, ◌∙◌, subst, arith, append_assoc, length-append}
-use Rattle.std.proofs.lemmas.List.Elements.{All-pop, All-cons, All-weaker}
-use mathlib.Core.List.{IsPrefix}
+use Rattle.std.proofs.Common.{rules, ◌≡◌, [], ◌∷◌, ◌++◌, length, map, IfSome, sym, ap, ◌∙◌, subst, arith, append_assoc, length-append}
+use Rattle.std.proofs.lemmas.List.Elements.{All-pop}
 use Rattle.turn_book.specs.Rule.{Learns}
-use Rattle.turn_book.specs.Passes.{IsFree}
-use Rattle.turn_book.proofs.Steps.{joins, looks, learned, learns_twice, prefix_trans}
+use Rattle.turn_book.specs.Passes.{known_by, IsFree}
+use Rattle.turn_book.proofs.Steps.{gathers, looks, gathered, learns_twice}
 use Rattle.turn_book.proofs.hall.Hall.gather.Goals as goal
 
 pub join_seat-requires : goal.join_seat-requires
 join_seat-requires g c = let seat = c.loop-other.seat in let other = c.in-Some.other in let words = c.args.self.now.shape.0 in
     let (here, _, _, (one, _), _, rest, _) = c.loop-other.invariant in
     let (_, last) = All-pop (λ p. (p.seat.table_id ≡ c.args.self.now.table.shared.table_id) × IsFree p.seat) c.loop-other.others.items c.pop.new.self.items c.pop.result c.pop.ensures.items rest in
+    let (_, single, _) = c.in-Some.other.is_pass in
     let (there, (idle, none)) = subst (λ r. IfSome r (λ p. (p.seat.table_id ≡ c.args.self.now.table.shared.table_id) × IsFree p.seat)) c.in-Some.is last in (
       here ∙ c.requires.here,
       there,
       none,
       omega arith,
-      joins g.V.Story.turns g.V.Story.made_by g.V.Story.sound seat.id other.seat.id seat.me.0 other.seat.me.0 one idle,
+      gathers g.V.Story.turns g.V.Story.made_by g.V.Story.sound seat.id other.seat.id seat.me.0 other.seat.me.0 one (omega (arith, single)) idle,
     )
 
 pub load-requires : goal.load-requires
@@ -26,13 +26,13 @@ load-requires g c = let seat = c.join_seat.new.seat in let words = c.args.self.n
 
 pub loop-other-preserved : goal.loop-other-preserved
 loop-other-preserved g c = let seat = c.loop-other.seat in let other = c.in-Some.other in let (_, single, _) = other.is_pass in
-    let (here, (stage, ticket, held), (made, number), (one, count), learns, rest, (done, split, seen)) = c.loop-other.invariant in
+    let (here, (stage, ticket, held), (made, number), (one, count), learns, rest, (done, split, joined_is)) = c.loop-other.invariant in
     let (left, _) = All-pop (λ p. (p.seat.table_id ≡ c.args.self.now.table.shared.table_id) × IsFree p.seat) c.loop-other.others.items c.pop.new.self.items c.pop.result c.pop.ensures.items rest in
     let items : c.loop-other.others.items ≡ c.pop.new.self.items ++ other ∷ [] = search rules in
     let longer = ap length items ∙ length-append c.pop.new.self.items (other ∷ []) in
     let (joined, _, is) = c.join_seat.ensures in
     let (loaded, _, look) = c.load.ensures in
-    let (log, now, also, more) = learned g.V.Story.made_by seat.me.0 other.seat.me.0 seat.me.1 c.join_seat.new.seat.me c.load.new.seat.me is look in
+    let (log, now, more) = gathered g.V.Story.made_by seat.me.0 other.seat.me.0 seat.me.1 c.join_seat.new.seat.me c.load.new.seat.me is look in
     let seen_is : c.load.new.seat.me.0.seen ≡ log = ap (λ m. m.0.seen) now in
     let passes = ap (λ m. m.0.passes) now in (
       loaded ∙ (joined ∙ here),
@@ -44,13 +44,12 @@ loop-other-preserved g c = let seat = c.loop-other.seat in let other = c.in-Some
       (
         other ∷ done,
         split ∙ (ap (λ l. l ++ done) items ∙ append_assoc c.pop.new.self.items (other ∷ []) done),
-        subst (λ l. All (λ p. IsPrefix p.seat.me.0.seen l) (other ∷ done)) (sym seen_is)
-            (All-cons (λ p. IsPrefix p.seat.me.0.seen log) other done also (All-weaker _ _ (λ p h. prefix_trans p.seat.me.0.seen seat.me.0.seen log h more.0) done seen)),
+        ap (λ m. m.0.joined) now ∙ ap (λ l. known_by other.seat ∷ l) joined_is,
       ),
     )
 
-pub returns-clause-others : goal.returns-clause-others
-returns-clause-others g c = let (_, _, _, _, _, _, (done, split, seen)) = c.loop-other.invariant in
+pub returns-clause-joined : goal.returns-clause-joined
+returns-clause-joined g c = let (_, _, _, _, _, _, (done, split, joined_is)) = c.loop-other.invariant in
     let empty : c.loop-other.others.items ≡ [] = search rules in
     let is : c.args.others.items ≡ done = split ∙ ap (λ l. l ++ done) empty in
-    subst (λ l. All (λ p. IsPrefix p.seat.me.0.seen c.loop-other.seat.me.0.seen) l) (sym is) seen
+    subst (λ l. c.loop-other.seat.me.0.joined ≡ map (λ p. known_by p.seat) l ++ c.args.seat.now.me.0.joined) (sym is) joined_is

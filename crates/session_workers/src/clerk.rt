@@ -1,0 +1,171 @@
+//! What the workers of a door do for the router.
+ghost use Rattle.std.specs.Prelude.{◌≡◌};
+ghost use Rattle.turn_book.specs.Passes.{IsFree, IsSamePass};
+ghost use Rattle.courier_run.specs.Link.{outside};
+ghost use Rattle.router_sessions.specs.Book.{IsBook, Rests};
+ghost use Rattle.router_sessions.specs.Desk.{turns_seen, number_of, seen_by};
+ghost use Rattle.router_sessions.specs.Visit.{IsVisit, OwesNothing};
+ghost use Rattle.session_workers.specs.Jobs.{outside_of, session_by, ServesOne, GoesOn};
+
+use crate::places::Placing;
+use bus_host::Gate;
+use courier_run::Stop;
+use door_workers::Work;
+use router_disk::{Clock, Link, Sink, Source};
+use router_sessions::{Book, look, serve_quiet, serve_session, was_cut};
+use std::alloc::Global;
+use std::sync::Wait;
+use turn_book::{Hall, Pass};
+
+/// The number of delivery steps that a worker makes before it knocks again.
+const STEPS: u32 = 1_000;
+
+/// Serves a session by one closure, and does the other work by another. In a method of a trait the check does not cover a call of
+/// a function whose bounds are `Send`, as those of `converse` are; in a function that makes a closure it does.
+#[derive(Drop)]
+pub(crate) struct Clerk<S, M> {
+    pub(crate) serve: S,
+    pub(crate) meanwhile: M,
+}
+
+impl<
+    L: Link,
+    C: Clock,
+    I: Source,
+    O: Sink,
+    S: Fn(&mut (L, C), &Hall<Book>, &mut Pass<Book>, u64, &mut I, &mut O) -> bool,
+    M: Fn(&mut (L, C), &Hall<Book>, &mut Pass<Book>),
+> Work<Book, I, O, (L, C)> for Clerk<S, M> {
+    ghost use Rattle.session_workers.specs.Jobs.{outside_of, did_by, done_none, done_later};
+    ghost use Rattle.session_workers.specs.Clerk.{IsClerk};
+
+    ghost works = { λ c. IsClerk I.gave O.wrote I.faults O.faults (outside_of C.gave L.exchanges L.faults) S.Fn c.serve M.Fn c.meanwhile };
+
+    ghost did = { did_by I.gave O.wrote C.gave L.exchanges L.faults };
+
+    fn serve(
+        &self,
+        own: &mut (L, C),
+        hall: &Hall<Book>,
+        pass: &mut Pass<Book>,
+        number: u64,
+        input: &mut I,
+        output: &mut O,
+    ) -> bool {
+        (self.serve)(own, hall, pass, number, input, output)
+    }
+
+    fn meanwhile(&self, own: &mut (L, C), hall: &Hall<Book>, pass: &mut Pass<Book>) {
+        (self.meanwhile)(own, hall, pass)
+    }
+
+    ghost unturned = { λ n lent. done_none I.gave O.wrote n (outside_of C.gave L.exchanges L.faults lent) };
+
+    ghost lasts = { λ n lent now. done_later I.gave O.wrote n (outside_of C.gave L.exchanges L.faults lent) (outside_of C.gave L.exchanges L.faults now) };
+}
+
+/// Serves the session of the connection with this number, with a link and a clock. Returns whether out of memory ended it. It is no
+/// part of its caller's frame, so that the stack of a worker without a connection has no room for a session's input.
+#[inline(never)]
+pub(crate) fn converse<I: Source, O: Sink, Rt: Wait + Sync, L: Link, C: Clock, G: Gate>(
+    rt: &Rt,
+    alloc: Global,
+    gate: &G,
+    own: &mut (L, C),
+    hall: &Hall<Book>,
+    pass: &mut Pass<Book>,
+    number: u64,
+    input: &mut I,
+    output: &mut O,
+) -> bool
+    requires here { pass.old.seat.table_id ≡ hall.now.table.shared.table_id }
+    requires free { IsFree pass.old.seat }
+    requires rests { OwesNothing (number_of pass.old.seat) (seen_by pass.old.seat) }
+    ensures pass { IsSamePass pass.old.seat pass.new.seat × IsFree pass.new.seat }
+    ensures rests { OwesNothing (number_of pass.new.seat) (seen_by pass.new.seat) }
+    ensures visit { IsVisit I.gave O.wrote I.faults O.faults number (input.old, output.old) (input.new, output.new) result (seen_by pass.old.seat) (seen_by pass.new.seat) }
+    ensures serves { ServesOne I.gave O.wrote (number_of pass.old.seat) (session_by number (number_of pass.old.seat) (input.old, output.old) (input.new, output.new) result (seen_by pass.old.seat))
+        (outside_of C.gave L.exchanges L.faults own.old) (outside_of C.gave L.exchanges L.faults own.new) (seen_by pass.old.seat) (seen_by pass.new.seat) }
+{
+    let end = serve_session(
+        rt, alloc, hall, pass, &mut own.0, input, output, &mut own.1, number, gate,
+    );
+    was_cut(end)
+}
+
+/// Makes delivery steps for a while, if a place is free. The worker has no place during a send, which holds no turn. `I` and `O` are the
+/// streams of the sessions that the worker served before.
+pub(crate) fn deliver_in_a_place<I: Source, O: Sink, Rt: Wait + Sync, L: Placing, C: Clock>(
+    rt: &Rt,
+    alloc: Global,
+    own: &mut (L, C),
+    hall: &Hall<Book>,
+    pass: &mut Pass<Book>,
+)
+    requires here { pass.old.seat.table_id ≡ hall.now.table.shared.table_id }
+    requires free { IsFree pass.old.seat }
+    requires rests { OwesNothing (number_of pass.old.seat) (seen_by pass.old.seat) }
+    ensures pass { IsSamePass pass.old.seat pass.new.seat × IsFree pass.new.seat }
+    ensures rests { OwesNothing (number_of pass.new.seat) (seen_by pass.new.seat) }
+    ensures goes_on { GoesOn I.gave O.wrote (number_of pass.old.seat) (outside_of C.gave L.exchanges L.faults own.old) (outside_of C.gave L.exchanges L.faults own.new)
+        (seen_by pass.old.seat) (seen_by pass.new.seat) }
+{
+    if own.0.enter() {
+        deliver_for_a_while::<I, O, Rt, L, C>(rt, alloc, &mut own.1, &mut own.0, hall, pass);
+        own.0.leave();
+    }
+}
+
+/// Makes delivery steps until none is made, a fault comes, `STEPS` were made, or the second in which it began is over. So it waits for
+/// one endpoint at most that does not answer. Its turns name no connection.
+fn deliver_for_a_while<I: Source, O: Sink, Rt: Wait + Sync, L: Link, C: Clock>(
+    rt: &Rt,
+    alloc: Global,
+    clock: &mut C,
+    link: &mut L,
+    hall: &Hall<Book>,
+    pass: &mut Pass<Book>,
+)
+    requires here { pass.old.seat.table_id ≡ hall.now.table.shared.table_id }
+    requires free { IsFree pass.old.seat }
+    requires rests { OwesNothing (number_of pass.old.seat) (seen_by pass.old.seat) }
+    ensures pass { IsSamePass pass.old.seat pass.new.seat × IsFree pass.new.seat }
+    ensures rests { OwesNothing (number_of pass.new.seat) (seen_by pass.new.seat) }
+    ensures goes_on { GoesOn I.gave O.wrote (number_of pass.old.seat) (outside (C.gave clock.old) (L.exchanges link.old) (L.faults link.old))
+        (outside (C.gave clock.new) (L.exchanges link.new) (L.faults link.new)) (seen_by pass.old.seat) (seen_by pass.new.seat) }
+{
+    look(rt, alloc, hall, pass);
+    let begun = clock.now();
+    for _ in 0..STEPS {
+        if !deliver_once::<I, O, Rt, L, C>(rt, alloc, clock, begun, link, hall, pass) {
+            return;
+        }
+    }
+}
+
+/// Makes at most one delivery step. Returns whether it made one and the clock still reads `begun`.
+fn deliver_once<I: Source, O: Sink, Rt: Wait + Sync, L: Link, C: Clock>(
+    rt: &Rt,
+    alloc: Global,
+    clock: &mut C,
+    begun: u64,
+    link: &mut L,
+    hall: &Hall<Book>,
+    pass: &mut Pass<Book>,
+) -> bool
+    requires here { pass.old.seat.table_id ≡ hall.now.table.shared.table_id }
+    requires free { IsFree pass.old.seat }
+    requires book { IsBook (turns_seen pass.old.seat) }
+    requires rests { Rests (number_of pass.old.seat) (turns_seen pass.old.seat) }
+    ensures pass { IsSamePass pass.old.seat pass.new.seat × IsFree pass.new.seat }
+    ensures book { IsBook (turns_seen pass.new.seat) }
+    ensures rests { Rests (number_of pass.old.seat) (turns_seen pass.new.seat) }
+    ensures goes_on { GoesOn I.gave O.wrote (number_of pass.old.seat) (outside (C.gave clock.old) (L.exchanges link.old) (L.faults link.old))
+        (outside (C.gave clock.new) (L.exchanges link.new) (L.faults link.new)) (seen_by pass.old.seat) (seen_by pass.new.seat) }
+{
+    let stepped = serve_quiet(rt, alloc, hall, pass, link, clock, 1);
+    match stepped.stop {
+        Stop::Spent | Stop::Idle => stepped.turned.attempts != 0 && clock.now() == begun,
+        Stop::Full | Stop::NoMemory => false,
+    }
+}

@@ -1,0 +1,9 @@
+//! The router's workers at a door: a session for each connection that comes, and delivery steps while none comes.
+#![tactic(auto)]
+
+mod clerk;
+mod door;
+mod places;
+
+pub use door::serve_door;
+pub use door_workers::{DoorEnd, Serving};
