@@ -1,6 +1,6 @@
 -- Each send is recorded if no other turn comes between a claim and its record. Other files cite `session_recorded`.
 use Rattle.std.proofs.Common.{◌≡◌, ℕ, inl, inr, true, false, List, [], ◌∷◌, ◌++◌, Option, Some, None, sym, refl, ap, ◌∙◌, subst, append_assoc, arith}
-use Rattle.std.specs.Prelude.{All, Contains}
+use Rattle.std.specs.Prelude.{All, Contains, IsSome}
 use Rattle.std.proofs.lemmas.Grind.{flat_map-append}
 use Rattle.std.proofs.lemmas.Bool.{true≢false}
 use Rattle.std.proofs.lemmas.List.Elements.{Contains-append_left, Contains-append_right, Contains-append_cases, Contains-push_cases}
@@ -16,20 +16,23 @@ use Rattle.courier_run.specs.declared.turned.Turned.{Turned}
 use Rattle.courier_run.specs.declared.stepped.Stop.{Stop}
 use Rattle.courier_run.specs.Claim.{Claim, NeedsSend}
 use Rattle.courier_run.specs.Act.{Try, reads, ticks, looks, makes, tries, writes, tries_of, tries_in}
-use Rattle.courier_run.specs.Steps.{IsStep, attempted, Stepping, one_more, IsStop, idle_at, full_at, out_of_memory, unsent_at, limited_at, spent, stopped}
+use Rattle.courier_run.specs.Steps.{IsStep, attempted, Stepping, one_more, IsStop, idle_at, full_at, broken_at, out_of_memory, unsent_at, unrecorded, spent, stopped}
+use Rattle.courier_run.specs.Steps.{limited_by, broken_before, broken_by}
 use Rattle.courier_run.specs.Steps as steps
 use Rattle.router_sessions.specs.History.{Turn, State, Placed, Ask, claims, records, puts_back, IsTurnFor, IsTurnOf, after_ask, after_turn, state_after}
 use Rattle.router_sessions.specs.History.{AreTurnsFrom}
-use Rattle.router_sessions.specs.Acts.{Act, Claims, Records, PutsBack, IsIdle, IsFullAt, Steps, Happens}
+use Rattle.router_sessions.specs.Acts.{Act, Claims, Records, PutsBack, Breaks, IsIdle, IsFullAt, IsBrokenAt, Steps, Happens}
 use Rattle.router_sessions.specs.Session as session
 use Rattle.router_sessions.specs.Session.{Answers, Serving, begun, reads_on, answers, IsLast, Ended}
 use Rattle.router_sessions.proofs.TurnLemmas.{state_append, turns_back}
 use Rattle.router_sessions.proofs.ActLemmas.{state_here}
+use Rattle.router_sessions.proofs.SteadyLemmas.{IsWhole, whole_after}
 use Rattle.bus_server.specs.Run.{AreRecorded}
 use Rattle.drill_run.proofs.OnePassLemmas.{others_none, all_front, all_back}
 
--- these acts happened by turns that are legal and all of the one pass
+-- these acts happened by turns that are legal and all of the one pass, of a router without a journal
 pub record Alone (s : State) (added : List Turn) (acts : List Act) : Type 0 where
+  pub whole : IsWhole s
   pub happens : Happens 0 s added acts
   pub legal : AreTurnsFrom s added
   pub own : All (λ t. t.pass ≡ Some 0) added
@@ -67,8 +70,8 @@ alone_split s added xs ys a =
     let own = subst (All (λ (t : Turn). t.pass ≡ Some 0)) is a.own in (
       front,
       back,
-      record { happens = one; legal = both.0; own = all_front front back own },
-      record { happens = two; legal = both.1; own = all_back front back own },
+      record { whole = a.whole; happens = one; legal = both.0; own = all_front front back own },
+      record { whole = whole_after front s both.0 a.whole; happens = two; legal = both.1; own = all_back front back own },
     )
 
 contains_none : {X : Type 0} (x : X) → Contains [] x → ⊥
@@ -93,14 +96,14 @@ sent_as : (q : Placed) (c : Claim) (o : Outcome) (fate : Fate) → Records q (re
 sent_as q c o fate (made, inl same, ask) needs = ask ∙ ap (λ x. records (record { claim = c; outcome = x; fate = fate })) same
 sent_as q c o fate (made, inr (queue, had, missing), ask) needs = absurd (needs.0 queue)
 
-step_recorded : (acts : List Act) (fate : Fate) → IsStep Claims Records PutsBack IsIdle IsFullAt acts fate → AreRecorded acts
+step_recorded : (acts : List Act) (fate : Fate) → IsStep Claims Records PutsBack Breaks IsIdle IsFullAt IsBrokenAt acts fate → AreRecorded acts
 step_recorded _ _ (attempted reading p q c o fate claimed fits recorded) = λ t there needs.
     let same : record { claim = c; outcome = o } ≡ t = contains_one (record { claim = c; outcome = o }) t there in
     subst (λ (x : Try). NeedsSend x.claim → (p' : Placed) × (f : Fate) × Contains {X = Act} (ticks reading ∷ makes p ∷ tries c o ∷ makes q ∷ []) (makes p')
     × (p'.turn.ask ≡ records (record { claim = x.claim; outcome = x.outcome; fate = f }))) same
     (λ sends. (q, fate, (3, omega arith, refl), sent_as q c o fate recorded sends)) needs
 
-stepping_recorded : (acts : List Act) (turned : Turned) → Stepping Claims Records PutsBack IsIdle IsFullAt acts turned → AreRecorded acts
+stepping_recorded : (acts : List Act) (turned : Turned) → Stepping Claims Records PutsBack Breaks IsIdle IsFullAt IsBrokenAt acts turned → AreRecorded acts
 stepping_recorded _ _ steps.none = no_tries [] refl
 stepping_recorded _ _ (one_more acts step turned fate before one) = recorded_append acts step (stepping_recorded acts turned before) (step_recorded step fate one)
 
@@ -114,10 +117,11 @@ claimed_below s turn ask c is legal =
     let by = subst (λ (a : Ask). IsTurnFor s turn a) is legal in
     ap (λ (a : Ask). is_full (after_ask turn a s).tables) is ∙ full_by (pending_row c.number s.tables.duties) s.tables ∙ by.numbered
 
--- so it is not put back at the limit at once
-never_limited : (s : State) (added : List Turn) (reading : ℕ) (p q : Placed) (c : Claim) (o : Outcome)
-    → Alone s added (ticks reading ∷ makes p ∷ tries c o ∷ makes q ∷ []) → p.turn.ask ≡ claims c → q.turn.ask ≡ puts_back c steps.limited → ⊥
-never_limited s added reading p q c o a claimed back =
+-- the turns of an attempt come one after the other, without a journal
+at_attempt : (s : State) (added : List Turn) (reading : ℕ) (p q : Placed) (c : Claim) (o : Outcome) (ends : List Act)
+    → Alone s added (ticks reading ∷ makes p ∷ tries c o ∷ makes q ∷ ends)
+    → (here : State) × IsTurnOf here p.turn × IsTurnOf (after_turn p.turn here) q.turn × IsWhole (after_turn p.turn here)
+at_attempt s added reading p q c o ends a =
     let (others, rest, is, other, pass, before, known, (others2, rest2, is2, other2, pass2, before2, known2, last)) = a.happens in
     let first = turns_back s others (p.turn ∷ rest) (subst (AreTurnsFrom s) is a.legal) in
     let here : State = state_after others s in
@@ -127,17 +131,44 @@ never_limited s added reading p q c o a claimed back =
     let later = turns_back (after_turn p.turn here) others2 (q.turn ∷ rest2) (subst (AreTurnsFrom (after_turn p.turn here)) is2 first.1.1) in
     let at : IsTurnOf (after_turn p.turn here) q.turn =
     subst (λ (ts : List Turn). IsTurnOf (state_after ts (after_turn p.turn here)) q.turn) none later.1.0 in
+    (here, first.1.0, at, whole_after (p.turn ∷ []) here (first.1.0, tt) (whole_after others s first.0 a.whole))
+
+-- so a claim is not put back at the limit at once
+never_limited : (s : State) (added : List Turn) (reading : ℕ) (p q : Placed) (c : Claim) (o : Outcome)
+    → Alone s added (ticks reading ∷ makes p ∷ tries c o ∷ makes q ∷ []) → p.turn.ask ≡ claims c → q.turn.ask ≡ puts_back c steps.limited → ⊥
+never_limited s added reading p q c o a claimed back =
+    let (here, one, at, whole) = at_attempt s added reading p q c o [] a in
     let reason = (subst (λ (x : Ask). IsTurnFor (after_turn p.turn here) q.turn x) back at).2 in
-    let below : is_full (after_turn p.turn here).tables ≡ false = claimed_below here p.turn p.turn.ask c claimed first.1.0 in
+    let below : is_full (after_turn p.turn here).tables ≡ false = claimed_below here p.turn p.turn.ask c claimed one in
     true≢false (sym reason ∙ below)
 
-stop_recorded : (s : State) (added : List Turn) (acts : List Act) (stop : Stop) → Alone s added acts → IsStop Claims Records PutsBack IsIdle IsFullAt acts stop
+-- nor because the book is broken
+never_unkept : (s : State) (added : List Turn) (reading : ℕ) (p q : Placed) (c : Claim) (o : Outcome)
+    → Alone s added (ticks reading ∷ makes p ∷ tries c o ∷ makes q ∷ []) → q.turn.ask ≡ puts_back c steps.unkept → ⊥
+never_unkept s added reading p q c o a back =
+    let (here, one, at, whole) = at_attempt s added reading p q c o [] a in
+    let reason = (subst (λ (x : Ask). IsTurnFor (after_turn p.turn here) q.turn x) back at).2 in
+    true≢false (sym reason ∙ whole.unbroken)
+
+-- and no attempt breaks it
+never_breaks : (s : State) (added : List Turn) (reading : ℕ) (p m q : Placed) (c : Claim) (o : Outcome)
+    → Alone s added (ticks reading ∷ makes p ∷ tries c o ∷ makes m ∷ makes q ∷ []) → Breaks m c o → ⊥
+never_breaks s added reading p m q c o a (made, outcome, breaking) =
+    let (here, one, at, whole) = at_attempt s added reading p m c o (makes q ∷ []) a in
+    let journal = (subst (λ (x : Ask). IsTurnFor (after_turn p.turn here) m.turn x) breaking at).journal in
+    let some : false ≡ true = subst (λ (d : Option ℕ). IsSome d) whole.disk journal in
+    true≢false (sym some)
+
+stop_recorded : (s : State) (added : List Turn) (acts : List Act) (stop : Stop) → Alone s added acts → IsStop Claims Records PutsBack Breaks IsIdle IsFullAt IsBrokenAt acts stop
     → AreRecorded acts
 stop_recorded s added _ _ a (idle_at reading state idle) = no_tries (ticks reading ∷ looks state ∷ []) refl
 stop_recorded s added _ _ a (full_at reading state full) = no_tries (ticks reading ∷ looks state ∷ []) refl
 stop_recorded s added _ _ a (out_of_memory reading state) = no_tries (ticks reading ∷ looks state ∷ []) refl
 stop_recorded s added _ _ a (unsent_at reading p q c claimed needs back) = no_tries (ticks reading ∷ makes p ∷ makes q ∷ []) refl
-stop_recorded s added _ _ a (limited_at reading p q c o claimed fits back) = absurd (never_limited s added reading p q c o a claimed.0 back)
+stop_recorded s added _ _ a (broken_at reading state broken) = no_tries (ticks reading ∷ looks state ∷ []) refl
+stop_recorded s added _ _ a (unrecorded reading p c o _ _ claimed fits (limited_by q back)) = absurd (never_limited s added reading p q c o a claimed.0 back)
+stop_recorded s added _ _ a (unrecorded reading p c o _ _ claimed fits (broken_before q back)) = absurd (never_unkept s added reading p q c o a back)
+stop_recorded s added _ _ a (unrecorded reading p c o _ _ claimed fits (broken_by m q breaking back)) = absurd (never_breaks s added reading p m q c o a breaking)
 
 steps_recorded : (s : State) (added : List Turn) (budget : ℕ) (acts : List Act) (turned : Turned) (stop : Stop) → Alone s added acts → Steps budget acts turned stop
     → AreRecorded acts
@@ -152,9 +183,11 @@ answers_recorded s added m _ _ a (session.refused reading c post is) = no_tries 
 answers_recorded s added m _ _ a (session.out_of_memory reading post) = no_tries (ticks reading ∷ []) refl
 answers_recorded s added m _ _ a (session.served reading request p reply post asked replies) = no_tries (ticks reading ∷ makes p ∷ []) refl
 answers_recorded s added m _ _ a (session.unrendered reading request p reply post asked replies none) = no_tries (ticks reading ∷ makes p ∷ []) refl
+answers_recorded s added m _ _ a (session.failed reading request p post asked fails) = no_tries (ticks reading ∷ makes p ∷ []) refl
+answers_recorded s added m _ _ a (session.failed_before reading request state post asked fails) = no_tries (ticks reading ∷ looks state ∷ []) refl
 answers_recorded s added m _ _ a (session.stepped reading request budget acts turned stop post asked due steps) =
     recorded_append (ticks reading ∷ []) acts (no_tries (ticks reading ∷ []) refl)
-    (steps_recorded s added budget acts turned stop (record { happens = a.happens; legal = a.legal; own = a.own }) steps)
+    (steps_recorded s added budget acts turned stop (record { whole = a.whole; happens = a.happens; legal = a.legal; own = a.own }) steps)
 
 serving_recorded : (s : State) (added : List Turn) (n : ℕ) (held : List ℕ) (acts : List Act) → Alone s added acts → Serving n held acts → AreRecorded acts
 serving_recorded s added _ _ _ a (begun state) = no_tries (looks state ∷ []) refl

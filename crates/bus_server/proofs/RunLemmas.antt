@@ -12,7 +12,7 @@ use Rattle.router_sessions.specs.History.{Turn, AreTurnsFrom, state_of, turns_by
 use Rattle.router_sessions.specs.Book.{opening, IsBook, Rests}
 use Rattle.router_sessions.specs.Acts.{World, world}
 use Rattle.router_sessions.specs.Session.{IsSession}
-use Rattle.router_sessions.proofs.BookLemmas.{book_first, added_legal}
+use Rattle.router_sessions.proofs.BookLemmas.{whole_of, book_first, added_legal}
 use Rattle.drill_run.specs.OnePass.{only_seat}
 use Rattle.drill_run.proofs.OnePassLemmas.{all_own, first_none, of_one_pass}
 use Rattle.bus_server.specs.Run.{status_of, RunsOnce, RunsBy, Around, around, IsUnbegun, IsRun, FaultsMatch}
@@ -31,7 +31,7 @@ runs_once old new end status first session book rests unmade ends =
       end = end;
       session = session;
       recorded = session_recorded (state_of old.turns) does.makes.added end acts
-          (record { happens = does.makes.happens; legal = legal; own = all_own (state_of old.turns) does.makes.added legal added_unmade }) ended;
+          (record { whole = whole_of old.turns old_book; happens = does.makes.happens; legal = legal; own = all_own (state_of old.turns) does.makes.added legal added_unmade }) ended;
       first = first;
       ends = ends;
       history = of_one_pass new.turns book rests unmade;

@@ -6,6 +6,7 @@ ghost use Rattle.courier_run.specs.Claim.{IsTooOld, NeedsSend, IsSuccess, FitsCl
 ghost use Rattle.courier_run.specs.Act.{Act, book_acts_in};
 ghost use Rattle.courier_run.specs.Link.{IsTried, Goes, outside};
 ghost use Rattle.courier_run.specs.Steps.{IsAttempt};
+ghost use Rattle.courier_run.specs.Book as spec;
 
 use crate::{BookFault, DutyBook, HeldDuty, Stop, Way};
 use delivery_duties::{Fate, Outcome};
@@ -33,7 +34,7 @@ pub(crate) fn attempt<B: DutyBook, L: Link, C: Clock>(
     ensures rests { B.rests book.new }
     ensures lender { B.lender book.new ≡ B.lender book.old }
     ensures made { (acts : List (Act B.Placed B.State)) × B.did book.old book.new (book_acts_in acts)
-        × IsAttempt B.claims B.records B.puts_back B.idle B.full acts result
+        × IsAttempt B.claims B.records B.puts_back B.breaks B.idle B.full B.broken acts result
         × Goes acts (outside (C.gave clock.old) (L.exchanges link.old) (L.faults link.old))
         (outside (C.gave clock.new) (L.exchanges link.new) (L.faults link.new)) }
 {
@@ -42,7 +43,7 @@ pub(crate) fn attempt<B: DutyBook, L: Link, C: Clock>(
         Ok(Some(held)) => match outcome_of(link, &held) {
             Ok(outcome) => match book.record_of(held, outcome, moment) {
                 Ok(fate) => Ended::Recorded(fate),
-                Err(_) => Ended::Stopped(Stop::Full),
+                Err(fault) => Ended::Stopped(stop_of(fault)),
             },
             Err(NoMemory) => {
                 book.put_back(held);
@@ -50,8 +51,18 @@ pub(crate) fn attempt<B: DutyBook, L: Link, C: Clock>(
             }
         },
         Ok(None) => Ended::Stopped(Stop::Idle),
-        Err(BookFault::NumberLimit) => Ended::Stopped(Stop::Full),
-        Err(BookFault::NoMemory) => Ended::Stopped(Stop::NoMemory),
+        Err(fault) => Ended::Stopped(stop_of(fault)),
+    }
+}
+
+/// What a fault of the book stops steps with.
+fn stop_of(fault: BookFault) -> Stop
+    ensures { result ≡ spec.stop_of fault }
+{
+    match fault {
+        BookFault::NumberLimit => Stop::Full,
+        BookFault::Broken => Stop::Broken,
+        BookFault::NoMemory => Stop::NoMemory,
     }
 }
 

@@ -2,10 +2,11 @@
 ghost use Rattle.std.specs.Prelude.{◌≡◌, ◌++◌, ◌∷◌, [], ℕ, List, IfOk, MatchOption};
 ghost use Rattle.std.specs.Result.{IfErr};
 ghost use Rattle.json_text.specs.Moment.{IsMoment};
+ghost use Rattle.delivery_duties.specs.declared.outcome.Outcome.{Outcome};
 ghost use Rattle.courier_run.specs.Claim.{Claim, FitsClaim, NeedsSend};
 ghost use Rattle.courier_run.specs.Act.{Act, looks, makes};
-ghost use Rattle.courier_run.specs.Steps.{Attempt, Why, unsent, limited};
-ghost use Rattle.courier_run.specs.Book.{HasCause};
+ghost use Rattle.courier_run.specs.Steps.{Attempt, Why, unsent, IsUnrecorded};
+ghost use Rattle.courier_run.specs.Book.{HasCause, stop_of};
 
 use crate::HeldDuty;
 use delivery_duties::{Fate, Outcome};
@@ -17,6 +18,9 @@ pub enum BookFault {
     /// The book is at its number limit.
     #[error("the number limit is reached")]
     NumberLimit,
+    /// The book is broken: it can keep no record any more.
+    #[error("the book is broken")]
+    Broken,
     /// Out of memory.
     #[error("out of memory")]
     NoMemory,
@@ -60,11 +64,17 @@ pub trait DutyBook {
     /// The turn puts this claim back.
     ghost puts_back: { Placed → Claim → Why → Type 0 };
 
+    /// The turn breaks the book, since the record of this claim with this outcome could not be kept.
+    ghost breaks: { Placed → Claim → Outcome → Type 0 };
+
     /// No duty is pending, due at this moment and unclaimed.
     ghost idle: { State → ℕ → Type 0 };
 
     /// The number limit stops a claim at this moment.
     ghost full: { State → ℕ → Type 0 };
+
+    /// The book is broken, and below its number limit a duty is due at this moment.
+    ghost broken: { State → ℕ → Type 0 };
 
     /// The ghost name of the value that the book borrows. No call changes it, so the lender of the book knows what it
     /// ends as.
@@ -82,10 +92,10 @@ pub trait DutyBook {
             (λ held. holds self.new (Self.Held.shows held)
             × ((p : Placed) × did self.old self.new (makes p ∷ []) × claims p (Self.Held.shows held) moment))) }
         ensures refused { IfErr result (λ fault. rests self.new
-            × ((s : State) × did self.old self.new (looks s ∷ []) × HasCause (full s moment) fault)) };
+            × ((s : State) × did self.old self.new (looks s ∷ []) × HasCause (full s moment) (broken s moment) fault)) };
 
     /// Records an attempt at the claim's moment, and returns the duty's fate. The turn of the record decides whether a
-    /// queue exists. An `Err` has put the claim back. It is never `NoMemory`.
+    /// queue exists. An `Err` has put the claim back, after it broke the book if this record could not be kept. It is never `NoMemory`.
     fn record_of(
         &mut self,
         held: Self::Held,
@@ -100,8 +110,8 @@ pub trait DutyBook {
         ensures rests { rests self.new }
         ensures recorded { IfOk result (λ fate. (q : Placed) × did self.old self.new (makes q ∷ [])
             × records q (record { claim = Self.Held.shows held; outcome = outcome; fate = fate })) }
-        ensures refused { IfErr result (λ fault. (fault ≡ BookFault.NumberLimit)
-            × ((q : Placed) × did self.old self.new (makes q ∷ []) × puts_back q (Self.Held.shows held) limited)) };
+        ensures refused { IfErr result (λ fault. (acts : List (Act Placed State)) × did self.old self.new acts
+            × IsUnrecorded claims records puts_back breaks idle full broken (Self.Held.shows held) outcome acts (stop_of fault)) };
 
     /// Puts a claim back of which nothing was sent, so that the duty can be claimed again.
     fn put_back(&mut self, held: Self::Held)

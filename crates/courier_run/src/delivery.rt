@@ -22,7 +22,7 @@ pub fn turn<B: DutyBook, L: Link, C: Clock>(
     ensures rests { B.rests book.new }
     ensures lender { B.lender book.new ≡ B.lender book.old }
     ensures stepped { (acts : List (Act B.Placed B.State)) × B.did book.old book.new (book_acts_in acts)
-        × Steps B.claims B.records B.puts_back B.idle B.full budget acts result.turned result.stop
+        × Steps B.claims B.records B.puts_back B.breaks B.idle B.full B.broken budget acts result.turned result.stop
         × Goes acts (outside (C.gave clock.old) (L.exchanges link.old) (L.faults link.old))
         (outside (C.gave clock.new) (L.exchanges link.new) (L.faults link.new)) }
 {

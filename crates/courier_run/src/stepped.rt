@@ -10,6 +10,8 @@ pub enum Stop {
     Idle,
     /// The book is at its number limit.
     Full,
+    /// The book is broken.
+    Broken,
     /// Out of memory.
     NoMemory,
 }

@@ -1,5 +1,5 @@
 -- The tables after legal turns, claims set aside, are the fold of the batches that the turns wrote: `folds`, `folds_book`.
-use Rattle.std.proofs.Common.{◌≡◌, ℕ, ◌+◌, Bool, max, true, false, cond, eqb, ltb, List, [], ◌∷◌, map, Option, Some, None, refl, sym, ap, ◌∙◌}
+use Rattle.std.proofs.Common.{◌≡◌, ℕ, ◌+◌, Bool, max, true, false, cond, eqb, ltb, List, [], ◌∷◌, ◌++◌, map, Option, Some, None, refl, sym, ap, ◌∙◌}
 use Rattle.std.specs.Option.{option_map}
 use Rattle.rule_table.specs.Control.{Control, bus_created}
 use Rattle.key_tree.specs.Entries.{value_at, placed, without}
@@ -15,7 +15,7 @@ use Rattle.delivery_duties.specs.Duties.{Duties, pending_row, replaced, failed, 
 use Rattle.delivery_duties.specs.Duties.{settled, attempt_of}
 use Rattle.router_core.specs.Batch.{Batch, Entry, control, accepted, attempt, messages_deleted}
 use Rattle.router_core.specs.Tables.{Tables, first_tables, duties_after, after_entry, after_entries, after_batch, tables_after}
-use Rattle.router_sessions.specs.History.{Ask, opens, asked, claims, records, puts_back, Turn, State, after_change, after_turn, state_after, state_of}
+use Rattle.router_sessions.specs.History.{Ask, opens, asked, claims, records, puts_back, breaks, found_by, Turn, State, after_change, after_turn, state_after, state_of}
 use Rattle.router_sessions.specs.History.{IsTurnFor, AreTurnsFrom, batches_of, with_written, begun as state_begun}
 use Rattle.drill_run.specs.Folds.{unclaimed_entry, without_claims}
 use Rattle.router_sessions.specs.Book.{IsBook}
@@ -157,12 +157,13 @@ unwritten_freed mark n b t bs none h =
     ∙ ap (λ w. tables_after (with_written w bs) (without_claims t)) (sym none)
 
 turn_freed : (turn : Turn) (ask : Ask) (s : State) (bs : List Batch) → turn.ask ≡ ask → IsSteady s → IsTurnFor s turn ask
-    → tables_after bs (without_claims (after_turn turn s).tables) ≡ tables_after (with_written turn.batch bs) (without_claims s.tables)
-turn_freed turn (opens start found) s bs e h is = absurd is
+    → tables_after bs (without_claims (after_turn turn s).tables) ≡ tables_after (found_by turn.ask ++ with_written turn.batch bs) (without_claims s.tables)
+turn_freed turn (opens start found disk) s bs e h is = absurd is
 turn_freed turn (asked request) s bs e h is = rw e (written_freed turn.batch s bs)
 turn_freed turn (claims c) s bs e h is = rw e (unwritten_freed true c.number turn.batch s.tables bs is.unwritten h.numbered)
 turn_freed turn (records a) s bs e h is = rw e (written_freed turn.batch s bs)
 turn_freed turn (puts_back c why) s bs e h is = rw e (unwritten_freed false c.number turn.batch s.tables bs is.0 h.numbered)
+turn_freed turn (breaks unsure) s bs e h is = rw e (ap (λ w. tables_after (with_written w bs) (without_claims s.tables)) (sym is.unwritten))
 
 pub folds : (s : State) (turns : List Turn) → AreTurnsFrom s turns → IsSteady s
     → without_claims (state_after turns s).tables ≡ tables_after (batches_of turns) (without_claims s.tables)

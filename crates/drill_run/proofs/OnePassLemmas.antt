@@ -8,7 +8,7 @@ use mathlib.Core.List.{IsPrefix}
 use Rattle.turn_book.specs.Rule.{IsUnmade, is_number}
 use Rattle.router_core.specs.Tables.{first_tables}
 use Rattle.router_sessions.specs.declared.history.Turn.{Turn as CodeTurn}
-use Rattle.router_sessions.specs.History.{Ask, opens, asked, claims, records, puts_back, Turn, State, OpenClaim, claims_of, after_turn, state_of, turns_by, begun}
+use Rattle.router_sessions.specs.History.{Ask, opens, asked, claims, records, puts_back, breaks, Turn, State, OpenClaim, claims_of, after_turn, state_of, turns_by, begun}
 use Rattle.router_sessions.specs.History.{IsTurnFor, AreTurnsFrom}
 use Rattle.router_sessions.specs.Book.{turn_of, opening, IsBook, Rests}
 use Rattle.router_sessions.proofs.TurnLemmas.{first_other, none_of_mine}
@@ -45,11 +45,12 @@ only_pass seen all (rest, is) unmade n most =
 
 -- a turn after the first has a pass
 pub has_pass : (s : State) (turn : Turn) (ask : Ask) → IsTurnFor s turn ask → IsSome turn.pass
-has_pass s turn (opens start found) is = absurd is
+has_pass s turn (opens start found disk) is = absurd is
 has_pass s turn (asked request) is = is.0
 has_pass s turn (claims c) is = subst (λ (p : Option ℕ). IsSome p) (sym is.by) refl
 has_pass s turn (records a) is = subst (λ (p : Option ℕ). IsSome p) (sym is.ends.by) refl
 has_pass s turn (puts_back c why) is = subst (λ (p : Option ℕ). IsSome p) (sym is.1.by) refl
+has_pass s turn (breaks unsure) is = is.by
 
 -- the one pass made it
 own_pass : (pass : Option ℕ) → IsSome pass → ((n : ℕ) → 1 ≤ n → is_number pass n ≡ false) → pass ≡ Some 0

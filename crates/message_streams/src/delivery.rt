@@ -8,6 +8,7 @@ ghost use Rattle.api_replies.specs.Reply as replies;
 ghost use Rattle.api_replies.specs.Written.{reply_text};
 ghost use Rattle.message_streams.specs.Reply.{steps_reply};
 
+use crate::failed::journal_failed_reply;
 use crate::reply::reply_bytes;
 use api_replies::{CountsReply, limit_reply, no_memory_reply};
 use courier_run::{Stepped, Stop};
@@ -83,6 +84,7 @@ pub fn write_delivery<K: Sink>(
             output.write_all(text)
         }
         Stop::Full => output.write_all(limit),
+        Stop::Broken => output.write_all(journal_failed_reply(close)),
         Stop::NoMemory => output.write_all(no_memory_reply(close)),
     }
 }

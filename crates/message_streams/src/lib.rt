@@ -2,6 +2,7 @@
 #![tactic(auto)]
 
 mod delivery;
+mod failed;
 mod farewell;
 mod gated;
 mod incoming;
@@ -9,6 +10,7 @@ mod refused;
 mod reply;
 
 pub use delivery::{delivery_budget, delivery_room, write_delivery};
+pub use failed::journal_failed_reply;
 pub use farewell::{SessionEnd, finish};
 pub use gated::Gated;
 pub use incoming::{Incoming, Lack, next_message};

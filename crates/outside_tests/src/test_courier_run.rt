@@ -69,11 +69,16 @@ enum Did {
     PutBack(PlainDuty),
     // The record was refused at the number limit, and the claim put back.
     Refused(PlainDuty),
+    // The record of this outcome could not be kept, which broke the book.
+    Broke(PlainDuty, Outcome),
+    // The book was broken, and the claim put back.
+    Unkept(PlainDuty),
 }
 
 // A book in memory. Each of its duties is due until it is claimed. What is special of it, by its first letter: if `full`, no duty can
-// be claimed; if it `refuses`, no attempt can be recorded, at the number limit; if `no queues`, no queue exists. It stops the test if it
-// is out of memory.
+// be claimed; if it `refuses`, no attempt can be recorded, at the number limit; if `no queues`, no queue exists; if it is `broken`, no duty
+// can be claimed; if it `keeps none`, a record breaks it; if it `un-keeps`, it was broken before the record. It stops the test if it is out
+// of memory.
 #[derive(Drop)]
 struct PlainBook<R: Abort> {
     rt: R,
@@ -148,10 +153,10 @@ impl<R: Abort> DutyBook for PlainBook<R> {
     ghost use Rattle.delivery_duties.specs.declared.outcome.Outcome.{Outcome};
     ghost use Rattle.courier_run.specs.Claim.{IsForQueue};
     ghost use Rattle.courier_run.specs.Act.{Act, looks, makes};
-    ghost use Rattle.courier_run.specs.Steps.{unsent, limited};
+    ghost use Rattle.courier_run.specs.Steps.{unsent, limited, unkept};
     ghost use Rattle.outside_tests.specs.declared.test_courier_run.PlainDuty.{PlainDuty};
     ghost use Rattle.outside_tests.specs.declared.test_courier_run.Did.{Did};
-    ghost use Rattle.outside_tests.specs.declared.test_courier_run.Did.TheVariants.{Looked, Claimed, Recorded, PutBack, Refused};
+    ghost use Rattle.outside_tests.specs.declared.test_courier_run.Did.TheVariants.{Looked, Claimed, Recorded, PutBack, Refused, Broke, Unkept};
 
     type Held = PlainDuty;
 
@@ -173,12 +178,16 @@ impl<R: Abort> DutyBook for PlainBook<R> {
       | Recorded e outcome fate ↦ makes (Recorded e outcome fate)
       | PutBack e ↦ makes (PutBack e)
       | Refused e ↦ makes (Refused e)
+      | Broke e outcome ↦ makes (Broke e outcome)
+      | Unkept e ↦ makes (Unkept e)
     ]) b.log.items ≡ map (λ d. elim d [
       | Looked left special ↦ looks (left, special)
       | Claimed e ↦ makes (Claimed e)
       | Recorded e outcome fate ↦ makes (Recorded e outcome fate)
       | PutBack e ↦ makes (PutBack e)
       | Refused e ↦ makes (Refused e)
+      | Broke e outcome ↦ makes (Broke e outcome)
+      | Unkept e ↦ makes (Unkept e)
     ]) a.log.items ++ acts };
 
     ghost begins = { λ b. sym (append-nil _) };
@@ -193,11 +202,15 @@ impl<R: Abort> DutyBook for PlainBook<R> {
         × ((recorded ≡ a.outcome) ⊎ (IsForQueue a.claim × (a.outcome ≡ Outcome.Accepted) × (recorded ≡ Outcome.NoQueue))) };
 
     ghost puts_back = { λ p c why. (d : PlainDuty) × (⟦<PlainDuty as HeldDuty>⟧.shows d ≡ c)
-        × (((why ≡ unsent) × (p ≡ PutBack d)) ⊎ ((why ≡ limited) × (p ≡ Refused d))) };
+        × (((why ≡ unsent) × (p ≡ PutBack d)) ⊎ (((why ≡ limited) × (p ≡ Refused d)) ⊎ ((why ≡ unkept) × (p ≡ Unkept d)))) };
+
+    ghost breaks = { λ p c outcome. (d : PlainDuty) × (p ≡ Broke d outcome) × (⟦<PlainDuty as HeldDuty>⟧.shows d ≡ c) };
 
     ghost idle = { λ s _. s.0 ≡ 0 };
 
     ghost full = { λ s _. (s.0 ≢ 0) × (s.1 ≡ 102) };
+
+    ghost broken = { λ s _. (s.0 ≢ 0) × (s.1 ≡ 98) };
 
     ghost lender = { λ _. 0 };
 
@@ -209,6 +222,10 @@ impl<R: Abort> DutyBook for PlainBook<R> {
         if self.special == b'f' {
             self.look();
             return Err(BookFault::NumberLimit);
+        }
+        if self.special == b'b' {
+            self.look();
+            return Err(BookFault::Broken);
         }
         let mut duty = self.duties.remove(0);
         duty.moment = moment;
@@ -226,6 +243,15 @@ impl<R: Abort> DutyBook for PlainBook<R> {
         if self.special == b'r' {
             self.restore(held, Did::Refused(held));
             return Err(BookFault::NumberLimit);
+        }
+        if self.special == b'k' {
+            self.note(Did::Broke(held, outcome));
+            self.restore(held, Did::Unkept(held));
+            return Err(BookFault::Broken);
+        }
+        if self.special == b'u' {
+            self.restore(held, Did::Unkept(held));
+            return Err(BookFault::Broken);
         }
         let outcome = self.recorded(&held, outcome);
         let fate = fate_of(outcome);
@@ -271,10 +297,14 @@ const BUDGETS: &str = "|ququ|503 404|1000 1001 1002 1003 1004 1005|0|Spent 0 0 0
 ";
 
 const FAULTS: &str = "full|ququ|503 memory|1000|9|Full 0 0 0 0|0|0|1000| ?4
+broken|ququ|503 memory|1000|9|Broken 0 0 0 0|0|0|1000| ?4
 |ququ|503 memory|1000|9|NoMemory 3 2 0 0|1|0|1000| +1@1000 -1 Accepted Delivered +2@1000 -2 Code(503) Pending +3@1000 -3 Accepted Delivered +4@1000 -4 back
 ";
 
-const REFUSED: &str = "refuses|ququ|503 200|1000|9|Full 0 0 0 0|0|0|1000| +1@1000 -1 refused";
+const REFUSED: &str = "refuses|ququ|503 200|1000|9|Full 0 0 0 0|0|0|1000| +1@1000 -1 refused
+keeps none|uquq|503 200|1000|9|Broken 0 0 0 0|1|0|1000| +1@1000 -1 broke Code(503) -1 unkept
+un-keeps|ququ|503 200|1000|9|Broken 0 0 0 0|0|0|1000| +1@1000 -1 unkept
+";
 
 const READINGS: &str =
     "|ququ|200|1000 990|2|Spent 2 2 0 0|1|0|990| +1@1000 -1 Accepted Delivered +2@990 -2 Accepted Delivered
@@ -339,6 +369,8 @@ fn note<R: Abort + Drop>(rt: R, text: &mut String, did: Did) {
         }
         Did::PutBack(duty) => write!(text, " -{} back", duty.number),
         Did::Refused(duty) => write!(text, " -{} refused", duty.number),
+        Did::Broke(duty, outcome) => write!(text, " -{} broke {outcome:?}", duty.number),
+        Did::Unkept(duty) => write!(text, " -{} unkept", duty.number),
     }
     .expect(&rt, "a text");
 }
@@ -414,12 +446,12 @@ fn a_turn_makes_attempts_within_its_budget(rt: HostRuntime) {
 
 #[test]
 fn a_fault_leaves_no_claim_open(rt: HostRuntime) {
-    meet_all(rt, rt.alloc(), FAULTS, 2);
+    meet_all(rt, rt.alloc(), FAULTS, 3);
 }
 
 #[test]
 fn a_refused_record_puts_its_claim_back(rt: HostRuntime) {
-    meet(rt, rt.alloc(), REFUSED);
+    meet_all(rt, rt.alloc(), REFUSED, 3);
 }
 
 #[test]

@@ -21,7 +21,7 @@ use Rattle.door_workers.specs.Serving.{Session, Worked, IsWorker, session_of, Is
 use Rattle.router_core.specs.Tables.{first_tables}
 use Rattle.courier_run.specs.Act.{reads, ticks, looks, makes, tries, writes}
 use Rattle.router_sessions.specs.declared.history.Turn as code
-use Rattle.router_sessions.specs.History.{Turn, Ask, State, opens, asked, claims, records, puts_back, begun, state_of, after_turn, turns_by, IsLegal, IsTurnFor, AreTurnsFrom}
+use Rattle.router_sessions.specs.History.{Turn, Ask, State, opens, asked, claims, records, puts_back, breaks, begun, state_of, after_turn, turns_by, IsLegal, IsTurnFor, AreTurnsFrom}
 use Rattle.router_sessions.specs.Book.{opening, IsBook, turn_of}
 use Rattle.tables_summary.specs.Summary.{summary_of}
 use Rattle.router_sessions.specs.Acts.{Act, Happens, IsNamed}
@@ -32,11 +32,12 @@ use Rattle.program_tests.specs.Printed.{zeros, PrintsZeros}
 
 -- before any duty was made, only a turn for a request can be made, and that names a connection
 no_turn : (turn : Turn) (ask : Ask) → turn.connection ≡ None → IsTurnFor (begun first_tables) turn ask → ⊥
-no_turn turn (opens start found) none h = h
+no_turn turn (opens start found disk) none h = h
 no_turn turn (asked request) none h = let both : true ≡ false = sym h.1 ∙ ap is_some none in cc
 no_turn turn (claims c) none h = cc h.there
 no_turn turn (records a) none h = cc h.ends.own
 no_turn turn (puts_back c why) none h = cc h.1.own
+no_turn turn (breaks unsure) none h = cc h.journal
 
 none_follows : (turns : List Turn) → All (λ t. t.connection ≡ None) turns → AreTurnsFrom (begun first_tables) turns → turns ≡ []
 none_follows [] all legal = refl

@@ -1,6 +1,6 @@
 -- Acts of a pass among the turns of all. The lemmas that others cite: `happens_others`, `happens_append`, `happens_full`, `named_full`, `makes_none`, `makes_append`,
 -- `makes_others`, `makes_one`, `makes_look`, `makes_full`.
-use Rattle.std.proofs.Common.{◌≡◌, ℕ, ◌≤◌, List, [], ◌∷◌, ◌++◌, length, Option, Some, refl, sym, ap, ◌∙◌, subst, arith, append-nil, append_assoc}
+use Rattle.std.proofs.Common.{◌≡◌, ℕ, ◌≤◌, List, [], ◌∷◌, ◌++◌, Option, Some, refl, sym, ap, ◌∙◌, subst, arith, append-nil, append_assoc}
 use Rattle.std.specs.Prelude.{All}
 use Rattle.std.proofs.lemmas.List.Elements.{All-nil, All-cons, All-append, All-head, All-tail}
 use Rattle.courier_run.specs.Act.{reads, ticks, looks, makes, tries, writes, book_acts_in}

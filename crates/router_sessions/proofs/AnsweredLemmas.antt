@@ -1,7 +1,8 @@
 -- From a decision on the tables to what was decided (`matched_on`, `decided_by`), and from there, with the book after it, to the
 -- answered turn (`answer_made`, `answered`, `answered_book`).
-use Rattle.std.proofs.Common.{◌≡◌, ℕ, Bool, [], ◌∷◌, ◌++◌, length, refl, sym, ap, ◌∙◌, subst, arith}
+use Rattle.std.proofs.Common.{◌≡◌, ℕ, Bool, [], ◌∷◌, ◌++◌, refl, sym, ap, ◌∙◌, subst, arith}
 use Rattle.std.specs.Prelude.{Option, None, Some, IsSome, IfSome}
+use Rattle.std.proofs.lemmas.Bool.{true≢false}
 use Rattle.std.specs.Option.{option_map}
 use Rattle.api_replies.specs.View.{reply_of}
 use Rattle.api_replies.specs.Written.{reply_text}
@@ -27,7 +28,7 @@ use Rattle.router_sessions.specs.declared.book.TurnReply.{TurnReply}
 use Rattle.router_sessions.specs.History.{Turn, State, asked, last_version, set_of_version, state_of, IsAskable, IsAnsweredBy, after_change, with_written}
 use Rattle.router_sessions.specs.Book.{turns_of, IsKept}
 use Rattle.router_sessions.specs.Answered.{turn_text, IsUnrendered, IsAnswered, IsDecided}
-use Rattle.router_sessions.proofs.BookLemmas.{set_of, version_of, IsMade, made_book, made_makes, placed_on, turn_by}
+use Rattle.router_sessions.proofs.BookLemmas.{whole_of, set_of, version_of, IsMade, made_book, made_makes, placed_on, turn_by}
 
 -- the latest rule set
 pub matched_on : (t : Tables) (request : Request) (seen : Seen) → IsSound t.set → IsSeen t.set request seen → IsMatchedOn t request t.set seen
@@ -104,6 +105,7 @@ answered_book {seat} {request} {old} {new} {turn} p m askable decided named tabl
       subst (λ (n : Option ℕ). IsSome n) (sym m.by) refl,
       subst (λ (n : Option ℕ). IsSome n) (sym m.connection) named,
       (reply_of p.1, answered_by p m askable decided),
+      λ broken. absurd (true≢false (sym broken ∙ (whole_of (turns_of old) m.kept.book).unbroken)),
     )
     (tables
     ∙ ap (λ b. tables_after (with_written b []) old.tables) (sym m.batch)

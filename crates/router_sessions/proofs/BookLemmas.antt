@@ -1,4 +1,4 @@
--- The book after one more turn. Other files cite `steady_of`, `added_legal`, `legal_later`, `book_first`, `IsMade`, `made_book`, `made_makes`, `made_state`, `latest`, `turn_by`, `book_with`, `kept_same`.
+-- The book after one more turn. Other files cite `steady_of`, `whole_of`, `added_legal`, `legal_later`, `book_first`, `IsMade`, `made_book`, `made_makes`, `made_state`, `latest`, `turn_by`, `book_with`, `kept_same`.
 use Rattle.std.proofs.Common.{◌≡◌, ℕ, ◌+◌, ◌-◌, take, List, [], ◌∷◌, ◌++◌, length, Option, Some, None, refl, sym, ap, ◌∙◌, subst, arith}
 use Rattle.std.proofs.Math.Seq.{take-length}
 use Rattle.rule_table.specs.Control.{Control}
@@ -13,7 +13,7 @@ use Rattle.router_sessions.specs.History.{Ask, opens, Turn, State, Placed, IsTur
 use Rattle.router_sessions.specs.Book.{turns_of, opening, IsBook, IsKept}
 use Rattle.router_sessions.specs.Acts.{Makes}
 use Rattle.router_sessions.proofs.TurnLemmas.{state_append, turns_append, turns_back}
-use Rattle.router_sessions.proofs.SteadyLemmas.{IsSteady, steady_after, steady_begun}
+use Rattle.router_sessions.proofs.SteadyLemmas.{IsSteady, steady_after, steady_begun, IsWhole, whole_after}
 use Rattle.router_sessions.proofs.ActLemmas.{makes_one}
 
 -- the turns after the one that opened the book
@@ -26,6 +26,11 @@ state_later turns h = ap state_of h.opened
 -- the state of a book
 pub steady_of : (turns : List Turn) → IsBook turns → IsSteady (state_of turns)
 steady_of turns h = subst IsSteady (sym (state_later turns h)) (steady_after h.later (begun first_tables) (legal_later turns h) steady_begun)
+
+-- no journal, so not broken
+pub whole_of : (turns : List Turn) → IsBook turns → IsWhole (state_of turns)
+whole_of turns h =
+    subst IsWhole (sym (state_later turns h)) (whole_after h.later (begun first_tables) (legal_later turns h) (record { disk = refl; unbroken = refl }))
 
 -- the turns that a book has beyond another one
 pub added_legal : (old new added : List Turn) → IsBook old → IsBook new → new ≡ old ++ added → AreTurnsFrom (state_of old) added
@@ -54,7 +59,7 @@ book_first turns is = record {
   later = [];
   opened = is;
   legal = subst IsLegal (sym is)
-      (record { start = first_tables; found = []; ask = refl; lawful = tt; no_pass = refl; no_connection = refl; k = refl; unwritten = refl }, tt);
+      (record { start = first_tables; found = []; disk = None; ask = refl; lawful = tt; none_found = λ none. refl; no_pass = refl; no_connection = refl; k = refl; unwritten = refl }, tt);
 }
 
 since_start : (a b : ℕ) → a + b - a ≡ b
@@ -117,12 +122,12 @@ made_makes {seat} {ask} {batch} {old} {new} {turn} m =
 
 -- the turn that opens a book
 pub opened_with : (old new : List Turn) (start : Tables) (found : List Batch) → old ≡ [] → start ≡ first_tables → found ≡ []
-    → new ≡ old ++ record { pass = None; connection = None; ask = opens start found; k = 0; batch = None } ∷ [] → new ≡ opening ∷ []
+    → new ≡ old ++ record { pass = None; connection = None; ask = opens start found None; k = 0; batch = None } ∷ [] → new ≡ opening ∷ []
 opened_with old new start found none is empty turns =
     turns
-    ∙ ap (λ (ts : List Turn). ts ++ record { pass = None; connection = None; ask = opens start found; k = 0; batch = None } ∷ []) none
-    ∙ ap (λ (t : Tables). record { pass = None; connection = None; ask = opens t found; k = 0; batch = None } ∷ []) is
-    ∙ ap (λ (bs : List Batch). record { pass = None; connection = None; ask = opens first_tables bs; k = 0; batch = None } ∷ []) empty
+    ∙ ap (λ (ts : List Turn). ts ++ record { pass = None; connection = None; ask = opens start found None; k = 0; batch = None } ∷ []) none
+    ∙ ap (λ (t : Tables). record { pass = None; connection = None; ask = opens t found None; k = 0; batch = None } ∷ []) is
+    ∙ ap (λ (bs : List Batch). record { pass = None; connection = None; ask = opens first_tables bs None; k = 0; batch = None } ∷ []) empty
 
 pub kept_first : (b : Book) → turns_of b ≡ opening ∷ [] → b.tables ≡ first_tables → IsKept b
 kept_first b turns tables = record { book = book_first (turns_of b) turns; tables = ap (λ (ts : List Turn). (state_of ts).tables) turns ∙ sym tables }

@@ -19,7 +19,7 @@ use Rattle.router_sessions.specs.Acts.{IsIdle, IsFullAt}
 use Rattle.router_sessions.specs.Answered.{IsClaimed}
 use Rattle.router_sessions.proofs.PendingLemmas.{AreNumbered, row_number, released}
 use Rattle.router_sessions.proofs.TurnLemmas.{mine_made}
-use Rattle.router_sessions.proofs.BookLemmas.{steady_of, IsMade, latest, made_book, made_state, made_makes, placed_on, turn_by}
+use Rattle.router_sessions.proofs.BookLemmas.{steady_of, whole_of, IsMade, latest, made_book, made_state, made_makes, placed_on, turn_by}
 
 -- the duty that is due first, in the state
 next_here : (old : Book) (reading moment n : ℕ) → IsKept old → moment ≡ moment_at old.tables reading → IsNext old.tables.duties moment n
@@ -82,6 +82,7 @@ claim_turn {seat} {old} {new} {turn} held moment m numbered reading rests at is 
       latest = latest m;
       unwritten = m.batch;
       numbered = subst (λ (t : Tables). is_full t ≡ false) (sym m.kept.tables) numbered;
+      unbroken = (whole_of (turns_of old) m.kept.book).unbroken;
       reading = reading;
       next = next_here old held.reading moment n m.kept at is.next;
       row = is.row;

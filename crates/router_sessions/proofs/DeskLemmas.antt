@@ -1,4 +1,4 @@
--- From the hall's clauses to what a pass knows of the history. Other files cite `seen_of`, `learned`, `IsTaken`, `taken`, `answered_later`, `claimed_later`, `recorded_later`,
+-- From the hall's clauses to what a pass knows of the history. Other files cite `seen_of`, `learned`, `IsTaken`, `taken`, `answered_later`, `claimed_later`, `recorded_later`, `unrecorded_later`,
 -- `back_later`, `rests_there`, `holds_there`, `rests_more`, `looked`, `extends`, `sees_more`, `sees_same`, `same_again`, `same_seat`, `sees_again`, `sees_none`, `pass_of`, and
 -- `map_ok` and the others of results.
 use Rattle.std.proofs.Common.{◌≡◌, ℕ, true, false, cond, List, [], ◌∷◌, ◌++◌, map, Option, Some, None, Result, Ok, Err, refl, sym, ap, ◌∙◌, subst, append-nil, append_assoc}
@@ -12,6 +12,7 @@ use Rattle.turn_book.specs.Passes.{view, Extends, IsSamePass}
 use Rattle.delivery_duties.specs.declared.outcome.Outcome.{Outcome}
 use Rattle.delivery_duties.specs.declared.outcome.Fate.{Fate}
 use Rattle.router_core.specs.Request.{Request}
+use Rattle.courier_run.specs.declared.book.BookFault.{BookFault}
 use Rattle.courier_run.specs.Claim.{Claim}
 use Rattle.courier_run.specs.Act.{looks, makes}
 use Rattle.courier_run.specs.Steps.{Why}
@@ -19,11 +20,11 @@ use Rattle.router_sessions.specs.declared.book.Book.{Book}
 use Rattle.router_sessions.specs.declared.book.Seat.{Seat}
 use Rattle.router_sessions.specs.declared.book.TurnReply.{TurnReply}
 use Rattle.router_sessions.specs.declared.history.Turn.{Turn}
-use Rattle.router_sessions.specs.History.{State, claims_of, state_of, turns_by, asked}
+use Rattle.router_sessions.specs.History.{State, claims_of, state_of, turns_by}
 use Rattle.router_sessions.specs.History as history
 use Rattle.router_sessions.specs.Book.{recorded_in, turns_of, turn_of, IsBook, IsKept, HasGrown, Rests, Holds}
 use Rattle.router_sessions.specs.Acts.{Act, Makes, IsNamed}
-use Rattle.router_sessions.specs.Answered.{IsAnswered, IsClaimed, IsRecorded, IsPutBack}
+use Rattle.router_sessions.specs.Answered.{IsAnswered, IsClaimed, IsRecorded, IsUnrecordedBy, IsPutBack}
 use Rattle.router_sessions.specs.Desk.{Known, seen_by, turns_seen, number_of, seat_of, SeesMore}
 use Rattle.router_sessions.proofs.TurnLemmas.{none_of_mine, claims_stay}
 use Rattle.router_sessions.proofs.BookLemmas.{added_legal}
@@ -108,6 +109,11 @@ pub recorded_later : {seat : Seat} {old new : Known} {b b_new : Book} (c : Claim
     → IsRecorded seat c had fate (turns_of b) (turns_of b_new) → IsRecorded seat c had fate (turns_seen old) (turns_seen new)
 recorded_later {seat} {old} {new} {b} {b_new} c had fate t a =
     record { placed = a.placed; makes = makes_later seat (makes a.placed ∷ []) old new b b_new t a.makes; records = a.records }
+
+pub unrecorded_later : {seat : Seat} {old new : Known} {b b_new : Book} (c : Claim) (had : Outcome) (fault : BookFault) → IsTaken seat old new b b_new
+    → IsUnrecordedBy seat c had fault (turns_of b) (turns_of b_new) → IsUnrecordedBy seat c had fault (turns_seen old) (turns_seen new)
+unrecorded_later {seat} {old} {new} {b} {b_new} c had fault t a =
+    record { acts = a.acts; makes = makes_later seat a.acts old new b b_new t a.makes; ends = a.ends }
 
 pub back_later : {seat : Seat} {old new : Known} {b b_new : Book} (c : Claim) (why : Why) → IsTaken seat old new b b_new
     → IsPutBack seat c why (turns_of b) (turns_of b_new) → IsPutBack seat c why (turns_seen old) (turns_seen new)

@@ -6,16 +6,18 @@ use Rattle.router_disk.specs.Link.{Exchange}
 use Rattle.router_disk.specs.Sink.{AddsBytes}
 use Rattle.router_disk.specs.declared.fault.Failed.{Failed}
 use Rattle.delivery_duties.specs.declared.outcome.Fate.{Fate}
+use Rattle.delivery_duties.specs.declared.outcome.Outcome.{Outcome}
+use Rattle.courier_run.specs.Claim.{Claim}
 use Rattle.courier_run.specs.declared.turned.Turned.{Turned}
 use Rattle.courier_run.specs.declared.stepped.Stop.{Stop}
 use Rattle.courier_run.specs.Act.{Try, reads, ticks, writes, pieces_of, bytes_of, pieces_in, bytes_in, book_acts_in, readings_in, tries_in}
 use Rattle.courier_run.specs.Link.{outside, Goes, AreTried}
-use Rattle.courier_run.specs.Steps.{IsStep, attempted, Stepping, none, one_more, IsStop, idle_at, full_at, out_of_memory, unsent_at, limited_at, spent, stopped}
+use Rattle.courier_run.specs.Steps.{IsStep, attempted, Stepping, none, one_more, limited_by, broken_before, broken_by, IsStop, idle_at, full_at, broken_at, out_of_memory, unsent_at, unrecorded, spent, stopped}
 use Rattle.courier_run.proofs.ActLemmas.{Goes-none, Goes-append}
 use Rattle.router_sessions.specs.declared.book.Seat.{Seat}
 use Rattle.router_sessions.specs.History.{Turn}
 use Rattle.router_sessions.specs.Book.{IsBook}
-use Rattle.router_sessions.specs.Acts.{Act, Claims, Records, PutsBack, IsIdle, IsFullAt, Steps, Makes, World, world, Does}
+use Rattle.router_sessions.specs.Acts.{Act, Claims, Records, PutsBack, Breaks, IsIdle, IsFullAt, IsBrokenAt, IsUnrecorded, Steps, Makes, World, world, Does}
 use Rattle.router_sessions.specs.Reply.{DoesAndWrites}
 use Rattle.router_sessions.proofs.ActLemmas.{makes_none, makes_full}
 use Rattle.router_sessions.proofs.DidLemmas.{makes_append}
@@ -172,19 +174,25 @@ quiet_append first second one two = (
   flat_map-append bytes_of first second ∙ ap (λ (w : List ℕ). w ++ bytes_in second) one.1 ∙ two.1,
 )
 
-step_quiet : (acts : List Act) (fate : Fate) → IsStep Claims Records PutsBack IsIdle IsFullAt acts fate → AreQuiet acts
+step_quiet : (acts : List Act) (fate : Fate) → IsStep Claims Records PutsBack Breaks IsIdle IsFullAt IsBrokenAt acts fate → AreQuiet acts
 step_quiet _ _ (attempted reading p q c outcome fate claims fits records) = (refl, refl)
 
-stepping_quiet : (acts : List Act) (turned : Turned) → Stepping Claims Records PutsBack IsIdle IsFullAt acts turned → AreQuiet acts
+stepping_quiet : (acts : List Act) (turned : Turned) → Stepping Claims Records PutsBack Breaks IsIdle IsFullAt IsBrokenAt acts turned → AreQuiet acts
 stepping_quiet _ _ none = (refl, refl)
 stepping_quiet _ _ (one_more acts step turned fate before one) = quiet_append acts step (stepping_quiet acts turned before) (step_quiet step fate one)
 
-stop_quiet : (acts : List Act) (stop : Stop) → IsStop Claims Records PutsBack IsIdle IsFullAt acts stop → AreQuiet acts
+unrecorded_quiet : (c : Claim) (outcome : Outcome) (acts : List Act) (stop : Stop) → IsUnrecorded c outcome acts stop → AreQuiet acts
+unrecorded_quiet c outcome _ _ (limited_by q back) = (refl, refl)
+unrecorded_quiet c outcome _ _ (broken_before q back) = (refl, refl)
+unrecorded_quiet c outcome _ _ (broken_by m q breaks back) = (refl, refl)
+
+stop_quiet : (acts : List Act) (stop : Stop) → IsStop Claims Records PutsBack Breaks IsIdle IsFullAt IsBrokenAt acts stop → AreQuiet acts
 stop_quiet _ _ (idle_at reading s idle) = (refl, refl)
 stop_quiet _ _ (full_at reading s full) = (refl, refl)
+stop_quiet _ _ (broken_at reading s broken) = (refl, refl)
 stop_quiet _ _ (out_of_memory reading s) = (refl, refl)
 stop_quiet _ _ (unsent_at reading p q c claims needs back) = (refl, refl)
-stop_quiet _ _ (limited_at reading p q c outcome claims fits back) = (refl, refl)
+stop_quiet _ _ (unrecorded reading p c outcome ends stop claims fits is) = unrecorded_quiet c outcome ends stop is
 
 -- delivery steps read and write nothing
 pub steps_quiet : (budget : ℕ) (acts : List Act) (turned : Turned) (stop : Stop) → Steps budget acts turned stop → AreQuiet acts

@@ -1,5 +1,5 @@
 -- From a record on the tables, or a release, to its turn: `is_open`, `errand_open`, `errand_after`, `due_by`, `recording`, `recorded`, `recorded_book`, `ended_rests`,
--- `back_made`, `put_back_book`, `back`.
+-- `back_made`, `put_back_book`, `back`, `limited_record`.
 use Rattle.std.proofs.Common.{◌≡◌, inl, inr, ℕ, ◌≤◌, false, List, [], ◌∷◌, ◌++◌, Option, Some, None, refl, sym, ap, ◌∙◌, subst}
 use Rattle.shared_text.specs.declared.row.TargetRow.{TargetRow}
 use Rattle.delivery_duties.specs.declared.duty.DutyRow.{DutyRow}
@@ -16,7 +16,9 @@ use Rattle.router_core.specs.Steps.{putting_back, IsErrandOf, IsRecordedAs, reco
 use Rattle.router_core.specs.declared.errand.Errand.{Errand}
 use Rattle.courier_run.specs.Claim.{Claim, FitsClaim}
 use Rattle.courier_run.specs.Claim as fits
-use Rattle.courier_run.specs.Steps.{Attempt, Why}
+use Rattle.courier_run.specs.declared.book.BookFault.TheVariants.{NumberLimit}
+use Rattle.courier_run.specs.Act.{makes}
+use Rattle.courier_run.specs.Steps.{Attempt, Why, limited, limited_by}
 use Rattle.router_sessions.specs.declared.book.Book.{Book}
 use Rattle.router_sessions.specs.declared.book.Seat.{Seat}
 use Rattle.router_sessions.specs.declared.held.Held.{Held}
@@ -25,10 +27,10 @@ use Rattle.router_sessions.specs.History.{IsOutcome, above_age, queued, queue_mi
 use Rattle.router_sessions.specs.Held.{held_claim}
 use Rattle.router_sessions.specs.Book.{turns_of, IsKept, Holds, Rests}
 use Rattle.router_sessions.specs.Acts.{IsOutcomeIn}
-use Rattle.router_sessions.specs.Answered.{IsRecorded, IsPutBack}
+use Rattle.router_sessions.specs.Answered.{IsRecorded, IsUnrecordedBy, IsPutBack}
 use Rattle.router_sessions.proofs.TurnLemmas.{mine_ended}
 use Rattle.router_sessions.proofs.SteadyLemmas.{IsOpen, open_of}
-use Rattle.router_sessions.proofs.BookLemmas.{steady_of, IsMade, latest, made_book, made_state, made_makes, placed_on, turn_by}
+use Rattle.router_sessions.proofs.BookLemmas.{steady_of, whole_of, IsMade, latest, made_book, made_state, made_makes, placed_on, turn_by}
 
 -- a claim that is held is open
 pub is_open : (n : ℕ) (b : Book) (c : Claim) → IsKept b → Holds n (turns_of b) c → IsOpen b.tables.duties b.tables.moment c
@@ -107,6 +109,7 @@ record_turn {seat} {held} {had} {made} {fate} {moment} {old} {new} {turn} r =
     record {
       ends = own_claim (held_claim held) r.adds r.holds;
       numbered = subst (λ (t : Tables). is_full t ≡ false) here r.numbered;
+      unbroken = (whole_of (turns_of old) r.adds.kept.book).unbroken;
       fits = subst (λ (t : Tables). IsOutcome t.duties.queues (held_claim held) made) here
           (outcome_of old.tables.duties.queues (held_claim held) had made r.fits r.recorded);
       row = o.row;
@@ -207,3 +210,7 @@ put_back_book held m holds reason tables =
 pub back : {seat : Seat} {why : Why} {old new : Book} {turn : Turn} (held : Held) → IsMade seat (puts_back (held_claim held) why) None old new turn
     → IsPutBack seat (held_claim held) why (turns_of old) (turns_of new)
 back {seat} {why} {old} {new} {turn} held m = record { placed = placed_on old turn; makes = made_makes m; puts_back = m.made_for }
+
+-- an attempt without a record, at the number limit
+pub limited_record : (seat : Seat) (c : Claim) (had : Outcome) (old new : List Turn) → IsPutBack seat c limited old new → IsUnrecordedBy seat c had NumberLimit old new
+limited_record seat c had old new b = record { acts = makes b.placed ∷ []; makes = b.makes; ends = limited_by b.placed b.puts_back }

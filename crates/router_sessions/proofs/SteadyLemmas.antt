@@ -1,9 +1,9 @@
--- What holds of each state of a legal history: `IsSteady`, `steady_after`, `steady_begun`; and of an open claim in such a state: `IsOpen`, `open_of`.
+-- What holds of each state of a legal history: `IsSteady`, `steady_after`, `steady_begun`; without a journal `IsWhole`, `whole_after`, `legal_whole`; and of an open claim in such a state: `IsOpen`, `open_of`.
 use Rattle.std.proofs.Common.{◌≡◌, ◌≢◌, ℕ, ◌+◌, ◌≤◌, ◌⊎◌, inl, inr, max, Bool, true, false, cond, List, [], ◌∷◌, ◌++◌, length, Option, Some, None, refl, sym, ap, ◌∙◌, subst, arith}
 use Rattle.std.proofs.Common.{length-append}
 use Rattle.std.proofs.Math.Nat.{le-max_left}
 use Rattle.std.proofs.lemmas.Bool.{true≢false}
-use Rattle.std.specs.Prelude.{not, ◌==◌}
+use Rattle.std.specs.Prelude.{not, ◌==◌, IsSome}
 use Rattle.rule_table.specs.Control.{Control, bus_created}
 use Rattle.rule_table.specs.RuleSet.{RuleSet, applied, applied_all}
 use Rattle.delivery_duties.specs.declared.duty.DutyRow.{DutyRow}
@@ -13,8 +13,8 @@ use Rattle.router_core.specs.Tables.{Tables, first_tables, after_entry, after_en
 use Rattle.router_core.specs.Request.{Request}
 use Rattle.router_calls.proofs.FormLemmas.{request_form}
 use Rattle.courier_run.specs.Claim.{Claim}
-use Rattle.router_sessions.specs.History.{Ask, opens, asked, claims, records, puts_back, Turn, State, OpenClaim, controls_in, claim_of, claims_of, without_pass}
-use Rattle.router_sessions.specs.History.{last_version, after_change, after_ask, after_turn, state_after, begun, with_claim, IsTurnFor, IsClaimBy, EndsClaim, AreTurnsFrom}
+use Rattle.router_sessions.specs.History.{Ask, opens, asked, claims, records, puts_back, breaks, Turn, State, OpenClaim, controls_in, claim_of, claims_of, without_pass}
+use Rattle.router_sessions.specs.History.{last_version, after_change, after_ask, after_turn, after_all, after_written, state_after, state_of, begun, begun_with, with_claim, IsTurnFor, IsClaimBy, EndsClaim, AreTurnsFrom, IsLegal}
 use Rattle.router_sessions.proofs.PendingLemmas.{AreNumbered, entries_numbered, marked_numbered, marked_row_there, key_has}
 use Rattle.router_sessions.proofs.KeptLemmas.{marked_other, settled_other, written_keeps}
 use Rattle.router_sessions.proofs.TurnLemmas.{open_written}
@@ -194,7 +194,7 @@ steady_written b s os h all = record {
 }
 
 steady_asked : (turn : Turn) (s : State) (request : Request) → IsTurnFor s turn (asked request) → IsSteady s → IsSteady (after_change turn.batch s)
-steady_asked turn s request (passed, named, (reply, is)) h =
+steady_asked turn s request (passed, named, (reply, is), unbroken) h =
     let d = s.tables.duties in
     let all : AreOpen (after_change turn.batch s).tables.duties (after_change turn.batch s).tables.moment s.open_claims =
     every_kept d (after_change turn.batch s).tables.duties s.tables.moment (after_change turn.batch s).tables.moment s.open_claims (moment_written turn.batch s)
@@ -255,7 +255,7 @@ ended_open s turn c now next le h ends keeps =
     (all_kept d now s.tables.moment next c.number (without_pass (Some ends.pass) s.open_claims) le (λ o is_open ne. keeps o.number (λ e. ne (sym e))) apart fewer)
 
 pub steady_ask : (turn : Turn) (ask : Ask) (s : State) → IsTurnFor s turn ask → IsSteady s → IsSteady (after_ask turn ask s)
-steady_ask turn (opens start found) s is h = absurd is
+steady_ask turn (opens start found disk) s is h = absurd is
 steady_ask turn (asked request) s is h = steady_asked turn s request is h
 steady_ask turn (claims c) s is h = steady_claims turn s c is h
 steady_ask turn (records a) s is h =
@@ -275,6 +275,7 @@ steady_ask turn (puts_back c why) s (unwritten, ends, reason) h =
       set = h.set;
       version = h.version;
     }
+steady_ask turn (breaks unsure) s is h = record { numbered = h.numbered; opened = h.opened; set = h.set; version = h.version }
 
 pub steady_after : (turns : List Turn) (s : State) → AreTurnsFrom s turns → IsSteady s → IsSteady (state_after turns s)
 steady_after [] s legal h = h
@@ -287,3 +288,58 @@ steady_begun = record {
   set = refl;
   version = refl;
 }
+
+-- no journal, and not broken
+pub record IsWhole (s : State) : Type 0 where
+  pub disk : s.disk ≡ None
+  pub unbroken : s.broken ≡ false
+
+whole_written : (b : Option Batch) (s : State) → IsWhole s → IsWhole (after_change b s)
+whole_written None s w = w
+whole_written (Some b) s w = record { disk = w.disk; unbroken = w.unbroken }
+
+whole_ask : (turn : Turn) (ask : Ask) (s : State) → IsTurnFor s turn ask → IsWhole s → IsWhole (after_ask turn ask s)
+whole_ask turn (opens start found disk) s is w = absurd is
+whole_ask turn (asked request) s is w = whole_written turn.batch s w
+whole_ask turn (claims c) s is w = record { disk = w.disk; unbroken = w.unbroken }
+whole_ask turn (records a) s is w = let v = whole_written turn.batch s w in record { disk = v.disk; unbroken = v.unbroken }
+whole_ask turn (puts_back c why) s is w = record { disk = w.disk; unbroken = w.unbroken }
+whole_ask turn (breaks unsure) s is w = let some : false ≡ true = subst (λ (d : Option ℕ). IsSome d) w.disk is.journal in absurd (cc)
+
+-- without a journal no turn breaks the book
+pub whole_after : (turns : List Turn) (s : State) → AreTurnsFrom s turns → IsWhole s → IsWhole (state_after turns s)
+whole_after [] s legal w = w
+whole_after (turn ∷ turns) s legal w = whole_after turns (after_turn turn s) legal.1 (whole_ask turn turn.ask s legal.0 w)
+
+disk_written : (b : Option Batch) (s : State) → (after_change b s).disk ≡ s.disk
+disk_written None s = refl
+disk_written (Some b) s = refl
+
+pub disk_ask : (turn : Turn) (ask : Ask) (s : State) → IsTurnFor s turn ask → (after_ask turn ask s).disk ≡ s.disk
+disk_ask turn (opens start found disk) s is = absurd is
+disk_ask turn (asked request) s is = disk_written turn.batch s
+disk_ask turn (claims c) s is = refl
+disk_ask turn (records a) s is = disk_written turn.batch s
+disk_ask turn (puts_back c why) s is = refl
+disk_ask turn (breaks unsure) s is = refl
+
+-- each book has the disk with which it was opened
+pub disk_after : (turns : List Turn) (s : State) → AreTurnsFrom s turns → (state_after turns s).disk ≡ s.disk
+disk_after [] s legal = refl
+disk_after (turn ∷ turns) s legal = disk_after turns (after_turn turn s) legal.1 ∙ disk_ask turn turn.ask s legal.0
+
+pub found_whole : (found : List Batch) (s : State) → (after_all found s).broken ≡ s.broken
+found_whole [] s = refl
+found_whole (b ∷ bs) s = found_whole bs (after_written b s)
+
+-- a legal history without a journal
+pub legal_whole : (turns : List Turn) → IsLegal turns → (state_of turns).disk ≡ None → (state_of turns).broken ≡ false
+legal_whole [] legal none = absurd legal
+legal_whole (turn ∷ turns) legal none =
+    let o = legal.0 in
+    let s : State = after_turn turn (begun first_tables) in
+    let opened : s ≡ after_all o.found (begun_with o.disk o.start) = ap (λ (a : Ask). after_ask turn a (begun first_tables)) o.ask in
+    (whole_after turns s legal.1 (record {
+      disk = sym (disk_after turns s legal.1) ∙ none;
+      unbroken = ap (λ (x : State). x.broken) opened ∙ found_whole o.found (begun_with o.disk o.start);
+    })).unbroken

@@ -11,7 +11,7 @@ use Rattle.courier_run.specs.Claim.{Claim}
 use Rattle.router_sessions.specs.declared.history.Turn.{Turn as CodeTurn}
 use Rattle.router_sessions.specs.Book.{turn_of}
 use Rattle.router_sessions.specs.Firsts.{firsts}
-use Rattle.router_sessions.specs.History.{Ask, opens, asked, claims, records, puts_back, Turn, State, OpenClaim, controls_in, begun, claims_of, without_pass}
+use Rattle.router_sessions.specs.History.{Ask, opens, asked, claims, records, puts_back, breaks, Turn, State, OpenClaim, controls_in, begun_with, claims_of, without_pass}
 use Rattle.router_sessions.specs.History.{last_version, with_claim, after_written, after_all, after_change, after_ask, after_turn, state_after, turns_by}
 use Rattle.router_sessions.specs.History.{IsTurnFor, AreTurnsFrom}
 
@@ -52,11 +52,12 @@ versions_written None s = omega arith
 versions_written (Some b) s = omega (arith, length-append s.controls (controls_in b.entries))
 
 versions_asked : (turn : Turn) (ask : Ask) (s : State) → IsTurnFor s turn ask → last_version s ≤ last_version (after_ask turn ask s)
-versions_asked turn (opens start found) s is = absurd is
+versions_asked turn (opens start found disk) s is = absurd is
 versions_asked turn (asked request) s is = versions_written turn.batch s
 versions_asked turn (claims c) s is = omega arith
 versions_asked turn (records a) s is = versions_written turn.batch s
 versions_asked turn (puts_back c why) s is = omega arith
+versions_asked turn (breaks unsure) s is = omega arith
 
 -- turns only add configuration versions
 pub versions_grow : (turns : List Turn) (s : State) → AreTurnsFrom s turns → last_version s ≤ last_version (state_after turns s)
@@ -96,11 +97,12 @@ without_other n (Some p) (o ∷ os) other =
 -- a turn of another pass makes no claim of this pass, and ends none, unless it opens a book
 stay_asked : (n : ℕ) (turn : Turn) (ask : Ask) (s : State) → is_number turn.pass n ≡ false → IsTurnFor s turn ask
     → claims_of n (after_ask turn ask s).open_claims ≡ claims_of n s.open_claims
-stay_asked n turn (opens start found) s other is = absurd is
+stay_asked n turn (opens start found disk) s other is = absurd is
 stay_asked n turn (asked request) s other is = ap (claims_of n) (open_written turn.batch s)
 stay_asked n turn (claims c) s other is = with_other n turn.pass c s.open_claims other
 stay_asked n turn (records a) s other is = without_other n turn.pass s.open_claims other
 stay_asked n turn (puts_back c why) s other is = without_other n turn.pass s.open_claims other
+stay_asked n turn (breaks unsure) s other is = refl
 
 -- the claims of a pass stay while other passes make turns
 pub claims_stay : (n : ℕ) (turns : List Turn) (s : State) → AreTurnsFrom s turns → turns_by n turns ≡ []
@@ -112,11 +114,12 @@ claims_stay n (turn ∷ turns) s legal others =
 
 none_asked : (n : ℕ) (turn : Turn) (ask : Ask) (s : State) → is_number turn.pass n ≡ false → claims_of n s.open_claims ≡ []
     → claims_of n (after_ask turn ask s).open_claims ≡ []
-none_asked n turn (opens start found) s other none = ap (claims_of n) (open_found found (begun start))
+none_asked n turn (opens start found disk) s other none = ap (claims_of n) (open_found found (begun_with disk start))
 none_asked n turn (asked request) s other none = ap (claims_of n) (open_written turn.batch s) ∙ none
 none_asked n turn (claims c) s other none = with_other n turn.pass c s.open_claims other ∙ none
 none_asked n turn (records a) s other none = without_other n turn.pass s.open_claims other ∙ none
 none_asked n turn (puts_back c why) s other none = without_other n turn.pass s.open_claims other ∙ none
+none_asked n turn (breaks unsure) s other none = none
 
 -- turns of other passes, whatever they are, make no claim of this pass
 pub none_of_mine : (n : ℕ) (turns : List Turn) (s : State) → turns_by n turns ≡ [] → claims_of n s.open_claims ≡ []

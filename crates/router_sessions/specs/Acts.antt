@@ -1,14 +1,15 @@
 -- What a list of acts did to the history, the streams, the clock and the link.
-use Rattle.std.specs.Prelude.{◌≡◌, ◌≤◌, ◌⊎◌, ℕ, true, List, [], ◌∷◌, ◌++◌, Option, Some, All}
+use Rattle.std.specs.Prelude.{◌≡◌, ◌≤◌, ◌⊎◌, ℕ, true, false, List, [], ◌∷◌, ◌++◌, Option, Some, All}
 use Rattle.router_disk.specs.Link.{Exchange}
 use Rattle.delivery_duties.specs.declared.outcome.Outcome.{Outcome}
 use Rattle.delivery_duties.specs.declared.outcome.Outcome.TheVariants.{Accepted, NoQueue}
 use Rattle.delivery_duties.specs.Duties.{NoneDue}
 use Rattle.router_core.specs.Tables.{is_full, moment_at}
+use Rattle.router_core.specs.Steps.{record_of}
 use Rattle.courier_run.specs.Claim.{Claim, IsForQueue}
 use Rattle.courier_run.specs.Act.{Act as ActOf, reads, ticks, looks, makes, tries, writes, pieces_in, bytes_in}
 use Rattle.courier_run.specs.Link.{outside, Goes}
-use Rattle.courier_run.specs.Steps.{Attempt, Why, Steps as StepsOf}
+use Rattle.courier_run.specs.Steps.{Attempt, Why, IsUnrecorded as IsUnrecordedOf, Steps as StepsOf}
 use Rattle.courier_run.specs.declared.turned.Turned.{Turned}
 use Rattle.courier_run.specs.declared.stepped.Stop.{Stop}
 use Rattle.router_sessions.specs.declared.book.Seat.{Seat}
@@ -40,6 +41,13 @@ Records p a = (recorded : Outcome) × IsOutcomeIn a.claim a.outcome recorded × 
 abbrev pub PutsBack : Placed → Claim → Why → Type 0
 PutsBack p c why = p.turn.ask ≡ history.puts_back c why
 
+-- The turn breaks the book: the record of an attempt of this claim with this outcome could not be kept, with the outcome that it would have had
+-- (`IsOutcomeIn`).
+-- Shown by: proofs alone.
+abbrev pub Breaks : Placed → Claim → Outcome → Type 0
+Breaks p c outcome = (recorded : Outcome) × IsOutcomeIn c outcome recorded
+    × (p.turn.ask ≡ history.breaks (record_of (moment_at p.before.tables c.reading) c.number recorded ∷ []))
+
 -- No unclaimed duty is due at a reading.
 -- Shown by: program_tests serve.rt: a_quiet_door_lets_its_worker_deliver.
 abbrev pub IsIdle : State → ℕ → Type 0
@@ -50,10 +58,20 @@ IsIdle s reading = NoneDue s.tables.duties (moment_at s.tables reading)
 abbrev pub IsFullAt : State → ℕ → Type 0
 IsFullAt s reading = (is_full s.tables ≡ true) × (¬ IsIdle s reading)
 
+-- The book is broken, and below the number limit a duty is due at a reading.
+-- Shown by: proofs alone.
+abbrev pub IsBrokenAt : State → ℕ → Type 0
+IsBrokenAt s reading = (s.broken ≡ true) × (is_full s.tables ≡ false) × (¬ IsIdle s reading)
+
+-- An attempt on the router's book that has no record (`IsUnrecorded` of courier_run).
+-- Shown by: as IsBrokenAt.
+abbrev pub IsUnrecorded : Claim → Outcome → List Act → Stop → Type 0
+IsUnrecorded = IsUnrecordedOf Claims Records PutsBack Breaks IsIdle IsFullAt IsBrokenAt
+
 -- Delivery steps on the router's book (`Steps` of courier_run).
 -- Shown by: session_tests tests.rt: a_delivery_has_the_reading_of_its_own_step.
 abbrev pub Steps : ℕ → List Act → Turned → Stop → Type 0
-Steps budget = StepsOf Claims Records PutsBack IsIdle IsFullAt budget
+Steps budget = StepsOf Claims Records PutsBack Breaks IsIdle IsFullAt IsBrokenAt budget
 
 -- These turns came after a state, and among them are those that these acts of a pass made, in order. Other passes may have made turns
 -- before each. A look shows the state at its place. A turn goes by a configuration version that is at least the one that the pass had seen

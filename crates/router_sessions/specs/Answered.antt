@@ -13,14 +13,16 @@ use Rattle.api_replies.specs.declared.reply.Reply.{Reply as CodeReply}
 use Rattle.router_calls.specs.Decided.{answer_of}
 use Rattle.router_calls.specs.Answer.{IsAnswer}
 use Rattle.courier_run.specs.Claim.{Claim}
+use Rattle.courier_run.specs.declared.book.BookFault.{BookFault}
 use Rattle.courier_run.specs.Act.{makes}
+use Rattle.courier_run.specs.Book.{stop_of}
 use Rattle.courier_run.specs.Steps.{Why}
 use Rattle.router_sessions.specs.declared.book.Seat.{Seat}
 use Rattle.router_sessions.specs.declared.book.TurnReply.{TurnReply}
 use Rattle.router_sessions.specs.declared.book.TurnReply.TheVariants.{Rendered, Unrendered}
 use Rattle.router_sessions.specs.History.{Turn, Placed}
 use Rattle.router_sessions.specs.Book.{Holds}
-use Rattle.router_sessions.specs.Acts.{Claims, Records, PutsBack, Makes}
+use Rattle.router_sessions.specs.Acts.{Act, Claims, Records, PutsBack, IsUnrecorded, Makes}
 use Rattle.router_sessions.specs.Session.{Replies}
 
 -- The bytes of a turn's reply, made already or to be made.
@@ -67,6 +69,13 @@ pub record IsRecorded (seat : Seat) (c : Claim) (had : Outcome) (fate : Fate) (o
   pub placed : Placed
   pub makes : Makes seat (makes placed ∷ []) old new
   pub records : Records placed (record { claim = c; outcome = had; fate = fate })
+
+-- Turns from a seat end the attempt of a claim, which had this outcome, without a record, by the fault (`IsUnrecorded`).
+-- Shown by: put_back_without_a_reason.edit.
+pub record IsUnrecordedBy (seat : Seat) (c : Claim) (had : Outcome) (fault : BookFault) (old new : List Turn) : Type 0 where
+  pub acts : List Act
+  pub makes : Makes seat acts old new
+  pub ends : IsUnrecorded c had acts (stop_of fault)
 
 -- One turn from a seat puts a claim back.
 -- Shown by: put_back_without_a_reason.edit.

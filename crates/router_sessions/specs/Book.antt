@@ -6,9 +6,9 @@ use Rattle.router_core.specs.View.{request_of, batch_of}
 use Rattle.courier_run.specs.Steps as steps
 use Rattle.courier_run.specs.Claim.{Claim}
 use Rattle.router_sessions.specs.declared.history.Ask.{Ask}
-use Rattle.router_sessions.specs.declared.history.Ask.TheVariants.{Opens, Asked, Claims, Records, PutsBack}
+use Rattle.router_sessions.specs.declared.history.Ask.TheVariants.{Opens, Asked, Claims, Records, PutsBack, Breaks}
 use Rattle.router_sessions.specs.declared.history.Why.{Why}
-use Rattle.router_sessions.specs.declared.history.Why.TheVariants.{Unsent, Limited}
+use Rattle.router_sessions.specs.declared.history.Why.TheVariants.{Unsent, Limited, Unkept}
 use Rattle.router_sessions.specs.declared.history.Written.{Written}
 use Rattle.router_sessions.specs.declared.history.Written.TheVariants.{Nothing, Changes}
 use Rattle.router_sessions.specs.declared.history.Turn.{Turn}
@@ -25,15 +25,17 @@ use Rattle.router_sessions.specs.History.{state_of, IsLegal, claims_of}
 abbrev pub why_of : Why → steps.Why
 why_of Unsent = steps.unsent
 why_of Limited = steps.limited
+why_of Unkept = steps.unkept
 
 -- What contracts see of the code's `Ask`, with the views of its request or its claim.
 -- Shown by: session_tests tests.rt: an_event_has_the_reading_of_its_own_request.
 abbrev pub ask_of : Ask → view.Ask
-ask_of (Opens start found) = view.opens start.value (map batch_of (firsts found.items))
+ask_of (Opens start found disk) = view.opens start.value (map batch_of (firsts found.items)) disk
 ask_of (Asked request) = view.asked (request_of request.value)
 ask_of (Claims held) = view.claims (held_claim held.value)
 ask_of (Records held outcome fate) = view.records (record { claim = held_claim held.value; outcome = outcome; fate = fate })
 ask_of (PutsBack held why) = view.puts_back (held_claim held.value) (why_of why)
+ask_of (Breaks bs) = view.breaks (map batch_of (firsts bs.items))
 
 -- The batch that a turn wrote, if any.
 -- Shown by: the_batch_is_not_entered.edit.
@@ -61,10 +63,10 @@ turns_in history = map turn_of (recorded_in history)
 abbrev pub turns_of : Book → List view.Turn
 turns_of b = turns_in b.history
 
--- The turn that opens a book with the first tables, on which no batch was found.
+-- The turn that opens a book without a journal: with the first tables, on which no batch was found.
 -- Shown by: first-run.
 abbrev pub opening : view.Turn
-opening = record { pass = None; connection = None; ask = view.opens first_tables []; k = 0; batch = None }
+opening = record { pass = None; connection = None; ask = view.opens first_tables [] None; k = 0; batch = None }
 
 -- A legal history of a router that was opened with the first tables.
 -- Shown by: the_batch_is_not_entered.edit.

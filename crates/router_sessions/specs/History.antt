@@ -1,5 +1,5 @@
 -- The history: the turns of the router, oldest first. The first one opens the book; each other one is made by a pass.
-use Rattle.std.specs.Prelude.{◌≡◌, ℕ, ◌+◌, ◌-◌, ◌≤◌, false, true, ◌==◌, not, List, [], ◌∷◌, ◌++◌, length, take, Option, Some, None, IsSome, filter}
+use Rattle.std.specs.Prelude.{◌≡◌, ℕ, ◌+◌, ◌-◌, ◌≤◌, false, true, ◌==◌, not, List, [], ◌∷◌, ◌++◌, length, take, Bool, Option, Some, None, IsSome, filter, flat_map}
 use Rattle.event_shape.specs.Names.{IsQueueArn}
 use Rattle.json_text.specs.Moment.{IsMoment}
 use Rattle.turn_book.specs.Rule.{is_number}
@@ -19,17 +19,19 @@ use Rattle.router_core.specs.Admitted.{IsAdmitted}
 use Rattle.router_core.specs.Steps.{record_of, claiming, putting_back, fate_after}
 use Rattle.router_calls.specs.Answer.{IsAnswer}
 use Rattle.courier_run.specs.Claim.{Claim, IsTooOld, NeedsSend, IsSuccess}
-use Rattle.courier_run.specs.Steps.{Attempt, Why, unsent, limited}
+use Rattle.courier_run.specs.Steps.{Attempt, Why, unsent, limited, unkept}
 
--- What a turn was made for: to open the book with these tables, on which these batches were found; a request; a claim of the next due duty;
--- the record of how a claimed duty's attempt ended; a claim that is put back.
+-- What a turn was made for: to open the book with these tables, on which these batches were found, and with a disk that had counted this number
+-- of faults, if there is a journal; a request; a claim of the next due duty; the record of how a claimed duty's attempt ended; a claim that is
+-- put back; to break the book (the mark), since appending these batches failed.
 -- Shown by: a_step_is_recorded_twice.edit.
 pub data Ask : Type 0 where
-  opens : (start : Tables) (found : List Batch) → Ask
+  opens : (start : Tables) (found : List Batch) (disk : Option ℕ) → Ask
   asked : Request → Ask
   claims : Claim → Ask
   records : Attempt → Ask
   puts_back : Claim → Why → Ask
+  breaks : (unacknowledged : List Batch) → Ask
 
 -- The pass that made the turn (none opens the book), the connection that it served, if any, its ask, the configuration version by which it
 -- went, and the batch that it wrote, if any.
@@ -47,14 +49,16 @@ pub record OpenClaim : Type 0 where
   pub pass : ℕ
   pub claim : Claim
 
--- The rule set with which the book was opened, the tables, the changes of the configuration since it was opened, oldest first, and the open
--- claims.
+-- The rule set with which the book was opened, the tables, the changes of the configuration since it was opened, oldest first, the open claims,
+-- the number of faults that the journal's disk had counted when the book was opened, if there is a journal, and whether the book is broken.
 -- Shown by: first-run; a_step_is_recorded_twice.edit.
 pub record State : Type 0 where
   pub start : RuleSet
   pub tables : Tables
   pub controls : List Control
   pub open_claims : List OpenClaim
+  pub disk : Option ℕ
+  pub broken : Bool
 
 -- The number of the latest configuration version: all changes that ever were, those before the start too.
 -- Shown by: the_old_board_stays.edit.
@@ -92,10 +96,15 @@ abbrev pub after_change : Option Batch → State → State
 after_change None s = s
 after_change (Some b) s = after_written b s
 
--- The state of a start, before any batch.
+-- The state of a start, with this journal's disk, before any batch.
+-- Shown by: first-run.
+abbrev pub begun_with : Option ℕ → Tables → State
+begun_with disk start = record { start = start.set; tables = start; controls = []; open_claims = []; disk = disk; broken = false }
+
+-- The same without a journal.
 -- Shown by: first-run.
 abbrev pub begun : Tables → State
-begun start = record { start = start.set; tables = start; controls = []; open_claims = [] }
+begun start = begun_with None start
 
 -- The open claims of a pass.
 -- Shown by: proofs alone.
@@ -117,11 +126,12 @@ with_claim (Some n) c all = record { pass = n; claim = c } ∷ all
 -- The state after a turn, by what it was made for. A record or a put-back ends the claim of its pass.
 -- Shown by: first-run.
 abbrev pub after_ask : Turn → Ask → State → State
-after_ask turn (opens start found) s = after_all found (begun start)
+after_ask turn (opens start found disk) s = after_all found (begun_with disk start)
 after_ask turn (asked request) s = after_change turn.batch s
 after_ask turn (claims c) s = record s { tables = claiming c.number s.tables; open_claims = with_claim turn.pass c s.open_claims }
 after_ask turn (records a) s = record (after_change turn.batch s) { open_claims = without_pass turn.pass s.open_claims }
 after_ask turn (puts_back c why) s = record s { tables = putting_back c.number s.tables; open_claims = without_pass turn.pass s.open_claims }
+after_ask turn (breaks bs) s = record s { broken = true }
 
 -- The state after a turn.
 -- Shown by: first-run.
@@ -168,12 +178,17 @@ pub record IsAnsweredBy (s : State) (turn : Turn) (request : Request) (reply : R
   pub known : turn.k ≤ last_version s
   pub answer : IsAnswer s.tables request turn.k (set_of_version turn.k s) (record { batch = turn.batch; reply = reply })
 
+-- By this configuration version the request is answered by a turn that writes this batch.
+-- Shown by: proofs alone.
+abbrev pub WouldWrite : State → ℕ → Request → Batch → Type 0
+WouldWrite s k request b = (turn : Turn) × (reply : Reply) × (turn.k ≡ k) × (turn.batch ≡ Some b) × IsAnsweredBy s turn request reply
+
 -- The turn goes by the latest configuration version.
 -- Shown by: the_old_board_stays.edit.
 abbrev pub IsLatest : State → Turn → Type 0
 IsLatest s turn = turn.k ≡ last_version s
 
--- A pass that has no open claim claims the duty that is due first, below the number limit. Nothing is written.
+-- A pass that has no open claim claims the duty that is due first, below the number limit, if the book is not broken. Nothing is written.
 -- Shown by: proofs alone.
 pub record IsClaimBy (s : State) (turn : Turn) (c : Claim) : Type 0 where
   pub pass : ℕ
@@ -182,6 +197,7 @@ pub record IsClaimBy (s : State) (turn : Turn) (c : Claim) : Type 0 where
   pub latest : IsLatest s turn
   pub unwritten : turn.batch ≡ None
   pub numbered : is_full s.tables ≡ false
+  pub unbroken : s.broken ≡ false
   pub reading : IsMoment c.reading
   pub next : IsNext s.tables.duties (moment_at s.tables c.reading) c.number
   pub row : DutyRow
@@ -207,53 +223,70 @@ pub data IsOutcome (queues : List Queue) (c : Claim) : Outcome → Type 0 where
   answered : NeedsSend c → (code : ℕ) → ¬ IsSuccess code → IsOutcome queues c (Code code)
   unanswered : NeedsSend c → IsOutcome queues c NoAnswer
 
--- The turn records the attempt of its pass's claim, below the number limit. The duty's fate follows.
+-- The turn records the attempt of its pass's claim, below the number limit, if the book is not broken. The duty's fate follows.
 -- Shown by: first-run.
 pub record IsRecordBy (s : State) (turn : Turn) (a : Attempt) : Type 0 where
   pub ends : EndsClaim s turn a.claim
   pub numbered : is_full s.tables ≡ false
+  pub unbroken : s.broken ≡ false
   pub fits : IsOutcome s.tables.duties.queues a.claim a.outcome
   pub row : DutyRow
   pub there : pending_row a.claim.number s.tables.duties ≡ Some row
   pub fate : a.fate ≡ fate_after s.tables.duties.queues (moment_at s.tables a.claim.reading) row a.outcome
   pub written : turn.batch ≡ Some (record_of (moment_at s.tables a.claim.reading) a.claim.number a.outcome)
 
--- Why a claim may be put back: it needs a send, of which nothing was sent; or the number limit is reached.
+-- Why a claim may be put back: it needs a send, of which nothing was sent; the number limit is reached; or the book is broken.
 -- Shown by: put_back_without_a_reason.edit.
 abbrev pub IsReason : State → Claim → Why → Type 0
 IsReason s c unsent = NeedsSend c
 IsReason s c limited = is_full s.tables ≡ true
-
--- A turn that may be made in a state, by what it was made for. Only the first turn of a history opens. A turn for a request names a
--- connection.
--- Shown by: a_quiet_step_names_a_connection.edit.
-abbrev pub IsTurnFor : State → Turn → Ask → Type 0
-IsTurnFor s turn (opens start found) = ⊥
-IsTurnFor s turn (asked request) = IsSome turn.pass × IsSome turn.connection × ((reply : Reply) × IsAnsweredBy s turn request reply)
-IsTurnFor s turn (claims c) = IsClaimBy s turn c
-IsTurnFor s turn (records a) = IsRecordBy s turn a
-IsTurnFor s turn (puts_back c why) = (turn.batch ≡ None) × EndsClaim s turn c × IsReason s c why
-
--- A turn that may be made in a state.
--- Shown by: as IsTurnFor.
-abbrev pub IsTurnOf : State → Turn → Type 0
-IsTurnOf s turn = IsTurnFor s turn turn.ask
+IsReason s c unkept = s.broken ≡ true
 
 -- each batch is admitted after those before it
 abbrev pub AreLawful : Tables → List Batch → Type 0
 AreLawful t [] = Unit {0}
 AreLawful t (b ∷ bs) = IsAdmitted t b × AreLawful (after_batch b t) bs
 
--- The turn opens a book: no pass made it, no change of the configuration is before it, and it writes nothing.
+-- The turn breaks the book, which has a journal and is not broken yet. The batches whose append failed are admitted, so whatever the journal has
+-- of them can be opened. The turn writes nothing.
+-- Shown by: proofs alone.
+pub record IsBreak (s : State) (turn : Turn) (unacknowledged : List Batch) : Type 0 where
+  pub by : IsSome turn.pass
+  pub latest : IsLatest s turn
+  pub unwritten : turn.batch ≡ None
+  pub journal : IsSome s.disk
+  pub unbroken : s.broken ≡ false
+  pub lawful : AreLawful s.tables unacknowledged
+
+-- A turn that may be made in a state, by what it was made for. Only the first turn of a history opens. A turn for a request names a
+-- connection, and writes nothing on a broken book.
+-- Shown by: a_quiet_step_names_a_connection.edit.
+abbrev pub IsTurnFor : State → Turn → Ask → Type 0
+IsTurnFor s turn (opens start found disk) = ⊥
+IsTurnFor s turn (asked request) =
+    IsSome turn.pass × IsSome turn.connection × ((reply : Reply) × IsAnsweredBy s turn request reply) × (s.broken ≡ true → turn.batch ≡ None)
+IsTurnFor s turn (claims c) = IsClaimBy s turn c
+IsTurnFor s turn (records a) = IsRecordBy s turn a
+IsTurnFor s turn (puts_back c why) = (turn.batch ≡ None) × EndsClaim s turn c × IsReason s c why
+IsTurnFor s turn (breaks bs) = IsBreak s turn bs
+
+-- A turn that may be made in a state.
+-- Shown by: as IsTurnFor.
+abbrev pub IsTurnOf : State → Turn → Type 0
+IsTurnOf s turn = IsTurnFor s turn turn.ask
+
+-- The turn opens a book: no pass made it, it goes by the version of its tables, and it writes nothing. Without a journal nothing was found.
 -- Shown by: proofs alone.
 pub record IsOpening (turn : Turn) : Type 0 where
   pub start : Tables
   pub found : List Batch
-  pub ask : turn.ask ≡ opens start found
+  pub disk : Option ℕ
+  pub ask : turn.ask ≡ opens start found disk
   pub lawful : AreLawful start found
+  pub none_found : disk ≡ None → found ≡ []
   pub no_pass : turn.pass ≡ None
   pub no_connection : turn.connection ≡ None
-  pub k : turn.k ≡ 0
+  pub k : turn.k ≡ start.set.count
   pub unwritten : turn.batch ≡ None
 
 -- Each turn may be made in the state that the turns before it left.
@@ -285,8 +318,31 @@ abbrev pub with_written : Option Batch → List Batch → List Batch
 with_written None batches = batches
 with_written (Some b) batches = b ∷ batches
 
+-- The batches that the turn found, if it opens a book.
+-- Shown by: proofs alone.
+abbrev pub found_by : Ask → List Batch
+found_by (opens start found disk) = found
+found_by (asked request) = []
+found_by (claims c) = []
+found_by (records a) = []
+found_by (puts_back c why) = []
+found_by (breaks bs) = []
+
 -- The batches that turns wrote, in order. Those that a turn found when it opened the book come in its place.
 -- Shown by: proofs alone.
 abbrev pub batches_of : List Turn → List Batch
 batches_of [] = []
-batches_of (turn ∷ turns) = with_written turn.batch (batches_of turns)
+batches_of (turn ∷ turns) = found_by turn.ask ++ with_written turn.batch (batches_of turns)
+
+-- The batches whose append failed when the book broke, if it did. The next opening may find them.
+-- Shown by: proofs alone.
+abbrev pub unacknowledged_by : Ask → List Batch
+unacknowledged_by (opens start found disk) = []
+unacknowledged_by (asked request) = []
+unacknowledged_by (claims c) = []
+unacknowledged_by (records a) = []
+unacknowledged_by (puts_back c why) = []
+unacknowledged_by (breaks bs) = bs
+
+abbrev pub unacknowledged_of : List Turn → List Batch
+unacknowledged_of turns = flat_map (λ turn. unacknowledged_by turn.ask) turns

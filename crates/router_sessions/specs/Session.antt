@@ -1,5 +1,6 @@
 -- A session as one list of acts.
 use Rattle.std.specs.Prelude.{◌≡◌, ◌≢◌, ◌+◌, ◌==◌, ◌||◌, ◌⊎◌, ℕ, Bool, true, false, List, [], ◌∷◌, ◌++◌, None}
+use Rattle.router_core.specs.Batch.{Batch}
 use Rattle.router_core.specs.Request.{deliver_due, Request}
 use Rattle.api_replies.specs.declared.cause.Cause.{Cause}
 use Rattle.api_replies.specs.Reply.{Reply, refused as refusal_of, not_post, no_memory}
@@ -20,9 +21,9 @@ use Rattle.message_streams.specs.declared.farewell.SessionEnd.{SessionEnd}
 use Rattle.message_streams.specs.declared.farewell.SessionEnd.TheVariants as ends
 use Rattle.message_streams.specs.Incoming.{IsPiece, IsWhole}
 use Rattle.message_streams.specs.Farewell.{refusal_reply}
-use Rattle.message_streams.specs.Reply.{steps_reply}
+use Rattle.message_streams.specs.Reply.{journal_failed, steps_reply}
 use Rattle.router_sessions.specs.declared.book.Seat.{Seat}
-use Rattle.router_sessions.specs.History.{State, Placed, asked, IsAnsweredBy}
+use Rattle.router_sessions.specs.History.{State, Placed, asked, breaks, last_version, IsAnsweredBy, WouldWrite}
 use Rattle.router_sessions.specs.Acts.{Act, Steps, World, Does}
 
 -- The turn answers the request with this reply (`IsAnsweredBy`).
@@ -30,9 +31,20 @@ use Rattle.router_sessions.specs.Acts.{Act, Steps, World, Does}
 abbrev pub Replies : Placed → Request → Reply → Type 0
 Replies p request reply = (p.turn.ask ≡ asked request) × IsAnsweredBy p.before p.turn request reply
 
+-- The turn breaks the book: appending the batch of the turn that would answer the request failed.
+-- Shown by: proofs alone.
+abbrev pub Fails : Placed → Request → Type 0
+Fails p request = (b : Batch) × (p.turn.ask ≡ breaks (b ∷ [])) × WouldWrite p.before p.turn.k request b
+
+-- The book is broken, and a turn that answers the request by the latest version would write a batch.
+-- Shown by: proofs alone.
+abbrev pub IsFailed : State → Request → Type 0
+IsFailed s request = (s.broken ≡ true) × ((b : Batch) × WouldWrite s (last_version s) request b)
+
 -- What is done for a message, with its reply. A message that is no POST, one that is refused, and one for which memory ran out take a
 -- reading; so does a request, and then its turn, or the steps of a DeliverDue. If memory runs out for the reply to a request that changed
--- nothing, the reply says so. Out of memory is allowed for any POST.
+-- nothing, the reply says so. Out of memory is allowed for any POST. A request whose batch cannot be kept breaks the book; one that would
+-- write on a broken book is not carried out after a look.
 -- Shown by: first-run; refusals; get-is-refused.
 pub data Answers (m : Message) : List Act → Reply → Type 0 where
   unposted : (reading : ℕ) → is_post m.method ≡ false → Answers m (ticks reading ∷ []) not_post
@@ -42,6 +54,10 @@ pub data Answers (m : Message) : List Act → Reply → Type 0 where
       → Replies p request reply → Answers m (ticks reading ∷ makes p ∷ []) reply
   unrendered : (reading : ℕ) (request : Request) (p : Placed) (reply : Reply) → is_post m.method ≡ true → IsAsked m (moment_of reading) request
       → Replies p request reply → p.turn.batch ≡ None → Answers m (ticks reading ∷ makes p ∷ []) no_memory
+  failed : (reading : ℕ) (request : Request) (p : Placed) → is_post m.method ≡ true → IsAsked m (moment_of reading) request → Fails p request
+      → Answers m (ticks reading ∷ makes p ∷ []) journal_failed
+  failed_before : (reading : ℕ) (request : Request) (s : State) → is_post m.method ≡ true → IsAsked m (moment_of reading) request
+      → IsFailed s request → Answers m (ticks reading ∷ looks s ∷ []) journal_failed
   stepped : (reading : ℕ) (request : Request) (budget : ℕ) (acts : List Act) (turned : Turned) (stop : Stop) → is_post m.method ≡ true
       → IsAsked m (moment_of reading) request → request.action ≡ deliver_due budget → Steps budget acts turned stop
       → Answers m (ticks reading ∷ acts) (steps_reply turned stop)

@@ -58,7 +58,7 @@ impl<Rt: Wait, N: Naming> DutyBook for Seated<'_, Rt, N> {
     ghost use Rattle.turn_book.specs.Passes.{IsFree};
     ghost use Rattle.router_sessions.specs.History as history;
     ghost use Rattle.router_sessions.specs.Book.{Rests, Holds, IsBook};
-    ghost use Rattle.router_sessions.specs.Acts.{Claims, Records, PutsBack, IsIdle, IsFullAt};
+    ghost use Rattle.router_sessions.specs.Acts.{Claims, Records, PutsBack, Breaks, IsIdle, IsFullAt, IsBrokenAt};
     ghost use Rattle.router_sessions.specs.Delivery.{Did, did_none, did_joined};
     ghost use Rattle.router_sessions.specs.Desk.{turns_seen, seat_of};
 
@@ -88,9 +88,13 @@ impl<Rt: Wait, N: Naming> DutyBook for Seated<'_, Rt, N> {
 
     ghost puts_back = { PutsBack };
 
+    ghost breaks = { Breaks };
+
     ghost idle = { IsIdle };
 
     ghost full = { IsFullAt };
+
+    ghost broken = { IsBrokenAt };
 
     ghost lender = { λ s. s.pass.ghost_name };
 

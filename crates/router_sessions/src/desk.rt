@@ -6,12 +6,12 @@ ghost use Rattle.router_core.specs.View.{request_of};
 ghost use Rattle.courier_run.specs.Act.{looks};
 ghost use Rattle.courier_run.specs.Claim.{FitsClaim, NeedsSend};
 ghost use Rattle.courier_run.specs.Book.{HasCause};
-ghost use Rattle.courier_run.specs.Steps.{unsent, limited};
+ghost use Rattle.courier_run.specs.Steps.{unsent};
 ghost use Rattle.router_sessions.specs.History.{state_of, IsAskable};
 ghost use Rattle.router_sessions.specs.Held.{held_claim};
 ghost use Rattle.router_sessions.specs.Book.{turns_of, Holds, Rests, IsBook, IsKept, HasGrown};
-ghost use Rattle.router_sessions.specs.Acts.{IsIdle, IsFullAt, Makes};
-ghost use Rattle.router_sessions.specs.Answered.{IsAnswered, IsRenderable, IsClaimed, IsRecorded, IsPutBack};
+ghost use Rattle.router_sessions.specs.Acts.{IsIdle, IsFullAt, IsBrokenAt, Makes};
+ghost use Rattle.router_sessions.specs.Answered.{IsAnswered, IsRenderable, IsClaimed, IsRecorded, IsUnrecordedBy, IsPutBack};
 ghost use Rattle.router_sessions.specs.Desk.{turns_seen, number_of, seat_of, SeesMore};
 
 use crate::book::{Book, MadeTurn, Seat, TurnReply};
@@ -139,7 +139,8 @@ impl<Rt: Wait> Desk<'_, Rt> {
         ensures idle { IfOk result (λ found. IfNone found (IsIdle (state_of (turns_seen pass.new.seat)) reading
             × Makes (seat_of self.entry.connection pass.old.seat) (looks (state_of (turns_seen pass.new.seat)) ∷ [])
             (turns_seen pass.old.seat) (turns_seen pass.new.seat) × Rests (number_of pass.old.seat) (turns_seen pass.new.seat))) }
-        ensures refused { IfErr result (λ fault. HasCause (IsFullAt (state_of (turns_seen pass.new.seat)) reading) fault
+        ensures refused { IfErr result (λ fault. HasCause (IsFullAt (state_of (turns_seen pass.new.seat)) reading)
+            (IsBrokenAt (state_of (turns_seen pass.new.seat)) reading) fault
             × Makes (seat_of self.entry.connection pass.old.seat) (looks (state_of (turns_seen pass.new.seat)) ∷ [])
             (turns_seen pass.old.seat) (turns_seen pass.new.seat) × Rests (number_of pass.old.seat) (turns_seen pass.new.seat)) }
     {
@@ -168,8 +169,7 @@ impl<Rt: Wait> Desk<'_, Rt> {
         ensures rests { Rests (number_of pass.old.seat) (turns_seen pass.new.seat) }
         ensures recorded { IfOk result (λ fate. IsRecorded (seat_of self.entry.connection pass.old.seat) (held_claim held) outcome fate
             (turns_seen pass.old.seat) (turns_seen pass.new.seat)) }
-        ensures refused { IfErr result (λ fault. (fault ≡ BookFault.NumberLimit)
-            × IsPutBack (seat_of self.entry.connection pass.old.seat) (held_claim held) limited
+        ensures refused { IfErr result (λ fault. IsUnrecordedBy (seat_of self.entry.connection pass.old.seat) (held_claim held) outcome fault
             (turns_seen pass.old.seat) (turns_seen pass.new.seat)) }
     {
         let seat = self.seat(pass);

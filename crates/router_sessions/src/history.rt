@@ -11,10 +11,11 @@ use std::snapshot::Snapshot;
 /// What a turn was made for.
 #[derive(Drop)]
 pub enum Ask {
-    /// To open a book with these tables, on which these batches were found.
+    /// To open a book with these tables, on which these batches were found, and with a disk that had counted this number of faults.
     Opens {
         start: Snapshot<Tables>,
         found: Log<Batch, ()>,
+        disk: Option<u64>,
     },
     Asked(Snapshot<Request>),
     Claims(Snapshot<Held>),
@@ -27,6 +28,10 @@ pub enum Ask {
         held: Snapshot<Held>,
         why: Why,
     },
+    /// To break the book: appending these batches failed.
+    Breaks {
+        unacknowledged: Log<Batch, ()>,
+    },
 }
 
 /// Why a claim is put back.
@@ -36,6 +41,8 @@ pub enum Why {
     Unsent,
     /// The number limit is reached.
     Limited,
+    /// The book is broken, and keeps no record.
+    Unkept,
 }
 
 /// What a turn wrote.

@@ -8,12 +8,11 @@ ghost use Rattle.router_core.specs.Ready.{IsReadyFor};
 ghost use Rattle.router_core.specs.Tables.{after_batch, moment_at};
 ghost use Rattle.courier_run.specs.Claim.{FitsClaim};
 ghost use Rattle.courier_run.specs.Book.{HasCause};
-ghost use Rattle.courier_run.specs.Steps.{limited};
 ghost use Rattle.router_sessions.specs.History.{state_of, IsAskable, IsReason};
 ghost use Rattle.router_sessions.specs.Held.{held_claim};
 ghost use Rattle.router_sessions.specs.Book.{why_of, recorded_in, turns_of, opening, Holds, Rests, IsKept, HasGrown};
-ghost use Rattle.router_sessions.specs.Acts.{IsIdle, IsFullAt};
-ghost use Rattle.router_sessions.specs.Answered.{IsDecided, IsAnswered, IsRenderable, IsClaimed, IsRecorded, IsPutBack};
+ghost use Rattle.router_sessions.specs.Acts.{IsIdle, IsFullAt, IsBrokenAt};
+ghost use Rattle.router_sessions.specs.Answered.{IsDecided, IsAnswered, IsRenderable, IsClaimed, IsRecorded, IsUnrecordedBy, IsPutBack};
 
 use crate::book::{Book, MadeTurn, Seat, TurnReply};
 use crate::fault::RequestFault;
@@ -47,6 +46,7 @@ impl Book {
             ask: Ask::Opens {
                 start: Snapshot::of(&tables),
                 found: Log::new(),
+                disk: None,
             },
             k: 0,
             written: Written::Nothing,
@@ -211,7 +211,8 @@ impl Book {
         ensures grows { HasGrown seat self.old self.new }
         ensures held { IfOk result (λ found. IfSome found (λ held. IsClaimed seat reading (turns_of self.old) (turns_of self.new) (held_claim held))) }
         ensures idle { IfOk result (λ found. IfNone found (IsIdle (state_of (turns_of self.old)) reading × (turns_of self.new ≡ turns_of self.old))) }
-        ensures refused { IfErr result (λ fault. HasCause (IsFullAt (state_of (turns_of self.old)) reading) fault
+        ensures refused { IfErr result (λ fault. HasCause (IsFullAt (state_of (turns_of self.old)) reading)
+            (IsBrokenAt (state_of (turns_of self.old)) reading) fault
             × (turns_of self.new ≡ turns_of self.old)) }
     {
         let moment = turn_moment(&self.tables, reading);
@@ -251,8 +252,7 @@ impl Book {
         ensures grows { HasGrown seat self.old self.new }
         ensures rests { Rests seat.pass (turns_of self.new) }
         ensures recorded { IfOk result (λ made. IsRecorded seat (held_claim held) outcome made.0 (turns_of self.old) (turns_of self.new)) }
-        ensures refused { IfErr result (λ fault. (fault ≡ BookFault.NumberLimit)
-            × IsPutBack seat (held_claim held) limited (turns_of self.old) (turns_of self.new)) }
+        ensures refused { IfErr result (λ fault. IsUnrecordedBy seat (held_claim held) outcome fault (turns_of self.old) (turns_of self.new)) }
     {
         if self.tables.full() {
             self.put_back(seat, held, Why::Limited);

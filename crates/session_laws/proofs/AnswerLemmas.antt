@@ -1,6 +1,6 @@
 -- What two sessions do for the messages that they answer. Other files cite `OneAnswer`, `Two`, `two_front`, `Together`, `writes_same`, `one_front`,
 -- `Answered`, `both_answer` and `same_serving`.
-use Rattle.std.proofs.Common.{◌≡◌, ℕ, false, List, [], ◌∷◌, ◌++◌, ◌-◌, take, length, sym, refl, ap, ◌∙◌, subst, arith, ◌+◌, Bool, append_assoc, append-nil}
+use Rattle.std.proofs.Common.{◌≡◌, inl, inr, ℕ, false, List, [], ◌∷◌, ◌++◌, ◌-◌, take, length, sym, refl, ap, ◌∙◌, subst, arith, ◌+◌, Bool, append_assoc, append-nil}
 use Rattle.std.proofs.lemmas.List.{append_cancel_left}
 use Rattle.std.proofs.lemmas.List.Elements.{Contains-append_right, Contains-push}
 use Rattle.rule_table.specs.Control.{Control}
@@ -8,7 +8,7 @@ use Rattle.rule_table.specs.RuleSet.{RuleSet, applied_all}
 use Rattle.router_core.specs.Request.{Request, deliver_due, IsOneTurn}
 use Rattle.router_core.specs.Tables.{Tables}
 use Rattle.router_calls.specs.Answer.{Answer, IsAnswer}
-use Rattle.api_replies.specs.Reply.{Reply, refused as refusal_of, no_memory}
+use Rattle.api_replies.specs.Reply.{Reply, refused as refusal_of}
 use Rattle.api_messages.specs.declared.message.Message.{Message}
 use Rattle.api_wire.specs.Call.{IsAsked}
 use Rattle.api_wire.proofs.CallLemmas.{one_request, one_refusal, never_both}
@@ -16,16 +16,16 @@ use Rattle.courier_run.specs.declared.turned.Turned.{Turned}
 use Rattle.courier_run.specs.declared.stepped.Stop.{Stop as Why}
 use Rattle.courier_run.specs.Claim.{moment_of}
 use Rattle.courier_run.specs.Act.{ticks, makes, reads, looks, writes}
-use Rattle.courier_run.specs.Steps.{none, one_more, attempted, idle_at, spent, stopped}
+use Rattle.courier_run.specs.Steps.{none, one_more, attempted, idle_at, unrecorded, limited_by, broken_before, broken_by, spent, stopped}
 use Rattle.api_messages.specs.Messages.{HoldsMessage}
 use Rattle.api_messages.proofs.MessageLemmas.{one_message}
 use Rattle.router_sessions.specs.History.{State, Placed, last_version, set_of_version, IsAnsweredBy}
 use Rattle.router_sessions.specs.Acts.{Act, Steps}
 use Rattle.message_streams.specs.Reply.{steps_reply}
-use Rattle.router_sessions.specs.Session.{Answers, unposted, refused, out_of_memory, served, unrendered, stepped, Replies, sent_text, Serving, begun, reads_on, answers}
-use Rattle.session_laws.specs.OneSession.{read_in, IsSameState, IsAmple}
+use Rattle.router_sessions.specs.Session.{Answers, unposted, refused, out_of_memory, served, unrendered, failed, failed_before, stepped, Replies, sent_text, Serving, begun, reads_on, answers}
+use Rattle.session_laws.specs.OneSession.{read_in, IsSameState, IsExcuse, IsAmple}
 use Rattle.session_laws.proofs.SameLemmas.{RunsAct, turn_same, Same, same_append, Given, given_rest, read_append, after_acts, given_front}
-use Rattle.session_laws.proofs.StepLemmas.{Stop, Taken, same_steps}
+use Rattle.session_laws.proofs.StepLemmas.{Stop, Taken, Excuses, same_steps}
 
 -- the law of `router_calls`: a request has at most one answer
 abbrev pub OneAnswer : Type 0
@@ -58,12 +58,16 @@ both_served law s t r r2 request p q a b one two g =
     let readings = (ticks_same s t r r2 (makes p ∷ []) (makes q ∷ []) g).does.readings in
     (record { state = turn.0; does = record { turns = ap (λ u. u ∷ []) turn.1; readings = readings; tries = refl; bytes = refl } }, ap (λ (u : Answer). u.reply) equal)
 
+excused : (x : Turned) (why : Why) → Excuses why → IsExcuse (steps_reply x why)
+excused x why (inl is) = inl (ap (steps_reply x) is)
+excused x why (inr is) = inr (ap (steps_reply x) is)
+
 both_stepped : (s t : State) (r r2 budget : ℕ) (xs ys : List Act) (x y : Turned) (why other : Why) → Steps budget xs x why → Steps budget ys y other
-    → ¬ (steps_reply x why ≡ no_memory) → ¬ (steps_reply y other ≡ no_memory) → Given s t (ticks r ∷ xs) (ticks r2 ∷ ys)
+    → ¬ IsExcuse (steps_reply x why) → ¬ IsExcuse (steps_reply y other) → Given s t (ticks r ∷ xs) (ticks r2 ∷ ys)
     → Same s t (ticks r ∷ xs) (ticks r2 ∷ ys) × (steps_reply y other ≡ steps_reply x why)
 both_stepped s t r r2 budget xs ys x y why other one two known known2 g =
     let first = ticks_same s t r r2 xs ys g in
-    let is = same_steps s t budget xs ys x y why other one two (λ same. known (ap (steps_reply x) same)) (λ same. known2 (ap (steps_reply y) same))
+    let is = same_steps s t budget xs ys x y why other one two (λ is. known (excused x why is)) (λ is. known2 (excused y other is))
     (given_rest s t (ticks r ∷ []) (ticks r2 ∷ []) xs ys first g) in
     (same_append s t (ticks r ∷ []) (ticks r2 ∷ []) xs ys first is.0, ap (λ z. steps_reply z other) is.1 ∙ ap (steps_reply x) is.2)
 
@@ -73,13 +77,17 @@ same_request : (s t : State) (m : Message) (r r2 : ℕ) (q q2 : Request) (xs ys 
 same_request s t m r r2 q q2 xs ys g is is2 =
     one_request m (moment_of r) q2 q (subst (λ n. IsAsked m (moment_of n) q2) (g.two.readings.0 ∙ sym g.one.readings.0) is2) is
 
--- two sessions answer a message alike, unless memory ran out
-pub same_answers : OneAnswer → (s t : State) (m : Message) (xs ys : List Act) (a b : Reply) → Answers m xs a → Answers m ys b → ¬ (a ≡ no_memory)
-    → ¬ (b ≡ no_memory) → Given s t xs ys → Same s t xs ys × (b ≡ a)
-same_answers law s t m _ _ _ _ (out_of_memory r post) _ known known2 g = absurd (known refl)
-same_answers law s t m _ _ _ _ (unrendered r q p a post is replies unwritten) _ known known2 g = absurd (known refl)
-same_answers law s t m _ _ _ _ _ (out_of_memory r post) known known2 g = absurd (known2 refl)
-same_answers law s t m _ _ _ _ _ (unrendered r q p a post is replies unwritten) known known2 g = absurd (known2 refl)
+-- two sessions answer a message alike, unless memory ran out or the journal failed
+pub same_answers : OneAnswer → (s t : State) (m : Message) (xs ys : List Act) (a b : Reply) → Answers m xs a → Answers m ys b → ¬ IsExcuse a
+    → ¬ IsExcuse b → Given s t xs ys → Same s t xs ys × (b ≡ a)
+same_answers law s t m _ _ _ _ (out_of_memory r post) _ known known2 g = absurd (known (inl refl))
+same_answers law s t m _ _ _ _ (unrendered r q p a post is replies unwritten) _ known known2 g = absurd (known (inl refl))
+same_answers law s t m _ _ _ _ _ (out_of_memory r post) known known2 g = absurd (known2 (inl refl))
+same_answers law s t m _ _ _ _ _ (unrendered r q p a post is replies unwritten) known known2 g = absurd (known2 (inl refl))
+same_answers law s t m _ _ _ _ (failed r q p post is fails) _ known known2 g = absurd (known (inr refl))
+same_answers law s t m _ _ _ _ (failed_before r q x post is fails) _ known known2 g = absurd (known (inr refl))
+same_answers law s t m _ _ _ _ _ (failed r q p post is fails) known known2 g = absurd (known2 (inr refl))
+same_answers law s t m _ _ _ _ _ (failed_before r q x post is fails) known known2 g = absurd (known2 (inr refl))
 same_answers law s t m _ _ _ _ (unposted r get) (unposted r2 get2) known known2 g = (ticks_same s t r r2 [] [] g, refl)
 same_answers law s t m _ _ _ _ (unposted r get) (refused r2 c post is) known known2 g = cc
 same_answers law s t m _ _ _ _ (unposted r get) (served r2 q p b post is replies) known known2 g = cc
@@ -111,6 +119,9 @@ taken_read _ _ (one_more xs _ x f before (attempted r p q c o f2 claims fits rec
 
 stop_read : (xs : List Act) (why : Why) → Stop xs why → read_in xs ≡ []
 stop_read _ _ (idle_at r look idle) = refl
+stop_read _ _ (unrecorded r p c o _ _ claims fits (limited_by q back)) = refl
+stop_read _ _ (unrecorded r p c o _ _ claims fits (broken_before q back)) = refl
+stop_read _ _ (unrecorded r p c o _ _ claims fits (broken_by m q breaking back)) = refl
 stop_read _ _ _ = refl
 
 -- nothing is read while a message is answered
@@ -181,10 +192,10 @@ answered_read xs done m reply close u is =
     read_split xs (Answered done m reply close) u
     ∙ ap (λ z. read_in xs ++ (z ++ u)) (read_append done (writes (sent_text m.method reply close) ∷ []) ∙ ap (λ z. z ++ []) (answers_read m done reply is))
 
-remembered : (xs done : List Act) (m : Message) (reply : Reply) (close : Bool) → IsAmple (xs ++ Answered done m reply close) → ¬ (reply ≡ no_memory)
+remembered : (xs done : List Act) (m : Message) (reply : Reply) (close : Bool) → IsAmple (xs ++ Answered done m reply close) → ¬ IsExcuse reply
 remembered xs done m reply close ample says =
     ample (sent_text m.method reply close) (Contains-append_right xs (Answered done m reply close) _ (Contains-push done _))
-    (m.method, close, ap (λ z. sent_text m.method z close) says)
+    (m.method, close, reply, says, refl)
 
 -- two sessions answer the next message
 pub both_answer : OneAnswer → (s t : State) (held other_held rest other_rest : List ℕ) (xs ys done other_done : List Act) (m other : Message)

@@ -14,7 +14,7 @@ use Rattle.router_core.specs.Tables.{after_batch}
 use Rattle.router_core.specs.Steps.{claiming, putting_back}
 use Rattle.courier_run.specs.Claim.{NeedsSend}
 use Rattle.courier_run.specs.Act.{looks, makes, readings_of, readings_in, tries_of, tries_in, bytes_of, pieces_of, pieces_in}
-use Rattle.router_sessions.specs.History.{State, Turn, last_version, Ask, opens, asked, claims, records, puts_back, controls_in, after_change, after_ask, after_turn}
+use Rattle.router_sessions.specs.History.{State, Turn, last_version, Ask, opens, asked, claims, records, puts_back, breaks, controls_in, after_change, after_ask, after_turn}
 use Rattle.router_sessions.specs.History.{state_after, turns_by, IsTurnOf, AreTurnsFrom}
 use Rattle.router_sessions.specs.Acts.{Act, Happens}
 use Rattle.session_laws.specs.OneSession.{IsSameState, unnamed, unnamed_of, DoSame, Follows, IsClock, IsLink, IsAmple, read_in}
@@ -85,12 +85,13 @@ changed_same b c s t is same = subst (λ z. IsSameState (after_change b s) (afte
     there (Some e) = record { start = same.start; tables = ap (after_batch e) same.tables; controls = ap (λ z. z ++ controls_in e.entries) same.controls }
 
 asked_same : (p q : Turn) (ask : Ask) (s t : State) → q.batch ≡ p.batch → IsSameState s t → IsSameState (after_ask p ask s) (after_ask q ask t)
-asked_same p q (opens start found) s t batch same = record { start = refl; tables = refl; controls = refl }
+asked_same p q (opens start found disk) s t batch same = record { start = refl; tables = refl; controls = refl }
 asked_same p q (asked request) s t batch same = changed_same p.batch q.batch s t batch same
 asked_same p q (claims c) s t batch same = record { start = same.start; tables = ap (claiming c.number) same.tables; controls = same.controls }
 asked_same p q (records a) s t batch same =
     let changed = changed_same p.batch q.batch s t batch same in record { start = changed.start; tables = changed.tables; controls = changed.controls }
 asked_same p q (puts_back c why) s t batch same = record { start = same.start; tables = ap (putting_back c.number) same.tables; controls = same.controls }
+asked_same p q (breaks unsure) s t batch same = record { start = same.start; tables = same.tables; controls = same.controls }
 
 pub same_version : (s t : State) → IsSameState s t → last_version t ≡ last_version s
 same_version s t same = ap (λ (set : RuleSet). set.count + length t.controls) same.start ∙ ap (λ cs. s.start.count + length cs) same.controls

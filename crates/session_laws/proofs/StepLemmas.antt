@@ -1,5 +1,5 @@
--- The delivery steps of two sessions. Other files cite `Stop`, `Taken`, `same_count` and `same_steps`.
-use Rattle.std.proofs.Common.{◌≡◌, ℕ, ◌<◌, inl, inr, true, false, List, [], ◌∷◌, ◌++◌, Option, Some, None, sym, refl, ap, ◌∙◌, subst, arith}
+-- The delivery steps of two sessions. Other files cite `Stop`, `Taken`, `Excuses`, `same_count` and `same_steps`.
+use Rattle.std.proofs.Common.{◌≡◌, ◌⊎◌, ℕ, ◌<◌, inl, inr, true, false, List, [], ◌∷◌, ◌++◌, Option, Some, None, sym, refl, ap, ◌∙◌, subst, arith}
 use Rattle.std.proofs.Common.{append_assoc, append-nil}
 use Rattle.std.specs.Prelude.{codes, nat_le, ◌||◌}
 use Rattle.std.proofs.lemmas.Bool.{cases_lt}
@@ -14,27 +14,32 @@ use Rattle.router_core.specs.Batch.{Batch}
 use Rattle.router_core.specs.Tables.{Tables, moment_at, is_full, number_limit}
 use Rattle.router_core.specs.Steps.{claiming, record_of, fate_after}
 use Rattle.courier_run.specs.declared.stepped.Stop.{Stop as Why}
-use Rattle.courier_run.specs.declared.stepped.Stop.TheVariants.{NoMemory}
+use Rattle.courier_run.specs.declared.stepped.Stop.TheVariants.{NoMemory, Broken}
 use Rattle.courier_run.specs.declared.turned.Turned.{Turned}
 use Rattle.courier_run.specs.Claim.{Claim, IsForQueue, NeedsSend, FitsClaim, above_age, for_queue, accepted, refused, unanswered, moment_of}
 use Rattle.courier_run.specs.Turned.{with_fate}
 use Rattle.courier_run.specs.Act.{Try, ticks, looks, makes, tries}
-use Rattle.courier_run.specs.Steps.{IsStep, attempted, IsStop, idle_at, full_at, out_of_memory, unsent_at, limited_at, limited, Stepping, none, one_more}
+use Rattle.courier_run.specs.Steps.{IsStep, attempted, IsStop, idle_at, full_at, broken_at, out_of_memory, unsent_at, unrecorded, limited, Stepping, none, one_more}
+use Rattle.courier_run.specs.Steps.{limited_by, broken_before, broken_by}
 use Rattle.courier_run.specs.Steps.{spent, stopped}
 use Rattle.router_sessions.specs.History as history
 use Rattle.router_sessions.specs.History.{State, Placed, claim_of, IsOutcome, queued, queue_missing, sent, IsClaimBy, IsRecordBy, IsTurnFor, after_ask, after_turn}
-use Rattle.router_sessions.specs.Acts.{Act, Claims, Records, PutsBack, IsOutcomeIn, IsIdle, IsFullAt, Steps}
+use Rattle.router_sessions.specs.Acts.{Act, Claims, Records, PutsBack, Breaks, IsOutcomeIn, IsIdle, IsFullAt, IsBrokenAt, Steps}
 use Rattle.session_laws.specs.OneSession.{IsSameState, unnamed, DoSame}
 use Rattle.session_laws.proofs.SameLemmas.{after_acts, RunsAct, turn_same, Same, same_append, Given, given_other, given_front, given_rest}
 
 abbrev Step : List Act → Fate → Type 0
-Step = IsStep Claims Records PutsBack IsIdle IsFullAt
+Step = IsStep Claims Records PutsBack Breaks IsIdle IsFullAt IsBrokenAt
 
 abbrev pub Stop : List Act → Why → Type 0
-Stop = IsStop Claims Records PutsBack IsIdle IsFullAt
+Stop = IsStop Claims Records PutsBack Breaks IsIdle IsFullAt IsBrokenAt
 
 abbrev pub Taken : List Act → Turned → Type 0
-Taken = Stepping Claims Records PutsBack IsIdle IsFullAt
+Taken = Stepping Claims Records PutsBack Breaks IsIdle IsFullAt IsBrokenAt
+
+-- steps that end because memory ran out, or because the book is broken
+abbrev pub Excuses : Why → Type 0
+Excuses why = (why ≡ NoMemory) ⊎ (why ≡ Broken)
 
 some_same : {X : Type 0} {r q : X} → Some r ≡ Some q → r ≡ q
 some_same is = cc
@@ -181,22 +186,28 @@ idle_too s t x y r r2 g idle =
     (subst (λ z. NoneDue z.duties (moment_at z (moment_of r))) (sym tables) idle)
 
 -- two ends of steps from the same state, with the same clock
-same_stop : (s t : State) (xs ys : List Act) (why other : Why) → Stop xs why → Stop ys other → Given s t xs ys → ¬ (why ≡ NoMemory) → ¬ (other ≡ NoMemory)
+same_stop : (s t : State) (xs ys : List Act) (why other : Why) → Stop xs why → Stop ys other → Given s t xs ys → ¬ Excuses why → ¬ Excuses other
     → Same s t xs ys × (other ≡ why)
 same_stop s t _ _ _ _ (idle_at r x idle) (idle_at r2 y idle2) g known known2 = (looked_same s t x y r r2 g, refl)
 same_stop s t _ _ _ _ (idle_at r x idle) (full_at r2 y full) g known known2 = absurd (full.1 (idle_too s t x y r r2 g idle))
 same_stop s t _ _ _ _ (full_at r x full) (idle_at r2 y idle) g known known2 = absurd (full.1 (idle_too t s y x r2 r (given_other s t _ _ g) idle))
 same_stop s t _ _ _ _ (full_at r x full) (full_at r2 y full2) g known known2 = (looked_same s t x y r r2 g, refl)
-same_stop s t _ _ _ _ (limited_at r p q c o claims fits back) _ g known known2 =
+same_stop s t _ _ _ _ (unrecorded r p c o _ _ claims fits (limited_by q back)) _ g known known2 =
     absurd (never_limited s p q c (moment_of r) g.one.runs.1.0 g.one.runs.1.1.1.0 claims back)
-same_stop s t _ _ _ _ _ (limited_at r p q c o claims fits back) g known known2 =
+same_stop s t _ _ _ _ _ (unrecorded r p c o _ _ claims fits (limited_by q back)) g known known2 =
     absurd (never_limited t p q c (moment_of r) g.two.runs.1.0 g.two.runs.1.1.1.0 claims back)
-same_stop s t _ _ _ _ (out_of_memory r x) _ g known known2 = absurd (known refl)
-same_stop s t _ _ _ _ (unsent_at r p q c claims needs back) _ g known known2 = absurd (known refl)
-same_stop s t _ _ _ _ _ _ g known known2 = absurd (known2 refl)
+same_stop s t _ _ _ _ (out_of_memory r x) _ g known known2 = absurd (known (inl refl))
+same_stop s t _ _ _ _ (unsent_at r p q c claims needs back) _ g known known2 = absurd (known (inl refl))
+same_stop s t _ _ _ _ (broken_at r x broken) _ g known known2 = absurd (known (inr refl))
+same_stop s t _ _ _ _ (unrecorded r p c o _ _ claims fits (broken_before q back)) _ g known known2 = absurd (known (inr refl))
+same_stop s t _ _ _ _ (unrecorded r p c o _ _ claims fits (broken_by m q breaking back)) _ g known known2 = absurd (known (inr refl))
+same_stop s t _ _ _ _ _ (broken_at r x broken) g known known2 = absurd (known2 (inr refl))
+same_stop s t _ _ _ _ _ (unrecorded r p c o _ _ claims fits (broken_before q back)) g known known2 = absurd (known2 (inr refl))
+same_stop s t _ _ _ _ _ (unrecorded r p c o _ _ claims fits (broken_by m q breaking back)) g known known2 = absurd (known2 (inr refl))
+same_stop s t _ _ _ _ _ _ g known known2 = absurd (known2 (inl refl))
 
 -- where steps stopped, no claim can be made
-no_more : (s t : State) (xs ys ws : List Act) (why : Why) (f : Fate) → Stop xs why → Step ys f → Given s t xs (ys ++ ws) → ¬ (why ≡ NoMemory) → ⊥
+no_more : (s t : State) (xs ys ws : List Act) (why : Why) (f : Fate) → Stop xs why → Step ys f → Given s t xs (ys ++ ws) → ¬ Excuses why → ⊥
 no_more s t _ _ ws _ _ (idle_at r x idle) (attempted r2 p q c o f claims fits recorded) g known =
     let free = claim_there s t p c r r2 g.state (g.two.readings.0 ∙ sym g.one.readings.0) g.two.runs.1.0 claims in
     omega (arith, subst (λ z. IsIdle z (moment_of r)) g.one.runs.1.0 idle c.number free.next.row free.next.there free.next.free, free.next.due)
@@ -204,9 +215,12 @@ no_more s t _ _ ws _ _ (full_at r x full) (attempted r2 p q c o f claims fits re
     let free = (claim_there s t p c r r2 g.state (g.two.readings.0 ∙ sym g.one.readings.0) g.two.runs.1.0 claims).numbered in
     let at = subst (λ z. is_full z.tables ≡ true) g.one.runs.1.0 full.0 in
     cc
-no_more s t _ _ ws _ _ (limited_at r p q c o claims fits back) _ g known =
+no_more s t _ _ ws _ _ (unrecorded r p c o _ _ claims fits (limited_by q back)) _ g known =
     never_limited s p q c (moment_of r) g.one.runs.1.0 g.one.runs.1.1.1.0 claims back
-no_more s t _ _ ws _ _ _ _ g known = known refl
+no_more s t _ _ ws _ _ (broken_at r x broken) _ g known = known (inr refl)
+no_more s t _ _ ws _ _ (unrecorded r p c o _ _ claims fits (broken_before q back)) _ g known = known (inr refl)
+no_more s t _ _ ws _ _ (unrecorded r p c o _ _ claims fits (broken_by m q breaking back)) _ g known = known (inr refl)
+no_more s t _ _ ws _ _ _ _ g known = known (inl refl)
 
 -- the same number of steps
 same_taken : (s t : State) (xs ys : List Act) (x y : Turned) → Taken xs x → Taken ys y → y.attempts ≡ x.attempts → Given s t xs ys → Same s t xs ys × (y ≡ x)
@@ -218,7 +232,7 @@ same_taken s t _ _ _ _ (one_more xs step x f before one) (one_more ys other y e 
 same_taken s t _ _ _ _ _ _ count g = absurd (omega (arith, count))
 
 -- where the steps of one stopped, the other made no further one
-not_further : (s t : State) (xs last ys ws : List Act) (x y : Turned) (why : Why) → Taken xs x → Stop last why → ¬ (why ≡ NoMemory) → Taken ys y
+not_further : (s t : State) (xs last ys ws : List Act) (x y : Turned) (why : Why) → Taken xs x → Stop last why → ¬ Excuses why → Taken ys y
     → x.attempts < y.attempts → Given s t (xs ++ last) (ys ++ ws) → ⊥
 not_further s t xs last _ ws x _ why taken stop known none less g = omega (arith, less)
 not_further s t xs last _ ws x _ why taken stop known (one_more ys step y f before one) less g =
@@ -233,9 +247,9 @@ not_further s t xs last _ ws x _ why taken stop known (one_more ys step y f befo
 pub same_count : (m n : ℕ) → ¬ (m < n) → ¬ (n < m) → n ≡ m
 same_count m n a b = omega (arith, a, b)
 
--- the steps of two sessions within the same budget, neither out of memory
+-- the steps of two sessions within the same budget, neither out of memory or with a broken book
 pub same_steps : (s t : State) (budget : ℕ) (xs ys : List Act) (x y : Turned) (why other : Why) → Steps budget xs x why → Steps budget ys y other
-    → ¬ (why ≡ NoMemory) → ¬ (other ≡ NoMemory) → Given s t xs ys → Same s t xs ys × (y ≡ x) × (other ≡ why)
+    → ¬ Excuses why → ¬ Excuses other → Given s t xs ys → Same s t xs ys × (y ≡ x) × (other ≡ why)
 same_steps s t budget _ _ _ _ _ _ (spent xs x taken used) (spent ys y taken2 used2) known known2 g =
     let is = same_taken s t xs ys x y taken taken2 (used2 ∙ sym used) g in (is.0, is.1, refl)
 same_steps s t budget _ _ _ _ _ _ (spent xs x taken used) (stopped ys last y why taken2 less stop) known known2 g =

@@ -3,7 +3,7 @@ use Rattle.std.specs.Prelude.{◌≡◌, ℕ, ◌+◌, ◌⊎◌, Bool, true, Li
 use Rattle.std.specs.List.{concat}
 use Rattle.httparse.specs.Grammar.{EndsInTarget}
 use Rattle.delivery_duties.specs.declared.outcome.Outcome.{Outcome}
-use Rattle.api_replies.specs.Reply.{no_memory}
+use Rattle.api_replies.specs.Reply.{Reply, no_memory}
 use Rattle.api_replies.specs.Written.{reply_text}
 use Rattle.api_messages.specs.declared.message.Refusal.{Refusal}
 use Rattle.api_messages.specs.declared.method.Method.{Method}
@@ -16,6 +16,7 @@ use Rattle.message_streams.specs.declared.farewell.SessionEnd.TheVariants.{Close
 use Rattle.router_sessions.specs.History.{State, Turn, AreTurnsFrom, state_of}
 use Rattle.router_sessions.specs.Acts.{Act, World}
 use Rattle.message_streams.specs.Farewell.{refusal_reply}
+use Rattle.message_streams.specs.Reply.{journal_failed}
 use Rattle.router_sessions.specs.Session.{sent_text, Serving, IsSession}
 
 -- The same tables, and the same configuration, at the start and in its changes. The open claims may be those of other passes.
@@ -60,17 +61,23 @@ IsUndisturbed ReadFault = ⊥
 IsUndisturbed WriteFault = ⊥
 IsUndisturbed NoMemory = ⊥
 
--- The reply `Out of memory.` to a message of some method.
+-- The reply says that memory ran out, or that the journal failed.
 -- Shown by: law one_session.
-abbrev pub SaysNoMemory : List ℕ → Type 0
-SaysNoMemory text = (method : Method) × (close : Bool) × (text ≡ sent_text method no_memory close)
+abbrev pub IsExcuse : Reply → Type 0
+IsExcuse reply = (reply ≡ no_memory) ⊎ (reply ≡ journal_failed)
 
--- No reply of these acts says that memory ran out.
+-- Such a reply to a message of some method.
+-- Shown by: law one_session.
+abbrev pub SaysExcuse : List ℕ → Type 0
+SaysExcuse text = (method : Method) × (close : Bool) × (reply : Reply) × IsExcuse reply × (text ≡ sent_text method reply close)
+
+-- No reply of these acts says that memory ran out, or that the journal failed.
 -- Shown by: law one_session.
 abbrev pub IsAmple : List Act → Type 0
-IsAmple acts = (text : List ℕ) → Contains acts (writes text) → ¬ SaysNoMemory text
+IsAmple acts = (text : List ℕ) → Contains acts (writes text) → ¬ SaysExcuse text
 
--- A session that nothing around it disturbed: the turns added may be made after the old ones, no stream failed, and memory did not run out.
+-- A session that nothing around it disturbed: the turns added may be made after the old ones, no stream and no journal failed, and memory did
+-- not run out.
 -- Shown by: law one_session.
 pub record IsPlain (old added : List Turn) (end : SessionEnd) (acts : List Act) : Type 0 where
   pub legal : AreTurnsFrom (state_of old) added

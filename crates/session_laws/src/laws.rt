@@ -1,7 +1,9 @@
-//! The law of sessions.
+//! The laws of sessions.
+ghost use Rattle.std.specs.Prelude.{◌≡◌, false, List, None};
 ghost use Rattle.router_sessions.specs.Acts.{World};
 ghost use Rattle.router_sessions.specs.declared.book.Seat.{Seat};
 ghost use Rattle.message_streams.specs.declared.farewell.SessionEnd.{SessionEnd};
+ghost use Rattle.router_sessions.specs.History.{Turn, IsLegal, state_of};
 ghost use Rattle.router_sessions.specs.Session.{IsSession};
 ghost use Rattle.session_laws.specs.OneSession.{BeginAlike, EndAlike};
 
@@ -18,3 +20,8 @@ pub fn one_session()
 {
     one_answer();
 }
+
+/// A book that was opened without a journal is never broken.
+pub fn no_journal_no_break()
+    ensures { (turns : List Turn) → IsLegal turns → (state_of turns).disk ≡ None → (state_of turns).broken ≡ false }
+{}

@@ -166,6 +166,6 @@ fn deliver_once<I: Source, O: Sink, Rt: Wait + Sync, L: Link, C: Clock>(
     let stepped = serve_quiet(rt, alloc, hall, pass, link, clock, 1);
     match stepped.stop {
         Stop::Spent | Stop::Idle => stepped.turned.attempts != 0 && clock.now() == begun,
-        Stop::Full | Stop::NoMemory => false,
+        Stop::Full | Stop::Broken | Stop::NoMemory => false,
     }
 }

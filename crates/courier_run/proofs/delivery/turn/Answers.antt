@@ -7,19 +7,19 @@ use Rattle.courier_run.proofs.delivery.turn.Goals as goal
 
 pub loop-turned-init : goal.loop-turned-init
 loop-turned-init g c =
-    let So : Turned → Type 0 = λ t. Stepping g.B.DutyBook.claims g.B.DutyBook.records g.B.DutyBook.puts_back g.B.DutyBook.idle g.B.DutyBook.full [] t in
+    let So : Turned → Type 0 = λ t. Stepping g.B.DutyBook.claims g.B.DutyBook.records g.B.DutyBook.puts_back g.B.DutyBook.breaks g.B.DutyBook.idle g.B.DutyBook.full g.B.DutyBook.broken [] t in
     (search rules, refl, c.requires.sound, c.requires.rests, ([], g.B.DutyBook.begins c.args.book.now, subst So (sym c.none-turned.ensures) none, Goes-none _))
 
 pub count-requires-clause-parts : goal.count-requires-clause-parts
 count-requires-clause-parts g c =
     let (within, lender, sound, rests, (acts, did, steps, goes)) = c.loop-turned.invariant in
-    parts_within g.B.DutyBook.claims g.B.DutyBook.records g.B.DutyBook.puts_back g.B.DutyBook.idle g.B.DutyBook.full acts c.loop-turned.turned steps
+    parts_within g.B.DutyBook.claims g.B.DutyBook.records g.B.DutyBook.puts_back g.B.DutyBook.breaks g.B.DutyBook.idle g.B.DutyBook.full g.B.DutyBook.broken acts c.loop-turned.turned steps
 
 pub loop-turned-preserved : goal.loop-turned-preserved
 loop-turned-preserved g c =
     let (within, lender, sound, rests, (acts, did, steps, goes)) = c.loop-turned.invariant in
     let (more, did_more, step, goes_more) = c.in-Recorded.ensures.made in
-    let So : Turned → Type 0 = λ t. Stepping g.B.DutyBook.claims g.B.DutyBook.records g.B.DutyBook.puts_back g.B.DutyBook.idle g.B.DutyBook.full (acts ++ more) t in
+    let So : Turned → Type 0 = λ t. Stepping g.B.DutyBook.claims g.B.DutyBook.records g.B.DutyBook.puts_back g.B.DutyBook.breaks g.B.DutyBook.idle g.B.DutyBook.full g.B.DutyBook.broken (acts ++ more) t in
     let Did : List (Act g.B.DutyBook.Placed g.B.DutyBook.State) → Type 0 = λ own. g.B.DutyBook.did c.args.book.now c.attempt.new.book own in (
       search rules,
       c.in-Recorded.ensures.lender ∙ lender,

@@ -17,6 +17,13 @@ returns-then-self-eq102-clause-refused g c = let s = c.args.self.now in let look
       ((s.duties.len, s.special), mapped _ s.log.items look.new.self.log.items (Looked s.duties.len s.special) look.ensures.log, (some, full)),
     )
 
+pub returns-then-self-eq98-clause-refused : goal.returns-then-self-eq98-clause-refused
+returns-then-self-eq98-clause-refused g c = let s = c.args.self.now in let look = c.look-then-self-eq98 in
+    let some : s.duties.len ≡ 0 → ⊥ = search rules in let broken : s.special ≡ 98 = search rules in (
+      look.ensures.claimed ∙ c.requires.rests,
+      ((s.duties.len, s.special), mapped _ s.log.items look.new.self.log.items (Looked s.duties.len s.special) look.ensures.log, (some, broken)),
+    )
+
 pub returns-clause-claimed : goal.returns-clause-claimed
 returns-clause-claimed g c = let duty : PlainDuty = record c.remove-duty.result { moment = c.args.moment } in (
   (duty, c.note.ensures.claimed, refl),

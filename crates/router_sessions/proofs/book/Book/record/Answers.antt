@@ -6,13 +6,17 @@ use Rattle.router_core.specs.Tables.{Tables, is_full, after_batch}
 use Rattle.router_core.specs.Steps.{record_of, fate_after}
 use Rattle.router_core.specs.declared.errand.Errand.{Errand}
 use Rattle.router_sessions.specs.declared.book.Book.{Book}
+use Rattle.router_sessions.specs.Held.{held_claim}
 use Rattle.router_sessions.proofs.BookLemmas.{book_with}
-use Rattle.router_sessions.proofs.RecordLemmas.{errand_open, errand_after, due_by, recording, recorded, recorded_book, record_rests}
+use Rattle.router_sessions.proofs.RecordLemmas.{errand_open, errand_after, due_by, recording, recorded, recorded_book, record_rests, limited_record}
 use Rattle.router_sessions.proofs.book.Book.record.Goals as goal
 
 pub put_back-requires-clause-reason : goal.put_back-requires-clause-reason
 put_back-requires-clause-reason c =
     ap (λ t. is_full t) c.requires.book.tables ∙ sym c.full.ensures.full ∙ c.if-full.true
+
+pub returns-then-full-clause-refused : goal.returns-then-full-clause-refused
+returns-then-full-clause-refused c = limited_record c.args.seat (held_claim c.args.held) c.args.outcome _ _ c.put_back.ensures.put_back
 
 pub record_outcome-outcome-requires-clause-errand : goal.record_outcome-outcome-requires-clause-errand
 record_outcome-outcome-requires-clause-errand c = errand_open c.args.seat.pass c.args.self.now c.args.held c.requires.book c.requires.holds

@@ -5,7 +5,7 @@ use Rattle.router_sessions.specs.declared.book.Seat.{Seat}
 use Rattle.router_sessions.specs.History.{Turn, state_of}
 use Rattle.router_sessions.specs.Held.{held_claim}
 use Rattle.router_sessions.specs.Book.{Rests}
-use Rattle.router_sessions.specs.Acts.{Makes, IsIdle, IsFullAt}
+use Rattle.router_sessions.specs.Acts.{Makes, IsIdle, IsFullAt, IsBrokenAt}
 use Rattle.router_sessions.specs.Answered.{IsClaimed}
 use Rattle.router_sessions.specs.Desk.{turns_seen}
 use Rattle.router_sessions.proofs.DeskLemmas.{seen_of, taken, claimed_later, looked, learned_alone, rests_there, rests_more, extends, own_number, pass_of, map_some, map_none, map_err}
@@ -54,7 +54,7 @@ returns-clause-refused g c = map_err c.claim-held.result _ _
     let number = own_number c.args.self.connection c.args.pass.now.seat c.seat-seat.result c.seat-seat.ensures in
     let alone = learned_alone c.seat-seat.result c.args.pass.now.seat c.give.new.pass.seat c.take-book.result c.claim-held.new.self number
     c.take-book.ensures.history c.give.ensures.seen is.1 in (
-      subst (λ (ts : List Turn). HasCause (IsFullAt (state_of ts) c.args.reading) fault)
+      subst (λ (ts : List Turn). HasCause (IsFullAt (state_of ts) c.args.reading) (IsBrokenAt (state_of ts) c.args.reading) fault)
           (sym (seen_of c.claim-held.new.self c.give.new.pass.seat c.give.ensures.seen ∙ is.1)) is.0,
       subst (λ (s : Seat). Makes s (looks (state_of (turns_seen c.give.new.pass.seat)) ∷ []) (turns_seen c.args.pass.now.seat) (turns_seen c.give.new.pass.seat))
           c.seat-seat.ensures

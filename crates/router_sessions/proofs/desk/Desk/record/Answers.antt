@@ -1,12 +1,11 @@
 use Rattle.std.proofs.Common.{ℕ, List, sym, subst}
-use Rattle.courier_run.specs.Steps.{limited}
 use Rattle.router_sessions.specs.declared.book.Seat.{Seat}
 use Rattle.router_sessions.specs.History.{Turn}
 use Rattle.router_sessions.specs.Held.{held_claim}
 use Rattle.router_sessions.specs.Book.{Rests}
-use Rattle.router_sessions.specs.Answered.{IsRecorded, IsPutBack}
+use Rattle.router_sessions.specs.Answered.{IsRecorded, IsUnrecordedBy}
 use Rattle.router_sessions.specs.Desk.{turns_seen}
-use Rattle.router_sessions.proofs.DeskLemmas.{seen_of, taken, recorded_later, back_later, holds_there, extends, own_number, pass_of}
+use Rattle.router_sessions.proofs.DeskLemmas.{seen_of, taken, recorded_later, unrecorded_later, holds_there, extends, own_number, pass_of}
 use Rattle.router_sessions.proofs.desk.Desk.record.Goals as goal
 
 pub record-recorded-requires-clause-holds : goal.record-recorded-requires-clause-holds
@@ -42,11 +41,9 @@ returns-in-Ok-clause-recorded g c =
 
 pub returns-in-Err-clause-refused : goal.returns-in-Err-clause-refused
 returns-in-Err-clause-refused g c =
-    let is = c.in-Err.ensures.refused in (
-      is.0,
-      subst (λ (s : Seat). IsPutBack s (held_claim c.args.held) limited (turns_seen c.args.pass.now.seat) (turns_seen c.give.new.pass.seat)) c.seat-seat.ensures
-          (back_later (held_claim c.args.held) limited
-          (taken c.seat-seat.result c.args.pass.now.seat c.give.new.pass.seat c.take-book.result c.record-recorded.new.self
-          (own_number c.args.self.connection c.args.pass.now.seat c.seat-seat.result c.seat-seat.ensures) c.requires.book c.take-book.ensures.history
-          c.take-book.ensures.sound c.give.ensures.seen) is.1),
-    )
+    subst (λ (s : Seat). IsUnrecordedBy s (held_claim c.args.held) c.args.outcome c.in-Err.fault (turns_seen c.args.pass.now.seat) (turns_seen c.give.new.pass.seat))
+    c.seat-seat.ensures
+    (unrecorded_later (held_claim c.args.held) c.args.outcome c.in-Err.fault
+    (taken c.seat-seat.result c.args.pass.now.seat c.give.new.pass.seat c.take-book.result c.record-recorded.new.self
+    (own_number c.args.self.connection c.args.pass.now.seat c.seat-seat.result c.seat-seat.ensures) c.requires.book c.take-book.ensures.history
+    c.take-book.ensures.sound c.give.ensures.seen) c.in-Err.ensures.refused)
