@@ -5,7 +5,7 @@ use Rattle.std.specs.Prelude.{IsErr, MatchResult}
 use Rattle.router_disk.specs.declared.disk_call.DiskCall.{DiskCall}
 use Rattle.router_disk.specs.Disk.{AreAnswers, IsImage, IsImageSince, file_of}
 use Rattle.router_disk.specs.Faults.{CountsFaults}
-use Rattle.record_file.specs.Records.{header, length_bytes, records, HasRecords, IsFileOf}
+use Rattle.record_file.specs.Records.{first_gate, header, length_bytes, records, HasRecords, IsFileOf}
 use Rattle.record_file.specs.State.{IsSound, payloads_of}
 use Rattle.router_core.specs.Batch.{Batch}
 use Rattle.router_core.specs.Tables.{Tables, after_batch, tables_after}
@@ -44,6 +44,11 @@ pub record IsDamagedJournal (file : List ℕ) (at : ℕ) (start : Tables) (batch
   pub none : HasNoBatch (tables_after batches start) rest
   pub is_place : place ≡ length batches + 1
   pub is_byte : byte ≡ at + length (records (map batch_bytes batches))
+
+-- The file, which begins at these tables after its header, is damaged at this record and this byte.
+-- Shown by: table_tests test_journal.rt: each_file_is_a_journal_or_refused.
+abbrev pub IsDamagedFile : Tables → List ℕ → ℕ → ℕ → Type 0
+IsDamagedFile start file place byte = (batches : List Batch) × IsDamagedJournal file first_gate start batches place byte
 
 -- The second list of batches begins with the first.
 -- Shown by: proofs alone.

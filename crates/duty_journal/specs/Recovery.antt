@@ -5,7 +5,7 @@ use Rattle.router_disk.specs.declared.disk_call.DiskCall.{DiskCall}
 use Rattle.router_disk.specs.declared.disk_call.DiskCall.TheVariants.{Sync}
 use Rattle.router_disk.specs.declared.fault.Failed.{Failed as DiskFailed}
 use Rattle.router_disk.specs.Disk.{AreAnswers, IsImageSince, file_of}
-use Rattle.record_file.specs.Records.{first_gate, header, records}
+use Rattle.record_file.specs.Records.{first_gate, header, records, IsOtherFile}
 use Rattle.record_file.specs.declared.scan.Scan.{Scan}
 use Rattle.record_file.specs.declared.scan.Next.TheVariants as nexts
 use Rattle.record_file.specs.State.{IsScan, IsScanOf, OnlyLooks, payload_of}
@@ -20,7 +20,7 @@ use Rattle.duty_journal.specs.declared.recover.Found.{Found}
 use Rattle.duty_journal.specs.declared.recover.Step.{Step}
 use Rattle.duty_journal.specs.declared.recover.Step.TheVariants as steps
 use Rattle.duty_journal.specs.Batch.{batch_bytes, IsReadable}
-use Rattle.duty_journal.specs.Journal.{AreKept, AreRecordable, IsDamagedJournal, IsJournal, IsRecovered, batches_in}
+use Rattle.duty_journal.specs.Journal.{AreKept, AreRecordable, IsDamagedFile, IsJournal, IsRecovered, batches_in}
 use Rattle.duty_journal.specs.Redo.{HasNoClaim}
 
 -- The batches that were found, in order: those that the payloads are the bytes of, as `IsJournal` pins them.
@@ -38,12 +38,12 @@ pub record IsFound (start : Tables) (f : Found) : Type 0 where
 -- Shown by: table_tests test_journal.rt: each_file_is_a_journal_or_refused.
 abbrev pub IsDamagedIn : Tables → List DiskCall → ℕ → ℕ → Type 0
 IsDamagedIn start calls place byte = (first file : List ℕ) → AreAnswers first calls → file_of first calls ≡ Some file →
-    (batches : List Batch) × IsDamagedJournal file first_gate start batches place byte
+    IsDamagedFile start file place byte
 
--- What a read gives has more than nine bytes, and another header.
+-- What a read gives is no file of records.
 -- Shown by: table_tests test_journal.rt: each_file_is_a_journal_or_refused.
 abbrev pub IsNotOurs : List DiskCall → Type 0
-IsNotOurs calls = (first file : List ℕ) → AreAnswers first calls → file_of first calls ≡ Some file → (9 < length file) × (take 8 file ≡ header → ⊥)
+IsNotOurs calls = (first file : List ℕ) → AreAnswers first calls → file_of first calls ≡ Some file → IsOtherFile file
 
 -- The cause of a fault in what a read gives.
 -- Shown by: proofs alone.

@@ -3,14 +3,14 @@ use Rattle.std.specs.Prelude.{◌≡◌, ℕ, ◌^◌, ◌<◌, ◌≤◌, List,
 use Rattle.router_disk.specs.declared.fault.Failed.{Failed}
 use Rattle.record_file.specs.declared.kind.FileKind.{FileKind}
 use Rattle.record_file.specs.declared.kind.FileKind.TheVariants as kinds
-use Rattle.record_file.specs.Records.{header}
+use Rattle.record_file.specs.Records.{header, IsOtherFile}
 
 -- A file of at most nine bytes was never begun; a longer one has the header, or is not a file of records.
 -- Shown by: proofs alone.
 abbrev pub IsKind : List ℕ → FileKind → Type 0
 IsKind file kinds.Empty = length file ≤ 9
 IsKind file (kinds.Records size) = (size ≡ length file) × (9 < length file) × (length file < 2 ^ 63) × (take 8 file ≡ header)
-IsKind file kinds.NotOurs = (9 < length file) × (take 8 file ≡ header → ⊥)
+IsKind file kinds.NotOurs = IsOtherFile file
 IsKind file kinds.Failed = ⊤
 
 -- The outcome of a look for the disk's count of faults.

@@ -56,6 +56,11 @@ IsHeaded at file payloads = (take 8 file ≡ header) × AreFrom at file payloads
 abbrev pub IsFileOf : List ℕ → List (List ℕ) → Type 0
 IsFileOf file payloads = ((length file ≤ 9) × (payloads ≡ [])) ⊎ IsHeaded first_gate file payloads
 
+-- The file is no file of records: it has more than nine bytes, and another header.
+-- Shown by: table_tests test_journal.rt: each_file_is_a_journal_or_refused.
+abbrev pub IsOtherFile : List ℕ → Type 0
+IsOtherFile file = (9 < length file) × (take 8 file ≡ header → ⊥)
+
 -- What follows an open gate begins with no payload, its length before it and a gate after it.
 -- Shown by: a_record_without_a_gate_after_it.edit.
 abbrev pub HasNoRecord : List ℕ → Type 0
