@@ -213,7 +213,8 @@ fn say<E: Sink>(faults: &mut E, text: &str)
 fn report<E: Sink>(faults: &mut E, status: Status)
     ensures { IsReported status (E.wrote faults.old) (E.wrote faults.new) (E.faults faults.old) (E.faults faults.new) }
 {
-    let _ = faults.write_all(status.line());
+    let text = status.line();
+    let _ = faults.write_all(text.as_slice());
 }
 
 /// One session over a new book and a link of the host. The hall has one pass.

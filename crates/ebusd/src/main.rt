@@ -46,7 +46,7 @@ fn words(rt: &HostRuntime) -> io::Result<Option<Vec<String>>> {
 /// Reports an argument that is not UTF-8.
 fn refuse(rt: &HostRuntime) -> Status {
     let _ = rt.stderr().write_all(b"ebusd: an argument is not UTF-8\n");
-    let _ = rt.stderr().write_all(Status::Usage.line());
+    let _ = rt.stderr().write_all(Status::Usage.line().as_slice());
     Status::Usage
 }
 

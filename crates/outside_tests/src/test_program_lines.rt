@@ -1,6 +1,6 @@
 //! The lines that the program prints, and its workers. The rows are worked by hand. No clause says that the two writers succeed if memory
 //! is available.
-use program_lines::{Summary, fitting_workers, listening_line, summary_text};
+use program_lines::{Status, Summary, fitting_workers, listening_line, summary_text};
 use std::alloc::Global;
 use std::test::Fail;
 use test_rows::{all_met, two};
@@ -78,4 +78,27 @@ fn the_summary_has_its_lines(rt: HostRuntime) -> Result<(), Fail> {
         GREATEST_TEXT
     );
     Ok(())
+}
+
+/// The place of a record, the byte of its gate, and the line that reports that a journal is damaged there.
+const DAMAGED: &str = "1|8|ebusd: journal damaged at record 1, byte 8
+2|33|ebusd: journal damaged at record 2, byte 33
+18446744073709551615|18446744073709551615|ebusd: journal damaged at record 18446744073709551615, byte 18446744073709551615
+";
+
+/// The status 6 has this line, with a line feed.
+fn is_reported(_alloc: Global, row: &str) -> Result<bool, Fail> {
+    let (place, rest) = two(row);
+    let (byte, wanted) = two(rest);
+    let place = place.parse::<u64>()?;
+    let byte = byte.parse::<u64>()?;
+    let status = Status::Damaged { place, byte };
+    let line = status.line();
+    let text = str::from_utf8(line.as_slice())?;
+    Ok((status.code() == 6) & (text.trim_end() == wanted) & (text.len() == wanted.len() + 1))
+}
+
+#[test]
+fn a_damaged_journal_is_reported(rt: HostRuntime) -> Result<(), Fail> {
+    all_met(rt.alloc(), DAMAGED, 3, is_reported)
 }

@@ -2,9 +2,11 @@
 #![tactic(auto)]
 
 mod files;
+mod line;
 mod printed;
 mod status;
 
 pub use files::fitting_workers;
+pub use line::Line;
 pub use printed::{Summary, listening_line, summary_text};
 pub use status::Status;
