@@ -100,7 +100,7 @@ IsSoundJournal calls j = IsSound calls j.file × (payloads_of j.file ≡ map bat
 
 -- A crash at any moment of an append, or between it and the next call, leaves a journal of the batches before it, or of these and all of
 -- its own.
--- Shown by: table_tests test_journal.rt: an_append_that_stops_is_whole_or_missing.
+-- Shown by: table_tests test_journal.rt: a_crash_leaves_an_append_whole_or_missing.
 abbrev pub LeavesBothJournals : List DiskCall → List DiskCall → Tables → List Batch → List Batch → Type 0
 LeavesBothJournals old new start before more = (first : List ℕ) → AreAnswers first new → (image : List ℕ) → IsImageSince first new (length old) image →
     IsJournal image start before ⊎ IsJournal image start (before ++ more)
@@ -115,7 +115,7 @@ StayKept old new start before more result = (first : List ℕ) (found : List Bat
     (λ _. AreKept first new start found since before (before ++ more))
 
 -- What an append does, if all batches, its own too, can be recorded from these tables on. A journal that is broken makes no call.
--- Shown by: table_tests test_journal.rt: an_append_that_stops_is_whole_or_missing, an_append_has_its_bytes.
+-- Shown by: table_tests test_journal.rt: a_crash_leaves_an_append_whole_or_missing, an_append_has_its_bytes.
 pub record IsAppended {D : Type 0} (calls : D → List DiskCall) (faults : D → ℕ) (old new : Journal D) (more : List Batch) (result : Result (Unit {0}) DiskFault) : Type 0 where
   pub sound : IsSoundJournal calls new
   -- the batches are the journal's own after `Ok`

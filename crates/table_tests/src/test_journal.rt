@@ -1,15 +1,15 @@
 //! Tests of the crate `duty_journal`: files that are journals and others, and an append that stops.
-ghost use Rattle.std.specs.Prelude.{◌≡◌, ◌<◌, length, IsErr, IsTrue};
+ghost use Rattle.std.specs.Prelude.{◌≡◌, ◌<◌, [], length, IfOk};
 ghost use Rattle.record_file.specs.State.{IsSound};
-ghost use Rattle.router_disk.specs.Faults.{CountsFaults, last_count};
 
 use crate::test_duty_journal::bytes;
 use duty_journal::{Found, Journal, JournalFault, inspect};
+use memory_disk::{MemoryDisk, Tear};
 use record_file::Text;
-use router_disk::{Disk, DiskCalls, Failed};
+use router_disk::Disk;
 use std::alloc::Global;
 use std::test::Fail;
-use test_rows::{all_met, last, two};
+use test_rows::{all_met, last, three, two};
 
 /// Files, and what is found: `records|N|0`, `damaged|RECORD|BYTE`, or `other|0|0` for another header. The first one has the creation of the
 /// queue `q` at the moment 1700000000. In their order: an empty file, nine bytes, ten bytes; of the first file the last byte is missing, the
@@ -40,162 +40,51 @@ const FILES: &str =
 45424a524e4c310a010000000000000016000000006553f10000010f000000000000000100000000|damaged|1|8
 ";
 
-/// How many calls of an append are made, and how many records the file has then. The append writes the record that the first file of
-/// `FILES` has.
-const STOPS: &str = "0|0
-1|0
-2|0
-3|1
-4|1
+/// Three appends to an empty journal, each of the creation of one more queue: which call of the disk fails (0: none), how many calls were made
+/// before the crash, how it tears each write since the last sync (`old`: nothing of it is there; `new`: all; `ones`: each byte is ff;
+/// `open`: each is 1; a number: so many of its bytes are there), and how many records are found then. Opening makes the calls 1 to 4, the
+/// appends 5 to 8, 9 to 12 and 13 to 16: the records are written, synced, the gate is opened, synced.
+const CRASHES: &str = "0|5|old|0
+0|5|new|0
+0|5|ones|0
+0|5|open|0
+0|5|1|0
+0|5|24|0
+0|6|old|0
+0|6|ones|0
+0|7|old|0
+0|7|new|1
+0|7|ones|0
+0|7|open|1
+0|8|old|1
+0|8|ones|1
+0|9|new|1
+0|9|open|1
+0|12|old|2
+0|16|ones|3
+13|13|old|2
+13|13|new|2
+13|13|ones|2
+13|13|open|2
+14|13|open|2
+14|14|old|2
+14|14|new|2
+14|14|ones|2
+14|14|open|2
+14|14|9|2
+15|15|old|2
+15|15|new|3
+16|14|open|2
+16|15|old|2
+16|15|new|3
+16|16|old|2
+16|16|new|3
+16|16|ones|2
+16|16|open|3
 ";
 
 /// A file without a record.
 const BEGUN: [u8; 9] = *b"EBJRNL1\n\0";
-
-/// A file in memory. After so many calls each further one fails.
-#[derive(Drop)]
-struct FileInMemory {
-    bytes: Vec<u8>,
-    calls: DiskCalls,
-    faults: u64,
-    left: u32,
-}
-
-impl FileInMemory {
-    ghost use Rattle.std.specs.Prelude.{[]};
-
-    fn new(bytes: Vec<u8>, left: u32) -> FileInMemory
-        ensures { result.calls ≡ [] }
-    {
-        FileInMemory {
-            bytes,
-            calls: DiskCalls::new(),
-            faults: 0,
-            left,
-        }
-    }
-}
-
-impl Disk for FileInMemory {
-    ghost calls = { λ d. d.calls };
-
-    ghost faults = { λ d. d.faults };
-
-    fn faults(&self) -> u64 {
-        self.faults
-    }
-
-    fn size(&mut self) -> Result<u64, Failed> {
-        let answer = if is_over(&mut self.left, self.faults) {
-            Err(Failed)
-        } else {
-            Ok(self.bytes.len() as u64)
-        };
-        self.calls.size(answer);
-        counted(&mut self.faults, answer)
-    }
-
-    fn read(&mut self, at: u64, into: &mut [u8]) -> Result<(), Failed> {
-        let answer = if is_over(&mut self.left, self.faults) {
-            Err(Failed)
-        } else {
-            copy_out(&self.bytes, at, into)
-        };
-        self.calls.read(at, into, answer);
-        counted(&mut self.faults, answer)
-    }
-
-    fn write_at(&mut self, at: u64, bytes: &[u8]) -> Result<(), Failed> {
-        let answer = if is_over(&mut self.left, self.faults) {
-            Err(Failed)
-        } else {
-            overwrite(&mut self.bytes, at, bytes)
-        };
-        self.calls.write_at(at, bytes, answer);
-        counted(&mut self.faults, answer)
-    }
-
-    fn cut(&mut self, len: u64) -> Result<(), Failed> {
-        let answer = if is_over(&mut self.left, self.faults) {
-            Err(Failed)
-        } else {
-            shorten(&mut self.bytes, len)
-        };
-        self.calls.cut(len, answer);
-        counted(&mut self.faults, answer)
-    }
-
-    fn sync(&mut self) -> Result<(), Failed> {
-        let answer = if is_over(&mut self.left, self.faults) {
-            Err(Failed)
-        } else {
-            Ok(())
-        };
-        self.calls.sync(answer);
-        counted(&mut self.faults, answer)
-    }
-}
-
-/// Whether the calls are used up. One of them is used.
-fn is_over(left: &mut u32, faults: u64) -> bool
-    ensures { faults ≡ last_count → IsTrue result }
-{
-    if faults == u64::MAX {
-        return true;
-    }
-    if *left == 0 {
-        return true;
-    }
-    *left -= 1;
-    false
-}
-
-fn counted<T>(faults: &mut u64, answer: Result<T, Failed>) -> Result<T, Failed>
-    requires { faults.old ≡ last_count → IsErr answer }
-    ensures same { result ≡ answer }
-    ensures count { CountsFaults faults.old faults.new answer }
-{
-    match answer {
-        Ok(value) => Ok(value),
-        Err(Failed) => {
-            *faults = faults.saturating_add(1);
-            Err(Failed)
-        }
-    }
-}
-
-fn copy_out(bytes: &[u8], at: u64, into: &mut [u8]) -> Result<(), Failed> {
-    let len = bytes.len() as u64;
-    if at > len || into.len() as u64 > len - at {
-        return Err(Failed);
-    }
-    let from = at as usize;
-    into.copy_from_slice(&bytes[from..from + into.len()]);
-    Ok(())
-}
-
-/// Writes within the file or at its end.
-fn overwrite(bytes: &mut Vec<u8>, at: u64, new: &[u8]) -> Result<(), Failed> {
-    let len = bytes.len() as u64;
-    if at > len {
-        return Err(Failed);
-    }
-    let from = at as usize;
-    let kept = (bytes.len() - from).min(new.len());
-    bytes[from..from + kept].copy_from_slice(&new[..kept]);
-    match bytes.extend_from_slice(&new[kept..]) {
-        Ok(()) => Ok(()),
-        Err(_) => Err(Failed),
-    }
-}
-
-fn shorten(bytes: &mut Vec<u8>, len: u64) -> Result<(), Failed> {
-    if len > bytes.len() as u64 {
-        return Err(Failed);
-    }
-    bytes.truncate(len as usize);
-    Ok(())
-}
 
 /// Whether this is found, or refused so.
 fn is_so(found: &Result<Found, JournalFault>, word: &str, first: u64, second: u64) -> bool {
@@ -225,13 +114,22 @@ fn parts(alloc: Global, row: &str) -> Result<(Vec<u8>, &str, u64, u64), Fail> {
     Ok((file, word, first.parse::<u64>()?, second.parse::<u64>()?))
 }
 
+/// A disk with this file.
+fn disk_of(alloc: Global, file: &[u8]) -> Result<MemoryDisk, Fail>
+    ensures { IfOk result (λ disk. disk.calls ≡ []) }
+{
+    match MemoryDisk::new(alloc, file, Vec::new(alloc)) {
+        Ok(disk) => Ok(disk),
+        Err(_) => Err(Fail::new("out of memory")),
+    }
+}
+
 /// The file is read so, and is not changed.
 fn is_inspected(alloc: Global, row: &str) -> Result<bool, Fail> {
     let (file, word, first, second) = parts(alloc, row)?;
-    let before = file.to_vec(alloc)?;
-    let mut disk = FileInMemory::new(file, u32::MAX);
+    let mut disk = disk_of(alloc, &file)?;
     let found = inspect(alloc, &mut disk);
-    Ok(is_so(&found, word, first, second) & (disk.bytes.as_slice() == before.as_slice()))
+    Ok(is_so(&found, word, first, second) & (disk.bytes() == file.as_slice()))
 }
 
 #[test]
@@ -240,8 +138,10 @@ fn each_file_is_a_journal_or_refused(rt: HostRuntime) -> Result<(), Fail> {
 }
 
 /// Opens the journal on the disk.
-fn opened(alloc: Global, bytes: Vec<u8>) -> (FileInMemory, Result<Found, JournalFault>) {
-    match Journal::recover(alloc, FileInMemory::new(bytes, u32::MAX)) {
+fn opened(alloc: Global, disk: MemoryDisk) -> (MemoryDisk, Result<Found, JournalFault>)
+    requires { disk.calls ≡ [] }
+{
+    match Journal::recover(alloc, disk) {
         Ok((journal, found)) => (journal.into_disk(), Ok(found)),
         Err((fault, disk)) => (disk, Err(fault)),
     }
@@ -250,12 +150,11 @@ fn opened(alloc: Global, bytes: Vec<u8>) -> (FileInMemory, Result<Found, Journal
 /// The file is opened so. It is not changed, but one of at most nine bytes is begun.
 fn is_opened(alloc: Global, row: &str) -> Result<bool, Fail> {
     let (file, word, first, second) = parts(alloc, row)?;
-    let before = file.to_vec(alloc)?;
-    let (disk, found) = opened(alloc, file);
-    let is_kept = if before.len() <= 9 {
-        disk.bytes.as_slice() == BEGUN.as_slice()
+    let (disk, found) = opened(alloc, disk_of(alloc, &file)?);
+    let is_kept = if file.len() <= 9 {
+        disk.bytes() == BEGUN.as_slice()
     } else {
-        disk.bytes.as_slice() == before.as_slice()
+        disk.bytes() == file.as_slice()
     };
     Ok(is_so(&found, word, first, second) & is_kept)
 }
@@ -265,53 +164,121 @@ fn a_journal_is_opened_as_it_is_read(rt: HostRuntime) -> Result<(), Fail> {
     all_met(rt.alloc(), FILES, 21, is_opened)
 }
 
-/// The file after an append to an empty journal of which so many calls were made. Opening makes four.
-fn stopped(alloc: Global, calls: u32) -> Result<Vec<u8>, Fail> {
-    let payload = bytes(alloc, "000000006553f1000001090000000171")?;
+/// The payload of the batch that creates a queue.
+fn creation(alloc: Global, queue: &str) -> Result<Text, Fail>
+    ensures { IfOk result (λ text. 0 < length text) }
+{
+    let payload = bytes(alloc, queue)?;
     let mut text = Text::new(alloc);
     match text.add(payload.as_slice()) {
-        Ok(()) => after(alloc, calls, &text),
+        Ok(()) => Ok(text),
         Err(_) => Err(Fail::new("out of memory")),
     }
 }
 
-fn after(alloc: Global, calls: u32, text: &Text) -> Result<Vec<u8>, Fail>
-    requires some { 0 < length text.now }
+/// A disk whose call of this number fails; 0: none.
+fn failing(alloc: Global, call: usize) -> Result<MemoryDisk, Fail>
+    ensures { IfOk result (λ disk. disk.calls ≡ []) }
 {
-    let disk = FileInMemory::new(Vec::new(alloc), calls.saturating_add(4));
+    let mut plan = Vec::new(alloc);
+    plan.resize(call.saturating_sub(1), false)?;
+    plan.push(true)?;
+    if call == 0 {
+        plan.clear();
+    }
+    match MemoryDisk::new(alloc, &[], plan) {
+        Ok(disk) => Ok(disk),
+        Err(_) => Err(Fail::new("out of memory")),
+    }
+}
+
+/// The disk after three appends to an empty journal, whose call of this number fails.
+fn appended(alloc: Global, call: usize) -> Result<MemoryDisk, Fail> {
+    let disk = failing(alloc, call)?;
+    let first = creation(alloc, "000000006553f1000001090000000171")?;
+    let second = creation(alloc, "000000006553f1000001090000000172")?;
+    let third = creation(alloc, "000000006553f1000001090000000173")?;
     match Journal::recover(alloc, disk) {
-        Ok((journal, _found)) => appended(alloc, journal, text),
+        Ok((journal, _found)) => Ok(appended_all(journal, &first, &second, &third)),
         Err((_fault, _disk)) => Err(Fail::new("it is not opened")),
     }
 }
 
-fn appended(alloc: Global, mut journal: Journal<FileInMemory>, text: &Text) -> Result<Vec<u8>, Fail>
-    requires some { 0 < length text.now }
-    requires sound { IsSound ⟦<FileInMemory as Disk>⟧.calls journal.file }
+fn appended_all(
+    mut journal: Journal<MemoryDisk>,
+    first: &Text,
+    second: &Text,
+    third: &Text,
+) -> MemoryDisk
+    requires first { 0 < length first.now }
+    requires second { 0 < length second.now }
+    requires third { 0 < length third.now }
+    requires sound { IsSound ⟦<MemoryDisk as Disk>⟧.calls journal.file }
 {
-    let _done = journal.file.append(text.bytes(), text.payloads());
-    let disk = journal.into_disk();
-    Ok(disk.bytes.to_vec(alloc)?)
+    let _first = journal.file.append(first.bytes(), first.payloads());
+    let _second = journal.file.append(second.bytes(), second.payloads());
+    let _third = journal.file.append(third.bytes(), third.payloads());
+    journal.into_disk()
 }
 
+/// How a crash tears each write, by the word of a row.
+fn tear(word: &str) -> Result<Tear, Fail> {
+    Ok(match word {
+        "old" => Tear {
+            front: 0,
+            rest: None,
+        },
+        "new" => Tear {
+            front: usize::MAX,
+            rest: None,
+        },
+        "ones" => Tear {
+            front: 0,
+            rest: Some(255),
+        },
+        "open" => Tear {
+            front: 0,
+            rest: Some(1),
+        },
+        front => Tear {
+            front: front.parse::<usize>()?,
+            rest: None,
+        },
+    })
+}
+
+/// What a crash leaves is read with so many records.
 fn is_found_after(alloc: Global, row: &str) -> Result<bool, Fail> {
-    let (calls, records) = two(row);
-    let file = stopped(alloc, calls.parse::<u32>()?)?;
-    let mut disk = FileInMemory::new(file, u32::MAX);
+    let (row, records) = last(row);
+    let (call, calls, word) = three(row);
+    let disk = appended(alloc, call.parse::<usize>()?)?;
+    match disk.image(calls.parse::<usize>()?, tear(word)?) {
+        Some(image) => has_records(alloc, &image, records),
+        None => Err(Fail::new("there are fewer calls")),
+    }
+}
+
+fn has_records(alloc: Global, file: &[u8], records: &str) -> Result<bool, Fail> {
+    let mut disk = disk_of(alloc, file)?;
     let found = inspect(alloc, &mut disk);
     Ok(is_so(&found, "records", records.parse::<u64>()?, 0))
 }
 
 #[test]
-fn an_append_that_stops_is_whole_or_missing(rt: HostRuntime) -> Result<(), Fail> {
-    all_met(rt.alloc(), STOPS, 5, is_found_after)
+fn a_crash_leaves_an_append_whole_or_missing(rt: HostRuntime) -> Result<(), Fail> {
+    all_met(rt.alloc(), CRASHES, 37, is_found_after)
 }
 
-/// The whole append makes the first file.
+/// The first append makes the first file of `FILES`.
 #[test]
 fn an_append_has_its_bytes(rt: HostRuntime) -> Result<(), Fail> {
     let alloc = rt.alloc();
-    let file = stopped(alloc, 4)?;
+    let disk = appended(alloc, 0)?;
+    let whole = Tear {
+        front: 0,
+        rest: None,
+    };
+    let file = disk.image(8, whole).expect(&rt, "an image");
     let wanted = bytes(
         alloc,
         "45424a524e4c310a010000000000000010000000006553f100000109000000017100",
