@@ -15,4 +15,6 @@ mod test_duty_journal;
 #[cfg(test)]
 mod test_journal;
 #[cfg(test)]
+mod test_journal_check;
+#[cfg(test)]
 mod test_rule_table;

@@ -1,0 +1,6 @@
+//! The file of a journal is read, and what it holds is printed.
+#![tactic(auto)]
+
+mod journal;
+
+pub use journal::check;
