@@ -5,6 +5,11 @@ use Rattle.std.specs.Str.{bytes_eq}
 use Rattle.archive_keep.specs.declared.event_ref.KeptEvent.{KeptEvent}
 use Rattle.archive_keep.specs.Archive.{Archive, with_event, with_days, purged, expired_at}
 
+-- The greatest number of archives.
+-- Shown by: proofs alone.
+abbrev pub most_archives : ℕ
+most_archives = 100
+
 -- The name of an archive.
 -- Shown by: proofs alone.
 abbrev pub name_of : Archive → List ℕ

@@ -83,7 +83,7 @@ impl Archive {
         join(&mut self.events, event);
     }
 
-    /// The events that are retained at the moment, oldest first. Visits those that are not.
+    /// The events that are retained at the moment, oldest first. Each event that is not costs a step.
     pub fn retained(&self, moment: u64) -> Iter<'_, EventRef>
         ensures events { result ≡ spec.retained_at moment self.now }
         ensures in_order { AreInOrder (spec.retained_at moment self.now) }
@@ -92,8 +92,8 @@ impl Archive {
         skip(&self.events, count)
     }
 
-    /// The number of the events that are retained at the moment, and the bytes of their texts. Visits the events that are
-    /// not retained alone.
+    /// The number of the events that are retained at the moment, and the bytes of their texts. Each event that is not
+    /// retained costs a step, and no other event does.
     pub fn counts(&self, moment: u64) -> (u64, u128)
         ensures events { result.0 ≡ length (spec.retained_at moment self.now) }
         ensures bytes { result.1 ≡ spec.size_of (spec.retained_at moment self.now) }
@@ -110,8 +110,8 @@ impl Archive {
         self.events.len() as u64
     }
 
-    /// Drops the events that are not retained at the moment, and returns them, oldest first. Visits these alone, and frees
-    /// nothing.
+    /// Drops the events that are not retained at the moment, and returns them, oldest first. Each of them costs a step, and
+    /// no other event does. Frees nothing.
     pub fn purge(&mut self, moment: u64) -> LinkedList<EventRef>
         ensures left { self.new ≡ spec.purged moment self.old }
         ensures gone { result ≡ spec.expired_at moment self.old }

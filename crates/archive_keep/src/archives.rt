@@ -5,7 +5,7 @@ ghost use Rattle.name_rows.specs.Rows.{AreSorted, named, placed, without};
 ghost use Rattle.name_rows.specs.Place.{IsHere, IsBefore};
 ghost use Rattle.archive_keep.specs.declared.event_ref.KeptEvent.{KeptEvent};
 ghost use Rattle.archive_keep.specs.Kept.{IsLater};
-ghost use Rattle.archive_keep.specs.Archive.{KeepsUntil};
+ghost use Rattle.archive_keep.specs.Archive.{Archive as Kept, KeepsUntil};
 ghost use Rattle.archive_keep.specs.Archives as spec;
 
 use crate::archive::Archive;
@@ -31,13 +31,13 @@ impl Model for Archives {
     ghost use Rattle.std.specs.Prelude.{◌≤◌, List, All, vec_capacity};
     ghost use Rattle.name_rows.specs.Rows.{AreSorted};
     ghost use Rattle.archive_keep.specs.Archive.{Archive as View, KeepsUntil};
-    ghost use Rattle.archive_keep.specs.Archives.{name_of};
+    ghost use Rattle.archive_keep.specs.Archives.{most_archives, name_of};
 
     ghost Value = { List View };
 
     ghost view = { λ a. a.rows.items };
 
-    ghost invariant = { λ a. AreSorted name_of a.rows.items × (100 ≤ vec_capacity a.rows)
+    ghost invariant = { λ a. AreSorted name_of a.rows.items × (most_archives ≤ vec_capacity a.rows)
         × All (KeepsUntil a.next_expiry) a.rows.items };
 }
 
@@ -76,7 +76,7 @@ impl Archives {
     /// Adds the archive, which keeps nothing yet, unless there is one with its name.
     pub fn create(&mut self, archive: Archive)
         requires empty { archive.events ≡ [] }
-        requires room { length self.old < 100 }
+        requires room { length self.old < spec.most_archives }
         ensures { self.new ≡ placed spec.name_of spec.keeping archive self.old }
     {
         match place_of(&self.rows, archive.name()) {
@@ -104,7 +104,7 @@ impl Archives {
     /// The archive of this name keeps the event of the list, which has one; without such an archive the event is dropped.
     pub fn keep(&mut self, name: &str, event: LinkedList<EventRef>)
         requires one { length event ≡ 1 }
-        requires later { (e : KeptEvent) → event ≡ e ∷ [] → All (λ a. All (λ o. IsLater o e) a.events) self.old }
+        requires later { (e : KeptEvent) (a : Kept) → event ≡ e ∷ [] → named spec.name_of name.now self.old ≡ Some a → All (λ o. IsLater o e) a.events }
         requires room { All (λ a. length a.events + 1 < 2 ^ 63) self.old }
         ensures { (e : KeptEvent) → event ≡ e ∷ [] → self.new ≡ spec.kept_in name.now e self.old }
     {

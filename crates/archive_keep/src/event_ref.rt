@@ -50,7 +50,7 @@ impl EventRef {
         })
     }
 
-    /// Another pointer to the same event. Allocates nothing. An `Err` means that no more pointers can be counted.
+    /// Another pointer to the same event. Allocates nothing.
     pub fn share(&self) -> Result<EventRef, NoMemory>
         ensures { IfOk result (λ event. event ≡ self.now) }
     {

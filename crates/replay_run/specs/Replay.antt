@@ -10,23 +10,23 @@ use Rattle.replay_run.specs.declared.state.ReplayState.TheVariants.{Running, Com
 pub record Replay : Type 0 where
   pub left : List KeptEvent
   pub selected : ℕ
-  pub stepped : ℕ
+  pub repeated : ℕ
   pub last : Option ℕ
   pub cancelled : Bool
 
 -- A replay at its start.
 -- Shown by: archive_tests test_replay_run.rt: replays_repeat_their_selections.
-abbrev pub started : List KeptEvent → Replay
-started selection = record { left = selection; selected = length selection; stepped = 0; last = None; cancelled = false }
+abbrev pub new_replay : List KeptEvent → Replay
+new_replay selection = record { left = selection; selected = length selection; repeated = 0; last = None; cancelled = false }
 
 -- `Cancelled` after a cancellation; else `Completed` if all that was selected was repeated, at once if nothing was; else `Running`.
 -- Shown by: archive_tests test_replay_run.rt: replays_repeat_their_selections.
-abbrev pub state_of : Replay → ReplayState
-state_of r = if r.cancelled then Cancelled else (if r.stepped == r.selected then Completed else Running)
+abbrev pub replay_state : Replay → ReplayState
+replay_state r = if r.cancelled then Cancelled else (if r.repeated == r.selected then Completed else Running)
 
 -- the replay after it repeated this event, with these left
 abbrev pub after_event : KeptEvent → List KeptEvent → Replay → Replay
-after_event e rest r = record r { left = rest; stepped = r.stepped + 1; last = Some e.time }
+after_event e rest r = record r { left = rest; repeated = r.repeated + 1; last = Some e.time }
 
 abbrev pub advanced_by : List KeptEvent → Replay → Replay
 advanced_by [] r = r
@@ -42,25 +42,25 @@ advanced r = advanced_by r.left r
 abbrev pub after_cancellation : Replay → Replay
 after_cancellation r = record r { left = []; cancelled = true }
 
--- What is done with a replay: a step, or a cancellation.
+-- What is done with a replay: its next event is repeated, or it is cancelled.
 -- Shown by: law steps_are_a_front_of_the_selection.
-pub data Act : Type 0 where
-  steps : Act
-  cancels : Act
+pub data ReplayAct : Type 0 where
+  repeats : ReplayAct
+  cancels : ReplayAct
 
 -- the replay after an act in this state: nothing changes unless it is running
-abbrev pub after_act_in : ReplayState → Act → Replay → Replay
-after_act_in Running steps r = advanced r
+abbrev pub after_act_in : ReplayState → ReplayAct → Replay → Replay
+after_act_in Running repeats r = advanced r
 after_act_in Running cancels r = after_cancellation r
 after_act_in Completed act r = r
 after_act_in Cancelled act r = r
 
-abbrev pub after_act : Act → Replay → Replay
-after_act act r = after_act_in (state_of r) act r
+abbrev pub after_act : ReplayAct → Replay → Replay
+after_act act r = after_act_in (replay_state r) act r
 
 -- The replay after acts.
 -- Shown by: law steps_are_a_front_of_the_selection.
-abbrev pub after_acts : List Act → Replay → Replay
+abbrev pub after_acts : List ReplayAct → Replay → Replay
 after_acts [] r = r
 after_acts (act ∷ acts) r = after_acts acts (after_act act r)
 
@@ -70,23 +70,23 @@ first_of_these [] = []
 first_of_these (e ∷ es) = e ∷ []
 
 -- the event that an act repeats, in this state
-abbrev pub event_of_in : ReplayState → Act → Replay → List KeptEvent
-event_of_in Running steps r = first_of_these r.left
+abbrev pub event_of_in : ReplayState → ReplayAct → Replay → List KeptEvent
+event_of_in Running repeats r = first_of_these r.left
 event_of_in Running cancels r = []
 event_of_in Completed act r = []
 event_of_in Cancelled act r = []
 
 -- The events that acts repeat, in order.
 -- Shown by: law steps_are_a_front_of_the_selection.
-abbrev pub events_in : List Act → Replay → List KeptEvent
+abbrev pub events_in : List ReplayAct → Replay → List KeptEvent
 events_in [] r = []
-events_in (act ∷ acts) r = event_of_in (state_of r) act r ++ events_in acts (after_act act r)
+events_in (act ∷ acts) r = event_of_in (replay_state r) act r ++ events_in acts (after_act act r)
 
 -- for private clauses: unless it was cancelled, a replay has left what it has not repeated; it is cancelled before it is completed, and has
 -- nothing left then
 abbrev pub IsSoundIf : Bool → Replay → Type 0
-IsSoundIf true r = (r.left ≡ []) × (r.stepped < r.selected)
-IsSoundIf false r = length r.left + r.stepped ≡ r.selected
+IsSoundIf true r = (r.left ≡ []) × (r.repeated < r.selected)
+IsSoundIf false r = length r.left + r.repeated ≡ r.selected
 
 abbrev pub IsSound : Replay → Type 0
 IsSound r = IsSoundIf r.cancelled r

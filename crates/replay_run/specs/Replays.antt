@@ -1,8 +1,7 @@
--- All replays: which are running, which have ended, and which one a name means. This project's own rules.
-use Rattle.std.specs.Prelude.{◌≡◌, ℕ, ◌+◌, ◌<◌, ◌≤◌, ◌≢◌, Bool, true, false, if◌then◌else◌, List, [], ◌∷◌, ◌++◌, length, Option, Some, None, All}
+-- All replays, as one list in the order of their starts. This project's own rules.
+use Rattle.std.specs.Prelude.{◌≡◌, ◌==◌, ℕ, ◌+◌, Bool, true, false, not, if◌then◌else◌, List, [], ◌∷◌, ◌++◌, length, map, filter, Option, Some, None, All}
 use Rattle.std.specs.Str.{bytes_eq}
 use Rattle.name_rows.specs.Rows as rows
-use Rattle.key_tree.specs.Entries.{placed, value_at, AllKeys}
 use Rattle.archive_keep.specs.Archive.{Archive}
 use Rattle.replay_run.specs.declared.settings.ReplaySettings.{ReplaySettings}
 use Rattle.replay_run.specs.declared.row.ReplayRow.{ReplayRow}
@@ -10,21 +9,17 @@ use Rattle.replay_run.specs.declared.row.NumberedName.{NumberedName}
 use Rattle.replay_run.specs.declared.state.ReplayState.{ReplayState}
 use Rattle.replay_run.specs.declared.state.ReplayState.TheVariants.{Running, Completed, Cancelled}
 use Rattle.replay_run.specs.Selection.{selection_of}
-use Rattle.replay_run.specs.Replay.{started, state_of, advanced, after_cancellation}
+use Rattle.replay_run.specs.Replay.{new_replay, replay_state, advanced, after_cancellation}
 
--- The running replays, in the order of their starts; the ended ones, by the number of their start; the number of the last start of each
--- name; and the number of all starts.
--- Shown by: the_last_started_is_stepped_first.edit.
-pub record Replays : Type 0 where
-  pub running : List ReplayRow
-  pub ended : List (ℕ × ReplayRow)
-  pub numbers : List NumberedName
-  pub starts : ℕ
-
--- No replay.
+-- The greatest number of replays that run at once.
 -- Shown by: proofs alone.
-abbrev pub no_replays : Replays
-no_replays = record { running = []; ended = []; numbers = []; starts = 0 }
+abbrev pub most_running : ℕ
+most_running = 10
+
+-- The name of a replay.
+-- Shown by: proofs alone.
+abbrev pub name_of : ReplayRow → List ℕ
+name_of row = row.settings.name
 
 abbrev pub is_running_state : ReplayState → Bool
 is_running_state Running = true
@@ -32,140 +27,138 @@ is_running_state Completed = false
 is_running_state Cancelled = false
 
 -- The replay is running.
--- Shown by: the_last_started_is_stepped_first.edit.
+-- Shown by: a_completed_replay_still_runs.edit.
 abbrev pub is_running : ReplayRow → Bool
-is_running row = is_running_state (state_of row.replay)
+is_running row = is_running_state (replay_state row.replay)
 
--- The name of a replay.
+-- The replays that are running, in the order of their starts. The first of them is stepped next.
+-- Shown by: the_last_started_is_stepped_first.edit.
+abbrev pub running : List ReplayRow → List ReplayRow
+running all = filter is_running all
+
+-- The replay of a name. No two replays have one name.
 -- Shown by: proofs alone.
-abbrev pub name_of : ReplayRow → List ℕ
-name_of row = row.settings.name
+abbrev pub found : List ℕ → List ReplayRow → Option ReplayRow
+found name all = rows.named name_of name all
 
+abbrev pub if_running : Option ReplayRow → Option ReplayRow
+if_running None = None
+if_running (Some row) = if is_running row then Some row else None
+
+-- The replay of a name, if it is running.
+-- Shown by: proofs alone.
+abbrev pub running_named : List ℕ → List ReplayRow → Option ReplayRow
+running_named name all = if_running (found name all)
+
+-- The number of the next start. The first one is 1.
+-- Shown by: proofs alone.
+abbrev pub next_number : List ReplayRow → ℕ
+next_number all = length all + 1
+
+-- The replay at a moment that changed it: if it is not running, this is the moment of its end.
+-- Shown by: proofs alone.
+abbrev pub changed_at : ℕ → ReplayRow → ReplayRow
+changed_at moment row = if is_running row then row else record row { ended_at = Some moment }
+
+-- A replay at its start: it has this number, and selects of the archive what its settings say. If it selects nothing, it has ended.
+-- Shown by: proofs alone.
+abbrev pub first_row : Archive → ReplaySettings → ℕ → ReplayRow
+first_row archive settings number = changed_at settings.started_at (record {
+  number = number;
+  settings = settings;
+  replay = new_replay (selection_of settings.range settings.started_at archive);
+  ended_at = None;
+})
+
+-- A replay after a step at this moment. Only a running one changes.
+-- Shown by: a_step_is_not_counted.edit.
+abbrev pub stepped_at : ℕ → ReplayRow → ReplayRow
+stepped_at moment row = if is_running row then changed_at moment (record row { replay = advanced row.replay }) else row
+
+-- A replay after a cancellation at this moment. Only a running one changes.
+-- Shown by: a_cancellation_ends_later.edit.
+abbrev pub cancelled_at : ℕ → ReplayRow → ReplayRow
+cancelled_at moment row = if is_running row then changed_at moment (record row { replay = after_cancellation row.replay }) else row
+
+-- The replays with this change of the one of this name. Unchanged if there is none.
+-- Shown by: proofs alone.
+abbrev pub changed_named : List ℕ → (ReplayRow → ReplayRow) → List ReplayRow → List ReplayRow
+changed_named name change [] = []
+changed_named name change (row ∷ others) = if bytes_eq (name_of row) name then change row ∷ others else row ∷ changed_named name change others
+
+-- The replays after a step of the one of this name, at this moment.
+-- Shown by: the_last_started_is_stepped_first.edit.
+abbrev pub stepped_in : List ℕ → ℕ → List ReplayRow → List ReplayRow
+stepped_in name moment all = changed_named name (stepped_at moment) all
+
+-- The replays after a cancellation of the one of this name, at this moment.
+-- Shown by: a_cancellation_ends_later.edit.
+abbrev pub cancelled_in : List ℕ → ℕ → List ReplayRow → List ReplayRow
+cancelled_in name moment all = changed_named name (cancelled_at moment) all
+
+abbrev pub numbered : ReplayRow → NumberedName
+numbered row = record { name = name_of row; number = row.number }
+
+-- The name and the number of a replay, if there is one.
+-- Shown by: proofs alone.
+abbrev pub numbered_if : Option ReplayRow → Option NumberedName
+numbered_if None = None
+numbered_if (Some row) = Some (numbered row)
+
+-- The name in a row of names.
+-- Shown by: proofs alone.
 abbrev pub number_name : NumberedName → List ℕ
 number_name row = row.name
 
--- The replay at its start: it has this number, and selects of the archive what its settings say.
+abbrev pub with_name : ReplayRow → List NumberedName → List NumberedName
+with_name row names = rows.placed number_name rows.replacing (numbered row) names
+
+abbrev pub names_after : List NumberedName → List ReplayRow → List NumberedName
+names_after names [] = names
+names_after names (row ∷ later) = names_after (with_name row names) later
+
+-- The names of all replays with their numbers, in the byte order of the names.
 -- Shown by: proofs alone.
-abbrev pub first_row : Archive → ReplaySettings → ℕ → ReplayRow
-first_row archive settings number = record {
-  number = number;
-  settings = settings;
-  replay = started (selection_of settings.range settings.started archive);
-  ended = None;
-}
+abbrev pub names_of : List ReplayRow → List NumberedName
+names_of all = names_after [] all
 
--- The numbers of names, with this one for this name.
--- Shown by: proofs alone.
-abbrev pub with_number : List ℕ → ℕ → List NumberedName → List NumberedName
-with_number name number numbers = rows.placed number_name rows.replacing (record { name = name; number = number }) numbers
+-- for private clauses: the rows of entries, which a tree has by number
+abbrev pub row_of : ℕ × ReplayRow → ReplayRow
+row_of entry = entry.1
 
-abbrev pub stepped_row : ReplayRow → ReplayRow
-stepped_row row = record row { replay = advanced row.replay }
+abbrev pub rows_in : List (ℕ × ReplayRow) → List ReplayRow
+rows_in entries = map row_of entries
 
-abbrev pub ended_row : ℕ → ReplayRow → ReplayRow
-ended_row moment row = record row { ended = Some moment }
+-- the entries have the numbers of their rows, counted from this one
+abbrev pub AreCounted : ℕ → List (ℕ × ReplayRow) → Type 0
+AreCounted n [] = Unit {0}
+AreCounted n (entry ∷ others) = (entry.0 ≡ n) × (entry.1.number ≡ n) × AreCounted (n + 1) others
 
-abbrev pub cancelled_row : ℕ → ReplayRow → ReplayRow
-cancelled_row moment row = record row { replay = after_cancellation row.replay; ended = Some moment }
+-- no two rows have one name
+abbrev pub HaveOwnNames : List ReplayRow → Type 0
+HaveOwnNames [] = Unit {0}
+HaveOwnNames (row ∷ others) = All (λ other. bytes_eq (name_of other) (name_of row) ≡ false) others × HaveOwnNames others
 
--- The rows with this one in place of the first of its name.
--- Shown by: proofs alone.
-abbrev pub replaced : List ℕ → ReplayRow → List ReplayRow → List ReplayRow
-replaced name new [] = []
-replaced name new (row ∷ others) = if bytes_eq (name_of row) name then new ∷ others else row ∷ replaced name new others
+abbrev pub number_of : ReplayRow → ℕ
+number_of row = row.number
 
--- the rows without the first of this name
-abbrev pub without_first : List ℕ → List ReplayRow → List ReplayRow
-without_first name [] = []
-without_first name (row ∷ others) = if bytes_eq (name_of row) name then others else row ∷ without_first name others
+-- the numbers of the rows that are running
+abbrev pub running_numbers : List ReplayRow → List ℕ
+running_numbers all = map number_of (running all)
 
--- A replay of this name ended, and is now this row.
-abbrev pub with_ended : List ℕ → ReplayRow → Replays → Replays
-with_ended name row r = record r { running = without_first name r.running; ended = placed (row.number, row) r.ended }
+-- these are all replays, the numbers of those that are running, and all names
+pub record AreSound (entries : List (ℕ × ReplayRow)) (numbers : List ℕ) (names : List NumberedName) : Type 0 where
+  pub counted : AreCounted 1 entries
+  pub apart : HaveOwnNames (rows_in entries)
+  pub runs : numbers ≡ running_numbers (rows_in entries)
+  pub named : names ≡ names_of (rows_in entries)
 
--- The running replay of a name.
--- Shown by: the_last_started_is_stepped_first.edit.
-abbrev pub running_named : List ℕ → Replays → Option ReplayRow
-running_named name r = rows.named name_of name r.running
+-- the numbers of running replays after one of them changed, and runs on or does not
+abbrev pub numbers_after : Bool → ℕ → List ℕ → List ℕ
+numbers_after true number numbers = numbers
+numbers_after false number numbers = filter (λ other. not (other == number)) numbers
 
--- the replays after this row was started: it ends at once if it is not running
-abbrev pub started_as : Bool → ReplayRow → Replays → Replays
-started_as true row r = record {
-  running = r.running ++ row ∷ [];
-  ended = r.ended;
-  numbers = with_number (name_of row) row.number r.numbers;
-  starts = r.starts + 1;
-}
-started_as false row r = record {
-  running = r.running;
-  ended = placed (row.number, ended_row row.settings.started row) r.ended;
-  numbers = with_number (name_of row) row.number r.numbers;
-  starts = r.starts + 1;
-}
-
--- The replays after a start.
--- Shown by: proofs alone.
-abbrev pub started_with : ReplayRow → Replays → Replays
-started_with row r = started_as (is_running row) row r
-
--- the replays after a step of this row
-abbrev pub stepped_as : Bool → List ℕ → ℕ → ReplayRow → Replays → Replays
-stepped_as true name moment row r = record r { running = replaced name row r.running }
-stepped_as false name moment row r = with_ended name (ended_row moment row) r
-
-abbrev pub stepped_in : Option ReplayRow → List ℕ → ℕ → Replays → Replays
-stepped_in None name moment r = r
-stepped_in (Some row) name moment r = stepped_as (is_running (stepped_row row)) name moment (stepped_row row) r
-
--- The replays after a step of the running replay of a name, at this moment. If it completes the replay, the replay ends.
--- Shown by: the_last_started_is_stepped_first.edit.
-abbrev pub stepped : List ℕ → ℕ → Replays → Replays
-stepped name moment r = stepped_in (running_named name r) name moment r
-
-abbrev pub cancelled_as : Option ReplayRow → List ℕ → ℕ → Replays → Replays
-cancelled_as None name moment r = r
-cancelled_as (Some row) name moment r = with_ended name (cancelled_row moment row) r
-
--- The replays after the running replay of a name was cancelled, at this moment.
--- Shown by: proofs alone.
-abbrev pub cancelled_in : List ℕ → ℕ → Replays → Replays
-cancelled_in name moment r = cancelled_as (running_named name r) name moment r
-
-abbrev pub ended_as : Option NumberedName → Replays → Option ReplayRow
-ended_as None r = None
-ended_as (Some found) r = value_at found.number r.ended
-
-abbrev pub found_as : Option ReplayRow → List ℕ → Replays → Option ReplayRow
-found_as None name r = ended_as (rows.named number_name name r.numbers) r
-found_as (Some row) name r = Some row
-
--- The replay of a name that started last: the running one, if there is one, and else the ended one.
--- Shown by: proofs alone.
-abbrev pub found : List ℕ → Replays → Option ReplayRow
-found name r = found_as (running_named name r) name r
-
--- for private clauses: running replays are running, in the order of their starts, and no ended one has the number of one; no number is above
--- that of the starts
-abbrev pub AreApart : List ReplayRow → List (ℕ × ReplayRow) → Type 0
-AreApart [] ended = Unit {0}
-AreApart (row ∷ others) ended = AllKeys (λ key. key ≢ row.number) ended × All (λ (o : ReplayRow). row.number < o.number) others × AreApart others ended
-
-pub record AreSound (r : Replays) : Type 0 where
-  pub running : All (λ row. is_running row ≡ true) r.running
-  pub apart : AreApart r.running r.ended
-  pub few : All (λ (row : ReplayRow). row.number ≤ r.starts) r.running
-  pub few_ended : AllKeys (λ key. key ≤ r.starts) r.ended
-
--- for private clauses: the row at this index is the first of the name
-pub record IsFirstAt (name : List ℕ) (all : List ReplayRow) (place : ℕ) : Type 0 where
-  pub front : List ReplayRow
-  pub here : ReplayRow
-  pub back : List ReplayRow
-  pub parts : all ≡ front ++ here ∷ back
-  pub at : length front ≡ place
-  pub others : All (λ row. bytes_eq (name_of row) name ≡ false) front
-  pub same : bytes_eq (name_of here) name ≡ true
-
-abbrev pub IsPlaceOf : List ℕ → List ReplayRow → Option ℕ → Type 0
-IsPlaceOf name all None = All (λ row. bytes_eq (name_of row) name ≡ false) all
-IsPlaceOf name all (Some place) = IsFirstAt name all place
+-- the numbers of running replays after one started, and runs or does not
+abbrev pub numbers_with : Bool → ℕ → List ℕ → List ℕ
+numbers_with true number numbers = numbers ++ number ∷ []
+numbers_with false number numbers = numbers

@@ -6,7 +6,7 @@ ghost use Rattle.archive_keep.specs.Archive.{Archive};
 ghost use Rattle.archive_keep.specs.Kept.{AreInOrder};
 ghost use Rattle.replay_run.specs.declared.selection.TimeRange.{TimeRange};
 ghost use Rattle.replay_run.specs.Selection.{AreByTimeAndNumber, chosen_of, selection_of};
-ghost use Rattle.replay_run.specs.Replay.{Act, after_acts, events_in, started, state_of};
+ghost use Rattle.replay_run.specs.Replay.{ReplayAct, after_acts, events_in, new_replay, replay_state};
 
 use crate::state::ReplayState;
 
@@ -19,8 +19,8 @@ pub fn a_selection_is_in_order()
 /// Whatever is done with a replay, the events that it repeats are, in order, a first part of its selection. They are all of it exactly
 /// if it is completed.
 pub fn steps_are_a_front_of_the_selection()
-    ensures front { (selection : List KeptEvent) (acts : List Act)
-        → (rest : List KeptEvent) × (selection ≡ events_in acts (started selection) ++ rest) }
-    ensures all { (selection : List KeptEvent) (acts : List Act)
-        → (events_in acts (started selection) ≡ selection) ↔ (state_of (after_acts acts (started selection)) ≡ ReplayState.Completed) }
+    ensures front { (selection : List KeptEvent) (acts : List ReplayAct)
+        → (rest : List KeptEvent) × (selection ≡ events_in acts (new_replay selection) ++ rest) }
+    ensures all { (selection : List KeptEvent) (acts : List ReplayAct)
+        → (events_in acts (new_replay selection) ≡ selection) ↔ (replay_state (after_acts acts (new_replay selection)) ≡ ReplayState.Completed) }
 {}

@@ -11,8 +11,8 @@ mod state;
 
 pub use laws::{a_selection_is_in_order, steps_are_a_front_of_the_selection};
 pub use replay::{Replay, Rest};
-pub use replays::{MOST_RUNNING, NewReplay, Replays, Stepped};
-pub use row::{NumberedName, ReplayRow};
+pub use replays::{MOST_RUNNING, NewReplay, Replays};
+pub use row::{NumberedName, ReplayRow, Stepped};
 pub use selection::TimeRange;
 pub use settings::{ReplaySettings, RuleNames};
 pub use state::{IllegalStatus, ReplayState};

@@ -18,7 +18,7 @@ pub struct Replay {
     /// The events that are left, the next one last.
     left: Vec<EventRef>,
     selected: u64,
-    stepped: u64,
+    repeated: u64,
     last: Option<u64>,
     cancelled: bool,
 }
@@ -32,7 +32,7 @@ impl Model for Replay {
     ghost view = { λ r. record {
       left = reverse r.left.items;
       selected = r.selected;
-      stepped = r.stepped;
+      repeated = r.repeated;
       last = r.last;
       cancelled = r.cancelled;
     } };
@@ -40,7 +40,7 @@ impl Model for Replay {
     ghost invariant = { λ r. IsSound (record {
       left = reverse r.left.items;
       selected = r.selected;
-      stepped = r.stepped;
+      repeated = r.repeated;
       last = r.last;
       cancelled = r.cancelled;
     }) };
@@ -70,7 +70,7 @@ impl Replay {
         range: TimeRange,
         moment: u64,
     ) -> Result<Replay, NoMemory>
-        ensures { IfOk result (λ r. r ≡ spec.started (selection_of range moment archive.now)) }
+        ensures { IfOk result (λ r. r ≡ spec.new_replay (selection_of range moment archive.now)) }
     {
         let mut left = selection(alloc, archive, range, moment)?;
         left.reverse();
@@ -78,18 +78,18 @@ impl Replay {
         Ok(Replay {
             left,
             selected,
-            stepped: 0,
+            repeated: 0,
             last: None,
             cancelled: false,
         })
     }
 
     pub fn state(&self) -> ReplayState
-        ensures { result ≡ spec.state_of self.now }
+        ensures { result ≡ spec.replay_state self.now }
     {
         if self.cancelled {
             ReplayState::Cancelled
-        } else if self.stepped == self.selected {
+        } else if self.repeated == self.selected {
             ReplayState::Completed
         } else {
             ReplayState::Running
@@ -102,8 +102,8 @@ impl Replay {
             (self.now.left ≡ [])
             (λ e. (rest : List KeptEvent) × (self.now.left ≡ e.now ∷ rest)) }
         ensures running { MatchOption result
-            (spec.state_of self.now ≢ ReplayState.Running)
-            (λ _. spec.state_of self.now ≡ ReplayState.Running) }
+            (spec.replay_state self.now ≢ ReplayState.Running)
+            (λ _. spec.replay_state self.now ≡ ReplayState.Running) }
     {
         self.left.last()
     }
@@ -124,13 +124,13 @@ impl Replay {
 
     /// Goes on to the event after the next one, and returns the latter.
     pub fn advance(&mut self) -> EventRef
-        requires { spec.state_of self.old ≡ ReplayState.Running }
+        requires { spec.replay_state self.old ≡ ReplayState.Running }
         ensures event { (rest : List KeptEvent) × (self.old.left ≡ result ∷ rest) }
         ensures advanced { self.new ≡ spec.advanced self.old }
     {
         match self.left.pop() {
             Some(event) => {
-                self.stepped += 1;
+                self.repeated += 1;
                 self.last = Some(event.time());
                 event
             }
@@ -155,8 +155,8 @@ impl Replay {
     /// Ends the replay, and returns what it has not repeated. An `Err` changes nothing.
     pub fn cancel(&mut self) -> Result<Rest, IllegalStatus>
         ensures cancelled { MatchResult result
-            (λ rest. (spec.state_of self.old ≡ ReplayState.Running) × (rest ≡ self.old.left) × (self.new ≡ spec.after_cancellation self.old))
-            (λ _. (spec.state_of self.old ≢ ReplayState.Running) × (self.new ≡ self.old)) }
+            (λ rest. (spec.replay_state self.old ≡ ReplayState.Running) × (rest ≡ self.old.left) × (self.new ≡ spec.after_cancellation self.old))
+            (λ _. (spec.replay_state self.old ≢ ReplayState.Running) × (self.new ≡ self.old)) }
     {
         match self.state() {
             ReplayState::Running => {

@@ -1,15 +1,15 @@
 //! Replays among all replays.
-ghost use Rattle.std.specs.Prelude.{◌≡◌, ◌∷◌, [], List, Some, None, IsTrue, ◌↔◌};
+ghost use Rattle.std.specs.Prelude.{◌≡◌, ◌∷◌, [], List, Some, None, true, IfOk};
 ghost use Rattle.archive_keep.specs.declared.event_ref.KeptEvent.{KeptEvent};
-ghost use Rattle.replay_run.specs.Replay.{state_of};
 ghost use Rattle.replay_run.specs.Replays as spec;
 
 use crate::replay::{Replay, Rest};
 use crate::settings::ReplaySettings;
 use crate::state::ReplayState;
-use archive_keep::EventRef;
-use json_text::Text;
+use archive_keep::{Archive, EventRef};
+use json_text::{NoMemory, Text};
 use name_rows::Row;
+use std::alloc::Global;
 
 /// A replay, with the number of its start among all starts, from 1.
 #[derive(Debug, Drop)]
@@ -18,17 +18,46 @@ pub struct ReplayRow {
     pub settings: ReplaySettings,
     pub replay: Replay,
     /// The moment of its end.
-    pub ended: Option<u64>,
+    pub ended_at: Option<u64>,
+}
+
+/// What a step did.
+#[derive(Drop)]
+pub struct Stepped {
+    pub event: EventRef,
+    /// The memory of the replay's list, if the step completed it.
+    pub rest: Option<Rest>,
 }
 
 impl ReplayRow {
+    /// A replay of the archive, at its start.
+    pub(crate) fn start(
+        alloc: Global,
+        archive: &Archive,
+        settings: ReplaySettings,
+        number: u64,
+    ) -> Result<ReplayRow, NoMemory>
+        ensures { IfOk result (λ row. row ≡ spec.first_row archive.now settings number) }
+    {
+        let started_at = settings.started_at;
+        let replay = Replay::start(alloc, archive, settings.range, started_at)?;
+        let mut row = ReplayRow {
+            number,
+            settings,
+            replay,
+            ended_at: None,
+        };
+        row.note_end(started_at);
+        Ok(row)
+    }
+
     pub fn name(&self) -> &str
         ensures { result.now ≡ self.now.settings.name }
     {
         self.settings.name.as_str()
     }
 
-    pub(crate) fn is_running(&self) -> bool
+    pub fn is_running(&self) -> bool
         ensures { result ≡ spec.is_running self.now }
     {
         match self.replay.state() {
@@ -38,45 +67,48 @@ impl ReplayRow {
         }
     }
 
+    /// Notes the moment of the end, if the replay is not running.
+    fn note_end(&mut self, moment: u64)
+        ensures { self.new ≡ spec.changed_at moment self.old }
+    {
+        if !self.is_running() {
+            self.ended_at = Some(moment);
+        }
+    }
+
     /// Repeats the next event.
-    pub(crate) fn step(&mut self) -> EventRef
-        requires { state_of self.old.replay ≡ ReplayState.Running }
-        ensures event { (rest : List KeptEvent) × (self.old.replay.left ≡ result ∷ rest) }
-        ensures row { self.new ≡ spec.stepped_row self.old }
+    pub(crate) fn step(&mut self, moment: u64) -> Stepped
+        requires { spec.is_running self.old ≡ true }
+        ensures event { (rest : List KeptEvent) × (self.old.replay.left ≡ result.event ∷ rest) }
+        ensures row { self.new ≡ spec.stepped_at moment self.old }
     {
-        self.replay.advance()
+        let event = self.replay.advance();
+        self.note_end(moment);
+        let rest = if self.is_running() {
+            None
+        } else {
+            Some(self.replay.take_rest())
+        };
+        Stepped { event, rest }
     }
 
-    /// Notes the end of a replay that is completed, and returns the memory of its list.
-    pub(crate) fn end(&mut self, moment: u64) -> Rest
-        ensures { self.new ≡ spec.ended_row moment self.old }
-    {
-        self.ended = Some(moment);
-        self.replay.take_rest()
-    }
-
-    /// Notes that the replay ended at its start.
-    pub(crate) fn note_end(&mut self)
-        ensures { self.new ≡ spec.ended_row self.old.settings.started self.old }
-    {
-        self.ended = Some(self.settings.started);
-    }
-
-    /// Cancels a running replay, and returns what it has not repeated.
+    /// Cancels the replay, and returns what it has not repeated.
     pub(crate) fn cancel(&mut self, moment: u64) -> Rest
-        requires { state_of self.old.replay ≡ ReplayState.Running }
+        requires { spec.is_running self.old ≡ true }
         ensures rest { result ≡ self.old.replay.left }
-        ensures row { self.new ≡ spec.cancelled_row moment self.old }
+        ensures row { self.new ≡ spec.cancelled_at moment self.old }
     {
-        self.ended = Some(moment);
         match self.replay.cancel() {
-            Ok(rest) => rest,
+            Ok(rest) => {
+                self.note_end(moment);
+                rest
+            }
             Err(_) => unreachable!(),
         }
     }
 }
 
-/// The number of the last start of a name.
+/// The name of a replay with its number.
 #[derive(Debug, Drop)]
 pub struct NumberedName {
     pub name: Text,

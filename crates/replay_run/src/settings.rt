@@ -5,7 +5,7 @@ use crate::selection::TimeRange;
 use json_text::Text;
 use std::marker::Model;
 
-/// What a replay was asked for, and the moment of its start.
+/// What a replay was asked for.
 #[derive(Debug, Drop)]
 pub struct ReplaySettings {
     pub name: Text,
@@ -16,7 +16,8 @@ pub struct ReplaySettings {
     pub range: TimeRange,
     /// The rules that see the events; without a filter all do.
     pub rules: Option<RuleNames>,
-    pub started: u64,
+    /// The moment of the start.
+    pub started_at: u64,
 }
 
 /// The names of rules, in the order in which they were given. No name is a filter that no rule passes.

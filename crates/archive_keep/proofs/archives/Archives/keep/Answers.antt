@@ -1,12 +1,11 @@
-use Rattle.std.proofs.Common.{sym, subst, ap, ◌∙◌, arith, slice_index_or}
-use Rattle.std.specs.Prelude.{All}
-use Rattle.name_rows.specs.Rows.{AreSorted}
+use Rattle.std.proofs.Common.{Some, sym, subst, ap, ◌∙◌, arith, slice_index_or}
+use Rattle.name_rows.specs.Rows.{AreSorted, named}
 use Rattle.name_rows.specs.Place.{IsHere, IsBefore}
-use Rattle.archive_keep.specs.Kept.{IsLater}
+use Rattle.name_rows.proofs.RowLemmas.{named_here}
 use Rattle.archive_keep.specs.Archive.{Archive, with_event, KeepsUntil}
 use Rattle.archive_keep.specs.Archives.{name_of, changed_named}
 use Rattle.archive_keep.proofs.KeptLemmas.{single}
-use Rattle.archive_keep.proofs.RowLemmas.{place_within, sorted_set, set_changed, changed_none, none_named, at_set}
+use Rattle.archive_keep.proofs.RowLemmas.{here_is, place_within, sorted_set, set_changed, changed_none, none_named, at_set}
 use Rattle.archive_keep.proofs.PurgeLemmas.{until_set}
 use Rattle.archive_keep.proofs.archives.Archives.keep.Goals as goal
 
@@ -14,9 +13,10 @@ pub keep-requires-clause-later : goal.keep-requires-clause-later
 keep-requires-clause-later c = λ e is.
     let rows = c.self.inside.rows.items in
     let here = subst (λ rs. IsHere name_of c.args.name.now rs c.in-Ok.at) c.deref.ensures.value c.in-Ok.ensures in
-    let all = subst (λ rs. All (λ (a : Archive). All (λ o. IsLater o e) a.events) rs) (sym c.self.view_is) (c.requires.later e is) in
-    subst (λ (a : Archive). All (λ o. IsLater o e) a.events) (sym c.index_mut.ensures.value)
-    (all c.in-Ok.at c.index_mut.result.now (place_within c.args.name.now rows c.in-Ok.at here))
+    let archive = c.index_mut.result.now in
+    let named_so = named_here name_of c.args.name.now rows c.in-Ok.at here
+    ∙ ap (λ (a : Archive). Some a) (sym (here_is c.args.name.now rows c.in-Ok.at archive here c.index_mut.ensures.value)) in
+    c.requires.later e archive is (ap (named name_of c.args.name.now) (sym c.self.view_is) ∙ named_so)
 
 pub invariant_of-self : goal.invariant_of-self
 invariant_of-self c =

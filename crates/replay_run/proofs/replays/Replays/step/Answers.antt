@@ -1,118 +1,102 @@
-use Rattle.std.proofs.Common.{◌≡◌, true, false, None, sym, subst, ap, ◌∙◌, arith, rules}
-use Rattle.key_tree.specs.Entries.{placed, value_at}
+use Rattle.std.proofs.Common.{◌≡◌, Some, None, true, sym, ap, ◌∙◌, subst, rules}
+use Rattle.key_tree.specs.Entries.{placed, without}
 use Rattle.replay_run.specs.declared.row.ReplayRow.{ReplayRow}
-use Rattle.replay_run.specs.Replays.{Replays, running_named, stepped, ended_row, is_running, IsFirstAt, IsPlaceOf}
-use Rattle.replay_run.proofs.ReplaysLemmas.{named_first, named_nowhere, here_is, removed_is, inserted_is, number_free, sound_replaced, sound_ended, stepped_on, stepped_off, stepped_none}
+use Rattle.replay_run.specs.Replays.{running_named, is_running, name_of, numbers_after, stepped_in, stepped_at}
+use Rattle.replay_run.proofs.ReplaysLemmas.{stepped_kept, not_stepped, picked, picked_there, rows_after, sound_after, length_after, gone_key}
 use Rattle.replay_run.proofs.replays.Replays.step.Goals as goal
+
+pub step-stepped-requires : goal.step-stepped-requires
+step-stepped-requires c =
+    let es = c.self.inside.all in
+    let name = c.args.name.now in
+    let numbers = c.self.inside.running.items in
+    let (row, named_so, number) = c.in-Some.ensures in
+    let inner = ap (running_named name) c.self.view_is ∙ named_so in
+    let keyed : c.from.result ≡ c.in-Some.number = search rules in
+    let key = keyed ∙ sym number in
+    let node = c.in-Some-remove.node in
+    let p = picked name es numbers c.self.inside.names c.from.result row node c.self.invariant.2 inner key c.in-Some-remove.ensures.found in
+    subst (λ (r : ReplayRow). is_running r ≡ true) (sym c.value_mut.ensures.value) p.runs
+
+pub insert-requires : goal.insert-requires
+insert-requires c =
+    let again : c.from-in-Some-remove.result ≡ c.from.result = search rules in
+    record { new_key = gone_key c.from.result c.from-in-Some-remove.result c.self.inside.all c.remove.new.self again c.in-Some-remove.ensures.left }
 
 pub invariant_of-self : goal.invariant_of-self
 invariant_of-self c =
+    let es = c.self.inside.all in
     let name = c.args.name.now in
-    let at = c.in-Some.at in
-    let r : Replays = record { running = c.self.inside.running.items; ended = c.self.inside.ended; numbers = c.self.inside.numbers; starts = c.self.inside.starts } in
-    let h = subst (λ rs. IsFirstAt name rs at) c.deref.ensures.value c.in-Some.ensures in
-    let num = λ (x : ReplayRow). x.number in
-    let node_is = c.value_mut.ensures.value ∙ here_is name r.running at c.remove-node.result h c.remove-node.ensures.value in
-    let left = removed_is name r.running c.remove-node.new.self.items at h c.remove-node.ensures.by_index.2 in
-    let runs : is_running c.step-event.new.self ≡ true = ap is_running (sym c.value.ensures) ∙ sym c.is_running.ensures ∙ c.if-is_running.true in (
-      omega (arith, c.insert.ensures.capacity, c.remove-node.ensures.capacity, c.self.invariant.0),
-      sound_replaced r name at c.step-event.new.self c.insert.new.self.items h c.self.invariant.1 (ap num c.step-event.ensures.row ∙ ap num node_is) runs
-          (inserted_is name r.running c.remove-node.new.self.items c.insert.new.self.items at c.step-event.new.self h left c.in-Ok.ensures.items),
+    let numbers = c.self.inside.running.items in
+    let (row, named_so, number) = c.in-Some.ensures in
+    let inner = ap (running_named name) c.self.view_is ∙ named_so in
+    let keyed : c.from.result ≡ c.in-Some.number = search rules in
+    let key = keyed ∙ sym number in
+    let node = c.in-Some-remove.node in
+    let p = picked name es numbers c.self.inside.names c.from.result row node c.self.invariant.2 inner key c.in-Some-remove.ensures.found in
+    let again : c.from-in-Some-remove.result ≡ c.from.result = search rules in
+    let new = c.step-stepped.new.self in
+    let made : new ≡ stepped_at c.args.moment node = c.step-stepped.ensures.row ∙ ap (stepped_at c.args.moment) c.value_mut.ensures.value in
+    let kept = stepped_kept c.args.moment node in
+    let put : c.insert.new.self ≡ placed (c.from-in-Some-remove.result, new) (without c.from.result es) =
+    c.insert.ensures ∙ ap (placed (c.from-in-Some-remove.result, new)) c.in-Some-remove.ensures.left in
+    let runs : c.note_change.new.running.items ≡ numbers_after (is_running new) c.from.result numbers =
+    c.note_change.ensures.numbers ∙ ap (λ b. numbers_after b c.in-Some.number numbers) (c.is_running.ensures ∙ ap is_running c.value.ensures)
+    ∙ ap (λ n. numbers_after (is_running new) n numbers) (sym keyed) in (
+      c.note_change.ensures.capacity,
+      c.self.invariant.1 ∙ sym (length_after name es c.insert.new.self c.from.result c.from-in-Some-remove.result node new c.self.invariant.2.counted p again put),
+      sound_after name es c.insert.new.self numbers c.note_change.new.running.items c.self.inside.names c.from.result c.from-in-Some-remove.result node new
+          c.self.invariant.2 p again put runs (ap (λ (r : ReplayRow). r.number) made ∙ kept.0) (ap name_of made ∙ kept.1),
     )
 
-pub returns-in-Ok-clause-stepped : goal.returns-in-Ok-clause-stepped
-returns-in-Ok-clause-stepped c =
+pub unreachable-requires : goal.unreachable-requires
+unreachable-requires c =
+    let es = c.self.inside.all in
     let name = c.args.name.now in
-    let at = c.in-Some.at in
-    let r : Replays = record { running = c.self.inside.running.items; ended = c.self.inside.ended; numbers = c.self.inside.numbers; starts = c.self.inside.starts } in
-    let h = subst (λ rs. IsFirstAt name rs at) c.deref.ensures.value c.in-Some.ensures in
-    let node_is = c.value_mut.ensures.value ∙ here_is name r.running at c.remove-node.result h c.remove-node.ensures.value in
-    let left = removed_is name r.running c.remove-node.new.self.items at h c.remove-node.ensures.by_index.2 in
-    let runs : is_running c.step-event.new.self ≡ true = ap is_running (sym c.value.ensures) ∙ sym c.is_running.ensures ∙ c.if-is_running.true in
-    stepped_on r name c.args.moment at c.value_mut.result.now c.step-event.new.self c.insert.new.self.items h node_is c.step-event.ensures.row runs
-    (inserted_is name r.running c.remove-node.new.self.items c.insert.new.self.items at c.step-event.new.self h left c.in-Ok.ensures.items)
-    ∙ ap (stepped name c.args.moment) c.self.view_is
+    let (row, named_so, number) = c.in-Some.ensures in
+    let inner = ap (running_named name) c.self.view_is ∙ named_so in
+    let keyed : c.from.result ≡ c.in-Some.number = search rules in
+    let there = picked_there name es c.self.inside.running.items c.self.inside.names c.from.result row c.self.invariant.2 inner (keyed ∙ sym number) in
+    let never : None ≡ Some row = sym c.in-None-remove.ensures.found ∙ there in
+    absurd (cc)
 
-pub returns-in-Ok-clause-event : goal.returns-in-Ok-clause-event
-returns-in-Ok-clause-event c =
+pub returns-in-Some-remove-clause-stepped : goal.returns-in-Some-remove-clause-stepped
+returns-in-Some-remove-clause-stepped c =
+    let es = c.self.inside.all in
     let name = c.args.name.now in
-    let at = c.in-Some.at in
-    let running = c.self.inside.running.items in
-    let h = subst (λ rs. IsFirstAt name rs at) c.deref.ensures.value c.in-Some.ensures in
-    let node_is = c.value_mut.ensures.value ∙ here_is name running at c.remove-node.result h c.remove-node.ensures.value in
-    let (rest, event) = c.step-event.ensures.event in (
-      h.here,
+    let numbers = c.self.inside.running.items in
+    let (row, named_so, number) = c.in-Some.ensures in
+    let inner = ap (running_named name) c.self.view_is ∙ named_so in
+    let keyed : c.from.result ≡ c.in-Some.number = search rules in
+    let key = keyed ∙ sym number in
+    let node = c.in-Some-remove.node in
+    let p = picked name es numbers c.self.inside.names c.from.result row node c.self.invariant.2 inner key c.in-Some-remove.ensures.found in
+    let again : c.from-in-Some-remove.result ≡ c.from.result = search rules in
+    let new = c.step-stepped.new.self in
+    let made : new ≡ stepped_at c.args.moment node = c.step-stepped.ensures.row ∙ ap (stepped_at c.args.moment) c.value_mut.ensures.value in
+    let kept = stepped_kept c.args.moment node in
+    let put : c.insert.new.self ≡ placed (c.from-in-Some-remove.result, new) (without c.from.result es) =
+    c.insert.ensures ∙ ap (placed (c.from-in-Some-remove.result, new)) c.in-Some-remove.ensures.left in
+    rows_after name es c.insert.new.self c.from.result c.from-in-Some-remove.result node new (stepped_at c.args.moment) c.self.invariant.2.counted p again made put
+    ∙ ap (stepped_in name c.args.moment) c.self.view_is
+
+pub returns-in-Some-remove-clause-event : goal.returns-in-Some-remove-clause-event
+returns-in-Some-remove-clause-event c =
+    let es = c.self.inside.all in
+    let name = c.args.name.now in
+    let numbers = c.self.inside.running.items in
+    let (row, named_so, number) = c.in-Some.ensures in
+    let inner = ap (running_named name) c.self.view_is ∙ named_so in
+    let keyed : c.from.result ≡ c.in-Some.number = search rules in
+    let key = keyed ∙ sym number in
+    let node = c.in-Some-remove.node in
+    let p = picked name es numbers c.self.inside.names c.from.result row node c.self.invariant.2 inner key c.in-Some-remove.ensures.found in
+    let (rest, event) = c.step-stepped.ensures.event in (
+      node,
       rest,
-      ap (running_named name) (sym c.self.view_is) ∙ named_first name running at h,
-      ap (λ (x : ReplayRow). x.replay.left) (sym node_is) ∙ event,
-    )
-
-pub insert-requires-else-is_running : goal.insert-requires-else-is_running
-insert-requires-else-is_running c =
-    let name = c.args.name.now in
-    let at = c.in-Some.at in
-    let r : Replays = record { running = c.self.inside.running.items; ended = c.self.inside.ended; numbers = c.self.inside.numbers; starts = c.self.inside.starts } in
-    let h = subst (λ rs. IsFirstAt name rs at) c.deref.ensures.value c.in-Some.ensures in
-    let num = λ (x : ReplayRow). x.number in
-    let keyed : c.from.result ≡ c.value-else-is_running.result.now.number = search rules in
-    let node_is = c.value_mut.ensures.value ∙ here_is name r.running at c.remove-node.result h c.remove-node.ensures.value in
-    let last_is = c.end-rest.ensures ∙ ap (ended_row c.args.moment) c.value_mut-else-is_running.ensures.value in
-    let number_is = keyed ∙ ap num c.value-else-is_running.ensures ∙ ap num last_is ∙ ap num c.step-event.ensures.row ∙ ap num node_is in
-    record { new_key = subst (λ k. value_at k c.self.inside.ended ≡ None) (sym number_is) (number_free r name at h c.self.invariant.1) }
-
-pub invariant_of-self-else-is_running : goal.invariant_of-self-else-is_running
-invariant_of-self-else-is_running c =
-    let name = c.args.name.now in
-    let at = c.in-Some.at in
-    let r : Replays = record { running = c.self.inside.running.items; ended = c.self.inside.ended; numbers = c.self.inside.numbers; starts = c.self.inside.starts } in
-    let h = subst (λ rs. IsFirstAt name rs at) c.deref.ensures.value c.in-Some.ensures in
-    let num = λ (x : ReplayRow). x.number in
-    let keyed : c.from.result ≡ c.value-else-is_running.result.now.number = search rules in
-    let node_is = c.value_mut.ensures.value ∙ here_is name r.running at c.remove-node.result h c.remove-node.ensures.value in
-    let last_is = c.end-rest.ensures ∙ ap (ended_row c.args.moment) c.value_mut-else-is_running.ensures.value in
-    let number_is = keyed ∙ ap num c.value-else-is_running.ensures ∙ ap num last_is ∙ ap num c.step-event.ensures.row ∙ ap num node_is in (
-      omega (arith, c.remove-node.ensures.capacity, c.self.invariant.0),
-      sound_ended r name at c.end-rest.new.self c.remove-node.new.self.items c.insert-else-is_running.new.self h c.self.invariant.1
-          (removed_is name r.running c.remove-node.new.self.items at h c.remove-node.ensures.by_index.2)
-          (c.insert-else-is_running.ensures ∙ ap (λ k. placed (k, c.end-rest.new.self) c.self.inside.ended) number_is),
-    )
-
-pub returns-else-is_running-clause-stepped : goal.returns-else-is_running-clause-stepped
-returns-else-is_running-clause-stepped c =
-    let name = c.args.name.now in
-    let at = c.in-Some.at in
-    let r : Replays = record { running = c.self.inside.running.items; ended = c.self.inside.ended; numbers = c.self.inside.numbers; starts = c.self.inside.starts } in
-    let h = subst (λ rs. IsFirstAt name rs at) c.deref.ensures.value c.in-Some.ensures in
-    let num = λ (x : ReplayRow). x.number in
-    let keyed : c.from.result ≡ c.value-else-is_running.result.now.number = search rules in
-    let node_is = c.value_mut.ensures.value ∙ here_is name r.running at c.remove-node.result h c.remove-node.ensures.value in
-    let done : is_running c.step-event.new.self ≡ false = ap is_running (sym c.value.ensures) ∙ sym c.is_running.ensures ∙ c.if-is_running.false in
-    let last_is = c.end-rest.ensures ∙ ap (ended_row c.args.moment) c.value_mut-else-is_running.ensures.value in
-    stepped_off r name c.args.moment at c.from.result c.value_mut.result.now c.step-event.new.self c.end-rest.new.self c.remove-node.new.self.items
-    c.insert-else-is_running.new.self h node_is c.step-event.ensures.row done last_is (keyed ∙ ap num c.value-else-is_running.ensures)
-    (removed_is name r.running c.remove-node.new.self.items at h c.remove-node.ensures.by_index.2) c.insert-else-is_running.ensures
-    ∙ ap (stepped name c.args.moment) c.self.view_is
-
-pub returns-else-is_running-clause-event : goal.returns-else-is_running-clause-event
-returns-else-is_running-clause-event c =
-    let name = c.args.name.now in
-    let at = c.in-Some.at in
-    let running = c.self.inside.running.items in
-    let h = subst (λ rs. IsFirstAt name rs at) c.deref.ensures.value c.in-Some.ensures in
-    let node_is = c.value_mut.ensures.value ∙ here_is name running at c.remove-node.result h c.remove-node.ensures.value in
-    let (rest, event) = c.step-event.ensures.event in (
-      h.here,
-      rest,
-      ap (running_named name) (sym c.self.view_is) ∙ named_first name running at h,
-      ap (λ (x : ReplayRow). x.replay.left) (sym node_is) ∙ event,
+      ap (running_named name) (sym c.self.view_is) ∙ p.found_so,
+      ap (λ (r : ReplayRow). r.replay.left) (sym c.value_mut.ensures.value) ∙ event,
     )
 
 pub returns-in-None-clause-stepped : goal.returns-in-None-clause-stepped
-returns-in-None-clause-stepped c =
-    let none = subst (λ rs. IsPlaceOf c.args.name.now rs None) (c.deref.ensures.value ∙ ap (λ (v : Replays). v.running) c.self.view_is) c.in-None.ensures in
-    stepped_none c.args.self.now c.args.name.now c.args.moment none
-
-pub returns-in-None-clause-event : goal.returns-in-None-clause-event
-returns-in-None-clause-event c =
-    let none = subst (λ rs. IsPlaceOf c.args.name.now rs None) (c.deref.ensures.value ∙ ap (λ (v : Replays). v.running) c.self.view_is) c.in-None.ensures in
-    named_nowhere c.args.name.now c.args.self.now.running none
+returns-in-None-clause-stepped c = not_stepped c.args.name.now c.args.moment c.args.self.now c.in-None.ensures
