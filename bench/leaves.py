@@ -1,7 +1,7 @@
 #!/usr/bin/env python3
 """Times the calls of the leaf crates by the proved program leaf_bench, and prints tables.
 
-    bench/leaves.py [wildcards] [ranges] [json] [events] [patterns] [reading]
+    bench/leaves.py [wildcards] [ranges] [json] [events] [numbered] [patterns] [reading]
 
 Run at the top of the repository, once `rt run` in crates/leaf_bench has built crates/leaf_bench/out/leaf_bench.
 If c++ and Debian's rapidjson-dev are installed, RapidJSON's rates are shown beside ours. Outside the gate: nothing
@@ -158,6 +158,17 @@ def events():
         row(length, round(1e6 * rounds / micros))
 
 
+def numbered():
+    table("text of an event, bytes", "decided, MB/s", "read, MB/s")
+    for lines in [0, 13, 100]:
+        detail = {"order": 12, "paid": True, "lines": [{"sku": f"sku-{i}", "count": i, "price": i * 19.95} for i in range(lines)]}
+        rounds = 20_000
+        answer, times = run("numbered", rounds, 0, json.dumps(detail).encode())
+        length, is_one = answer.split()
+        assert is_one == "true", answer
+        row(length, *[f"{rounds * int(length) / max(1, micros):.0f}" for micros in times])
+
+
 def patterns():
     table("pattern", "objects", "calls in which it holds", "one call, ns")
     for word, sizes in PATTERNS:
@@ -200,7 +211,7 @@ def main():
     if not os.path.exists(PROGRAM):
         sys.exit(f"{PROGRAM} is not built: run `rt run` in crates/leaf_bench")
     print(f"{datetime.date.today()}, {os.cpu_count()} processors, {platform.machine()}, {' '.join(sys.argv)}")
-    tables = {"wildcards": wildcards, "ranges": ranges, "json": jsons, "events": events, "patterns": patterns, "reading": reading}
+    tables = {"wildcards": wildcards, "ranges": ranges, "json": jsons, "events": events, "numbered": numbered, "patterns": patterns, "reading": reading}
     for name in sys.argv[1:] or tables:
         tables[name]()
 

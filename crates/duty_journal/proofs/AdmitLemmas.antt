@@ -1,17 +1,15 @@
--- What the checks of operations decide: `queue_is`, `queue_has`, `text_is_none`, `text_is_some`, `short_all`, `all_short`.
-use Rattle.std.proofs.Common.{◌≡◌, ℕ, ◌≤◌, true, false, leb, Bool, List, [], ◌∷◌, length, Option, Some, None, refl, sym, subst, ◌∙◌, arith}
-use Rattle.std.specs.Prelude.{All, IsTrue, MatchOption, ◌&&◌}
+-- What the checks of operations decide: `queue_is`, `queue_has`, `short_all`, `all_short`.
+use Rattle.std.proofs.Common.{◌≡◌, ℕ, ◌≤◌, true, false, leb, Bool, List, [], ◌∷◌, length, Some, refl, sym, subst, ◌∙◌, arith}
+use Rattle.std.specs.Prelude.{All, IsTrue, ◌&&◌}
 use Rattle.std.specs.List.{list_all}
 use Rattle.std.proofs.lemmas.Bool.{false≢true}
 use Rattle.std.proofs.lemmas.Bool.Decides.{nat_tests}
 use Rattle.std.proofs.lemmas.List.Elements.{All-head, All-tail, All-nil, All-cons}
 use Rattle.json_text.specs.Limits.{most_text}
-use Rattle.event_shape.specs.Event.{Event, IsEventText}
 use Rattle.event_shape.specs.Names.{IsQueueArn, queue_in}
 use Rattle.event_shape.proofs.NameLemmas.{one_queue, queue_named}
 use Rattle.delivery_duties.specs.declared.duty.NewDuty.{NewDuty}
 use Rattle.delivery_queues.specs.Queues.{Queue, has_queue}
-use Rattle.router_core.specs.Admitted.{IsTextAdmitted}
 use Rattle.duty_journal.specs.Redo.{is_short}
 
 -- the queue of an endpoint exists exactly if the one that its text names does
@@ -23,21 +21,6 @@ queue_is endpoint name queues b named is holds queue arn =
 pub queue_has : (endpoint name : List ℕ) (queues : List Queue) (b : Bool) → queue_in endpoint ≡ Some name → b ≡ has_queue name queues →
     ((queue : List ℕ) → IsQueueArn endpoint queue → has_queue queue queues ≡ true) → IsTrue b
 queue_has endpoint name queues b named is all = is ∙ all name ((queue_named endpoint name).0 named)
-
--- the event that was found is the one of the text
-pub same_event : (text bytes : List ℕ) (found : Option Event) (event : Event) → bytes ≡ text → ((e : Event) → IsEventText bytes e → found ≡ Some e) →
-    found ≡ Some event → (admitted : IsTextAdmitted text) → event ≡ admitted.event
-same_event text bytes found event same only is admitted =
-    let other : found ≡ Some admitted.event = only admitted.event (subst (λ t. IsEventText t admitted.event) (sym same) admitted.text) in cc
-
-pub text_found : (bytes : List ℕ) (found : Option Event) (event : Event) → MatchOption found ((e : Event) → IsEventText bytes e → ⊥) (λ e. IsEventText bytes e) →
-    found ≡ Some event → IsEventText bytes event
-text_found bytes found event said is = subst (λ o. MatchOption o ((e : Event) → IsEventText bytes e → ⊥) (λ e. IsEventText bytes e)) is said
-
-pub text_is_none : (text bytes : List ℕ) (found : Option Event) → bytes ≡ text → ((e : Event) → IsEventText bytes e → found ≡ Some e) → found ≡ None →
-    IsTextAdmitted text → ⊥
-text_is_none text bytes found same only none admitted =
-    let other : found ≡ Some admitted.event = only admitted.event (subst (λ t. IsEventText t admitted.event) (sym same) admitted.text) in absurd cc
 
 pub short_all : (duties : List NewDuty) → list_all is_short duties ≡ true → All (λ (d : NewDuty). length d.text ≤ most_text) duties
 short_all [] h = All-nil (λ (d : NewDuty). length d.text ≤ most_text)

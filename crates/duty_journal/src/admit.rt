@@ -20,7 +20,8 @@ ghost use Rattle.duty_journal.specs.Redo.{AreNextEvents, HasNoClaim, IsFreeDuty,
 
 use crate::fault::ReplayFault;
 use delivery_duties::{NewDuty, Outcome};
-use event_shape::{Event, is_account, is_bus_name, queue_of};
+use event_shape::{is_bus_name, queue_of};
+use event_text::is_numbered_text;
 use json_text::{NoMemory, Text};
 use router_core::{AcceptedEvent, Entry, Part, Tables};
 use rule_table::{Control, ControlFault, is_well_formed};
@@ -215,18 +216,7 @@ fn are_short(duties: &[NewDuty]) -> bool
 fn is_event_text(alloc: Global, text: &str) -> Result<bool, NoMemory>
     ensures { IfOk result (λ yes. IsTrue yes ↔ IsTextAdmitted text.now) }
 {
-    match Event::read(alloc, text.as_bytes()) {
-        Ok(found) => match found {
-            Some(event) => {
-                if event.number() == 0 {
-                    return Ok(false);
-                }
-                Ok(is_account(event.account()))
-            }
-            None => Ok(false),
-        },
-        Err(NoMemory) => Err(NoMemory),
-    }
+    is_numbered_text(alloc, text.as_bytes())
 }
 
 fn admit_attempt(

@@ -10,6 +10,8 @@ mod test_event_flatten;
 #[cfg(test)]
 mod test_event_shape;
 #[cfg(test)]
+mod test_event_text;
+#[cfg(test)]
 mod test_event_time;
 #[cfg(test)]
 mod test_pattern_meaning;

@@ -5,6 +5,7 @@
 //! - `ranges_*`: SIZE ranges, made once, and NUMBER looked up a thousand times.
 //! - `json`: standard input, read and written SIZE times; NUMBER is ignored.
 //! - `events`: SIZE events with standard input as their detail; NUMBER is ignored.
+//! - `numbered`: the text of an event with standard input as its detail, decided and read SIZE times; NUMBER is ignored.
 //! - `templates`: a template filled SIZE times from an event with standard input as its detail; NUMBER is ignored.
 //! - `holds_*`: a pattern on two events in turn, SIZE times; each event has a list of NUMBER objects.
 //! - `match_*`: an event matched NUMBER times against SIZE rules of one kind, of which ten hold for most kinds.
@@ -14,6 +15,7 @@
 
 mod automata;
 mod events;
+mod numbered;
 mod patterns;
 mod ranges;
 mod reading;
@@ -48,6 +50,7 @@ fn measure(
     match word {
         "json" => json(rt, size),
         "events" => event(rt, size),
+        "numbered" => numbered_text(rt, size),
         "templates" => template(rt, size),
         "pattern" => pattern(rt, size),
         "share" => share(rt, size, number),
@@ -76,6 +79,21 @@ fn event(rt: &(impl Print + Eprint + Input + Clock + AllocGlobal), size: u32) ->
     let figures = events::measure(rt, rt.alloc(), detail.as_str(), size)?;
     println!(rt; "{}", figures.bytes)?;
     eprintln!(rt; "{}", figures.took.as_micros())?;
+    Ok(())
+}
+
+fn numbered_text(
+    rt: &(impl Print + Eprint + Input + Clock + AllocGlobal),
+    size: u32,
+) -> Result<()> {
+    let detail = io::read_to_string(rt.alloc(), rt.reader())?;
+    let figures = numbered::measure(rt, rt.alloc(), detail.as_str(), size)?;
+    println!(rt; "{} {}", figures.bytes, figures.is_one)?;
+    eprintln!(rt;
+        "{} {}",
+        figures.decided.as_micros(),
+        figures.read.as_micros()
+    )?;
     Ok(())
 }
 
