@@ -6,6 +6,8 @@ mod rows;
 #[cfg(test)]
 mod test_bus_policy;
 #[cfg(test)]
+mod test_event_arns;
+#[cfg(test)]
 mod test_event_flatten;
 #[cfg(test)]
 mod test_event_shape;
