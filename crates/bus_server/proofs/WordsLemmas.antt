@@ -1,14 +1,15 @@
 -- Words that are not carried out. Other files cite `unread_by`, `refused_by`, `unread_command` with `unread_once`, `unread_serve` and `unread_drill` (a
--- command for which there is no memory), `no_door_unread`, `no_usage_serve`, `no_usage_drill`, `said`, `reported_last`,
+-- command for which there is no memory), `unread_check`, `no_door_unread`, `no_usage_serve`, `no_usage_drill`, `no_usage_check`, `said`, `reported_last`,
 -- `reported_alone`; `same_once` and the others of commands.
 use Rattle.std.proofs.Common.{◌≡◌, ◌≢◌, ℕ, ◌<◌, ◌≤◌, ◌⊎◌, inl, inr, Bool, List, [], ◌++◌, Option, Result, Ok, Err, refl, sym, subst, arith, append-nil}
 use Rattle.program_lines.specs.declared.status.Status.{Status}
 use Rattle.program_lines.specs.declared.status.Status.TheVariants as statuses
-use Rattle.command_line.specs.Command.{CommandView, IsCommand, once, serve, drill}
+use Rattle.command_line.specs.Command.{CommandView, IsCommand, once, serve, check, drill}
 use Rattle.command_line.specs.Fault.{AreRefused, IsFault}
 use Rattle.command_line.specs.declared.fault.WordsFault.{WordsFault}
 use Rattle.command_line.specs.declared.fault.WordsFault.TheVariants as faults
 use Rattle.command_line.proofs.FaultLemmas.{command_asks}
+use Rattle.router_disk.specs.declared.disk_call.DiskCall.{DiskCall}
 use Rattle.router_disk.specs.Faults.{CountsFaults, Rose}
 use Rattle.router_disk.specs.Link.{Exchange}
 use Rattle.router_disk.specs.Sink.{AddsBytes}
@@ -19,6 +20,7 @@ use Rattle.router_core.specs.Tables.{Tables}
 use Rattle.router_sessions.specs.declared.history.Turn.{Turn}
 use Rattle.router_sessions.specs.History.{state_of}
 use Rattle.drill_run.specs.Drill.{IsDrill}
+use Rattle.journal_check.specs.Check.{AroundDisk, HasStatus, IsCheck, around_disk}
 use Rattle.tables_summary.specs.Summary.{IsSummed}
 use Rattle.program_lines.specs.Files.{workers_for}
 use Rattle.bus_server.specs.Run.{FaultsMatch, HostMatches, IsReported, IsReportedLast, IsRun, IsUnbegun, around}
@@ -73,6 +75,12 @@ unread_serve {D} {L} {C} port workers written written_new doors doors_back links
     (around_door w doors doors_back links links_back clocks clocks_back door_faults link_faults) status) (sym same)
     (no_room port workers (around_door written doors doors_back links links_back clocks clocks_back door_faults link_faults) status is)
 
+pub unread_check : {D : Type 0} (calls : D → List DiskCall) (faults : D → ℕ) (path written written_new : List ℕ) (disks : List (List ℕ × D)) (back : List D)
+    (disk_faults : ℕ) (status : Status) → (status ≡ statuses.NoMemory) × (written_new ≡ written)
+    → IsCheck calls faults path (around_disk written disks back disk_faults) (around_disk written_new disks back disk_faults) status
+unread_check calls faults path written written_new disks back disk_faults status (is, same) =
+    inr (record { unwritten = same; none_given = refl; none_back = refl; cause = inr (is, refl) })
+
 no_usage_summed : (t : Tables) (old new : List ℕ) (status : Status) → IsSummed t old new status → status ≢ statuses.Usage
 no_usage_summed t old new status (inl (is, written)) = λ e. cc
 no_usage_summed t old new status (inr (inl (is, written))) = λ e. cc
@@ -98,6 +106,20 @@ no_usage_serve show fits did port workers connections old new status (inr unserv
 pub no_usage_drill : (seed events : ℕ) (old new : List ℕ) (status : Status) → IsDrill seed events old new status → status ≢ statuses.Usage
 no_usage_drill seed events old new status (inl (turns, drilled, one, summed)) = no_usage_summed (state_of turns).tables old new status summed
 no_usage_drill seed events old new status (inr (is, same)) = λ e. cc
+
+-- a check has no such status
+unchecked_end : (A B : Type 0) (status : Status) → ((status ≡ statuses.DiskFault) × A) ⊎ ((status ≡ statuses.NoMemory) × B)
+    → (status ≢ statuses.Usage) × (status ≢ statuses.ReadFault)
+unchecked_end A B status (inl (is, a)) = ((λ e. cc), (λ e. cc))
+unchecked_end A B status (inr (is, b)) = ((λ e. cc), (λ e. cc))
+
+pub no_usage_check : {D : Type 0} (calls : D → List DiskCall) (faults : D → ℕ) (path : List ℕ) (old new : AroundDisk D) (status : Status)
+    → IsCheck calls faults path old new status → (status ≢ statuses.Usage) × (status ≢ statuses.ReadFault)
+no_usage_check calls faults path old new status (inl checks) =
+    let Found : Status → Type 0 = λ s. HasStatus (calls checks.returned) old.written new.written s in
+    ((λ e. subst Found e checks.read.found), (λ e. subst Found e checks.read.found))
+no_usage_check calls faults path old new status (inr unchecked) =
+    unchecked_end (Rose old.disk_faults new.disk_faults) (new.disk_faults ≡ old.disk_faults) status unchecked.cause
 
 -- a text was written, or a first part of it
 pub said : {T E : Type 0} (old new : List ℕ) (result : Result T E) (bytes : List ℕ) (faults faults_new : ℕ) → AddsBytes old new result bytes
@@ -174,11 +196,23 @@ same_serve p w p2 w2 k k2 is = (cc, cc, cc)
 pub same_drill : (s e s2 e2 : ℕ) → drill s e ≡ drill s2 e2 → (s ≡ s2) × (e ≡ e2)
 same_drill s e s2 e2 is = (cc, cc)
 
+pub same_check : (a b : List ℕ) → check a ≡ check b → a ≡ b
+same_check a b is = cc
+
 pub once_serve : (a : Option ℕ) (p w : ℕ) (k : Option ℕ) → once a ≡ serve p w k → ⊥
 once_serve a p w k is = cc
 
 pub once_drill : (a : Option ℕ) (s e : ℕ) → once a ≡ drill s e → ⊥
 once_drill a s e is = cc
+
+pub once_check : (a : Option ℕ) (j : List ℕ) → once a ≡ check j → ⊥
+once_check a j is = cc
+
+pub serve_check : (p w : ℕ) (k : Option ℕ) (j : List ℕ) → serve p w k ≡ check j → ⊥
+serve_check p w k j is = cc
+
+pub check_drill : (j : List ℕ) (s e : ℕ) → check j ≡ drill s e → ⊥
+check_drill j s e is = cc
 
 pub serve_drill : (p w : ℕ) (k : Option ℕ) (s e : ℕ) → serve p w k ≡ drill s e → ⊥
 serve_drill p w k s e is = cc

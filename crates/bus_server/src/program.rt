@@ -18,6 +18,7 @@ ghost use Rattle.shared_door.specs.Shown.{shown_by};
 ghost use Rattle.session_workers.specs.Jobs.{did_by};
 ghost use Rattle.bus_server.specs.Serve.{around_door, IsServe};
 ghost use Rattle.drill_run.specs.Drill.{IsDrill};
+ghost use Rattle.journal_check.specs.Check.{IsCheck, around_disk};
 ghost use Rattle.router_sessions.specs.Visit.{IsVisit};
 ghost use Rattle.router_sessions.specs.Acts.{world};
 
@@ -25,6 +26,7 @@ use crate::serve::serve;
 use bus_host::{Clocks, Host, HostFault, NoGate};
 use command_line::{Command, WordsFault, read_command};
 use drill_run::{Moment, ONLY_CONNECTION, StillClock, drill};
+use journal_check::check;
 use json_text::NoMemory;
 use program_lines::{Status, fitting_workers};
 use router_disk::{Clock, Failed, Link, Sink, Source};
@@ -38,9 +40,10 @@ use turn_book::{Hall, Pass};
 /// Runs the program on its arguments. The first is its name. With `once` it serves one session over its input and output; after
 /// `--now S`, S is every reading of the clock, in seconds. With `serve` it serves connections to a port, each as a session of its own, by
 /// workers that each have a link and a clock of their own, with fewer workers if the process may not have as many open files (`files`)
-/// as they need. With `drill` it serves sessions over messages that it makes. Arguments are read first; then memory is allocated, then
-/// the host gives links and a door. A program that serves needs memory once more after it printed its port, and at its end. Before the
-/// line of the status, `faults` gets why words are refused, or how many workers there are if they are fewer.
+/// as they need. With `drill` it serves sessions over messages that it makes, and with `check` it reads a journal. Arguments are read first;
+/// then memory is allocated, then the host gives links and a door, or a disk. A program that serves needs memory once more after it printed
+/// its port, and at its end. Before the line of the status, `faults` gets why words are refused, or how many workers there are if they are
+/// fewer.
 pub fn run<Rt: Wait + Threads + Sync, S: Source, K: Sink, E: Sink, H: Host, C: Clocks>(
     rt: &Rt,
     alloc: Global,
@@ -66,11 +69,20 @@ pub fn run<Rt: Wait + Threads + Sync, S: Source, K: Sink, E: Sink, H: Host, C: C
     ensures drill { (seed events : ℕ) → IsCommand (map string_bytes words.now) (commands.drill seed events) → IsUntouched
         (around (S.gave input.old) (K.wrote output.old) (C.gave clock.old) (H.links_given host.old) (H.links_back host.old))
         (around (S.gave input.new) (K.wrote output.new) (C.gave clock.new) (H.links_given host.new) (H.links_back host.new))
-        × IsDrill seed events (K.wrote output.old) (K.wrote output.new) result }
+        × IsDrill seed events (K.wrote output.old) (K.wrote output.new) result × SameGiven C.clocks_given C.clocks_back clock.old clock.new }
+    ensures check { (journal : List ℕ) → IsCommand (map string_bytes words.now) (commands.check journal) → IsUntouched
+        (around (S.gave input.old) (K.wrote output.old) (C.gave clock.old) (H.links_given host.old) (H.links_back host.old))
+        (around (S.gave input.new) (K.wrote output.new) (C.gave clock.new) (H.links_given host.new) (H.links_back host.new))
+        × IsCheck H.Disk.calls H.Disk.faults journal
+        (around_disk (K.wrote output.old) (H.disks_given host.old) (H.disks_back host.old) (H.disk_faults host.old))
+        (around_disk (K.wrote output.new) (H.disks_given host.new) (H.disks_back host.new) (H.disk_faults host.new)) result
+        × ((H.door_faults host.new ≡ H.door_faults host.old) × (H.link_faults host.new ≡ H.link_faults host.old))
+        × SameGiven H.doors_given H.doors_back host.old host.new × SameGiven C.clocks_given C.clocks_back clock.old clock.new }
     ensures unread { ((c : CommandView) → ¬ IsCommand (map string_bytes words.now) c) → IsUntouched
         (around (S.gave input.old) (K.wrote output.old) (C.gave clock.old) (H.links_given host.old) (H.links_back host.old))
         (around (S.gave input.new) (K.wrote output.new) (C.gave clock.new) (H.links_given host.new) (H.links_back host.new))
-        × EndsUnread (map string_bytes words.now) (K.wrote output.old) (K.wrote output.new) result }
+        × EndsUnread (map string_bytes words.now) (K.wrote output.old) (K.wrote output.new) result
+        × SameGiven C.clocks_given C.clocks_back clock.old clock.new }
     ensures usage { result ≡ statuses.Usage → AreRefused (map string_bytes words.now) }
     ensures line { (c : CommandView) → IsLine (map string_bytes words.now) c → result ≢ statuses.Usage }
     ensures last { IsReportedLast result (E.wrote faults.old) (E.wrote faults.new) (E.faults faults.old) (E.faults faults.new) }
@@ -78,9 +90,11 @@ pub fn run<Rt: Wait + Threads + Sync, S: Source, K: Sink, E: Sink, H: Host, C: C
         → ((port workers : ℕ) (connections : Option ℕ) → ¬ IsCommand (map string_bytes words.now) (commands.serve port workers connections))
         → IsReported result (E.wrote faults.old) (E.wrote faults.new) (E.faults faults.old) (E.faults faults.new) }
     ensures counts { FaultsMatch result (S.faults input.old) (S.faults input.new) (K.faults output.old) (K.faults output.new) }
-    ensures disk { H.disk_faults host.new ≡ H.disk_faults host.old }
+    ensures disk { ((journal : List ℕ) → ¬ IsCommand (map string_bytes words.now) (commands.check journal)) → H.disk_faults host.new ≡ H.disk_faults host.old }
     ensures host { ((port workers : ℕ) (connections : Option ℕ) → ¬ IsCommand (map string_bytes words.now) (commands.serve port workers connections))
-        → HostMatches H.disk_faults H.door_faults H.link_faults result host.old host.new × SameGiven H.doors_given H.doors_back host.old host.new }
+        → ((journal : List ℕ) → ¬ IsCommand (map string_bytes words.now) (commands.check journal))
+        → HostMatches H.disk_faults H.door_faults H.link_faults result host.old host.new × SameGiven H.doors_given H.doors_back host.old host.new
+        × SameGiven H.disks_given H.disks_back host.old host.new }
 {
     match read_command(alloc, words) {
         Ok(command) => obey(
@@ -94,7 +108,7 @@ pub fn run<Rt: Wait + Threads + Sync, S: Source, K: Sink, E: Sink, H: Host, C: C
 fn obey<Rt: Wait + Threads + Sync, S: Source, K: Sink, E: Sink, H: Host, C: Clocks>(
     rt: &Rt,
     alloc: Global,
-    command: Command,
+    command: Command<'_>,
     files: u64,
     input: &mut S,
     output: &mut K,
@@ -104,10 +118,10 @@ fn obey<Rt: Wait + Threads + Sync, S: Source, K: Sink, E: Sink, H: Host, C: Cloc
 ) -> Status
     requires workers { (port workers : ℕ) (connections : Option ℕ) → command_view command ≡ commands.serve port workers connections
         → (1 ≤ workers) × (workers ≤ 1024) }
-    ensures run { (now : Option ℕ) → command_view command ≡ commands.once now → IsRun H.Link.exchanges H.Link.faults now
+    ensures run { (now : Option ℕ) → command_view command.entry ≡ commands.once now → IsRun H.Link.exchanges H.Link.faults now
         (around (S.gave input.old) (K.wrote output.old) (C.gave clock.old) (H.links_given host.old) (H.links_back host.old))
         (around (S.gave input.new) (K.wrote output.new) (C.gave clock.new) (H.links_given host.new) (H.links_back host.new)) result }
-    ensures serve { (port workers : ℕ) (connections : Option ℕ) → command_view command ≡ commands.serve port workers connections
+    ensures serve { (port workers : ℕ) (connections : Option ℕ) → command_view command.entry ≡ commands.serve port workers connections
         → (S.gave input.new ≡ S.gave input.old) × (C.gave clock.new ≡ C.gave clock.old) × IsServe (shown_by H.Door.faults H.Door.ahead H.Door.given H.Door.ended H.Door.gave H.Door.took_back H.Door.closed)
         (IsVisit H.Door.In.gave H.Door.Out.wrote H.Door.In.faults H.Door.Out.faults)
         (did_by H.Door.In.gave H.Door.Out.wrote C.Lent.gave H.Link.exchanges H.Link.faults) port (workers_for files workers) connections
@@ -115,18 +129,28 @@ fn obey<Rt: Wait + Threads + Sync, S: Source, K: Sink, E: Sink, H: Host, C: Cloc
         (C.clocks_given clock.old) (C.clocks_back clock.old) (H.door_faults host.old) (H.link_faults host.old))
         (around_door (K.wrote output.new) (H.doors_given host.new) (H.doors_back host.new) (H.links_given host.new) (H.links_back host.new)
         (C.clocks_given clock.new) (C.clocks_back clock.new) (H.door_faults host.new) (H.link_faults host.new)) result }
-    ensures drill { (seed events : ℕ) → command_view command ≡ commands.drill seed events → IsUntouched
+    ensures drill { (seed events : ℕ) → command_view command.entry ≡ commands.drill seed events → IsUntouched
         (around (S.gave input.old) (K.wrote output.old) (C.gave clock.old) (H.links_given host.old) (H.links_back host.old))
         (around (S.gave input.new) (K.wrote output.new) (C.gave clock.new) (H.links_given host.new) (H.links_back host.new))
-        × IsDrill seed events (K.wrote output.old) (K.wrote output.new) result }
+        × IsDrill seed events (K.wrote output.old) (K.wrote output.new) result × SameGiven C.clocks_given C.clocks_back clock.old clock.new }
+    ensures check { (journal : List ℕ) → command_view command.entry ≡ commands.check journal → IsUntouched
+        (around (S.gave input.old) (K.wrote output.old) (C.gave clock.old) (H.links_given host.old) (H.links_back host.old))
+        (around (S.gave input.new) (K.wrote output.new) (C.gave clock.new) (H.links_given host.new) (H.links_back host.new))
+        × IsCheck H.Disk.calls H.Disk.faults journal
+        (around_disk (K.wrote output.old) (H.disks_given host.old) (H.disks_back host.old) (H.disk_faults host.old))
+        (around_disk (K.wrote output.new) (H.disks_given host.new) (H.disks_back host.new) (H.disk_faults host.new)) result
+        × ((H.door_faults host.new ≡ H.door_faults host.old) × (H.link_faults host.new ≡ H.link_faults host.old))
+        × SameGiven H.doors_given H.doors_back host.old host.new × SameGiven C.clocks_given C.clocks_back clock.old clock.new }
     ensures usage { result ≢ statuses.Usage }
     ensures last { IsReportedLast result (E.wrote faults.old) (E.wrote faults.new) (E.faults faults.old) (E.faults faults.new) }
-    ensures reported { ((port workers : ℕ) (connections : Option ℕ) → command_view command ≢ commands.serve port workers connections)
+    ensures reported { ((port workers : ℕ) (connections : Option ℕ) → command_view command.entry ≢ commands.serve port workers connections)
         → IsReported result (E.wrote faults.old) (E.wrote faults.new) (E.faults faults.old) (E.faults faults.new) }
     ensures counts { FaultsMatch result (S.faults input.old) (S.faults input.new) (K.faults output.old) (K.faults output.new) }
-    ensures disk { H.disk_faults host.new ≡ H.disk_faults host.old }
-    ensures host { ((port workers : ℕ) (connections : Option ℕ) → command_view command ≢ commands.serve port workers connections)
-        → HostMatches H.disk_faults H.door_faults H.link_faults result host.old host.new × SameGiven H.doors_given H.doors_back host.old host.new }
+    ensures disk { ((journal : List ℕ) → command_view command.entry ≢ commands.check journal) → H.disk_faults host.new ≡ H.disk_faults host.old }
+    ensures host { ((port workers : ℕ) (connections : Option ℕ) → command_view command.entry ≢ commands.serve port workers connections)
+        → ((journal : List ℕ) → command_view command.entry ≢ commands.check journal)
+        → HostMatches H.disk_faults H.door_faults H.link_faults result host.old host.new × SameGiven H.doors_given H.doors_back host.old host.new
+        × SameGiven H.disks_given H.disks_back host.old host.new }
 {
     match command {
         Command::Once { now } => {
@@ -142,6 +166,11 @@ fn obey<Rt: Wait + Threads + Sync, S: Source, K: Sink, E: Sink, H: Host, C: Cloc
             let fitting = fitting_workers(files, workers);
             announce(alloc, faults, files, workers, fitting);
             let status = serve(rt, alloc, port, fitting, connections, output, host, clock);
+            report(faults, status);
+            status
+        }
+        Command::Check { journal } => {
+            let status = check(alloc, journal, output, host);
             report(faults, status);
             status
         }
@@ -233,6 +262,7 @@ fn once<Rt: Wait, S: Source, K: Sink, H: Host, C: Clock>(
     ensures counts { FaultsMatch result (S.faults input.old) (S.faults input.new) (K.faults output.old) (K.faults output.new) }
     ensures host { HostMatches H.disk_faults H.door_faults H.link_faults result host.old host.new }
     ensures doors { SameGiven H.doors_given H.doors_back host.old host.new }
+    ensures disks { SameGiven H.disks_given H.disks_back host.old host.new }
 {
     match Book::first(alloc) {
         Ok(book) => match Hall::make(alloc, book, 1) {
@@ -264,6 +294,7 @@ fn linked<Rt: Wait, S: Source, K: Sink, H: Host, C: Clock>(
     ensures counts { FaultsMatch result (S.faults input.old) (S.faults input.new) (K.faults output.old) (K.faults output.new) }
     ensures host { HostMatches H.disk_faults H.door_faults H.link_faults result host.old host.new }
     ensures doors { SameGiven H.doors_given H.doors_back host.old host.new }
+    ensures disks { SameGiven H.disks_given H.disks_back host.old host.new }
 {
     match host.link() {
         Ok(mut link) => {

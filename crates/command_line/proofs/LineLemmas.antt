@@ -6,7 +6,7 @@ use Rattle.clap.specs.Faults.{built_fault, fault_of, level_fault}
 use Rattle.clap.specs.Simple.{Shape, built, entered, names_of, subcommand_of}
 use Rattle.clap.specs.Takes.{is_given}
 use Rattle.clap.specs.Walk.{Row, Rule, Text, first_of, nothing_held, rows_after, stop_after}
-use Rattle.command_line.specs.Command.{CommandView, HasValues, IsCommand, IsEntered, IsOptional, name_of, subcommand_for, serve, once, drill}
+use Rattle.command_line.specs.Command.{CommandView, HasValues, IsCommand, IsEntered, IsOptional, name_of, subcommand_for, serve, once, check, drill}
 use Rattle.command_line.specs.Line.{AreOptions, IsLine, value_of, words_of}
 use Rattle.command_line.specs.Number.{IsNumber}
 use Rattle.command_line.specs.Table as table
@@ -54,6 +54,7 @@ alike f g same (serve port workers connections) h = (
   subst (λ (o : Option Text). IsOptional 1 1000000 o connections) (same (codes "connections")) h.2,
 )
 alike f g same (once now) h = subst (λ (o : Option Text). IsOptional 0 250000000000 o now) (same (codes "now")) h
+alike f g same (check journal) h = sym (same (codes "journal")) ∙ h
 alike f g same (drill seed events) h = (
   subst (λ (o : Option Text). IsSomeAnd o (λ word. IsNumber 0 2147483647 word seed)) (same (codes "seed")) h.0,
   subst (λ (o : Option Text). IsSomeAnd o (λ word. IsNumber 1 100000 word events)) (same (codes "events")) h.1,
@@ -83,6 +84,10 @@ line_is words c h = subst (λ (ws : List Text). IsCommand ws c) (sym h.spelled) 
         is_command (program ∷ (codes "once" ∷ words_of os)) (codes "once") os (once now) refl values
         (found (codes "once") (of.leaf_of table.once) (map (λ rule. rule.id) table.once.top.rules) of.pick_once of.enters_once of.plain_once program os named
         (of.needs_once (λ name. is_some (value_of name os))))
+    go (check journal) program os named values =
+        is_command (program ∷ (codes "check" ∷ words_of os)) (codes "check") os (check journal) refl values
+        (found (codes "check") (of.leaf_of table.check) (map (λ rule. rule.id) table.check.top.rules) of.pick_check of.enters_check of.plain_check program os named
+        (of.needs_check (λ name. is_some (value_of name os)) (ap is_some values)))
     go (drill seed events) program os named values =
         is_command (program ∷ (codes "drill" ∷ words_of os)) (codes "drill") os (drill seed events) refl values
         (found (codes "drill") (of.leaf_of table.drill) (map (λ rule. rule.id) table.drill.top.rules) of.pick_drill of.enters_drill of.plain_drill program os named

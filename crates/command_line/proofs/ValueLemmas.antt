@@ -4,7 +4,7 @@ use Rattle.std.specs.Str.{bytes_eq}
 use Rattle.std.proofs.lemmas.Slice.Eq.{bytes_eq-Decides}
 use Rattle.clap.specs.Simple.{subcommand_of}
 use Rattle.clap.specs.Walk.{Row, Text, first_of}
-use Rattle.command_line.specs.Command.{CommandView, IsEntered, IsCommand, IsOptional, serve, once, drill}
+use Rattle.command_line.specs.Command.{CommandView, IsEntered, IsCommand, IsOptional, serve, once, check, drill}
 use Rattle.command_line.specs.Number.{IsNumber}
 use Rattle.command_line.specs.Reading.{Denies, IsRead, IsRefusal}
 use Rattle.command_line.specs.Table.{ebusd}
@@ -28,6 +28,9 @@ needed_once : (least most : ℕ) (o : Option Text) (m n : ℕ) → most < 2 ^ 64
 needed_once least most None m n small p q = absurd p
 needed_once least most (Some word) m n small p q = number_once least most word m n small p q
 
+some_once : {X : Type 0} (x y : X) → Some x ≡ Some y → x ≡ y
+some_once x y e = cc
+
 differ : {X : Type 0} (x y z : Text) → bytes_eq x y ≡ false → z ≡ x → z ≡ y → X
 differ x y z h p q = absurd (true≢false (sym ((bytes_eq-Decides x y).1 (sym p ∙ q)) ∙ h))
 
@@ -38,16 +41,23 @@ read_once name rows (serve p w c) (serve p2 w2 c2) (n, h) (n2, h2) =
     let connections : c ≡ c2 = optional_once 1 1000000 (first_of (codes "connections") rows) c c2 (omega arith) h.2 h2.2 in
     λ i. serve (port i) (workers i) (connections i)
 read_once name rows (once t) (once t2) (n, h) (n2, h2) = ap once (optional_once 0 250000000000 (first_of (codes "now") rows) t t2 (omega arith) h h2)
+read_once name rows (check j) (check j2) (n, h) (n2, h2) = ap check (some_once j j2 (sym h ∙ h2))
 read_once name rows (drill s e) (drill s2 e2) (n, h) (n2, h2) =
     let seed : s ≡ s2 = needed_once 0 2147483647 (first_of (codes "seed") rows) s s2 (omega arith) h.0 h2.0 in
     let events : e ≡ e2 = needed_once 1 100000 (first_of (codes "events") rows) e e2 (omega arith) h.1 h2.1 in
     λ i. drill (seed i) (events i)
 read_once name rows (serve p w c) (once t2) (n, h) (n2, h2) = differ (codes "serve") (codes "once") name refl n n2
+read_once name rows (serve p w c) (check j2) (n, h) (n2, h2) = differ (codes "serve") (codes "check") name refl n n2
 read_once name rows (serve p w c) (drill s2 e2) (n, h) (n2, h2) = differ (codes "serve") (codes "drill") name refl n n2
 read_once name rows (once t) (serve p2 w2 c2) (n, h) (n2, h2) = differ (codes "once") (codes "serve") name refl n n2
+read_once name rows (once t) (check j2) (n, h) (n2, h2) = differ (codes "once") (codes "check") name refl n n2
 read_once name rows (once t) (drill s2 e2) (n, h) (n2, h2) = differ (codes "once") (codes "drill") name refl n n2
+read_once name rows (check j) (serve p2 w2 c2) (n, h) (n2, h2) = differ (codes "check") (codes "serve") name refl n n2
+read_once name rows (check j) (once t2) (n, h) (n2, h2) = differ (codes "check") (codes "once") name refl n n2
+read_once name rows (check j) (drill s2 e2) (n, h) (n2, h2) = differ (codes "check") (codes "drill") name refl n n2
 read_once name rows (drill s e) (serve p2 w2 c2) (n, h) (n2, h2) = differ (codes "drill") (codes "serve") name refl n n2
 read_once name rows (drill s e) (once t2) (n, h) (n2, h2) = differ (codes "drill") (codes "once") name refl n n2
+read_once name rows (drill s e) (check j2) (n, h) (n2, h2) = differ (codes "drill") (codes "check") name refl n n2
 
 pub entered_once : (entered : Option (Text × List Row)) (a b : CommandView) → IsEntered entered a → IsEntered entered b → a ≡ b
 entered_once None a b p q = absurd p
@@ -93,6 +103,7 @@ pub serve_values : (rows : List Row) (c : CommandView) → IsRead (codes "serve"
     × ((connections : Option ℕ) × IsOptional 1 1000000 (first_of (codes "connections") rows) connections)
 serve_values rows (serve p w c) (n, h) = ((p, h.0), (w, h.1), (c, h.2))
 serve_values rows (once t) (n, h) = differ (codes "serve") (codes "once") (codes "serve") refl refl n
+serve_values rows (check j) (n, h) = differ (codes "serve") (codes "check") (codes "serve") refl refl n
 serve_values rows (drill s e) (n, h) = differ (codes "serve") (codes "drill") (codes "serve") refl refl n
 
 pub drill_values : (rows : List Row) (c : CommandView) → IsRead (codes "drill") rows c
@@ -100,6 +111,7 @@ pub drill_values : (rows : List Row) (c : CommandView) → IsRead (codes "drill"
     × ((events : ℕ) × IsSomeAnd (first_of (codes "events") rows) (λ word. IsNumber 1 100000 word events))
 drill_values rows (serve p w c) (n, h) = differ (codes "drill") (codes "serve") (codes "drill") refl refl n
 drill_values rows (once t) (n, h) = differ (codes "drill") (codes "once") (codes "drill") refl refl n
+drill_values rows (check j) (n, h) = differ (codes "drill") (codes "check") (codes "drill") refl refl n
 drill_values rows (drill s e) (n, h) = ((s, h.0), (e, h.1))
 
 -- ---- a number that may be absent

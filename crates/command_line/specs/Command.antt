@@ -8,11 +8,12 @@ use Rattle.command_line.specs.Table as table
 use Rattle.command_line.specs.declared.command.Command.{Command}
 use Rattle.command_line.specs.declared.command.Command.TheVariants as commands
 
--- A command as contracts see it.
+-- A command as contracts see it: numbers, and the text of a path.
 -- Shown by: command_tests test_command_line.rt: words_are_read_to_their_command.
 pub data CommandView : Type 0 where
   serve : (port workers : ℕ) (connections : Option ℕ) → CommandView
   once : (now : Option ℕ) → CommandView
+  check : (journal : Text) → CommandView
   drill : (seed events : ℕ) → CommandView
 
 -- What contracts see of a command.
@@ -20,6 +21,7 @@ pub data CommandView : Type 0 where
 abbrev pub command_view : Command → CommandView
 command_view (commands.Serve port workers connections) = serve port workers connections
 command_view (commands.Once now) = once now
+command_view (commands.Check journal) = check journal.now
 command_view (commands.Drill seed events) = drill seed events
 
 -- The subcommand of a command.
@@ -27,6 +29,7 @@ command_view (commands.Drill seed events) = drill seed events
 abbrev pub subcommand_for : CommandView → App
 subcommand_for (serve port workers connections) = table.serve
 subcommand_for (once now) = table.once
+subcommand_for (check journal) = table.check
 subcommand_for (drill seed events) = table.drill
 
 -- The name of a command's subcommand.
@@ -34,6 +37,7 @@ subcommand_for (drill seed events) = table.drill
 abbrev pub name_of : CommandView → Text
 name_of (serve port workers connections) = codes "serve"
 name_of (once now) = codes "once"
+name_of (check journal) = codes "check"
 name_of (drill seed events) = codes "drill"
 
 -- An option that may be absent: a number in its bounds if it is there.
@@ -44,7 +48,7 @@ IsOptional least most (Some word) number = IsSomeAnd number (IsNumber least most
 
 -- The members of a command are what the options give, which a function finds by their names: `--port` 1 to 65,535, or 9,100 if it is
 -- absent; `--workers` 1 to 1,024, or 64; `--connections` 1 to 1,000,000; `--now` 0 to 250,000,000,000; `--seed` 0 to 2,147,483,647;
--- `--events` 1 to 100,000. That these are the names of the table is shown by law lines_are_commands.
+-- `--events` 1 to 100,000; `--journal` a path. That these are the names of the table is shown by law lines_are_commands.
 -- Shown by: a_number_out_of_range_is_read.edit; connections_are_required.edit.
 abbrev pub HasValues : (Text → Option Text) → CommandView → Type 0
 HasValues given (serve port workers connections) =
@@ -52,6 +56,7 @@ HasValues given (serve port workers connections) =
     × MatchOption (given (codes "workers")) (workers ≡ 64) (λ word. IsNumber 1 1024 word workers)
     × IsOptional 1 1000000 (given (codes "connections")) connections
 HasValues given (once now) = IsOptional 0 250000000000 (given (codes "now")) now
+HasValues given (check journal) = given (codes "journal") ≡ Some journal
 HasValues given (drill seed events) =
     IsSomeAnd (given (codes "seed")) (λ word. IsNumber 0 2147483647 word seed)
     × IsSomeAnd (given (codes "events")) (λ word. IsNumber 1 100000 word events)

@@ -2,11 +2,17 @@
 use Rattle.std.specs.Prelude.{true, List, [], ◌∷◌, fold, codes, Some}
 use Rattle.clap.specs.Walk.{Rule, Text}
 use Rattle.clap.specs.Simple.{App, new_app, new_rule, on_top, with_rule, with_subcommand}
+use Rattle.clap.specs.declared.builder.value_parser.ValueParser.TheVariants as parsers
 
 -- An option with one value: `--name VALUE` or `--name=VALUE`.
 -- Shown by: command_tests test_command_line.rt: words_are_read_to_their_command.
 abbrev pub option : Text → Rule
 option name = record (new_rule name) { long = Some name; value_names = 1 }
+
+-- The option `--journal`, whose value is not empty.
+-- Shown by: command_tests test_command_line.rt: other_words_are_refused.
+abbrev pub journal : Rule
+journal = record (option (codes "journal")) { parser = Some parsers.NonEmptyString }
 
 -- An option that has to be there.
 -- Shown by: connections_are_required.edit.
@@ -28,6 +34,10 @@ unfoldable pub once : App
 once = subcommand (codes "once") (option (codes "now") ∷ [])
 
 -- as `serve`
+unfoldable pub check : App
+check = subcommand (codes "check") (required journal ∷ [])
+
+-- as `serve`
 unfoldable pub drill : App
 drill = subcommand (codes "drill") (required (option (codes "seed")) ∷ required (option (codes "events")) ∷ [])
 
@@ -39,4 +49,4 @@ program = on_top (λ s. record s { has_version = true; arg_required_else_help = 
 -- The whole command.
 -- Shown by: command_tests test_command_line.rt: words_are_read_to_their_command.
 unfoldable pub ebusd : App
-ebusd = fold (λ app sub. with_subcommand app sub.top) program (serve ∷ once ∷ drill ∷ [])
+ebusd = fold (λ app sub. with_subcommand app sub.top) program (serve ∷ once ∷ check ∷ drill ∷ [])

@@ -7,9 +7,9 @@ ghost use Rattle.command_line.specs.Command.{CommandView, IsCommand, IsEntered, 
 ghost use Rattle.command_line.specs.Fault.{IsFault};
 ghost use Rattle.command_line.specs.Reading.{Denies, IsRead};
 
-use crate::fault::{WordsFault, fault_for, no_subcommand};
+use crate::fault::{WordsFault, fault_for, missing, no_subcommand};
 use crate::table::found;
-use crate::values::{number_in, number_or, required_number};
+use crate::values::{number_in, number_or, required_number, value_in};
 use clap::ArgMatches;
 use json_text::LAST_MOMENT;
 use std::alloc::Global;
@@ -30,7 +30,7 @@ const MOST_EVENTS: u64 = 100_000;
 
 /// What the program is to do.
 #[derive(Clone, Copy, Debug, PartialEq, Eq)]
-pub enum Command {
+pub enum Command<'a> {
     /// Sessions over connections to the port of 127.0.0.1, on this number of workers. If `connections` is given, it ends after that many.
     Serve {
         port: u16,
@@ -41,6 +41,10 @@ pub enum Command {
     Once {
         now: Option<u64>,
     },
+    /// The summary of the journal of the file at this path.
+    Check {
+        journal: &'a str,
+    },
     /// A generated run in memory, with this number of events.
     Drill {
         seed: u32,
@@ -49,9 +53,9 @@ pub enum Command {
 }
 
 /// The command that the words ask for. The first word is the program's name, which may be any word.
-pub fn read_command(alloc: Global, words: &[String]) -> Result<Command, WordsFault>
-    ensures command { IfOk result (λ c. IsCommand (map string_bytes words.now) (command_view c)) }
-    ensures fault { IfErr result (IsFault (map string_bytes words.now)) }
+pub fn read_command<'a>(alloc: Global, words: &'a [String]) -> Result<Command<'a>, WordsFault>
+    ensures command { IfOk result (λ c. IsCommand (map string_bytes words.entry.now) (command_view c)) }
+    ensures fault { IfErr result (IsFault (map string_bytes words.entry.now)) }
 {
     match found(alloc, words) {
         Ok(matches) => command_in(alloc, &matches),
@@ -60,7 +64,7 @@ pub fn read_command(alloc: Global, words: &[String]) -> Result<Command, WordsFau
 }
 
 /// The command of the subcommand that clap entered.
-fn command_in(alloc: Global, matches: &ArgMatches<'_>) -> Result<Command, WordsFault>
+fn command_in<'a>(alloc: Global, matches: &ArgMatches<'a>) -> Result<Command<'a>, WordsFault>
     ensures ok { IfOk result (λ c. IsEntered (subcommand_rows_of matches.now) (command_view c)) }
     ensures err { IfErr result (Denies ((c : CommandView) × IsEntered (subcommand_rows_of matches.now) c)) }
 {
@@ -71,19 +75,24 @@ fn command_in(alloc: Global, matches: &ArgMatches<'_>) -> Result<Command, WordsF
 }
 
 /// The command of the subcommand with this name.
-fn command_of(alloc: Global, name: &str, options: &ArgMatches<'_>) -> Result<Command, WordsFault>
+fn command_of<'a>(
+    alloc: Global,
+    name: &str,
+    options: &ArgMatches<'a>,
+) -> Result<Command<'a>, WordsFault>
     ensures ok { IfOk result (λ c. IsRead name.now (rows_of (found_of options.now)) (command_view c)) }
     ensures err { IfErr result (Denies ((c : CommandView) × IsRead name.now (rows_of (found_of options.now)) c)) }
 {
     match name {
         "serve" => serve_in(alloc, options),
         "once" => once_in(alloc, options),
+        "check" => check_in(alloc, options),
         "drill" => drill_in(alloc, options),
         _ => Err(no_subcommand(alloc)),
     }
 }
 
-fn serve_in(alloc: Global, options: &ArgMatches<'_>) -> Result<Command, WordsFault>
+fn serve_in<'a>(alloc: Global, options: &ArgMatches<'a>) -> Result<Command<'a>, WordsFault>
     ensures ok { IfOk result (λ c. IsRead (codes "serve") (rows_of (found_of options.now)) (command_view c)) }
     ensures err { IfErr result (Denies ((c : CommandView) × IsRead (codes "serve") (rows_of (found_of options.now)) c)) }
 {
@@ -97,7 +106,7 @@ fn serve_in(alloc: Global, options: &ArgMatches<'_>) -> Result<Command, WordsFau
     })
 }
 
-fn once_in(alloc: Global, options: &ArgMatches<'_>) -> Result<Command, WordsFault>
+fn once_in<'a>(alloc: Global, options: &ArgMatches<'a>) -> Result<Command<'a>, WordsFault>
     ensures ok { IfOk result (λ c. IsRead (codes "once") (rows_of (found_of options.now)) (command_view c)) }
     ensures err { IfErr result (Denies ((c : CommandView) × IsRead (codes "once") (rows_of (found_of options.now)) c)) }
 {
@@ -105,7 +114,17 @@ fn once_in(alloc: Global, options: &ArgMatches<'_>) -> Result<Command, WordsFaul
     Ok(Command::Once { now })
 }
 
-fn drill_in(alloc: Global, options: &ArgMatches<'_>) -> Result<Command, WordsFault>
+fn check_in<'a>(alloc: Global, options: &ArgMatches<'a>) -> Result<Command<'a>, WordsFault>
+    ensures ok { IfOk result (λ c. IsRead (codes "check") (rows_of (found_of options.now)) (command_view c)) }
+    ensures err { IfErr result (Denies ((c : CommandView) × IsRead (codes "check") (rows_of (found_of options.now)) c)) }
+{
+    match value_in(options, "journal") {
+        Some(journal) => Ok(Command::Check { journal }),
+        None => Err(missing(alloc, "journal")),
+    }
+}
+
+fn drill_in<'a>(alloc: Global, options: &ArgMatches<'a>) -> Result<Command<'a>, WordsFault>
     ensures ok { IfOk result (λ c. IsRead (codes "drill") (rows_of (found_of options.now)) (command_view c)) }
     ensures err { IfErr result (Denies ((c : CommandView) × IsRead (codes "drill") (rows_of (found_of options.now)) c)) }
 {

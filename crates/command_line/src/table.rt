@@ -5,6 +5,7 @@ ghost use Rattle.clap.specs.Faults.{fault_of};
 ghost use Rattle.clap.specs.declared.builder.command.Command.TheViews.{out-Command};
 ghost use Rattle.command_line.specs.Table as table;
 
+use clap::builder::ValueParser;
 use clap::{Arg, ArgMatches, Command, Error};
 use std::alloc::{AllocError, Global};
 
@@ -27,6 +28,19 @@ The last line on standard error names the status; lines before it say why:
 
 docs/OPERATING.md has more.";
 
+/// What the help of `check` says after its option.
+const CHECK_MANUAL: &str = "\
+Prints four lines of counts. A file that is missing is created, empty, and has
+no records. A file that another process has open as its journal is not read.
+
+The last line on standard error names the status; lines before it say why:
+  0  the file is a journal, and no line is printed
+  2  bad arguments
+  4  the output failed
+  5  the disk failed
+  6  the journal is damaged, or the file is no journal
+  7  out of memory";
+
 /// What the help of the whole command says at its end.
 const STATUSES: &str = "The last line on standard error names the status. See 'ebusd help serve'.";
 
@@ -45,6 +59,13 @@ fn number<'a>(alloc: Global, name: &'a str, help: &'a str) -> Arg<'a>
     ensures local { result.global ≡ false }
 {
     option(alloc, name, "N", help)
+}
+
+fn journal<'a>(alloc: Global, help: &'a str) -> Arg<'a>
+    ensures rule { rule_of result ≡ table.journal }
+    ensures local { result.global ≡ false }
+{
+    option(alloc, "journal", "FILE", help).value_parser(ValueParser::NonEmptyString)
 }
 
 fn described_serve<'a>(alloc: Global) -> Command<'a>
@@ -82,6 +103,21 @@ fn once<'a>(alloc: Global) -> Result<Command<'a>, AllocError>
         ))
 }
 
+fn described_check<'a>(alloc: Global) -> Command<'a>
+    ensures { (app_of result ≡ new_app (codes "check")) × ((out-Command result).has_globals ≡ false) }
+{
+    Command::new(alloc, "check")
+        .about("Read a journal without changing it, and print what it counts")
+        .after_help(CHECK_MANUAL)
+}
+
+#[tactic(auto, unfolding(crate::specs::Table::check))]
+fn check<'a>(alloc: Global) -> Result<Command<'a>, AllocError>
+    ensures { IfOk result (λ c. (app_of c ≡ table.check) × ((out-Command c).has_globals ≡ false)) }
+{
+    described_check(alloc).arg(journal(alloc, "The journal").required(true))
+}
+
 #[tactic(auto, unfolding(crate::specs::Table::drill))]
 fn drill<'a>(alloc: Global) -> Result<Command<'a>, AllocError>
     ensures { IfOk result (λ c. (app_of c ≡ table.drill) × ((out-Command c).has_globals ≡ false)) }
@@ -117,7 +153,9 @@ fn first_two<'a>(alloc: Global) -> Result<Command<'a>, AllocError>
 fn ebusd<'a>(alloc: Global) -> Result<Command<'a>, AllocError>
     ensures { IfOk result (λ c. app_of c ≡ table.ebusd) }
 {
-    first_two(alloc)?.subcommand(drill(alloc)?)
+    first_two(alloc)?
+        .subcommand(check(alloc)?)?
+        .subcommand(drill(alloc)?)
 }
 
 /// What clap finds in the words.

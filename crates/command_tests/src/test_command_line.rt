@@ -14,6 +14,8 @@ any serve --port=9101|Serve { port: 9101, workers: 64, connections: None }
 ebusd once|Once { now: None }
 ebusd once --now 0|Once { now: Some(0) }
 ebusd once --now=250000000000|Once { now: Some(250000000000) }
+ebusd check --journal J|Check { journal: \"J\" }
+ebusd check --journal=-x|Check { journal: \"-x\" }
 ebusd drill --seed 0 --events 1|Drill { seed: 0, events: 1 }
 ebusd drill --events 100000 --seed 2147483647|Drill { seed: 2147483647, events: 100000 }
 ";
@@ -28,7 +30,11 @@ ebusd serve --port 1 --port 1|refused error: the argument '--port <N>' cannot be
 ebusd serve --now 1|refused error: unexpected argument '--now' found
 ebusd --port 1 serve|refused error: unexpected argument '--port' found
 ebusd serve -V|refused error: unexpected argument '-V' found
-ebusd check --journal J|refused error: unrecognized subcommand 'check'
+ebusd check|refused error: the following required arguments were not provided:
+ebusd check --journal -x|refused error: unexpected argument '-x' found
+ebusd check --journal |refused error: a value is required for '--journal <FILE>' but none was supplied
+ebusd check --journal=|refused error: a value is required for '--journal <FILE>' but none was supplied
+ebusd check --journal J --journal J|refused error: the argument '--journal <FILE>' cannot be used multiple times
 ebusd drill --seed 1|refused error: the following required arguments were not provided:
 ebusd once x|refused error: unexpected argument 'x' found
 ebusd serve --journal J|refused error: unexpected argument '--journal' found
@@ -56,6 +62,8 @@ ebusd help serve|asked Serve HTTP clients on 127.0.0.1, and deliver events
 ebusd serve --help|asked Serve HTTP clients on 127.0.0.1, and deliver events
 ebusd once --help|asked Read requests from standard input, write replies to standard output
 ebusd help once|asked Read requests from standard input, write replies to standard output
+ebusd help check|asked Read a journal without changing it, and print what it counts
+ebusd check --help|asked Read a journal without changing it, and print what it counts
 ebusd help drill|asked Run a generated load in memory, and print what it counts
 ebusd drill -h|asked Run a generated load in memory, and print what it counts
 ebusd -V|asked ebusd 0.1.0
@@ -155,7 +163,7 @@ fn is_narrow(alloc: Global, row: &str) -> Result<bool, Fail> {
 
 #[test]
 fn words_are_read_to_their_command(rt: HostRuntime) -> Result<(), Fail> {
-    all_met(rt.alloc(), COMMANDS, 10, is_read)
+    all_met(rt.alloc(), COMMANDS, 12, is_read)
 }
 
 #[test]
@@ -165,17 +173,17 @@ fn options_come_in_any_order(rt: HostRuntime) -> Result<(), Fail> {
 
 #[test]
 fn other_words_are_refused(rt: HostRuntime) -> Result<(), Fail> {
-    all_met(rt.alloc(), REFUSED, 27, is_read)
+    all_met(rt.alloc(), REFUSED, 31, is_read)
 }
 
 #[test]
 fn help_is_asked_for(rt: HostRuntime) -> Result<(), Fail> {
-    all_met(rt.alloc(), ASKED, 11, is_read)
+    all_met(rt.alloc(), ASKED, 13, is_read)
 }
 
 #[test]
 fn texts_have_eighty_columns(rt: HostRuntime) -> Result<(), Fail> {
-    all_met(rt.alloc(), ASKED, 11, is_narrow)
+    all_met(rt.alloc(), ASKED, 13, is_narrow)
 }
 
 #[test]

@@ -106,7 +106,7 @@ fn done<R: Wait + Threads + Sync, H: Host>(
             host,
             &mut clock,
         )),
-        Ok(Command::Drill { .. }) => None,
+        Ok(Command::Check { .. } | Command::Drill { .. }) => None,
         Err(_fault) => None,
     }
 }

@@ -1,14 +1,15 @@
-use Rattle.std.proofs.Common.{◌≡◌, ◌∙◌, ◌<◌, ◌≤◌, ℕ, Option, ap, refl, subst, sym}
+use Rattle.std.proofs.Common.{◌≡◌, ◌∙◌, ◌<◌, ◌≤◌, ℕ, List, Option, ap, refl, subst, sym}
 use Rattle.command_line.specs.Command.{command_view}
 use Rattle.program_lines.specs.Files.{workers_for}
 use Rattle.shared_door.specs.Shown.{shown_by}
 use Rattle.router_sessions.specs.Visit.{IsVisit}
 use Rattle.drill_run.specs.Drill.{IsDrill}
+use Rattle.journal_check.specs.Check.{IsCheck, around_disk}
 use Rattle.bus_server.specs.Run.{IsRun, around}
 use Rattle.session_workers.specs.Jobs.{did_by}
 use Rattle.bus_server.specs.Serve.{IsServe, around_door}
 use Rattle.bus_server.proofs.RunLemmas.{no_usage}
-use Rattle.bus_server.proofs.WordsLemmas.{fitting_within, no_door_drill, no_usage_drill, no_usage_serve, reported_alone, reported_last, unread_counts, unread_host, once_drill, once_serve, same_drill, same_once, same_serve, serve_drill}
+use Rattle.bus_server.proofs.WordsLemmas.{fitting_within, no_door_drill, no_usage_check, no_usage_drill, no_usage_serve, reported_alone, reported_last, unread_counts, unread_host, check_drill, once_check, once_drill, once_serve, same_check, same_drill, same_once, same_serve, serve_check, serve_drill}
 use Rattle.bus_server.proofs.program.obey.Goals as goal
 
 pub returns-in-Once-clause-run : goal.returns-in-Once-clause-run
@@ -27,6 +28,9 @@ returns-in-Once-clause-serve g c = λ port workers connections is. absurd (once_
 pub returns-in-Once-clause-drill : goal.returns-in-Once-clause-drill
 returns-in-Once-clause-drill g c = λ seed events is. absurd (once_drill c.in-Once.now seed events (sym (ap command_view c.in-Once.is) ∙ is))
 
+pub returns-in-Once-clause-check : goal.returns-in-Once-clause-check
+returns-in-Once-clause-check g c = λ journal is. absurd (once_check c.in-Once.now journal (sym (ap command_view c.in-Once.is) ∙ is))
+
 pub returns-in-Once-clause-usage : goal.returns-in-Once-clause-usage
 returns-in-Once-clause-usage g c = no_usage g.H.Link.Link.exchanges g.H.Link.Link.faults c.in-Once.now _ _ c.once-status.result c.once-status.ensures.run
 
@@ -43,6 +47,9 @@ returns-in-Serve-clause-run g c = λ now is. absurd (once_serve now c.in-Serve.p
 
 pub returns-in-Serve-clause-drill : goal.returns-in-Serve-clause-drill
 returns-in-Serve-clause-drill g c = λ seed events is. absurd (serve_drill c.in-Serve.port c.in-Serve.workers c.in-Serve.connections seed events (sym (ap command_view c.in-Serve.is) ∙ is))
+
+pub returns-in-Serve-clause-check : goal.returns-in-Serve-clause-check
+returns-in-Serve-clause-check g c = λ journal is. absurd (serve_check c.in-Serve.port c.in-Serve.workers c.in-Serve.connections journal (sym (ap command_view c.in-Serve.is) ∙ is))
 
 pub returns-in-Serve-clause-serve : goal.returns-in-Serve-clause-serve
 returns-in-Serve-clause-serve g c = λ port workers connections is.
@@ -75,7 +82,49 @@ pub returns-in-Serve-clause-reported : goal.returns-in-Serve-clause-reported
 returns-in-Serve-clause-reported g c = λ none. absurd (none c.in-Serve.port c.in-Serve.workers c.in-Serve.connections (ap command_view c.in-Serve.is))
 
 pub returns-in-Serve-clause-host : goal.returns-in-Serve-clause-host
-returns-in-Serve-clause-host g c = λ none. absurd (none c.in-Serve.port c.in-Serve.workers c.in-Serve.connections (ap command_view c.in-Serve.is))
+returns-in-Serve-clause-host g c = λ none checks. absurd (none c.in-Serve.port c.in-Serve.workers c.in-Serve.connections (ap command_view c.in-Serve.is))
+
+pub returns-in-Check-clause-run : goal.returns-in-Check-clause-run
+returns-in-Check-clause-run g c = λ now is. absurd (once_check now c.in-Check.journal.now (sym is ∙ ap command_view c.in-Check.is))
+
+pub returns-in-Check-clause-serve : goal.returns-in-Check-clause-serve
+returns-in-Check-clause-serve g c = λ port workers connections is. absurd (serve_check port workers connections c.in-Check.journal.now (sym is ∙ ap command_view c.in-Check.is))
+
+pub returns-in-Check-clause-drill : goal.returns-in-Check-clause-drill
+returns-in-Check-clause-drill g c = λ seed events is. absurd (check_drill c.in-Check.journal.now seed events (sym (ap command_view c.in-Check.is) ∙ is))
+
+pub returns-in-Check-clause-check : goal.returns-in-Check-clause-check
+returns-in-Check-clause-check g c = λ journal is.
+    let h = g.H.Host in
+    let old = c.args.host.now in let new = c.check-status.new.host in
+    let e = c.check-status.ensures in
+    let same : c.in-Check.journal.now ≡ journal = same_check c.in-Check.journal.now journal (sym (ap command_view c.in-Check.is) ∙ is) in (
+      record { unread = refl; unclocked = refl; none_given = e.links.same_given; none_back = e.links.same_back },
+      subst (λ (path : List ℕ). IsCheck g.H.Disk.Disk.calls g.H.Disk.Disk.faults path
+          (around_disk (g.K.Sink.wrote c.args.output.now) (h.disks_given old) (h.disks_back old) (h.disk_faults old))
+          (around_disk (g.K.Sink.wrote c.check-status.new.output) (h.disks_given new) (h.disks_back new) (h.disk_faults new)) c.check-status.result)
+          same e.check,
+      e.others,
+      e.doors,
+      record { same_given = refl; same_back = refl },
+    )
+
+pub returns-in-Check-clause-usage : goal.returns-in-Check-clause-usage
+returns-in-Check-clause-usage g c = (no_usage_check g.H.Disk.Disk.calls g.H.Disk.Disk.faults c.in-Check.journal.now _ _ c.check-status.result c.check-status.ensures.check).0
+
+pub returns-in-Check-clause-last : goal.returns-in-Check-clause-last
+returns-in-Check-clause-last g c = reported_alone c.check-status.result _ _ _ _ c.report-in-Check.ensures
+
+pub returns-in-Check-clause-counts : goal.returns-in-Check-clause-counts
+returns-in-Check-clause-counts g c = unread_counts c.check-status.result _ _ _
+    (no_usage_check g.H.Disk.Disk.calls g.H.Disk.Disk.faults c.in-Check.journal.now _ _ c.check-status.result c.check-status.ensures.check).1
+    c.check-status.ensures.write_fault c.check-status.ensures.output_faultless
+
+pub returns-in-Check-clause-disk : goal.returns-in-Check-clause-disk
+returns-in-Check-clause-disk g c = λ none. absurd (none c.in-Check.journal.now (ap command_view c.in-Check.is))
+
+pub returns-in-Check-clause-host : goal.returns-in-Check-clause-host
+returns-in-Check-clause-host g c = λ none checks. absurd (checks c.in-Check.journal.now (ap command_view c.in-Check.is))
 
 pub returns-in-Drill-clause-run : goal.returns-in-Drill-clause-run
 returns-in-Drill-clause-run g c = λ now is. absurd (once_drill now c.in-Drill.seed c.in-Drill.events (sym is ∙ ap command_view c.in-Drill.is))
@@ -90,7 +139,11 @@ returns-in-Drill-clause-drill g c = λ seed events is.
       subst (λ (n : ℕ). IsDrill seed n (g.K.Sink.wrote c.args.output.now) (g.K.Sink.wrote c.drill-status.new.output) c.drill-status.result) same_events
           (subst (λ (n : ℕ). IsDrill n c.in-Drill.events (g.K.Sink.wrote c.args.output.now) (g.K.Sink.wrote c.drill-status.new.output) c.drill-status.result) same_seed
           c.drill-status.ensures.drill),
+      record { same_given = refl; same_back = refl },
     )
+
+pub returns-in-Drill-clause-check : goal.returns-in-Drill-clause-check
+returns-in-Drill-clause-check g c = λ journal is. absurd (check_drill journal c.in-Drill.seed c.in-Drill.events (sym is ∙ ap command_view c.in-Drill.is))
 
 pub returns-in-Drill-clause-usage : goal.returns-in-Drill-clause-usage
 returns-in-Drill-clause-usage g c = no_usage_drill c.in-Drill.seed c.in-Drill.events _ _ c.drill-status.result c.drill-status.ensures.drill
@@ -104,8 +157,9 @@ returns-in-Drill-clause-counts g c = unread_counts c.drill-status.result _ _ _
     c.drill-status.ensures.output_faultless
 
 pub returns-in-Drill-clause-host : goal.returns-in-Drill-clause-host
-returns-in-Drill-clause-host g c = λ none. (
+returns-in-Drill-clause-host g c = λ none checks. (
   unread_host g.H.Host.disk_faults g.H.Host.door_faults g.H.Host.link_faults c.drill-status.result c.args.host.now
       (no_door_drill c.in-Drill.seed c.in-Drill.events _ _ c.drill-status.result c.drill-status.ensures.drill).0,
+  record { same_given = refl; same_back = refl },
   record { same_given = refl; same_back = refl },
 )

@@ -1,12 +1,12 @@
 use Rattle.std.proofs.Common.{◌≡◌, ◌≢◌, ℕ, List, map, Option, inr, refl, subst, Global}
 use Rattle.std.specs.Prelude.{string_bytes}
-use Rattle.command_line.specs.Command.{IsCommand, command_view, once, serve, drill}
+use Rattle.command_line.specs.Command.{IsCommand, command_view, once, serve, check, drill}
 use Rattle.command_line.proofs.LineLemmas.{line_is}
 use Rattle.command_line.proofs.ValueLemmas.{command_once, workers_within}
 use Rattle.program_lines.specs.Files.{workers_for}
 use Rattle.program_lines.specs.declared.status.Status.TheVariants as statuses
 use Rattle.bus_server.specs.Run.{IsUntouched, around}
-use Rattle.bus_server.proofs.WordsLemmas.{unread_by, refused_by, unread_command, unread_once, unread_serve, unread_host, no_door_unread}
+use Rattle.bus_server.proofs.WordsLemmas.{unread_by, refused_by, unread_check, unread_command, unread_once, unread_serve, unread_host, no_door_unread}
 use Rattle.bus_server.proofs.program.run.Goals as goal
 
 pub obey-requires-clause-workers : goal.obey-requires-clause-workers
@@ -26,6 +26,10 @@ pub returns-in-Ok-clause-drill : goal.returns-in-Ok-clause-drill
 returns-in-Ok-clause-drill g c = λ seed events is. c.obey.ensures.drill seed events
     (command_once (map (string_bytes {Z = Global}) c.args.words.now) (command_view c.in-Ok.command) (drill seed events) c.in-Ok.ensures.command is)
 
+pub returns-in-Ok-clause-check : goal.returns-in-Ok-clause-check
+returns-in-Ok-clause-check g c = λ journal is. c.obey.ensures.check journal
+    (command_once (map (string_bytes {Z = Global}) c.args.words.now) (command_view c.in-Ok.command) (check journal) c.in-Ok.ensures.command is)
+
 pub returns-in-Ok-clause-unread : goal.returns-in-Ok-clause-unread
 returns-in-Ok-clause-unread g c = λ none. absurd (none (command_view c.in-Ok.command) c.in-Ok.ensures.command)
 
@@ -39,9 +43,14 @@ pub returns-in-Ok-clause-reported : goal.returns-in-Ok-clause-reported
 returns-in-Ok-clause-reported g c = λ other none. c.obey.ensures.reported (λ port workers connections is. none port workers connections
     (subst (IsCommand (map (string_bytes {Z = Global}) c.args.words.now)) is c.in-Ok.ensures.command))
 
-pub returns-in-Ok-clause-host : goal.returns-in-Ok-clause-host
-returns-in-Ok-clause-host g c = λ none. c.obey.ensures.host (λ port workers connections is. none port workers connections
+pub returns-in-Ok-clause-disk : goal.returns-in-Ok-clause-disk
+returns-in-Ok-clause-disk g c = λ none. c.obey.ensures.disk (λ journal is. none journal
     (subst (IsCommand (map (string_bytes {Z = Global}) c.args.words.now)) is c.in-Ok.ensures.command))
+
+pub returns-in-Ok-clause-host : goal.returns-in-Ok-clause-host
+returns-in-Ok-clause-host g c = λ none checks. c.obey.ensures.host (λ port workers connections is. none port workers connections
+    (subst (IsCommand (map (string_bytes {Z = Global}) c.args.words.now)) is c.in-Ok.ensures.command))
+    (λ journal is. checks journal (subst (IsCommand (map (string_bytes {Z = Global}) c.args.words.now)) is c.in-Ok.ensures.command))
 
 pub returns-in-Err-clause-run : goal.returns-in-Err-clause-run
 returns-in-Err-clause-run g c = λ now is.
@@ -62,12 +71,25 @@ returns-in-Err-clause-drill g c = λ seed events is. (
   record { unread = refl; unclocked = refl; none_given = refl; none_back = refl },
   inr (unread_command (map (string_bytes {Z = Global}) c.args.words.now) (drill seed events) c.in-Err.fault _ _ c.explain.result is c.in-Err.ensures.fault
       c.explain.ensures.ends),
+  record { same_given = refl; same_back = refl },
+)
+
+pub returns-in-Err-clause-check : goal.returns-in-Err-clause-check
+returns-in-Err-clause-check g c = λ journal is. (
+  record { unread = refl; unclocked = refl; none_given = refl; none_back = refl },
+  unread_check g.H.Disk.Disk.calls g.H.Disk.Disk.faults journal _ _ _ _ _ c.explain.result
+      (unread_command (map (string_bytes {Z = Global}) c.args.words.now) (check journal) c.in-Err.fault _ _ c.explain.result is c.in-Err.ensures.fault
+      c.explain.ensures.ends),
+  (refl, refl),
+  record { same_given = refl; same_back = refl },
+  record { same_given = refl; same_back = refl },
 )
 
 pub returns-in-Err-clause-unread : goal.returns-in-Err-clause-unread
 returns-in-Err-clause-unread g c = λ none. (
   record { unread = refl; unclocked = refl; none_given = refl; none_back = refl },
   unread_by (map (string_bytes {Z = Global}) c.args.words.now) c.in-Err.fault _ _ c.explain.result c.in-Err.ensures.fault c.explain.ensures.ends,
+  record { same_given = refl; same_back = refl },
 )
 
 pub returns-in-Err-clause-usage : goal.returns-in-Err-clause-usage
@@ -86,8 +108,9 @@ pub returns-in-Err-clause-counts : goal.returns-in-Err-clause-counts
 returns-in-Err-clause-counts g c = c.explain.ensures.counts (g.S.Source.faults c.args.input.now)
 
 pub returns-in-Err-clause-host : goal.returns-in-Err-clause-host
-returns-in-Err-clause-host g c = λ none. (
+returns-in-Err-clause-host g c = λ none checks. (
   unread_host g.H.Host.disk_faults g.H.Host.door_faults g.H.Host.link_faults c.explain.result c.args.host.now
       (no_door_unread c.in-Err.fault _ _ c.explain.result c.explain.ensures.ends),
+  record { same_given = refl; same_back = refl },
   record { same_given = refl; same_back = refl },
 )
