@@ -529,18 +529,25 @@ class Router:
             "detail-type": entry["DetailType"],
             "source": entry["Source"],
             "account": self.caller,
-            "time": shown(moment_of(entry["Time"]) if "Time" in entry else self.reading),
+            "time": shown(self.time_of(entry)),
             "region": "us-east-1",
             "resources": entry.get("Resources", []),
         }
         text = f'{compact(made)[:-1]},"detail":{detail}}}'
         made["detail"] = detail.tree
+        self.accept(bus, entry, text)
         for rule in in_order(bus.rules):
             if rule.is_enabled and rule.targets and holds(rule.pattern, made):
                 for target in in_order(rule.targets):
                     sent = target.make_text(made, rule.arn, shown(self.reading)) if target.make_text else text
                     self.deliveries.add(Delivery(rule.arn, target, sent, self.reading))
         return made["id"]
+
+    def time_of(self, entry):
+        return moment_of(entry["Time"]) if "Time" in entry else self.reading
+
+    def accept(self, bus, entry, text):
+        """An event has this text. Here for a router that keeps a journal."""
 
     # -- Queues
 
