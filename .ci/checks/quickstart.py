@@ -54,7 +54,7 @@ def script_of(lines, room):
     for at, (line, _) in enumerate(lines):
         files = f'>"{room}/{at}.out" 2>"{room}/{at}.err"'
         script.append(f"{{ {line}\n}} {files}")
-        if line.rstrip().endswith("&"):
+        if line.split(" #")[0].rstrip().endswith("&"):
             script.append(f'echo $! >"{room}/server"')
         if "PeekMessages" in line:
             again = f'[[ $(<"{room}/{at}.out") == \'{EMPTY}\' ]]'
