@@ -51,6 +51,7 @@ impl MemClocks {
     /// A clock whose every reading is `reading`, which plans to lend these clocks.
     pub fn new(alloc: Global, reading: u64, planned: LinkedList<MemClock>) -> Self
         ensures planned { (result.reading ≡ reading) × (result.planned ≡ planned) }
+        ensures ahead { ⟦<MemClocks as Clock>⟧.ahead result ≡ Some (repeating reading []) }
         ensures gave { ⟦<MemClocks as Clock>⟧.gave result ≡ [] }
         ensures given { ⟦<MemClocks as Clocks>⟧.clocks_given result ≡ [] }
         ensures back { ⟦<MemClocks as Clocks>⟧.clocks_back result ≡ [] }
