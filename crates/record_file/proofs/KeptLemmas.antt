@@ -9,8 +9,8 @@ use Rattle.router_disk.proofs.DiskLemmas.{IsImage_now}
 use Rattle.record_file.specs.Records.{first_gate, IsFileOf, IsText}
 use Rattle.record_file.specs.Kept.{Begins, Between, IsKept}
 use Rattle.record_file.specs.State.{IsAtRest}
-use Rattle.record_file.specs.Append.{AreAppended, last}
-use Rattle.record_file.proofs.MomentLemmas.{written_longer, written_front}
+use Rattle.record_file.specs.Append.{AreAppended, MadeCalls, last}
+use Rattle.record_file.proofs.MomentLemmas.{written_longer, written_two, written_front}
 use Rattle.record_file.proofs.CrashLemmas.{Either, append_leaves, append_rests, rests_before}
 
 weaker : (least all more : List (List ℕ)) (file : List ℕ) → Between least all file → Between least (all ++ more) file
@@ -34,6 +34,12 @@ appended_longer old new place text (Ok done) calls =
 appended_longer old new place text (Err fault) (inl is) = written_longer old (min (place + 1) last) text (Err fault) new is
 appended_longer old new place text (Err fault) (inr calls) =
     omega (arith, written_longer old (min (place + 1) last) text (Ok tt) calls.0 calls.1, written_longer calls.0 place (1 ∷ []) (Err fault) new calls.2)
+
+pub appended_calls : (old new : List DiskCall) (place : ℕ) (text : List ℕ) (result : Result (Unit {0}) Failed) → AreAppended old place text result new →
+    MadeCalls old new result
+appended_calls old new place text (Ok done) calls =
+    omega (arith, written_two old (min (place + 1) last) text calls.0 calls.1, written_two calls.0 place (1 ∷ []) new calls.2)
+appended_calls old new place text (Err fault) calls = appended_longer old new place text (Err fault) calls
 
 pub appended_front : (first : List ℕ) (old new : List DiskCall) (place : ℕ) (text : List ℕ) (result : Result (Unit {0}) Failed) → AreAppended old place text result new →
     AreAnswers first new → AreAnswers first old

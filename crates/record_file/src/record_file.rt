@@ -2,7 +2,7 @@
 ghost use Rattle.std.specs.Prelude.{◌≡◌, ◌++◌, [], ℕ, List, false, true, is_err, if◌then◌else◌, IsErr, IfOk};
 ghost use Rattle.router_disk.specs.Disk.{AreAnswers};
 ghost use Rattle.router_disk.specs.Faults.{CountsFaults};
-ghost use Rattle.record_file.specs.Append.{LeavesBoth, StaysKept};
+ghost use Rattle.record_file.specs.Append.{LeavesBoth, MadeCalls, StaysKept};
 
 use crate::Scan;
 use crate::halves::{append_text, write};
@@ -37,6 +37,7 @@ impl<D: Disk> RecordFile<D> {
         ensures no_more { self.old.broken ≡ true → IsErr result × (self.new ≡ self.old) }
         ensures count { self.old.broken ≡ false → CountsFaults (D.faults self.old.disk) (D.faults self.new.disk) result }
         ensures answers { (first : List ℕ) → AreAnswers first (D.calls self.new.disk) → AreAnswers first (D.calls self.old.disk) }
+        ensures four_calls { MadeCalls (D.calls self.old.disk) (D.calls self.new.disk) result }
         ensures any_moment { self.old.broken ≡ false →
             LeavesBoth (D.calls self.old.disk) (D.calls self.new.disk) (payloads_of self.old) payloads.now }
         ensures kept { self.old.broken ≡ false →

@@ -2,7 +2,7 @@ use Rattle.std.proofs.Common.{◌≡◌, ◌+◌, ◌++◌, length, Ok, Err, ari
 use Rattle.record_file.specs.Records.{first_gate}
 use Rattle.record_file.specs.State.{payloads_of}
 use Rattle.record_file.proofs.CrashLemmas.{append_rests}
-use Rattle.record_file.proofs.KeptLemmas.{appended_front, both, stays}
+use Rattle.record_file.proofs.KeptLemmas.{appended_calls, appended_front, both, stays}
 use Rattle.record_file.proofs.StateLemmas.{moved, shown_push}
 use Rattle.record_file.proofs.record_file.RecordFile.append.Goals as goal
 
@@ -37,6 +37,16 @@ pub returns-in-Err-clause-answers : goal.returns-in-Err-clause-answers
 returns-in-Err-clause-answers g c = λ first answers.
     appended_front first (g.D.Disk.calls c.args.self.now.disk) (g.D.Disk.calls c.append_text.new.disk) c.args.self.now.gate c.args.text.now
     (Err c.in-Err.field-0) c.in-Err.ensures.calls answers
+
+pub returns-in-Ok-clause-four_calls : goal.returns-in-Ok-clause-four_calls
+returns-in-Ok-clause-four_calls g c =
+    appended_calls (g.D.Disk.calls c.args.self.now.disk) (g.D.Disk.calls c.append_text.new.disk) c.args.self.now.gate c.args.text.now (Ok tt)
+    c.in-Ok.ensures.calls
+
+pub returns-in-Err-clause-four_calls : goal.returns-in-Err-clause-four_calls
+returns-in-Err-clause-four_calls g c =
+    appended_calls (g.D.Disk.calls c.args.self.now.disk) (g.D.Disk.calls c.append_text.new.disk) c.args.self.now.gate c.args.text.now
+    (Err c.in-Err.field-0) c.in-Err.ensures.calls
 
 pub returns-in-Ok-clause-any_moment : goal.returns-in-Ok-clause-any_moment
 returns-in-Ok-clause-any_moment g c = λ whole first answers image left.
