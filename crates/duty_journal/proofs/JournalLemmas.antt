@@ -13,7 +13,7 @@ use Rattle.record_file.specs.declared.record_file.RecordFile.{RecordFile}
 use Rattle.record_file.specs.Records.{length_bytes, laid, IsFileOf, IsText}
 use Rattle.record_file.specs.Kept.{Begins, Between, IsKept}
 use Rattle.record_file.specs.State.{IsSound, payloads_of}
-use Rattle.record_file.specs.Append.{LeavesBoth, StaysKept}
+use Rattle.record_file.specs.Append.{LeavesBoth, MadeCalls, StaysKept}
 use Rattle.record_file.proofs.RecordLemmas.{length-length_bytes}
 use Rattle.router_core.specs.Batch.{Batch}
 use Rattle.router_core.specs.Tables.{Tables, after_batch, tables_after}
@@ -113,6 +113,7 @@ pub record IsFileAppended {D : Type 0} (calls : D → List DiskCall) (faults : D
   pub no_more : old.broken ≡ true → IsErr result × (new ≡ old)
   pub count : old.broken ≡ false → CountsFaults (faults old.disk) (faults new.disk) result
   pub answers : (first : List ℕ) → AreAnswers first (calls new.disk) → AreAnswers first (calls old.disk)
+  pub made : MadeCalls (calls old.disk) (calls new.disk) result
   pub any_moment : old.broken ≡ false → LeavesBoth (calls old.disk) (calls new.disk) (payloads_of old) ps
   pub kept : old.broken ≡ false → StaysKept (calls old.disk) (calls new.disk) (payloads_of old) ps result
 
@@ -178,6 +179,7 @@ appended calls faults old new ps (Ok done) (sound, held) f start more same r = r
   no_more = λ whole. ((f.no_more whole).0, same_journal old new (f.no_more whole).1);
   count = λ whole. let c = f.count whole in record { later = c.later; rose = c.rose; same = c.same; spent = c.spent };
   answers = f.answers;
+  made = f.made;
   any_moment = λ whole from all.
       leaves_up from (calls old.file.disk) (calls new.file.disk) (payloads_of old.file) ps more held same (f.any_moment whole) all;
   kept = λ whole from all.
@@ -190,6 +192,7 @@ appended calls faults old new ps (Err fault) (sound, held) f start more same r =
   no_more = λ broken. ((f.no_more broken).0, same_journal old new (f.no_more broken).1);
   count = λ whole. let c = f.count whole in record { later = c.later; rose = c.rose; same = c.same; spent = c.spent };
   answers = f.answers;
+  made = f.made;
   any_moment = λ whole from all.
       leaves_up from (calls old.file.disk) (calls new.file.disk) (payloads_of old.file) ps more held same (f.any_moment whole) all;
   kept = λ whole from all.

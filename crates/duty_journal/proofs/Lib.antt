@@ -12,3 +12,4 @@ pub mod NamedLemmas
 pub mod AdmitLemmas
 pub mod OpeningLemmas
 pub mod CrossingLemmas
+pub mod HomeLemmas

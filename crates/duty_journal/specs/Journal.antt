@@ -7,6 +7,7 @@ use Rattle.router_disk.specs.Disk.{AreAnswers, IsImage, IsImageSince, file_of}
 use Rattle.router_disk.specs.Faults.{CountsFaults}
 use Rattle.record_file.specs.Records.{first_gate, header, length_bytes, records, HasRecords, IsFileOf}
 use Rattle.record_file.specs.State.{IsSound, payloads_of}
+use Rattle.record_file.specs.Append.{MadeCalls}
 use Rattle.router_core.specs.Batch.{Batch}
 use Rattle.router_core.specs.Tables.{Tables, after_batch, tables_after}
 use Rattle.router_core.specs.Admitted.{IsAdmitted}
@@ -128,6 +129,8 @@ pub record IsAppended {D : Type 0} (calls : D → List DiskCall) (faults : D →
   pub count : old.file.broken ≡ false → CountsFaults (faults old.file.disk) (faults new.file.disk) result
   -- what is known of the answers after it is known of those before
   pub answers : (first : List ℕ) → AreAnswers first (calls new.file.disk) → AreAnswers first (calls old.file.disk)
+  -- four calls after `Ok`
+  pub made : MadeCalls (calls old.file.disk) (calls new.file.disk) result
   pub any_moment : old.file.broken ≡ false → (start : Tables) → AreRecordable start (batches_of old ++ more) →
       LeavesBothJournals (calls old.file.disk) (calls new.file.disk) start (batches_of old) more
   pub kept : old.file.broken ≡ false → (start : Tables) → AreRecordable start (batches_of old ++ more) →

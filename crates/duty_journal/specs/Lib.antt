@@ -4,3 +4,4 @@ pub mod Journal
 pub mod Redo
 pub mod Recovery
 pub mod Named
+pub mod Home

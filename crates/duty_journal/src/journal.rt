@@ -60,6 +60,13 @@ impl<D: Disk> Journal<D> {
         self.file.is_broken()
     }
 
+    /// The disk's count of faults.
+    pub fn faults(&self) -> u64
+        ensures { result ≡ D.faults self.now.file.disk }
+    {
+        self.file.disk.faults()
+    }
+
     /// Ends it.
     pub fn into_disk(self) -> D
         ensures { result ≡ self.file.disk }

@@ -3,6 +3,7 @@
 
 mod admit;
 mod fault;
+mod home;
 mod journal;
 mod laws;
 mod operation;
@@ -14,6 +15,7 @@ mod redo;
 mod take;
 
 pub use fault::{DiskFault, JournalFault, ReplayFault};
+pub use home::Home;
 pub use journal::Journal;
 pub use laws::{
     a_batch_has_its_own_bytes, a_file_is_one_journal, no_batch_claims, rows_name_their_rules,

@@ -14,6 +14,7 @@ returns-in-Ok g c = λ start more same recordable.
       no_more = e.no_more;
       count = e.count;
       answers = e.answers;
+      made = e.four_calls;
       any_moment = e.any_moment;
       kept = e.kept;
     }) start more same recordable
@@ -29,6 +30,7 @@ returns-in-Err g c = λ start more same recordable.
       no_more = e.no_more;
       count = e.count;
       answers = e.answers;
+      made = e.four_calls;
       any_moment = e.any_moment;
       kept = e.kept;
     }) start more same recordable
