@@ -97,16 +97,16 @@ pub record IsUnchecked {D : Type 0} (old new : AroundDisk D) (status : Status) :
 abbrev pub IsCheck : {D : Type 0} → (D → List DiskCall) → (D → ℕ) → List ℕ → AroundDisk D → AroundDisk D → Status → Type 0
 IsCheck calls faults path old new status = Checks calls faults path old new status ⊎ IsUnchecked old new status
 
--- ---- for private clauses: the statuses of faults
-
--- of a journal that is not read
+-- The status of a journal that is not read or opened.
+-- Shown by: table_tests test_journal_check.rt: a_file_is_checked.
 abbrev pub status_of_fault : JournalFault → Status
 status_of_fault faults.NotOurs = statuses.NotOurs
 status_of_fault (faults.Damaged place byte) = statuses.Damaged place byte
 status_of_fault faults.Failed = statuses.DiskFault
 status_of_fault faults.NoMemory = statuses.NoMemory
 
--- of a host that gave no disk
+-- The status of a host that gave no disk.
+-- Shown by: table_tests test_journal_check.rt: a_host_without_a_disk_ends_a_check.
 abbrev pub status_of_opening : HostFault → Status
 status_of_opening host.Failed = statuses.DiskFault
 status_of_opening host.NoMemory = statuses.NoMemory

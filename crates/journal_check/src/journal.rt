@@ -48,7 +48,7 @@ fn read<K: Sink, D: Disk>(alloc: Global, disk: &mut D, output: &mut K) -> Status
 }
 
 /// The status of a host that gave no disk.
-fn opening_status(fault: HostFault) -> Status
+pub fn opening_status(fault: HostFault) -> Status
     ensures { result ≡ status_of_opening fault }
 {
     match fault {
@@ -57,8 +57,8 @@ fn opening_status(fault: HostFault) -> Status
     }
 }
 
-/// The status of a journal that is not read.
-fn fault_status(fault: JournalFault) -> Status
+/// The status of a journal that is not read or opened.
+pub fn fault_status(fault: JournalFault) -> Status
     ensures { result ≡ status_of_fault fault }
 {
     match fault {

@@ -3,4 +3,4 @@
 
 mod journal;
 
-pub use journal::check;
+pub use journal::{check, fault_status, opening_status};
