@@ -1,16 +1,19 @@
 #!/usr/bin/env python3
-"""Compares what `ebusd drill` prints with what `ebusd once` replies to the same messages.
+"""Compares what `ebusd drill` prints with what `ebusd once` replies to the same messages, and with what `ebusd check` says of their journal.
 
 The messages are made here from the seed, and by no part of the program. Those of 20 seeds are given to `once`, with as many DeliverDue as
 their deliveries need, then DutyCounts and DeleteMessages. Each number that `drill` has to print is counted in these replies, so this also
-shows that a drill makes the same messages. Two rows are worked by hand, one long drill is made twice, and two outputs are full.
+shows that a drill makes the same messages. Without the last two they are given to `once --journal`: `check` of that journal prints what
+`drill` prints. Two rows are worked by hand, one long drill is made twice, and two outputs are full.
 
 A word names another program to run. The last line is `N passed, M failed`.
 """
 import json
+import os
 import random
 import subprocess
 import sys
+import tempfile
 
 from mixed import Failure
 from router import CALLS, QUEUE_ARN
@@ -109,10 +112,24 @@ def replies_count(seed, events):
     return lines(records, records, control, events, counts["Created"], counts["Delivered"], deleted)
 
 
+def check_counts(seed, events):
+    """What `check` prints of the journal that the messages of a drill leave."""
+    calls, deliveries = requests(seed, events)
+    asked = [*calls, *[("DeliverDue", {"Budget": BUDGET})] * (-(-deliveries // BUDGET) + 1)]
+    with tempfile.TemporaryDirectory() as folder:
+        journal = os.path.join(folder, "J")
+        output, faults, status = run("once", "--journal", journal, "--now", NOW, asked=b"".join(message(*it) for it in asked))
+        expect("the faults and the status of once with a journal", (faults, status), (b"", 0))
+        expect("the number of replies with a journal", len(bodies(output)), len(asked))
+        return run("check", "--journal", journal)
+
+
 def of_seed(seed):
     def case():
         events = random.Random(seed).randint(1, 1_500)
-        expect(f"drill --seed {seed} --events {events}", drill(seed, events), (replies_count(seed, events), b"", 0))
+        drilled = drill(seed, events)
+        expect(f"drill --seed {seed} --events {events}", drilled, (replies_count(seed, events), b"", 0))
+        expect(f"check after the messages of seed {seed} and {events} events", check_counts(seed, events), drilled)
 
     case.__name__ = f"seed {seed}"
     return case

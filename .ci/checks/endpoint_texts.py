@@ -26,6 +26,28 @@ ENDPOINTS = [
     "http://127.0.0.1:1/é/\"\\",
     NEAR_LIMIT + "x" * (1_600 - len(NEAR_LIMIT)),
 ]
+# Endpoints of the stored runs, at other ports too.
+STORED_ENDPOINTS = [
+    "http://127.0.0.1:1/x",
+    "http://localhost:1/",
+    "HTTP://127.1:1",
+    "http://127.0.0.1/",
+    "http://127.0.0.1:9000/x",
+    "http://127.0.0.1.:9000/",
+    "http://127.1/",
+    "http://localhost",
+    "http://:@localhost:/",
+    "http://@127.0.0.1/",
+    "http://%6cocalhost/",
+    "HTTP://LocalHost:80/a?b=c",
+    "http://2130706433:65535/",
+    "http://0x7f.1/x?",
+    "http:127.0.0.1",
+    "http:///127.0.0.1/",
+    "http:\\\\127.0.0.1\\x",
+    " http://127.0.0.1/x y ",
+    "http://127.0.0.1/" + "x" * (1_600 - len("http://127.0.0.1/")),
+]
 NO_ENDPOINTS = [
     "",
     "http",

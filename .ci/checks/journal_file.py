@@ -7,7 +7,7 @@ import re
 
 import inputs
 from deliveries import LONGEST_DELAY, LONGEST_TEXT, QUEUE_ARN, RETRIED, queue_name
-from endpoint_texts import ENDPOINTS
+from endpoint_texts import ENDPOINTS, STORED_ENDPOINTS
 from patterns import Fault, read_json, read_pattern, spelled
 from policies import PolicyFault, read_policy, stored
 from router import BUS, BUSES_LIMIT, LAST_NUMBER, MOMENT_LIMIT, NAME, QUEUE, QUEUES_LIMIT, RULES_LIMIT, TARGETS_LIMIT, shown
@@ -419,7 +419,7 @@ OPERATIONS = {
 def is_endpoint(arn):
     """Whether a text is an endpoint: one of those that were decided by hand, or one of a plain form."""
     plain = r"http://(127\.0\.0\.1|localhost)(:(?!0[0-9])[0-9]{1,4})?(/[\x21\x23-\x7e]*)?"
-    return arn in ENDPOINTS or len(arn) <= 1_600 and "#" not in arn and bool(re.fullmatch(plain, arn))
+    return arn in ENDPOINTS or arn in STORED_ENDPOINTS or len(arn) <= 1_600 and "#" not in arn and bool(re.fullmatch(plain, arn))
 
 
 def is_event(text):

@@ -172,7 +172,7 @@ def reply(status, body):
 
 
 class StoredRun:
-    """A stored run of `once --now`, and its messages that get a reply and leave the session open."""
+    """A stored run of `once --now`, its messages that get a reply and leave the session open, and one that closes it."""
 
     def __init__(self, name):
         path = EXAMPLES / f"{name}.http"
@@ -183,14 +183,18 @@ class StoredRun:
         asked = messages(self.asked)
         self.parts, closes = replies_to(asked, self.replies)
         self.messages = asked[: len(self.parts) - closes]
+        # The message that asks to close, if it is carried out.
+        self.closing = asked[len(self.parts) - 1 : len(self.parts)] if closes and self.parts[-1].startswith(b"HTTP/1.1 200 ") else []
         self.parts = self.parts[: len(self.messages)]
 
     def model(self):
-        """The model after these messages, and how many batches there were after each one."""
+        """The model after the run, and how many batches there were after each of these messages."""
         model, counts = RecordingRouter(self.now), []
         for it in self.messages:
             it.answered_by(model)
             counts.append(len(model.payloads))
+        for it in self.closing:
+            it.answered_by(model)
         return model, counts
 
 
@@ -233,13 +237,13 @@ def begin(words):
     COMMAND.extend(os.path.abspath(it) if os.path.exists(it) else it for it in command_of(words))
 
 
-def make(tasks, more=0):
-    """Makes tasks, each a name, a function and its arguments, as many at once as there are processors, and some more. Prints what fails, and
-    returns the status."""
+def make(tasks):
+    """Makes tasks, each a name, a function and its arguments, as many at once as there are processors. Prints what fails, and returns the
+    status."""
     passed, failures = 0, []
     with tempfile.TemporaryDirectory() as folder:
         LIBRARY.append(build_library(folder))
-        with ProcessPoolExecutor((os.cpu_count() or 1) + more) as pool:
+        with ProcessPoolExecutor(os.cpu_count()) as pool:
             made = [(name, pool.submit(timed, function, arguments)) for name, function, arguments in tasks]
             for name, it in made:
                 cases, seconds = it.result()

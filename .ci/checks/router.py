@@ -13,7 +13,7 @@ import re
 import inputs
 import policies
 from deliveries import AGE, QUEUE_ARN, RETRIES, Deliveries, Delivery, Queue, Target, queue_name
-from endpoint_texts import ENDPOINTS
+from endpoint_texts import ENDPOINTS, STORED_ENDPOINTS
 from patterns import Fault, Number, holds, read_json, read_pattern, spelled
 
 OWNER = "111122223333"
@@ -160,7 +160,7 @@ def a_target(value):
 
 def a_target_arn(value):
     """The ARN of a queue, or the URL of an endpoint."""
-    need(isinstance(value, str) and (re.fullmatch(QUEUE_ARN + QUEUE, value) or value in ENDPOINTS))
+    need(isinstance(value, str) and (re.fullmatch(QUEUE_ARN + QUEUE, value) or value in ENDPOINTS or value in STORED_ENDPOINTS))
     return value
 
 

@@ -1,6 +1,7 @@
 -- From what the hall shows once it is closed to what the workers of a door did. Other files cite `caller_none`, `opens`.
-use Rattle.std.proofs.Common.{◌≡◌, ◌≢◌, ℕ, zero, suc, ◌+◌, ◌<◌, ◌≤◌, ◌⊎◌, inl, inr, true, false, Bool, List, [], ◌∷◌, ◌++◌, length, map, Option, Some, None, refl, sym, ap, ◌∙◌, subst, arith}
-use Rattle.std.specs.Prelude.{◌==◌, All, Contains, IfSome, IsSome}
+use Rattle.std.proofs.Common.{◌≡◌, ◌≢◌, ℕ, zero, suc, ◌+◌, ◌<◌, ◌⊎◌, inl, inr, true, false, Bool, List, [], ◌∷◌, ◌++◌, length, map, Option, Some, None, refl, sym, ap, ◌∙◌, subst, arith, append_assoc}
+use Rattle.std.proofs.lemmas.List.{map-append}
+use Rattle.std.specs.Prelude.{◌==◌, All, Contains, IsSome}
 use Rattle.std.specs.List.{AllPairs}
 use Rattle.std.proofs.lemmas.Bool.{eq-eqb}
 use Rattle.std.proofs.lemmas.List.Elements.{All-nil, All-cons, All-map, All-pop, All-contains}
@@ -19,14 +20,14 @@ use Rattle.door_workers.specs.declared.door.DoorEnd.{DoorEnd}
 use Rattle.door_workers.specs.declared.door.DoorEnd.TheVariants as ends
 use Rattle.door_workers.specs.Serving.{HasServed, Session, Worked, known_of, IsWorker, AreDone}
 use Rattle.door_workers.proofs.ServingLemmas.{map_again}
-use Rattle.router_sessions.specs.declared.book.Book.{Book}
-use Rattle.router_sessions.specs.declared.history.Turn.{Turn}
-use Rattle.router_sessions.specs.History as history
-use Rattle.router_sessions.specs.History.{State, begun, state_of, after_turn, turns_by, claims_of, IsLegal, AreTurnsFrom}
-use Rattle.router_sessions.specs.Book.{turn_of, opening, recorded_in, IsBook, IsKept, Rests}
+use Rattle.router_history.specs.declared.book.Machine.{Machine}
+use Rattle.router_history.specs.declared.history.Turn.{Turn}
+use Rattle.router_history.specs.History as history
+use Rattle.router_history.specs.History.{State, begun, state_of, after_turn, turns_by, claims_of, IsLegal, AreTurnsFrom}
+use Rattle.router_history.specs.Book.{turn_of, opening, recorded_in, IsBook, IsSoundMachine, Rests}
 use Rattle.router_sessions.specs.Desk.{Known, seen_by, turns_seen, number_of}
-use Rattle.router_sessions.specs.Visit.{OwesNothing, owes_later}
-use Rattle.router_sessions.proofs.TurnLemmas.{first_other, none_of_mine}
+use Rattle.router_history.specs.Visit.{OwesNothing, owes_later}
+use Rattle.router_history.proofs.TurnLemmas.{first_other, none_of_mine}
 use Rattle.router_sessions.proofs.DeskLemmas.{own_turns}
 use Rattle.router_sessions.proofs.OwesLemmas.{owes_rests}
 use Rattle.session_workers.specs.Jobs.{maker}
@@ -60,10 +61,11 @@ all_made numbers s (t ∷ ts) legal known =
       | inr there ↦ inr there
     ]))
 
-made_later : (numbers : List ℕ) (turns : List history.Turn) (h : IsBook turns) → ((n : ℕ) → IsKnown numbers turns n) → All (IsMadeBy numbers) h.later
-made_later numbers turns h known =
-    all_made numbers (after_turn opening (begun first_tables)) h.later (subst IsLegal h.opened h.legal).1 (λ n. elim (known n) [
-      | inl none ↦ inl (first_none n h.later (subst (λ (ts : List history.Turn). turns_by n ts ≡ []) h.opened none))
+made_later : (numbers : List ℕ) (turns later : List history.Turn) → IsBook turns → turns ≡ opening ∷ later → ((n : ℕ) → IsKnown numbers turns n)
+    → All (IsMadeBy numbers) later
+made_later numbers turns later h opened known =
+    all_made numbers (after_turn opening (begun first_tables)) later (subst IsLegal opened h.legal).1 (λ n. elim (known n) [
+      | inl none ↦ inl (first_none n opening later (subst (λ (ts : List history.Turn). turns_by n ts ≡ []) opened none))
       | inr there ↦ inr there
     ])
 
@@ -79,7 +81,7 @@ none_left numbers turns known rests = no_claims (state_of turns).open_claims eac
     ]
 
 -- the pass that opened the hall made no turn
-pub caller_none : (old new : Known) (turns : List Turn) → number_of old ≡ 0 → number_of new ≡ number_of old → turns_seen old ≡ opening ∷ []
+pub caller_none : {V : Type 0} (old new : Known V) (turns : List Turn) → number_of old ≡ 0 → number_of new ≡ number_of old → turns_seen old ≡ opening ∷ []
     → Learns maker (view old) (seen_by new) → Learns maker (view new) turns → turns_by 0 (map turn_of turns) ≡ []
 caller_none old new turns first same opened one two =
     let later : book.turns_by maker 0 turns ≡ book.turns_by maker 0 (seen_by new) =
@@ -87,6 +89,15 @@ caller_none old new turns first same opened one two =
     let before : book.turns_by maker 0 (seen_by new) ≡ book.turns_by maker 0 (seen_by old) =
     subst (λ (k : ℕ). book.turns_by maker k (seen_by new) ≡ book.turns_by maker k (seen_by old)) first one.1 in
     own_turns 0 turns ∙ ap (map turn_of) (later ∙ before) ∙ sym (own_turns 0 (seen_by old)) ∙ ap (turns_by 0) opened
+
+-- what the pass saw first, with later turns
+pub begins_with : {V : Type 0} (old new : Known V) (turns : List Turn) → turns_seen old ≡ opening ∷ [] → IsPrefix (seen_by old) (seen_by new) → IsPrefix (seen_by new) turns
+    → (later : List history.Turn) × (map turn_of turns ≡ opening ∷ later)
+begins_with old new turns opened (xs, one) (ys, two) =
+    let whole : turns ≡ seen_by old ++ (xs ++ ys) = sym two ∙ ap (λ (ts : List Turn). ts ++ ys) (sym one) ∙ append_assoc (seen_by old) xs ys in (
+      map turn_of (xs ++ ys),
+      ap (map turn_of) whole ∙ map-append turn_of (seen_by old) (xs ++ ys) ∙ ap (λ (ts : List history.Turn). ts ++ map turn_of (xs ++ ys)) opened,
+    )
 
 -- what a pass had seen is the first part of the history, and the rest has no turn of it
 abbrev pub Learned : List Turn → ℕ × List Turn → Type 0
@@ -108,19 +119,20 @@ module _ {D Own I O : Type 0} (show : D → Shown I O) (fits : ℕ → I × O �
     pub served : HasServed connections (show old.door) (show new.door) fits seen end
     pub done : AreDone did served.acts maker 1 old.owns new.owns passes
     pub longer : IsPrefix seen turns
+    pub begins : (later : List history.Turn) × (map turn_of turns ≡ opening ∷ later)
     pub caller : turns_by 0 (map turn_of turns) ≡ []
     pub learned : All (Learned turns) passes
     pub owes : All (λ p. OwesNothing p.0 p.1) passes
     pub unmade : IsUnmade maker (1 + length passes) turns
 
-  opened : (connections : Option ℕ) (old new : AtDoor D Own) (end : DoorEnd) (passes : List (ℕ × List Turn)) (b : Book) (status : Status)
-      → IsClosed connections old new end passes (recorded_in b.history) → IsKept b → EndsServing end b.tables old.written new.written status
+  opened : (connections : Option ℕ) (old new : AtDoor D Own) (end : DoorEnd) (passes : List (ℕ × List Turn)) (b : Machine) (status : Status)
+      → IsClosed connections old new end passes (recorded_in b.history) → IsSoundMachine b → EndsServing end b.tables old.written new.written status
       → IsOpened show fits did connections old new status
   opened connections old new end passes b status c is ends = record {
     turns = turns;
     book = is.book;
-    later = is.book.later;
-    opened = is.book.opened;
+    later = c.begins.0;
+    opened = c.begins.1;
     end = end;
     served = served_on show fits fits_last connections old.door new.door c.seen turns end c.served c.longer;
     crew = map (at_end turns) c.done.crew;
@@ -131,7 +143,7 @@ module _ {D Own I O : Type 0} (show : D → Shown I O) (fits : ℕ → I × O �
       record { among = w.among; did_so = did_lasts _ _ _ _ _ turns (learned k d below).0 (learned k d below).1 w.did_so },
       refl,
     ));
-    makers = subst (λ (ns : List ℕ). All (IsMadeBy ns) is.book.later) (sym same_numbers) (made_later numbers (map turn_of turns) is.book known);
+    makers = subst (λ (ns : List ℕ). All (IsMadeBy ns) c.begins.0) (sym same_numbers) (made_later numbers (map turn_of turns) c.begins.0 is.book c.begins.1 known);
     none_open = none_left numbers (map turn_of turns) known
         (All-map (λ n. Rests n (map turn_of turns)) (λ w. w.number) c.done.crew (λ k d below.
         owes_rests _ turns (owes_later _ _ turns (learned k d below).0 (learned k d below).1 (owes k d below))));
@@ -168,9 +180,9 @@ module _ {D Own I O : Type 0} (show : D → Shown I O) (fits : ℕ → I × O �
         (λ (not : ¬ (suc n < 1 + length passes)). none (suc n) (c.unmade (suc n) (omega (arith, not))))
 
   -- the door was served, or there was no memory for its workers
-  pub opens : {Count : Type 0} (connections : Option ℕ) (old new : AtDoor D Own) (end : DoorEnd) (passes : List (ℕ × List Turn)) (b : Book) (status : Status)
+  pub opens : {Count : Type 0} (connections : Option ℕ) (old new : AtDoor D Own) (end : DoorEnd) (passes : List (ℕ × List Turn)) (b : Machine) (status : Status)
       → (end ≢ ends.NoMemory → IsClosed connections old new end passes (recorded_in b.history))
-      → (end ≡ ends.NoMemory → (new.door ≡ old.door) × (new.owns ≡ old.owns)) → Count → IsKept b
+      → (end ≡ ends.NoMemory → (new.door ≡ old.door) × (new.owns ≡ old.owns)) → Count → IsSoundMachine b
       → (end ≢ ends.NoMemory → EndsServing end b.tables old.written new.written status)
       → (end ≡ ends.NoMemory → (status ≡ statuses.NoMemory) × (new.written ≡ old.written))
       → (Count × IsOpened show fits did connections old new status) ⊎ IsUnopened old new status

@@ -7,7 +7,9 @@
 -- A clause for every line of words: state it for each command that the words could be read to; one lemma (`command_once` of command_line) says
 -- that there is one reading.
 pub mod CrewLemmas
+pub mod JournalLemmas
 pub mod RecordedLemmas
 pub mod RunLemmas
+pub mod SeatedLemmas
 pub mod ServeLemmas
 pub mod WordsLemmas

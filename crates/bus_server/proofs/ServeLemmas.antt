@@ -10,10 +10,10 @@ use Rattle.program_lines.specs.declared.status.Status.TheVariants as statuses
 use Rattle.program_lines.specs.Printed.{listening_text}
 use Rattle.shared_door.specs.Shown.{Shown}
 use Rattle.door_workers.specs.Serving.{Session}
-use Rattle.router_sessions.specs.declared.history.Turn.{Turn}
+use Rattle.router_history.specs.declared.history.Turn.{Turn}
 use Rattle.tables_summary.specs.Summary.{WritesPart}
 use Rattle.bus_server.specs.Serve.{AroundDoor, AtDoor, links_of, clocks_of, EndsUnserved, IsOpened, IsUnserved, IsServe}
-use Rattle.bus_server.specs.Opened.{status_of_host, CountsHost, IsUnopened, IsUnannounced, printed, Announces, ServesBy, IsUnservedBy}
+use Rattle.bus_server.specs.Opened.{status_of_host, CountsHost, IsUnopened, Announces, ServesBy, IsUnservedBy}
 
 module _ {D L C I O : Type 0} (show : D → Shown I O) (fits : ℕ → I × O → I × O → Bool → List Turn → List Turn → Type 0)
     (did : ℕ → L × C → L × C → List (Session I O Turn) → List Turn → Type 0) where

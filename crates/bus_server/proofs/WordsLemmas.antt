@@ -1,7 +1,7 @@
 -- Words that are not carried out. Other files cite `unread_by`, `refused_by`, `unread_command` with `unread_once`, `unread_serve` and `unread_drill` (a
 -- command for which there is no memory), `unread_check`, `no_door_unread`, `no_usage_serve`, `no_usage_drill`, `no_usage_check`, `said`, `reported_last`,
--- `reported_alone`; `same_once` and the others of commands.
-use Rattle.std.proofs.Common.{◌≡◌, ◌≢◌, ℕ, ◌<◌, ◌≤◌, ◌⊎◌, inl, inr, Bool, List, [], ◌++◌, Option, Result, Ok, Err, refl, sym, subst, arith, append-nil}
+-- `reported_alone`; `unread_begun`; `same_once` and the others of commands; `no_path`.
+use Rattle.std.proofs.Common.{◌≡◌, ◌≢◌, ℕ, ◌<◌, ◌≤◌, ◌⊎◌, inl, inr, Bool, List, [], ◌++◌, Option, Some, None, Result, Ok, Err, refl, sym, subst, arith, append-nil}
 use Rattle.program_lines.specs.declared.status.Status.{Status}
 use Rattle.program_lines.specs.declared.status.Status.TheVariants as statuses
 use Rattle.command_line.specs.Command.{CommandView, IsCommand, once, serve, check, drill}
@@ -17,8 +17,8 @@ use Rattle.shared_door.specs.Shown.{Shown}
 use Rattle.door_workers.specs.declared.door.DoorEnd.{DoorEnd}
 use Rattle.door_workers.specs.declared.door.DoorEnd.TheVariants as ends
 use Rattle.router_core.specs.Tables.{Tables}
-use Rattle.router_sessions.specs.declared.history.Turn.{Turn}
-use Rattle.router_sessions.specs.History.{state_of}
+use Rattle.router_history.specs.declared.history.Turn.{Turn}
+use Rattle.router_history.specs.History.{state_of}
 use Rattle.drill_run.specs.Drill.{IsDrill}
 use Rattle.journal_check.specs.Check.{AroundDisk, HasStatus, IsCheck, around_disk}
 use Rattle.tables_summary.specs.Summary.{IsSummed}
@@ -58,13 +58,16 @@ no_door_unread (faults.Refused text) old new status (is, same) = λ e. cc
 no_door_unread faults.NoMemory old new status (is, same) = λ e. cc
 
 -- nothing was begun, given that nothing was written
+pub unread_begun : {L : Type 0} (gave : List (List ℕ)) (written written_new readings : List ℕ) (given back : List L) → written_new ≡ written
+    → IsUnbegun (around gave written readings given back) (around gave written_new readings given back)
+unread_begun gave written written_new readings given back same =
+    record { untouched = record { unread = refl; unclocked = refl; none_given = refl; none_back = refl }; unwritten = same }
+
 pub unread_once : {L : Type 0} (answered : L → List Exchange) (faults : L → ℕ) (now : Option ℕ) (gave : List (List ℕ)) (written written_new readings : List ℕ)
     (given back : List L) (status : Status) → (status ≡ statuses.NoMemory) × (written_new ≡ written)
     → IsRun answered faults now (around gave written readings given back) (around gave written_new readings given back) status
 unread_once answered faults now gave written written_new readings given back status (is, same) =
-    let none : IsUnbegun (around gave written readings given back) (around gave written_new readings given back) =
-    record { untouched = record { unread = refl; unclocked = refl; none_given = refl; none_back = refl }; unwritten = same } in
-    inr (inl is, none)
+    inr (inl is, unread_begun gave written written_new readings given back same)
 
 pub unread_serve : {D L C : Type 0} (port workers : ℕ) (written written_new : List ℕ) (doors : List (ℕ × D)) (doors_back : List D) (links links_back : List L)
     (clocks clocks_back : List C) (door_faults link_faults : ℕ) (status : Status) → (status ≡ statuses.NoMemory) × (written_new ≡ written)
@@ -143,9 +146,8 @@ reported_alone status old new faults faults_new reported = reported_last status 
     ([], sym (append-nil old), omega arith) reported
 
 -- a host that was asked nothing
-pub unread_host : {H : Type 0} (disk door link : H → ℕ) (status : Status) (host : H) → status ≢ statuses.DoorFault → HostMatches disk door link status host host
-unread_host disk door link status host other =
-    record { same_disk = refl; same_door = refl; door_fault = λ is. absurd (other is); link_faultless = λ _. refl }
+pub unread_host : {H : Type 0} (door link : H → ℕ) (status : Status) (host : H) → status ≢ statuses.DoorFault → HostMatches door link status host host
+unread_host door link status host other = record { same_door = refl; door_fault = λ is. absurd (other is); link_faultless = λ _. refl }
 
 -- as many workers as files are allowed for
 pub fitting_within : (files asked : ℕ) → 1 ≤ asked → asked ≤ 1024 → (0 < workers_for files asked) × (workers_for files asked ≤ 1024)
@@ -187,8 +189,8 @@ unread_counts status reads writes writes_new other rose same =
 
 -- ---- commands apart
 
-pub same_once : (a b : Option ℕ) → once a ≡ once b → a ≡ b
-same_once a b is = cc
+pub same_once : (j k : Option (List ℕ)) (a b : Option ℕ) → once j a ≡ once k b → (j ≡ k) × (a ≡ b)
+same_once j k a b is = (cc, cc)
 
 pub same_serve : (p w p2 w2 : ℕ) (k k2 : Option ℕ) → serve p w k ≡ serve p2 w2 k2 → (p ≡ p2) × (w ≡ w2) × (k ≡ k2)
 same_serve p w p2 w2 k k2 is = (cc, cc, cc)
@@ -199,14 +201,19 @@ same_drill s e s2 e2 is = (cc, cc)
 pub same_check : (a b : List ℕ) → check a ≡ check b → a ≡ b
 same_check a b is = cc
 
-pub once_serve : (a : Option ℕ) (p w : ℕ) (k : Option ℕ) → once a ≡ serve p w k → ⊥
-once_serve a p w k is = cc
+pub once_serve : (j : Option (List ℕ)) (a : Option ℕ) (p w : ℕ) (k : Option ℕ) → once j a ≡ serve p w k → ⊥
+once_serve j a p w k is = cc
 
-pub once_drill : (a : Option ℕ) (s e : ℕ) → once a ≡ drill s e → ⊥
-once_drill a s e is = cc
+pub once_drill : (j : Option (List ℕ)) (a : Option ℕ) (s e : ℕ) → once j a ≡ drill s e → ⊥
+once_drill j a s e is = cc
 
-pub once_check : (a : Option ℕ) (j : List ℕ) → once a ≡ check j → ⊥
-once_check a j is = cc
+pub once_check : (k : Option (List ℕ)) (a : Option ℕ) (j : List ℕ) → once k a ≡ check j → ⊥
+once_check k a j is = cc
+
+-- `once` with no path
+pub no_path : (o : Option (List ℕ)) → ((path : List ℕ) → o ≢ Some path) → o ≡ None
+no_path None none = refl
+no_path (Some path) none = absurd (none path refl)
 
 pub serve_check : (p w : ℕ) (k : Option ℕ) (j : List ℕ) → serve p w k ≡ check j → ⊥
 serve_check p w k j is = cc

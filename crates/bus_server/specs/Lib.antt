@@ -1,4 +1,6 @@
 pub mod Run
+pub mod Journal
+pub mod Seated
 pub mod Serve
 pub mod Words
 pub mod Opened

@@ -7,7 +7,7 @@ use Rattle.program_lines.specs.declared.status.Status.{Status}
 use Rattle.program_lines.specs.declared.status.Status.TheVariants as statuses
 use Rattle.program_lines.specs.Printed.{listening_text}
 use Rattle.shared_door.specs.Shown.{Shown}
-use Rattle.router_sessions.specs.declared.history.Turn.{Turn}
+use Rattle.router_history.specs.declared.history.Turn.{Turn}
 use Rattle.door_workers.specs.Serving.{Session}
 use Rattle.tables_summary.specs.Summary.{WritesPart}
 use Rattle.bus_server.specs.Serve.{AroundDoor, AtDoor, links_of, clocks_of, EndsUnserved, IsOpened}

@@ -1,5 +1,5 @@
 -- The program: its session, its status, and the line that reports the status.
-use Rattle.std.specs.Prelude.{◌≡◌, ◌≢◌, ℕ, ◌≤◌, ◌⊎◌, List, [], ◌∷◌, ◌++◌, Option, Some, None, Result, All, Contains}
+use Rattle.std.specs.Prelude.{◌≡◌, ◌≢◌, ℕ, ◌≤◌, ◌⊎◌, Bool, true, false, List, [], ◌∷◌, ◌++◌, Option, Some, None, Result, All, Contains}
 use Rattle.router_disk.specs.Faults.{CountsFaults, Rose}
 use Rattle.router_disk.specs.Link.{Exchange}
 use Rattle.router_disk.specs.Sink.{AddsBytes}
@@ -12,10 +12,10 @@ use Rattle.courier_run.specs.Claim.{NeedsSend}
 use Rattle.courier_run.specs.Act.{Try, makes, tries_in}
 use Rattle.message_streams.specs.declared.farewell.SessionEnd.{SessionEnd}
 use Rattle.message_streams.specs.declared.farewell.SessionEnd.TheVariants as ends
-use Rattle.router_sessions.specs.History.{Turn, Placed, records}
-use Rattle.router_sessions.specs.Book.{opening}
-use Rattle.router_sessions.specs.Acts.{Act, World, world}
-use Rattle.router_sessions.specs.Session.{IsSession}
+use Rattle.router_history.specs.History.{Turn, Placed, records, state_of}
+use Rattle.router_history.specs.Book.{opening}
+use Rattle.router_history.specs.Acts.{Act, Breaks, World, world}
+use Rattle.router_history.specs.Session.{IsSession}
 use Rattle.drill_run.specs.OnePass.{only_seat, IsOfOnePass}
 
 -- The status of a session's end. `Closed` is `Done`; each other end has the status of its own name.
@@ -53,21 +53,32 @@ pub record FaultsMatch (status : Status) (reads reads_new writes writes_new : �
   pub write_fault : status ≡ statuses.WriteFault → Rose writes writes_new
   pub output_faultless : status ≢ statuses.WriteFault → writes_new ≡ writes
 
--- Each attempt whose text was sent is recorded by a turn, with its outcome.
+-- One of these acts is a turn that records the attempt, with its outcome.
 -- Shown by: recorded_without_a_send.edit.
-abbrev pub AreRecorded : List Act → Type 0
-AreRecorded acts = (t : Try) → Contains (tries_in acts) t → NeedsSend t.claim
-    → (p : Placed) × (fate : Fate) × Contains acts (makes p) × (p.turn.ask ≡ records (record { claim = t.claim; outcome = t.outcome; fate = fate }))
+abbrev pub IsRecorded : List Act → Try → Type 0
+IsRecorded acts t =
+    (p : Placed) × (fate : Fate) × Contains acts (makes p) × (p.turn.ask ≡ records (record { claim = t.claim; outcome = t.outcome; fate = fate }))
 
--- One session over a book that was just opened with the first tables, with the status of its end. Its history is `IsOfOnePass`, and each
--- attempt whose text was sent is recorded.
+-- One of these acts is the turn that breaks the book, since the attempt's record could not be appended.
+-- Shown by: proofs alone.
+abbrev pub IsLost : List Act → Try → Type 0
+IsLost acts t = (p : Placed) × Contains acts (makes p) × Breaks p t.claim t.outcome
+
+-- Each attempt whose text was sent is recorded. If the book is broken, its record may be the one that broke it.
+-- Shown by: recorded_without_a_send.edit.
+abbrev pub AreRecorded : Bool → List Act → Type 0
+AreRecorded false acts = (t : Try) → Contains (tries_in acts) t → NeedsSend t.claim → IsRecorded acts t
+AreRecorded true acts = (t : Try) → Contains (tries_in acts) t → NeedsSend t.claim → IsRecorded acts t ⊎ IsLost acts t
+
+-- One session over a book that was just opened, by this turn. Its history is `IsOfOnePass`, and its attempts are `AreRecorded`. `Ends` holds of
+-- how the session ended, and of whether the book is broken.
 -- Shown by: first-run.
-pub record RunsOnce (old new : World) (status : Status) : Type 0 where
+pub record RunsOnce (start : Turn) (Ends : SessionEnd → Bool → Type 0) (old new : World) : Type 0 where
   pub end : SessionEnd
   pub session : IsSession only_seat old new end
-  pub recorded : AreRecorded session.0
-  pub first : old.turns ≡ opening ∷ []
-  pub ends : status ≡ status_of end
+  pub recorded : AreRecorded (state_of new.turns).broken session.0
+  pub first : old.turns ≡ start ∷ []
+  pub ends : Ends end (state_of new.turns).broken
   pub history : IsOfOnePass new.turns
 
 -- What is known around a run: what the reads gave, the bytes written and the readings of the clock; the links that the host gave, and those
@@ -101,35 +112,39 @@ pub record IsUnbegun {L : Type 0} (old new : Around L) : Type 0 where
 
 -- `RunsOnce` by the clock, or with every reading the given one while the clock is not read.
 -- Shown by: first-run; .ci/checks/deliveries.py.
-abbrev pub RunsBy : Option ℕ → World → World → Status → Type 0
-RunsBy None old new status = RunsOnce old new status
-RunsBy (Some moment) old new status = (readings : List ℕ) × All (λ r. r ≡ moment) readings
-    × RunsOnce (record old { readings = [] }) (record new { readings = readings }) status × (new.readings ≡ old.readings)
+abbrev pub RunsBy : Turn → (SessionEnd → Bool → Type 0) → Option ℕ → World → World → Type 0
+RunsBy start Ends None old new = RunsOnce start Ends old new
+RunsBy start Ends (Some moment) old new = (readings : List ℕ) × All (λ r. r ≡ moment) readings
+    × RunsOnce start Ends (record old { readings = [] }) (record new { readings = readings }) × (new.readings ≡ old.readings)
 
 -- The host gave one link, a session had it (`RunsBy`), and the host took it back. `answered` and `faults` are what a link shows.
 -- Shown by: program_tests program.rt: a_run_gives_its_link_back; delivers_by_its_own_link.edit.
-pub record RunsLinked {L : Type 0} (answered : L → List Exchange) (faults : L → ℕ) (now : Option ℕ) (old new : Around L) (status : Status)
-    : Type 0 where
+pub record RunsLinked {L : Type 0} (answered : L → List Exchange) (faults : L → ℕ) (start : Turn) (Ends : SessionEnd → Bool → Type 0)
+    (now : Option ℕ) (old new : Around L) : Type 0 where
   -- the link as it was given, and as it was taken back
   pub lent : L
   pub returned : L
   pub given : new.given ≡ old.given ++ lent ∷ []
   pub back : new.back ≡ old.back ++ returned ∷ []
   pub turns : List Turn
-  pub runs : RunsBy now (world (opening ∷ []) old.gave old.written old.readings (answered lent) (faults lent))
-      (world turns new.gave new.written new.readings (answered returned) (faults returned)) status
+  pub runs : RunsBy start Ends now (world (start ∷ []) old.gave old.written old.readings (answered lent) (faults lent))
+      (world turns new.gave new.written new.readings (answered returned) (faults returned))
 
--- `RunsLinked`; or `NoMemory` or `DoorFault` and nothing begun.
+-- The book is not broken, and the status is that of the session's end.
+-- Shown by: first-run.
+abbrev pub EndsWhole : Status → SessionEnd → Bool → Type 0
+EndsWhole status end broken = (broken ≡ false) × (status ≡ status_of end)
+
+-- Without a journal: `RunsLinked` from the first tables, with the status of the session's end; or `NoMemory` or `DoorFault` and nothing begun.
 -- Shown by: first-run.
 abbrev pub IsRun : {L : Type 0} (answered : L → List Exchange) (faults : L → ℕ) → Option ℕ → Around L → Around L → Status → Type 0
-IsRun answered faults now old new status =
-    RunsLinked answered faults now old new status ⊎ (((status ≡ statuses.NoMemory) ⊎ (status ≡ statuses.DoorFault)) × IsUnbegun old new)
+IsRun answered faults now old new status = RunsLinked answered faults opening (EndsWhole status) now old new
+    ⊎ (((status ≡ statuses.NoMemory) ⊎ (status ≡ statuses.DoorFault)) × IsUnbegun old new)
 
 -- The host's count of faults of links rose, or was at its last value, if the status is `DoorFault`, and is unchanged at every other status;
--- the other two counts are unchanged.
+-- the count of faults of doors is unchanged.
 -- Shown by: program_tests program.rt: a_host_that_fails_ends_a_run.
-pub record HostMatches {H : Type 0} (disk door link : H → ℕ) (status : Status) (old new : H) : Type 0 where
-  pub same_disk : disk new ≡ disk old
+pub record HostMatches {H : Type 0} (door link : H → ℕ) (status : Status) (old new : H) : Type 0 where
   pub same_door : door new ≡ door old
   pub door_fault : status ≡ statuses.DoorFault → Rose (link old) (link new)
   pub link_faultless : status ≢ statuses.DoorFault → link new ≡ link old

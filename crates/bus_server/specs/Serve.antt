@@ -9,10 +9,10 @@ use Rattle.router_core.specs.Tables.{Tables}
 use Rattle.door_workers.specs.declared.door.DoorEnd.{DoorEnd}
 use Rattle.door_workers.specs.declared.door.DoorEnd.TheVariants as ends
 use Rattle.door_workers.specs.Serving.{HasServed, Session, Worked, IsWorker}
-use Rattle.router_sessions.specs.declared.history.Turn.{Turn}
-use Rattle.router_sessions.specs.History.{state_of}
-use Rattle.router_sessions.specs.History as history
-use Rattle.router_sessions.specs.Book.{turn_of, opening, IsBook}
+use Rattle.router_history.specs.declared.history.Turn.{Turn}
+use Rattle.router_history.specs.History.{state_of}
+use Rattle.router_history.specs.History as history
+use Rattle.router_history.specs.Book.{turn_of, opening, IsBook}
 use Rattle.tables_summary.specs.Summary.{IsSummed, WritesPart}
 
 -- What is known around a program that serves: the bytes written; the doors, each after its port, and the links that the host gave, and those
@@ -53,7 +53,7 @@ abbrev pub clocks_of : {L C : Type 0} → List (L × C) → List C
 clocks_of owns = map (λ o. o.1) owns
 
 -- The status, and what was written after the workers had ended: `IsSummed` if the door is done; `DoorFault` and nothing if it failed.
--- Shown by: program_tests serve.rt: a_door_that_fails_ends_the_run; a_failed_door_is_done.edit.
+-- Shown by: program_tests serve.rt: a_door_that_fails_ends_the_run.
 abbrev pub EndsServing : DoorEnd → Tables → List ℕ → List ℕ → Status → Type 0
 EndsServing ends.Done t old new status = IsSummed t old new status
 EndsServing ends.DoorFault t old new status = (status ≡ statuses.DoorFault) × (new ≡ old)

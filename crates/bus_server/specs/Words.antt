@@ -8,7 +8,7 @@ use Rattle.command_line.specs.declared.fault.WordsFault.TheVariants as faults
 
 -- What was written, and the status: `Done` or `WriteFault` if the words ask for help or for the version; else nothing, with `Usage` if they are
 -- refused, or `NoMemory`.
--- Shown by: help-of-serve; bad-arguments; always_answers_bad_arguments.edit.
+-- Shown by: help-of-serve; bad-arguments.
 abbrev pub EndsUnread : List (List ℕ) → List ℕ → List ℕ → Status → Type 0
 EndsUnread words old new status =
     (AskForHelp words × ((status ≡ statuses.Done) ⊎ (status ≡ statuses.WriteFault)) × ((text : List ℕ) × (new ≡ old ++ text)))

@@ -1,44 +1,37 @@
 //! The program.
-ghost use Rattle.std.specs.Prelude.{◌≡◌, ◌≢◌, ◌⊎◌, ◌∷◌, ◌++◌, ◌≤◌, ℕ, List, [], All, Option, map, string_bytes};
+ghost use Rattle.std.specs.Prelude.{◌≡◌, ◌≢◌, ◌⊎◌, ◌++◌, ◌≤◌, ℕ, List, Option, Some, None, map, string_bytes};
 ghost use Rattle.command_line.specs.Command.{CommandView, IsCommand, command_view};
 ghost use Rattle.command_line.specs.Command as commands;
 ghost use Rattle.command_line.specs.Fault.{AreRefused};
 ghost use Rattle.command_line.specs.Line.{IsLine};
 ghost use Rattle.program_lines.specs.Files.{workers_for};
 ghost use Rattle.program_lines.specs.declared.status.Status.TheVariants as statuses;
-ghost use Rattle.turn_book.specs.Passes.{view, IsFree};
-ghost use Rattle.bus_server.specs.Run.{IsRun, RunsBy, RunsOnce, IsUntouched, IsReported, IsReportedLast, FaultsMatch, HostMatches};
-ghost use Rattle.bus_server.specs.Run.{around, status_of};
+ghost use Rattle.bus_server.specs.Run.{IsRun, IsUntouched, IsReported, IsReportedLast, FaultsMatch, HostMatches, around};
+ghost use Rattle.bus_server.specs.Journal.{IsJournaledRun, disks};
 ghost use Rattle.bus_server.specs.Words.{EndsBy, EndsUnread};
-ghost use Rattle.router_sessions.specs.History.{Turn};
-ghost use Rattle.router_sessions.specs.Book.{opening};
-ghost use Rattle.router_sessions.specs.Desk.{turns_seen};
 ghost use Rattle.bus_host.specs.Host.{SameGiven};
 ghost use Rattle.shared_door.specs.Shown.{shown_by};
 ghost use Rattle.session_workers.specs.Jobs.{did_by};
 ghost use Rattle.bus_server.specs.Serve.{around_door, IsServe};
 ghost use Rattle.drill_run.specs.Drill.{IsDrill};
 ghost use Rattle.journal_check.specs.Check.{IsCheck, around_disk};
-ghost use Rattle.router_sessions.specs.Visit.{IsVisit};
-ghost use Rattle.router_sessions.specs.Acts.{world};
+ghost use Rattle.router_history.specs.Visit.{IsVisit};
 
+use crate::once::once;
 use crate::serve::serve;
-use bus_host::{Clocks, Host, HostFault, NoGate};
+use bus_host::{Clocks, Host};
 use command_line::{Command, WordsFault, read_command};
-use drill_run::{Moment, ONLY_CONNECTION, StillClock, drill};
+use drill_run::drill;
 use journal_check::check;
-use json_text::NoMemory;
 use program_lines::{Status, fitting_workers};
-use router_disk::{Clock, Failed, Link, Sink, Source};
-use router_sessions::{Book, SessionEnd, serve_session};
+use router_disk::{Failed, Sink, Source};
 use std::alloc::Global;
-use std::marker::Brand;
 use std::sync::Wait;
 use std::thread::Threads;
-use turn_book::{Hall, Pass};
 
 /// Runs the program on its arguments. The first is its name. With `once` it serves one session over its input and output; after
-/// `--now S`, S is every reading of the clock, in seconds. With `serve` it serves connections to a port, each as a session of its own, by
+/// `--now S`, S is every reading of the clock, in seconds. After `--journal FILE` the session goes on from the journal in the file, and each
+/// change is appended to it before its reply is written. With `serve` it serves connections to a port, each as a session of its own, by
 /// workers that each have a link and a clock of their own, with fewer workers if the process may not have as many open files (`files`)
 /// as they need. With `drill` it serves sessions over messages that it makes, and with `check` it reads a journal. Arguments are read first;
 /// then memory is allocated, then the host gives links and a door, or a disk. A program that serves needs memory once more after it printed
@@ -55,7 +48,13 @@ pub fn run<Rt: Wait + Threads + Sync, S: Source, K: Sink, E: Sink, H: Host, C: C
     host: &mut H,
     clock: &mut C,
 ) -> Status
-    ensures run { (now : Option ℕ) → IsCommand (map string_bytes words.now) (commands.once now) → IsRun H.Link.exchanges H.Link.faults now
+    ensures run { (now : Option ℕ) → IsCommand (map string_bytes words.now) (commands.once None now) → IsRun H.Link.exchanges H.Link.faults now
+        (around (S.gave input.old) (K.wrote output.old) (C.gave clock.old) (H.links_given host.old) (H.links_back host.old))
+        (around (S.gave input.new) (K.wrote output.new) (C.gave clock.new) (H.links_given host.new) (H.links_back host.new)) result }
+    ensures journaled { (journal : List ℕ) (now : Option ℕ) → IsCommand (map string_bytes words.now) (commands.once (Some journal) now)
+        → IsJournaledRun H.Disk.calls H.Disk.faults H.Link.exchanges H.Link.faults (λ s. FaultsMatch s (S.faults input.old) (S.faults input.new) (K.faults output.old) (K.faults output.new)) journal now
+        (disks (H.disks_given host.old) (H.disks_back host.old) (H.disk_faults host.old))
+        (disks (H.disks_given host.new) (H.disks_back host.new) (H.disk_faults host.new))
         (around (S.gave input.old) (K.wrote output.old) (C.gave clock.old) (H.links_given host.old) (H.links_back host.old))
         (around (S.gave input.new) (K.wrote output.new) (C.gave clock.new) (H.links_given host.new) (H.links_back host.new)) result }
     ensures serve { (port workers : ℕ) (connections : Option ℕ) → IsCommand (map string_bytes words.now) (commands.serve port workers connections)
@@ -89,12 +88,14 @@ pub fn run<Rt: Wait + Threads + Sync, S: Source, K: Sink, E: Sink, H: Host, C: C
     ensures reported { result ≢ statuses.Usage
         → ((port workers : ℕ) (connections : Option ℕ) → ¬ IsCommand (map string_bytes words.now) (commands.serve port workers connections))
         → IsReported result (E.wrote faults.old) (E.wrote faults.new) (E.faults faults.old) (E.faults faults.new) }
-    ensures counts { FaultsMatch result (S.faults input.old) (S.faults input.new) (K.faults output.old) (K.faults output.new) }
-    ensures disk { ((journal : List ℕ) → ¬ IsCommand (map string_bytes words.now) (commands.check journal)) → H.disk_faults host.new ≡ H.disk_faults host.old }
+    ensures counts { ((journal : List ℕ) (now : Option ℕ) → ¬ IsCommand (map string_bytes words.now) (commands.once (Some journal) now))
+        → FaultsMatch result (S.faults input.old) (S.faults input.new) (K.faults output.old) (K.faults output.new) }
+    ensures disk { ((journal : List ℕ) → ¬ IsCommand (map string_bytes words.now) (commands.check journal))
+        → ((journal : List ℕ) (now : Option ℕ) → ¬ IsCommand (map string_bytes words.now) (commands.once (Some journal) now))
+        → (H.disk_faults host.new ≡ H.disk_faults host.old) × SameGiven H.disks_given H.disks_back host.old host.new }
     ensures host { ((port workers : ℕ) (connections : Option ℕ) → ¬ IsCommand (map string_bytes words.now) (commands.serve port workers connections))
         → ((journal : List ℕ) → ¬ IsCommand (map string_bytes words.now) (commands.check journal))
-        → HostMatches H.disk_faults H.door_faults H.link_faults result host.old host.new × SameGiven H.doors_given H.doors_back host.old host.new
-        × SameGiven H.disks_given H.disks_back host.old host.new }
+        → HostMatches H.door_faults H.link_faults result host.old host.new × SameGiven H.doors_given H.doors_back host.old host.new }
 {
     match read_command(alloc, words) {
         Ok(command) => obey(
@@ -118,7 +119,13 @@ fn obey<Rt: Wait + Threads + Sync, S: Source, K: Sink, E: Sink, H: Host, C: Cloc
 ) -> Status
     requires workers { (port workers : ℕ) (connections : Option ℕ) → command_view command ≡ commands.serve port workers connections
         → (1 ≤ workers) × (workers ≤ 1024) }
-    ensures run { (now : Option ℕ) → command_view command.entry ≡ commands.once now → IsRun H.Link.exchanges H.Link.faults now
+    ensures run { (now : Option ℕ) → command_view command.entry ≡ commands.once None now → IsRun H.Link.exchanges H.Link.faults now
+        (around (S.gave input.old) (K.wrote output.old) (C.gave clock.old) (H.links_given host.old) (H.links_back host.old))
+        (around (S.gave input.new) (K.wrote output.new) (C.gave clock.new) (H.links_given host.new) (H.links_back host.new)) result }
+    ensures journaled { (journal : List ℕ) (now : Option ℕ) → command_view command.entry ≡ commands.once (Some journal) now
+        → IsJournaledRun H.Disk.calls H.Disk.faults H.Link.exchanges H.Link.faults (λ s. FaultsMatch s (S.faults input.old) (S.faults input.new) (K.faults output.old) (K.faults output.new)) journal now
+        (disks (H.disks_given host.old) (H.disks_back host.old) (H.disk_faults host.old))
+        (disks (H.disks_given host.new) (H.disks_back host.new) (H.disk_faults host.new))
         (around (S.gave input.old) (K.wrote output.old) (C.gave clock.old) (H.links_given host.old) (H.links_back host.old))
         (around (S.gave input.new) (K.wrote output.new) (C.gave clock.new) (H.links_given host.new) (H.links_back host.new)) result }
     ensures serve { (port workers : ℕ) (connections : Option ℕ) → command_view command.entry ≡ commands.serve port workers connections
@@ -145,16 +152,18 @@ fn obey<Rt: Wait + Threads + Sync, S: Source, K: Sink, E: Sink, H: Host, C: Cloc
     ensures last { IsReportedLast result (E.wrote faults.old) (E.wrote faults.new) (E.faults faults.old) (E.faults faults.new) }
     ensures reported { ((port workers : ℕ) (connections : Option ℕ) → command_view command.entry ≢ commands.serve port workers connections)
         → IsReported result (E.wrote faults.old) (E.wrote faults.new) (E.faults faults.old) (E.faults faults.new) }
-    ensures counts { FaultsMatch result (S.faults input.old) (S.faults input.new) (K.faults output.old) (K.faults output.new) }
-    ensures disk { ((journal : List ℕ) → command_view command.entry ≢ commands.check journal) → H.disk_faults host.new ≡ H.disk_faults host.old }
+    ensures counts { ((journal : List ℕ) (now : Option ℕ) → command_view command.entry ≢ commands.once (Some journal) now)
+        → FaultsMatch result (S.faults input.old) (S.faults input.new) (K.faults output.old) (K.faults output.new) }
+    ensures disk { ((journal : List ℕ) → command_view command.entry ≢ commands.check journal)
+        → ((journal : List ℕ) (now : Option ℕ) → command_view command.entry ≢ commands.once (Some journal) now)
+        → (H.disk_faults host.new ≡ H.disk_faults host.old) × SameGiven H.disks_given H.disks_back host.old host.new }
     ensures host { ((port workers : ℕ) (connections : Option ℕ) → command_view command.entry ≢ commands.serve port workers connections)
         → ((journal : List ℕ) → command_view command.entry ≢ commands.check journal)
-        → HostMatches H.disk_faults H.door_faults H.link_faults result host.old host.new × SameGiven H.doors_given H.doors_back host.old host.new
-        × SameGiven H.disks_given H.disks_back host.old host.new }
+        → HostMatches H.door_faults H.link_faults result host.old host.new × SameGiven H.doors_given H.doors_back host.old host.new }
 {
     match command {
-        Command::Once { now } => {
-            let status = once(rt, alloc, now, input, output, host, clock);
+        Command::Once { journal, now } => {
+            let status = once(rt, alloc, journal, now, input, output, host, clock);
             report(faults, status);
             status
         }
@@ -244,192 +253,4 @@ fn report<E: Sink>(faults: &mut E, status: Status)
 {
     let text = status.line();
     let _ = faults.write_all(text.as_slice());
-}
-
-/// One session over a new book and a link of the host. The hall has one pass.
-fn once<Rt: Wait, S: Source, K: Sink, H: Host, C: Clock>(
-    rt: &Rt,
-    alloc: Global,
-    now: Option<u64>,
-    input: &mut S,
-    output: &mut K,
-    host: &mut H,
-    clock: &mut C,
-) -> Status
-    ensures run { IsRun H.Link.exchanges H.Link.faults now
-        (around (S.gave input.old) (K.wrote output.old) (C.gave clock.old) (H.links_given host.old) (H.links_back host.old))
-        (around (S.gave input.new) (K.wrote output.new) (C.gave clock.new) (H.links_given host.new) (H.links_back host.new)) result }
-    ensures counts { FaultsMatch result (S.faults input.old) (S.faults input.new) (K.faults output.old) (K.faults output.new) }
-    ensures host { HostMatches H.disk_faults H.door_faults H.link_faults result host.old host.new }
-    ensures doors { SameGiven H.doors_given H.doors_back host.old host.new }
-    ensures disks { SameGiven H.disks_given H.disks_back host.old host.new }
-{
-    match Book::first(alloc) {
-        Ok(book) => match Hall::make(alloc, book, 1) {
-            Ok((hall, pass)) => linked(rt, alloc, hall, pass, now, input, output, host, clock),
-            Err((_, _)) => Status::NoMemory,
-        },
-        Err(NoMemory) => Status::NoMemory,
-    }
-}
-
-/// One session over the hall's book and a link of the host.
-fn linked<Rt: Wait, S: Source, K: Sink, H: Host, C: Clock>(
-    rt: &Rt,
-    alloc: Global,
-    hall: Hall<Book>,
-    pass: Pass<Book>,
-    now: Option<u64>,
-    input: &mut S,
-    output: &mut K,
-    host: &mut H,
-    clock: &mut C,
-) -> Status
-    requires here { pass.seat.table_id ≡ hall.table.shared.table_id }
-    requires opener { ((view pass.seat).number ≡ 0) × ((view pass.seat).made ≡ 1) × (turns_seen pass.seat ≡ opening ∷ []) }
-    requires free { IsFree pass.seat }
-    ensures run { IsRun H.Link.exchanges H.Link.faults now
-        (around (S.gave input.old) (K.wrote output.old) (C.gave clock.old) (H.links_given host.old) (H.links_back host.old))
-        (around (S.gave input.new) (K.wrote output.new) (C.gave clock.new) (H.links_given host.new) (H.links_back host.new)) result }
-    ensures counts { FaultsMatch result (S.faults input.old) (S.faults input.new) (K.faults output.old) (K.faults output.new) }
-    ensures host { HostMatches H.disk_faults H.door_faults H.link_faults result host.old host.new }
-    ensures doors { SameGiven H.doors_given H.doors_back host.old host.new }
-    ensures disks { SameGiven H.disks_given H.disks_back host.old host.new }
-{
-    match host.link() {
-        Ok(mut link) => {
-            let status = clocked(rt, alloc, hall, pass, now, input, output, &mut link, clock);
-            host.back_link(link);
-            status
-        }
-        Err(HostFault::Failed) => Status::DoorFault,
-        Err(HostFault::NoMemory) => Status::NoMemory,
-    }
-}
-
-/// One session over the hall's book and the link, by the clock, or with every reading the given moment.
-fn clocked<Rt: Wait, S: Source, K: Sink, L: Link, C: Clock>(
-    rt: &Rt,
-    alloc: Global,
-    hall: Hall<Book>,
-    pass: Pass<Book>,
-    now: Option<u64>,
-    input: &mut S,
-    output: &mut K,
-    link: &mut L,
-    clock: &mut C,
-) -> Status
-    requires here { pass.seat.table_id ≡ hall.table.shared.table_id }
-    requires opener { ((view pass.seat).number ≡ 0) × ((view pass.seat).made ≡ 1) × (turns_seen pass.seat ≡ opening ∷ []) }
-    requires free { IsFree pass.seat }
-    ensures run { (turns : List Turn) × RunsBy now
-        (world (opening ∷ []) (S.gave input.old) (K.wrote output.old) (C.gave clock.old) (L.exchanges link.old) (L.faults link.old))
-        (world turns (S.gave input.new) (K.wrote output.new) (C.gave clock.new) (L.exchanges link.new) (L.faults link.new)) result }
-    ensures counts { FaultsMatch result (S.faults input.old) (S.faults input.new) (K.faults output.old) (K.faults output.new) }
-    ensures no_door_fault { result ≢ statuses.DoorFault }
-{
-    match now {
-        Some(moment) => { stand_still(rt, alloc, hall, pass, input, output, link, moment) }
-        None => over(rt, alloc, hall, pass, input, output, link, clock),
-    }
-}
-
-/// One session with every reading the moment.
-fn stand_still<Rt: Wait, S: Source, K: Sink, L: Link>(
-    rt: &Rt,
-    alloc: Global,
-    hall: Hall<Book>,
-    pass: Pass<Book>,
-    input: &mut S,
-    output: &mut K,
-    link: &mut L,
-    moment: u64,
-) -> Status
-    requires here { pass.seat.table_id ≡ hall.table.shared.table_id }
-    requires opener { ((view pass.seat).number ≡ 0) × ((view pass.seat).made ≡ 1) × (turns_seen pass.seat ≡ opening ∷ []) }
-    requires free { IsFree pass.seat }
-    ensures run { (turns : List Turn) × (readings : List ℕ) × All (λ r. r ≡ moment) readings × RunsOnce
-        (world (opening ∷ []) (S.gave input.old) (K.wrote output.old) [] (L.exchanges link.old) (L.faults link.old))
-        (world turns (S.gave input.new) (K.wrote output.new) readings (L.exchanges link.new) (L.faults link.new)) result }
-    ensures counts { FaultsMatch result (S.faults input.old) (S.faults input.new) (K.faults output.old) (K.faults output.new) }
-    ensures no_door_fault { result ≢ statuses.DoorFault }
-{
-    still_by::<Brand, Rt, S, K, L>(rt, alloc, hall, pass, input, output, link, moment)
-}
-
-fn still_by<N: Moment + Send, Rt: Wait, S: Source, K: Sink, L: Link>(
-    rt: &Rt,
-    alloc: Global,
-    hall: Hall<Book>,
-    pass: Pass<Book>,
-    input: &mut S,
-    output: &mut K,
-    link: &mut L,
-    moment: u64,
-) -> Status
-    requires here { pass.seat.table_id ≡ hall.table.shared.table_id }
-    requires opener { ((view pass.seat).number ≡ 0) × ((view pass.seat).made ≡ 1) × (turns_seen pass.seat ≡ opening ∷ []) }
-    requires free { IsFree pass.seat }
-    requires moment { moment ≡ N.moment }
-    ensures run { (turns : List Turn) × (readings : List ℕ) × All (λ r. r ≡ N.moment) readings × RunsOnce
-        (world (opening ∷ []) (S.gave input.old) (K.wrote output.old) [] (L.exchanges link.old) (L.faults link.old))
-        (world turns (S.gave input.new) (K.wrote output.new) readings (L.exchanges link.new) (L.faults link.new)) result }
-    ensures counts { FaultsMatch result (S.faults input.old) (S.faults input.new) (K.faults output.old) (K.faults output.new) }
-    ensures no_door_fault { result ≢ statuses.DoorFault }
-{
-    let mut still: StillClock<N> = StillClock::new(moment);
-    let status = over(rt, alloc, hall, pass, input, output, link, &mut still);
-    still.always();
-    status
-}
-
-/// One session over the hall's book, whose only pass this is.
-fn over<Rt: Wait, S: Source, K: Sink, L: Link, C: Clock>(
-    rt: &Rt,
-    alloc: Global,
-    hall: Hall<Book>,
-    mut pass: Pass<Book>,
-    input: &mut S,
-    output: &mut K,
-    link: &mut L,
-    clock: &mut C,
-) -> Status
-    requires here { pass.seat.table_id ≡ hall.table.shared.table_id }
-    requires opener { ((view pass.seat).number ≡ 0) × ((view pass.seat).made ≡ 1) × (turns_seen pass.seat ≡ opening ∷ []) }
-    requires free { IsFree pass.seat }
-    ensures run { (turns : List Turn) × RunsOnce
-        (world (opening ∷ []) (S.gave input.old) (K.wrote output.old) (C.gave clock.old) (L.exchanges link.old) (L.faults link.old))
-        (world turns (S.gave input.new) (K.wrote output.new) (C.gave clock.new) (L.exchanges link.new) (L.faults link.new)) result }
-    ensures counts { FaultsMatch result (S.faults input.old) (S.faults input.new) (K.faults output.old) (K.faults output.new) }
-    ensures no_door_fault { result ≢ statuses.DoorFault }
-{
-    let end = serve_session(
-        rt,
-        alloc,
-        &hall,
-        &mut pass,
-        link,
-        input,
-        output,
-        clock,
-        ONLY_CONNECTION,
-        &NoGate,
-    );
-    let _book = hall.close(pass, Vec::new(alloc));
-    session_status(end)
-}
-
-/// The status of a session's end.
-fn session_status(end: SessionEnd) -> Status
-    ensures { result ≡ status_of end }
-{
-    match end {
-        SessionEnd::Closed => Status::Done,
-        SessionEnd::Cut => Status::Cut,
-        SessionEnd::Refused => Status::Refused,
-        SessionEnd::Long => Status::Long,
-        SessionEnd::ReadFault => Status::ReadFault,
-        SessionEnd::WriteFault => Status::WriteFault,
-        SessionEnd::NoMemory => Status::NoMemory,
-    }
 }

@@ -9,16 +9,17 @@ ghost use Rattle.shared_door.specs.Shown.{shown_by};
 ghost use Rattle.session_workers.specs.Jobs.{did_by};
 ghost use Rattle.bus_server.specs.Serve.{around_door, links_of, clocks_of, EndsServing, IsOpened, IsServe};
 ghost use Rattle.bus_server.specs.Opened.{status_of_host, CountsHost, IsUnopened, Announces, ServesBy, IsUnservedBy};
-ghost use Rattle.router_sessions.specs.Book.{opening};
+ghost use Rattle.router_history.specs.Book.{opening};
 ghost use Rattle.router_sessions.specs.Desk.{turns_seen};
-ghost use Rattle.router_sessions.specs.Visit.{IsVisit};
+ghost use Rattle.router_history.specs.Visit.{IsVisit};
 
-use bus_host::{Clocks, Door, Host, HostFault, NoGate};
+use crate::once::end_book;
+use bus_host::{Clocks, Door, Host, HostFault, NoDisk, NoGate};
 use json_text::Bytes;
 use program_lines::{Status, listening_line};
 use router_core::Tables;
 use router_disk::{Clock, Failed, Link, Sink, Source};
-use router_sessions::Book;
+use router_history::Book;
 use session_workers::{DoorEnd, Serving, serve_door};
 use std::alloc::Global;
 use std::sync::Wait;
@@ -56,7 +57,7 @@ pub(crate) fn serve<Rt: Wait + Threads + Sync, K: Sink, H: Host, C: Clocks>(
     ensures write_fault { result ≡ statuses.WriteFault → Rose (K.faults output.old) (K.faults output.new) }
     ensures output_faultless { result ≢ statuses.WriteFault → K.faults output.new ≡ K.faults output.old }
     ensures unread { C.gave clock.new ≡ C.gave clock.old }
-    ensures disk { H.disk_faults host.new ≡ H.disk_faults host.old }
+    ensures disk { (H.disk_faults host.new ≡ H.disk_faults host.old) × SameGiven H.disks_given H.disks_back host.old host.new }
 {
     let count = usize::from(workers);
     let mut owns = Vec::new(alloc);
@@ -82,16 +83,19 @@ pub(crate) fn serve<Rt: Wait + Threads + Sync, K: Sink, H: Host, C: Clocks>(
                         clock,
                     ),
                     Err(fault) => {
+                        let _none = end_book(alloc, hall, pass);
                         give_owns(host, clock, owns);
                         host_status(fault)
                     }
                 },
                 Err(_) => {
+                    let _none = end_book(alloc, hall, pass);
                     owns.destroy_empty();
                     Status::NoMemory
                 }
             },
-            Err((_, _)) => {
+            Err((_, book)) => {
+                let _none = book.into_disk();
                 owns.destroy_empty();
                 Status::NoMemory
             }
@@ -119,6 +123,7 @@ fn take_owns<H: Host, C: Clocks>(
     ensures few { vec_len owns.new ≤ count }
     ensures all { IfOk result (λ _. vec_len owns.new ≡ count) }
     ensures doors { SameGiven H.doors_given H.doors_back host.old host.new }
+    ensures disks { SameGiven H.disks_given H.disks_back host.old host.new }
     ensures counts { CountsHost result (H.link_faults host.old) (H.link_faults host.new) }
     ensures same { (H.door_faults host.new ≡ H.door_faults host.old) × (H.disk_faults host.new ≡ H.disk_faults host.old) }
 {
@@ -139,6 +144,7 @@ fn give_owns<H: Host, C: Clocks>(host: &mut H, clock: &mut C, owns: Vec<(H::Link
     ensures clocks { C.clocks_given clock.new ≡ C.clocks_given clock.old }
     ensures unread { C.gave clock.new ≡ C.gave clock.old }
     ensures doors { SameGiven H.doors_given H.doors_back host.old host.new }
+    ensures disks { SameGiven H.disks_given H.disks_back host.old host.new }
     ensures faults { SameFaults H.disk_faults H.door_faults H.link_faults host.old host.new }
 {
     let mut owns = owns;
@@ -164,8 +170,8 @@ fn host_status(fault: HostFault) -> Status
 fn at_port<Rt: Wait + Threads + Sync, K: Sink, H: Host, C: Clocks>(
     rt: &Rt,
     alloc: Global,
-    hall: Hall<Book>,
-    pass: Pass<Book>,
+    hall: Hall<Book<NoDisk>>,
+    pass: Pass<Book<NoDisk>>,
     owns: Vec<(H::Link, C::Lent)>,
     listening: &Bytes,
     port: u16,
@@ -194,7 +200,7 @@ fn at_port<Rt: Wait + Threads + Sync, K: Sink, H: Host, C: Clocks>(
     ensures write_fault { result ≡ statuses.WriteFault → Rose (K.faults output.old) (K.faults output.new) }
     ensures output_faultless { result ≢ statuses.WriteFault → K.faults output.new ≡ K.faults output.old }
     ensures unread { C.gave clock.new ≡ C.gave clock.old }
-    ensures disk { H.disk_faults host.new ≡ H.disk_faults host.old }
+    ensures disk { (H.disk_faults host.new ≡ H.disk_faults host.old) × SameGiven H.disks_given H.disks_back host.old host.new }
 {
     match host.door(port) {
         Ok(door) => {
@@ -216,6 +222,7 @@ fn at_port<Rt: Wait + Threads + Sync, K: Sink, H: Host, C: Clocks>(
             status
         }
         Err(fault) => {
+            let _none = end_book(alloc, hall, pass);
             give_owns(host, clock, owns);
             host_status(fault)
         }
@@ -226,8 +233,8 @@ fn at_port<Rt: Wait + Threads + Sync, K: Sink, H: Host, C: Clocks>(
 fn announce<Rt: Wait + Threads + Sync, K: Sink, D: Door, L: Link, C: Clock>(
     rt: &Rt,
     alloc: Global,
-    hall: Hall<Book>,
-    pass: Pass<Book>,
+    hall: Hall<Book<NoDisk>>,
+    pass: Pass<Book<NoDisk>>,
     owns: Vec<(L, C)>,
     door: D,
     listening: &Bytes,
@@ -249,11 +256,14 @@ fn announce<Rt: Wait + Threads + Sync, K: Sink, D: Door, L: Link, C: Clock>(
 {
     match output.write_all(listening.as_slice()) {
         Ok(()) => open(rt, alloc, hall, pass, owns, door, connections, output),
-        Err(Failed) => Left {
-            door,
-            owns,
-            status: Status::WriteFault,
-        },
+        Err(Failed) => {
+            let _none = end_book(alloc, hall, pass);
+            Left {
+                door,
+                owns,
+                status: Status::WriteFault,
+            }
+        }
     }
 }
 
@@ -261,8 +271,8 @@ fn announce<Rt: Wait + Threads + Sync, K: Sink, D: Door, L: Link, C: Clock>(
 fn open<Rt: Wait + Threads + Sync, K: Sink, D: Door, L: Link, C: Clock>(
     rt: &Rt,
     alloc: Global,
-    hall: Hall<Book>,
-    mut pass: Pass<Book>,
+    hall: Hall<Book<NoDisk>>,
+    mut pass: Pass<Book<NoDisk>>,
     owns: Vec<(L, C)>,
     door: D,
     connections: Option<u64>,
@@ -298,6 +308,7 @@ fn open<Rt: Wait + Threads + Sync, K: Sink, D: Door, L: Link, C: Clock>(
     } = serving;
     let book = hall.close(pass, passes);
     let status = end_status(alloc, end, book.tables(), output);
+    let _none = book.into_disk();
     Left { door, owns, status }
 }
 

@@ -53,7 +53,8 @@ alike f g same (serve port workers connections) h = (
   subst (λ (o : Option Text). MatchOption o (workers ≡ 64) (λ word. IsNumber 1 1024 word workers)) (same (codes "workers")) h.1,
   subst (λ (o : Option Text). IsOptional 1 1000000 o connections) (same (codes "connections")) h.2,
 )
-alike f g same (once now) h = subst (λ (o : Option Text). IsOptional 0 250000000000 o now) (same (codes "now")) h
+alike f g same (once journal now) h =
+    (sym (same (codes "journal")) ∙ h.0, subst (λ (o : Option Text). IsOptional 0 250000000000 o now) (same (codes "now")) h.1)
 alike f g same (check journal) h = sym (same (codes "journal")) ∙ h
 alike f g same (drill seed events) h = (
   subst (λ (o : Option Text). IsSomeAnd o (λ word. IsNumber 0 2147483647 word seed)) (same (codes "seed")) h.0,
@@ -80,8 +81,8 @@ line_is words c h = subst (λ (ws : List Text). IsCommand ws c) (sym h.spelled) 
         is_command (program ∷ (codes "serve" ∷ words_of os)) (codes "serve") os (serve port workers connections) refl values
         (found (codes "serve") (of.leaf_of table.serve) (map (λ rule. rule.id) table.serve.top.rules) of.pick_serve of.enters_serve of.plain_serve program os named
         (of.needs_serve (λ name. is_some (value_of name os))))
-    go (once now) program os named values =
-        is_command (program ∷ (codes "once" ∷ words_of os)) (codes "once") os (once now) refl values
+    go (once journal now) program os named values =
+        is_command (program ∷ (codes "once" ∷ words_of os)) (codes "once") os (once journal now) refl values
         (found (codes "once") (of.leaf_of table.once) (map (λ rule. rule.id) table.once.top.rules) of.pick_once of.enters_once of.plain_once program os named
         (of.needs_once (λ name. is_some (value_of name os))))
     go (check journal) program os named values =

@@ -96,6 +96,15 @@ serve_connections : Has (leaf_of serve) (codes "connections")
 unfolding ebusd program serve once check drill
 serve_connections = (ready (codes "connections") parsers.String, refl, record { dashes = refl; long = refl; by_long = refl; by_id = refl; same = refl; range = refl; action = refl }, λ v h. refl)
 
+once_journal : Has (leaf_of once) (codes "journal")
+unfolding ebusd program serve once check drill
+once_journal = (
+  ready (codes "journal") parsers.NonEmptyString,
+  refl,
+  record { dashes = refl; long = refl; by_long = refl; by_id = refl; same = refl; range = refl; action = refl },
+  path_passes (ready (codes "journal") parsers.NonEmptyString) refl,
+)
+
 once_now : Has (leaf_of once) (codes "now")
 unfolding ebusd program serve once check drill
 once_now = (ready (codes "now") parsers.String, refl, record { dashes = refl; long = refl; by_long = refl; by_id = refl; same = refl; range = refl; action = refl }, λ v h. refl)
@@ -128,8 +137,9 @@ pick_serve name (suc (suc (suc k)), lt, is) = absurd (omega arith)
 
 pub pick_once : (name : Text) → Contains (map (λ rule. rule.id) once.top.rules) name → Has (leaf_of once) name
 unfolding once
-pick_once name (zero, lt, is) = subst (Has (leaf_of once)) is once_now
-pick_once name (suc k, lt, is) = absurd (omega arith)
+pick_once name (zero, lt, is) = subst (Has (leaf_of once)) is once_journal
+pick_once name (suc zero, lt, is) = subst (Has (leaf_of once)) is once_now
+pick_once name (suc (suc k), lt, is) = absurd (omega arith)
 
 pub pick_check : (name : Text) → Contains (map (λ rule. rule.id) check.top.rules) name → Has (leaf_of check) name
 unfolding check

@@ -40,23 +40,26 @@ read_once name rows (serve p w c) (serve p2 w2 c2) (n, h) (n2, h2) =
     let workers : w ≡ w2 = number_or_once 1 1024 64 (first_of (codes "workers") rows) w w2 (omega arith) h.1 h2.1 in
     let connections : c ≡ c2 = optional_once 1 1000000 (first_of (codes "connections") rows) c c2 (omega arith) h.2 h2.2 in
     λ i. serve (port i) (workers i) (connections i)
-read_once name rows (once t) (once t2) (n, h) (n2, h2) = ap once (optional_once 0 250000000000 (first_of (codes "now") rows) t t2 (omega arith) h h2)
+read_once name rows (once j t) (once j2 t2) (n, h) (n2, h2) =
+    let journal : j ≡ j2 = sym h.0 ∙ h2.0 in
+    let now : t ≡ t2 = optional_once 0 250000000000 (first_of (codes "now") rows) t t2 (omega arith) h.1 h2.1 in
+    λ i. once (journal i) (now i)
 read_once name rows (check j) (check j2) (n, h) (n2, h2) = ap check (some_once j j2 (sym h ∙ h2))
 read_once name rows (drill s e) (drill s2 e2) (n, h) (n2, h2) =
     let seed : s ≡ s2 = needed_once 0 2147483647 (first_of (codes "seed") rows) s s2 (omega arith) h.0 h2.0 in
     let events : e ≡ e2 = needed_once 1 100000 (first_of (codes "events") rows) e e2 (omega arith) h.1 h2.1 in
     λ i. drill (seed i) (events i)
-read_once name rows (serve p w c) (once t2) (n, h) (n2, h2) = differ (codes "serve") (codes "once") name refl n n2
+read_once name rows (serve p w c) (once j2 t2) (n, h) (n2, h2) = differ (codes "serve") (codes "once") name refl n n2
 read_once name rows (serve p w c) (check j2) (n, h) (n2, h2) = differ (codes "serve") (codes "check") name refl n n2
 read_once name rows (serve p w c) (drill s2 e2) (n, h) (n2, h2) = differ (codes "serve") (codes "drill") name refl n n2
-read_once name rows (once t) (serve p2 w2 c2) (n, h) (n2, h2) = differ (codes "once") (codes "serve") name refl n n2
-read_once name rows (once t) (check j2) (n, h) (n2, h2) = differ (codes "once") (codes "check") name refl n n2
-read_once name rows (once t) (drill s2 e2) (n, h) (n2, h2) = differ (codes "once") (codes "drill") name refl n n2
+read_once name rows (once j t) (serve p2 w2 c2) (n, h) (n2, h2) = differ (codes "once") (codes "serve") name refl n n2
+read_once name rows (once j t) (check j2) (n, h) (n2, h2) = differ (codes "once") (codes "check") name refl n n2
+read_once name rows (once j t) (drill s2 e2) (n, h) (n2, h2) = differ (codes "once") (codes "drill") name refl n n2
 read_once name rows (check j) (serve p2 w2 c2) (n, h) (n2, h2) = differ (codes "check") (codes "serve") name refl n n2
-read_once name rows (check j) (once t2) (n, h) (n2, h2) = differ (codes "check") (codes "once") name refl n n2
+read_once name rows (check j) (once j2 t2) (n, h) (n2, h2) = differ (codes "check") (codes "once") name refl n n2
 read_once name rows (check j) (drill s2 e2) (n, h) (n2, h2) = differ (codes "check") (codes "drill") name refl n n2
 read_once name rows (drill s e) (serve p2 w2 c2) (n, h) (n2, h2) = differ (codes "drill") (codes "serve") name refl n n2
-read_once name rows (drill s e) (once t2) (n, h) (n2, h2) = differ (codes "drill") (codes "once") name refl n n2
+read_once name rows (drill s e) (once j2 t2) (n, h) (n2, h2) = differ (codes "drill") (codes "once") name refl n n2
 read_once name rows (drill s e) (check j2) (n, h) (n2, h2) = differ (codes "drill") (codes "check") name refl n n2
 
 pub entered_once : (entered : Option (Text × List Row)) (a b : CommandView) → IsEntered entered a → IsEntered entered b → a ≡ b
@@ -102,7 +105,7 @@ pub serve_values : (rows : List Row) (c : CommandView) → IsRead (codes "serve"
     × ((workers : ℕ) × MatchOption (first_of (codes "workers") rows) (workers ≡ 64) (λ word. IsNumber 1 1024 word workers))
     × ((connections : Option ℕ) × IsOptional 1 1000000 (first_of (codes "connections") rows) connections)
 serve_values rows (serve p w c) (n, h) = ((p, h.0), (w, h.1), (c, h.2))
-serve_values rows (once t) (n, h) = differ (codes "serve") (codes "once") (codes "serve") refl refl n
+serve_values rows (once j t) (n, h) = differ (codes "serve") (codes "once") (codes "serve") refl refl n
 serve_values rows (check j) (n, h) = differ (codes "serve") (codes "check") (codes "serve") refl refl n
 serve_values rows (drill s e) (n, h) = differ (codes "serve") (codes "drill") (codes "serve") refl refl n
 
@@ -110,7 +113,7 @@ pub drill_values : (rows : List Row) (c : CommandView) → IsRead (codes "drill"
     → ((seed : ℕ) × IsSomeAnd (first_of (codes "seed") rows) (λ word. IsNumber 0 2147483647 word seed))
     × ((events : ℕ) × IsSomeAnd (first_of (codes "events") rows) (λ word. IsNumber 1 100000 word events))
 drill_values rows (serve p w c) (n, h) = differ (codes "drill") (codes "serve") (codes "drill") refl refl n
-drill_values rows (once t) (n, h) = differ (codes "drill") (codes "once") (codes "drill") refl refl n
+drill_values rows (once j t) (n, h) = differ (codes "drill") (codes "once") (codes "drill") refl refl n
 drill_values rows (check j) (n, h) = differ (codes "drill") (codes "check") (codes "drill") refl refl n
 drill_values rows (drill s e) (n, h) = ((s, h.0), (e, h.1))
 

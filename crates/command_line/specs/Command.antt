@@ -1,5 +1,5 @@
 -- Which words are which command.
-use Rattle.std.specs.Prelude.{◌≡◌, ℕ, List, [], Option, Some, None, MatchOption, IsSomeAnd, codes}
+use Rattle.std.specs.Prelude.{◌≡◌, ℕ, List, [], Option, Some, None, MatchOption, IsSomeAnd, codes, option_map}
 use Rattle.clap.specs.Walk.{Row, Text, first_of}
 use Rattle.clap.specs.Simple.{App, subcommand_of}
 use Rattle.clap.specs.Faults.{fault_of}
@@ -8,11 +8,11 @@ use Rattle.command_line.specs.Table as table
 use Rattle.command_line.specs.declared.command.Command.{Command}
 use Rattle.command_line.specs.declared.command.Command.TheVariants as commands
 
--- A command as contracts see it: numbers, and the text of a path.
+-- A command as contracts see it: numbers, and the texts of paths.
 -- Shown by: command_tests test_command_line.rt: words_are_read_to_their_command.
 pub data CommandView : Type 0 where
   serve : (port workers : ℕ) (connections : Option ℕ) → CommandView
-  once : (now : Option ℕ) → CommandView
+  once : (journal : Option Text) (now : Option ℕ) → CommandView
   check : (journal : Text) → CommandView
   drill : (seed events : ℕ) → CommandView
 
@@ -20,7 +20,7 @@ pub data CommandView : Type 0 where
 -- Shown by: command_tests test_command_line.rt: words_are_read_to_their_command.
 abbrev pub command_view : Command → CommandView
 command_view (commands.Serve port workers connections) = serve port workers connections
-command_view (commands.Once now) = once now
+command_view (commands.Once journal now) = once (option_map (λ s. s.now) journal) now
 command_view (commands.Check journal) = check journal.now
 command_view (commands.Drill seed events) = drill seed events
 
@@ -28,7 +28,7 @@ command_view (commands.Drill seed events) = drill seed events
 -- Shown by: command_tests test_command_line.rt: words_are_read_to_their_command.
 abbrev pub subcommand_for : CommandView → App
 subcommand_for (serve port workers connections) = table.serve
-subcommand_for (once now) = table.once
+subcommand_for (once journal now) = table.once
 subcommand_for (check journal) = table.check
 subcommand_for (drill seed events) = table.drill
 
@@ -36,7 +36,7 @@ subcommand_for (drill seed events) = table.drill
 -- Shown by: command_tests test_command_line.rt: words_are_read_to_their_command.
 abbrev pub name_of : CommandView → Text
 name_of (serve port workers connections) = codes "serve"
-name_of (once now) = codes "once"
+name_of (once journal now) = codes "once"
 name_of (check journal) = codes "check"
 name_of (drill seed events) = codes "drill"
 
@@ -55,7 +55,7 @@ HasValues given (serve port workers connections) =
     MatchOption (given (codes "port")) (port ≡ 9100) (λ word. IsNumber 1 65535 word port)
     × MatchOption (given (codes "workers")) (workers ≡ 64) (λ word. IsNumber 1 1024 word workers)
     × IsOptional 1 1000000 (given (codes "connections")) connections
-HasValues given (once now) = IsOptional 0 250000000000 (given (codes "now")) now
+HasValues given (once journal now) = (given (codes "journal") ≡ journal) × IsOptional 0 250000000000 (given (codes "now")) now
 HasValues given (check journal) = given (codes "journal") ≡ Some journal
 HasValues given (drill seed events) =
     IsSomeAnd (given (codes "seed")) (λ word. IsNumber 0 2147483647 word seed)

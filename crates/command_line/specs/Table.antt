@@ -31,7 +31,7 @@ serve = subcommand (codes "serve") (option (codes "port") ∷ option (codes "wor
 
 -- as `serve`
 unfoldable pub once : App
-once = subcommand (codes "once") (option (codes "now") ∷ [])
+once = subcommand (codes "once") (journal ∷ option (codes "now") ∷ [])
 
 -- as `serve`
 unfoldable pub check : App

@@ -38,7 +38,9 @@ pub enum Command<'a> {
         connections: Option<u64>,
     },
     /// One session from the input to the output. If `now` is given, it is every reading of the clock, in seconds since 1970.
+    /// If `journal` is given, it is the path of the journal's file.
     Once {
+        journal: Option<&'a str>,
         now: Option<u64>,
     },
     /// The summary of the journal of the file at this path.
@@ -111,7 +113,10 @@ fn once_in<'a>(alloc: Global, options: &ArgMatches<'a>) -> Result<Command<'a>, W
     ensures err { IfErr result (Denies ((c : CommandView) × IsRead (codes "once") (rows_of (found_of options.now)) c)) }
 {
     let now = number_in(alloc, options, "now", 0, LAST_MOMENT)?;
-    Ok(Command::Once { now })
+    Ok(Command::Once {
+        journal: value_in(options, "journal"),
+        now,
+    })
 }
 
 fn check_in<'a>(alloc: Global, options: &ArgMatches<'a>) -> Result<Command<'a>, WordsFault>

@@ -28,6 +28,24 @@ The last line on standard error names the status; lines before it say why:
 
 docs/OPERATING.md has more.";
 
+/// What the help of `once` says after its options.
+const ONCE_MANUAL: &str = "\
+With --journal every change is in FILE before its reply is written, and the next
+run with FILE goes on from it. A file that is missing is created. Without
+--journal all is in memory, and lost when it ends.
+
+The last line on standard error names the status; lines before it say why:
+   0  the input ended, or a message asked to close, and no line is printed
+   2  bad arguments
+   3  the input failed
+   4  the output failed
+   5  the disk failed
+   6  the journal is damaged, or the file is no journal
+   7  out of memory
+   9  the input ended inside a message
+  10  the request limit is reached
+  11  a message is refused";
+
 /// What the help of `check` says after its option.
 const CHECK_MANUAL: &str = "\
 Prints four lines of counts. A file that is missing is created, empty, and has
@@ -90,12 +108,20 @@ fn serve<'a>(alloc: Global) -> Result<Command<'a>, AllocError>
         ))
 }
 
+fn described_once<'a>(alloc: Global) -> Command<'a>
+    ensures { (app_of result ≡ new_app (codes "once")) × ((out-Command result).has_globals ≡ false) }
+{
+    Command::new(alloc, "once")
+        .about("Read requests from standard input, write replies to standard output")
+        .after_help(ONCE_MANUAL)
+}
+
 #[tactic(auto, unfolding(crate::specs::Table::once))]
 fn once<'a>(alloc: Global) -> Result<Command<'a>, AllocError>
     ensures { IfOk result (λ c. (app_of c ≡ table.once) × ((out-Command c).has_globals ≡ false)) }
 {
-    Command::new(alloc, "once")
-        .about("Read requests from standard input, write replies to standard output")
+    described_once(alloc)
+        .arg(journal(alloc, "Keep every change in FILE, and go on from it"))?
         .arg(number(
             alloc,
             "now",

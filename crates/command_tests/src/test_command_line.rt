@@ -11,9 +11,11 @@ ebusd serve --port 1|Serve { port: 1, workers: 64, connections: None }
 ebusd serve --port 65535 --workers 1024|Serve { port: 65535, workers: 1024, connections: None }
 ebusd serve --connections 1000000 --workers 1|Serve { port: 9100, workers: 1, connections: Some(1000000) }
 any serve --port=9101|Serve { port: 9101, workers: 64, connections: None }
-ebusd once|Once { now: None }
-ebusd once --now 0|Once { now: Some(0) }
-ebusd once --now=250000000000|Once { now: Some(250000000000) }
+ebusd once|Once { journal: None, now: None }
+ebusd once --now 0|Once { journal: None, now: Some(0) }
+ebusd once --now=250000000000|Once { journal: None, now: Some(250000000000) }
+ebusd once --journal J --now 1|Once { journal: Some(\"J\"), now: Some(1) }
+ebusd once --now=1 --journal=--now|Once { journal: Some(\"--now\"), now: Some(1) }
 ebusd check --journal J|Check { journal: \"J\" }
 ebusd check --journal=-x|Check { journal: \"-x\" }
 ebusd drill --seed 0 --events 1|Drill { seed: 0, events: 1 }
@@ -38,7 +40,9 @@ ebusd check --journal J --journal J|refused error: the argument '--journal <FILE
 ebusd drill --seed 1|refused error: the following required arguments were not provided:
 ebusd once x|refused error: unexpected argument 'x' found
 ebusd serve --journal J|refused error: unexpected argument '--journal' found
-ebusd once --journal J|refused error: unexpected argument '--journal' found
+ebusd once --journal -x|refused error: unexpected argument '-x' found
+ebusd once --journal=|refused error: a value is required for '--journal <FILE>' but none was supplied
+ebusd once --journal J --journal J|refused error: the argument '--journal <FILE>' cannot be used multiple times
 ebusd once --now -1|refused error: unexpected argument '-1' found
 ebusd once --now |refused error: invalid value '' for '--now <N>': not a whole number from 0 to 250000000000
 ebusd once --now 01|refused error: invalid value '01' for '--now <N>': not a whole number from 0 to 250000000000
@@ -163,7 +167,7 @@ fn is_narrow(alloc: Global, row: &str) -> Result<bool, Fail> {
 
 #[test]
 fn words_are_read_to_their_command(rt: HostRuntime) -> Result<(), Fail> {
-    all_met(rt.alloc(), COMMANDS, 12, is_read)
+    all_met(rt.alloc(), COMMANDS, 14, is_read)
 }
 
 #[test]
@@ -173,7 +177,7 @@ fn options_come_in_any_order(rt: HostRuntime) -> Result<(), Fail> {
 
 #[test]
 fn other_words_are_refused(rt: HostRuntime) -> Result<(), Fail> {
-    all_met(rt.alloc(), REFUSED, 31, is_read)
+    all_met(rt.alloc(), REFUSED, 33, is_read)
 }
 
 #[test]

@@ -1,24 +1,24 @@
 -- A drill. Other files cite `next_message` (its messages), `round` (a DeliverDue), `replied` (a session over a message) and
--- `drilled_by` (its book).
+-- `drilled_by` (its book). `same_history`: the one pass of a book has seen all its turns; bus_server cites it.
 use Rattle.std.proofs.Common.{◌≡◌, ◌≢◌, ◌∙◌, ℕ, ◌≤◌, true, inl, List, [], ◌∷◌, ◌++◌, map, drop, Option, Some, slice_get, sym, ap, subst, append_assoc, append-nil}
 use Rattle.std.proofs.lemmas.List.{map-append}
 use Rattle.std.specs.Prelude.{All, option_map}
 use Rattle.std.specs.List.{concat}
 use Rattle.turn_book.specs.Rule.{IsUnmade, Learns}
 use Rattle.turn_book.specs.declared.view.View.{View}
-use Rattle.router_sessions.specs.declared.history.Turn.{Turn as CodeTurn}
-use Rattle.router_sessions.specs.History.{Turn, AreTurnsFrom, state_of, turns_by}
+use Rattle.router_history.specs.declared.history.Turn.{Turn as CodeTurn}
+use Rattle.router_history.specs.History.{Turn, AreTurnsFrom, state_of, turns_by}
 use Rattle.router_core.specs.Tables.{Tables}
-use Rattle.router_sessions.specs.declared.book.Book.{Book}
-use Rattle.router_sessions.specs.Book.{turn_of, turns_of, recorded_in, IsBook, IsKept, Rests}
-use Rattle.router_sessions.specs.Acts.{World, world}
-use Rattle.router_sessions.specs.Session.{IsSession}
-use Rattle.router_sessions.specs.declared.book.Seat.{Seat}
+use Rattle.router_history.specs.declared.book.Machine.{Machine}
+use Rattle.router_history.specs.Book.{turn_of, turns_of, recorded_in, IsBook, IsSoundMachine, Rests}
+use Rattle.router_history.specs.Acts.{World, world}
+use Rattle.router_history.specs.Session.{IsSession}
+use Rattle.router_history.specs.declared.book.Seat.{Seat}
 use Rattle.message_streams.specs.declared.farewell.SessionEnd.{SessionEnd}
 use Rattle.message_streams.specs.declared.farewell.SessionEnd.TheVariants as ends
-use Rattle.router_sessions.proofs.BookLemmas.{added_legal}
+use Rattle.router_history.proofs.BookLemmas.{added_legal}
 use Rattle.router_sessions.proofs.DeskLemmas.{maker, own_turns, none_added}
-use Rattle.router_sessions.proofs.TurnLemmas.{first_other}
+use Rattle.router_history.proofs.TurnLemmas.{first_other}
 use Rattle.drill_requests.specs.Messages.{deliver_due}
 use Rattle.drill_run.specs.declared.run.Round.{Round}
 use Rattle.drill_run.specs.declared.run.Round.TheVariants as rounds
@@ -47,7 +47,7 @@ back_none n [] us none = none
 back_none n (t ∷ ts) us none = back_none n ts us (first_other n t (ts ++ us) none).1
 
 -- the pass has seen all turns of the book
-same_history : (v : View CodeTurn) (all : List CodeTurn) → v.number ≡ 0 → Learns maker v all → IsUnmade maker 1 all → IsBook (map turn_of v.seen)
+pub same_history : (v : View CodeTurn) (all : List CodeTurn) → v.number ≡ 0 → Learns maker v all → IsUnmade maker 1 all → IsBook (map turn_of v.seen)
     → IsBook (map turn_of all) → map turn_of all ≡ map turn_of v.seen
 same_history v all number ((rest, is), own) unmade old new =
     let split : map turn_of all ≡ map turn_of v.seen ++ map turn_of rest = sym (ap (map turn_of) is) ∙ map-append turn_of v.seen rest in
@@ -61,8 +61,8 @@ same_history v all number ((rest, is), own) unmade old new =
     ∙ append-nil (map turn_of v.seen)
 
 -- the summary of the book's tables is that of what the pass has seen
-pub drilled_by : (seed events : ℕ) (v : View CodeTurn) (b : Book) (old new : List ℕ) (status : Status) → v.number ≡ 0 → Learns maker v (recorded_in b.history)
-    → IsUnmade maker 1 (recorded_in b.history) → IsKept b → IsBook (map turn_of v.seen) → Rests 0 (map turn_of v.seen)
+pub drilled_by : (seed events : ℕ) (v : View CodeTurn) (b : Machine) (old new : List ℕ) (status : Status) → v.number ≡ 0 → Learns maker v (recorded_in b.history)
+    → IsUnmade maker 1 (recorded_in b.history) → IsSoundMachine b → IsBook (map turn_of v.seen) → Rests 0 (map turn_of v.seen)
     → IsDrilled seed events (map turn_of v.seen) → IsSummed b.tables old new status → IsDrill seed events old new status
 drilled_by seed events v b old new status number learns unmade kept book rests drilled summed =
     let same : turns_of b ≡ map turn_of v.seen = same_history v (recorded_in b.history) number learns unmade book kept.book in

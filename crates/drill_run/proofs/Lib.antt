@@ -1,4 +1,3 @@
--- A drill is one history of one pass: `OnePassLemmas`, with `FoldLemmas` for its tables. bus_server cites both lemmas of histories for `once`.
+-- A drill is one history of one pass: `OnePassLemmas`. bus_server cites its lemmas, and `same_history` of `DrillLemmas`, for `once`.
 pub mod DrillLemmas
-pub mod FoldLemmas
 pub mod OnePassLemmas

@@ -7,15 +7,15 @@ use Rattle.std.proofs.lemmas.List.Elements.{All-nil, All-cons, All-head, All-tai
 use mathlib.Core.List.{IsPrefix}
 use Rattle.turn_book.specs.Rule.{IsUnmade, is_number}
 use Rattle.router_core.specs.Tables.{first_tables}
-use Rattle.router_sessions.specs.declared.history.Turn.{Turn as CodeTurn}
-use Rattle.router_sessions.specs.History.{Ask, opens, asked, claims, records, puts_back, breaks, Turn, State, OpenClaim, claims_of, after_turn, state_of, turns_by, begun}
-use Rattle.router_sessions.specs.History.{IsTurnFor, AreTurnsFrom}
-use Rattle.router_sessions.specs.Book.{turn_of, opening, IsBook, Rests}
-use Rattle.router_sessions.proofs.TurnLemmas.{first_other, none_of_mine}
-use Rattle.router_sessions.proofs.BookLemmas.{legal_later}
+use Rattle.router_history.specs.declared.history.Turn.{Turn as CodeTurn}
+use Rattle.router_history.specs.History.{Ask, opens, asked, claims, records, puts_back, breaks, Turn, State, OpenClaim, claims_of, after_turn, state_of, turns_by, begun}
+use Rattle.router_history.specs.History.{IsTurnFor, AreTurnsFrom}
+use Rattle.router_history.specs.Book.{turn_of, opening_on, IsBook, Rests}
+use Rattle.router_history.proofs.TurnLemmas.{first_other, none_of_mine}
+use Rattle.router_history.proofs.BookLemmas.{legal_later, opened_state}
 use Rattle.router_sessions.proofs.DeskLemmas.{maker, own_turns}
 use Rattle.drill_run.specs.OnePass.{IsOfOnePass}
-use Rattle.drill_run.proofs.FoldLemmas.{folds_book}
+use Rattle.router_history.proofs.FoldLemmas.{folds_book}
 
 pub all_front : (xs ys : List Turn) → All (λ t. t.pass ≡ Some 0) (xs ++ ys) → All (λ t. t.pass ≡ Some 0) xs
 all_front [] ys all = All-nil (λ (t : Turn). t.pass ≡ Some 0)
@@ -69,8 +69,8 @@ all_own s (t ∷ ts) legal none =
     (all_own (after_turn t s) ts legal.1 (λ n most. (first_other n t ts (none n most)).1))
 
 -- the turns after the one that opened the book
-pub first_none : (n : ℕ) (turns : List Turn) → turns_by n (opening ∷ turns) ≡ [] → turns_by n turns ≡ []
-first_none n turns none = (first_other n opening turns none).1
+pub first_none : (n : ℕ) (turn : Turn) (turns : List Turn) → turns_by n (turn ∷ turns) ≡ [] → turns_by n turns ≡ []
+first_none n turn turns none = (first_other n turn turns none).1
 
 -- if no pass has a claim, none is open
 pub no_claims : (cs : List OpenClaim) → ((n : ℕ) → claims_of n cs ≡ []) → cs ≡ []
@@ -98,10 +98,11 @@ others_none (t ∷ ts) own none =
 -- a history whose turns after the first are all of pass 0, which has no open claim
 pub of_one_pass : (turns : List Turn) → IsBook turns → Rests 0 turns → ((n : ℕ) → 1 ≤ n → turns_by n turns ≡ []) → IsOfOnePass turns
 of_one_pass turns book rests unmade =
-    let later_unmade : (n : ℕ) → 1 ≤ n → turns_by n book.later ≡ [] = λ n most. first_none n book.later (ap (turns_by n) (sym book.opened) ∙ unmade n most) in
+    let later_unmade : (n : ℕ) → 1 ≤ n → turns_by n book.later ≡ [] = λ n most.
+    first_none n (opening_on book.found book.disk) book.later (ap (turns_by n) (sym book.opened) ∙ unmade n most) in
     record {
       book = book;
-      alone = all_own (begun first_tables) book.later (legal_later turns book) later_unmade;
+      alone = all_own (opened_state book.found book.disk) book.later (legal_later turns book) later_unmade;
       none_open = none_open turns rests unmade;
       tables = folds_book turns book;
     }

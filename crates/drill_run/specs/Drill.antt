@@ -7,10 +7,10 @@ use Rattle.api_replies.specs.Reply.{counted}
 use Rattle.api_replies.specs.Written.{reply_text}
 use Rattle.drill_requests.specs.Messages.{drill_messages, deliver_due}
 use Rattle.message_streams.specs.declared.farewell.SessionEnd.TheVariants as ends
-use Rattle.router_sessions.specs.History.{Turn, state_of}
-use Rattle.router_sessions.specs.Book.{opening, IsBook}
-use Rattle.router_sessions.specs.Acts.{world}
-use Rattle.router_sessions.specs.Session.{IsSession}
+use Rattle.router_history.specs.History.{Turn, state_of}
+use Rattle.router_history.specs.Book.{opening, IsBook}
+use Rattle.router_history.specs.Acts.{world}
+use Rattle.router_history.specs.Session.{IsSession}
 use Rattle.drill_run.specs.declared.run.Round.{Round}
 use Rattle.drill_run.specs.declared.run.Round.TheVariants as rounds
 use Rattle.drill_run.specs.OnePass.{IsOfOnePass, only_seat}

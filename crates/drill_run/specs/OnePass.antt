@@ -1,10 +1,10 @@
 -- A history that one pass made.
 use Rattle.std.specs.Prelude.{◌≡◌, List, [], Some, All}
 use Rattle.router_core.specs.Tables.{first_tables, tables_after}
-use Rattle.router_sessions.specs.declared.book.Seat.{Seat}
-use Rattle.router_sessions.specs.History.{Turn, state_of, batches_of}
-use Rattle.router_sessions.specs.Book.{IsBook}
-use Rattle.drill_run.specs.Folds.{without_claims}
+use Rattle.router_history.specs.declared.book.Seat.{Seat}
+use Rattle.router_history.specs.History.{Turn, state_of, batches_of}
+use Rattle.router_history.specs.Book.{IsBook}
+use Rattle.router_history.specs.Folds.{without_claims}
 
 -- The seat of the one session of a run: pass 0, connection 0.
 -- Shown by: proofs alone.

@@ -4,7 +4,7 @@ ghost use Rattle.router_disk.specs.Faults.{Rose};
 ghost use Rattle.program_lines.specs.declared.status.Status.TheVariants as statuses;
 ghost use Rattle.drill_requests.specs.Messages.{drill_messages};
 ghost use Rattle.turn_book.specs.Passes.{view, IsFree, IsSamePass};
-ghost use Rattle.router_sessions.specs.Book.{opening, IsBook, Rests};
+ghost use Rattle.router_history.specs.Book.{opening, IsBook, Rests};
 ghost use Rattle.router_sessions.specs.Desk.{number_of, turns_seen};
 ghost use Rattle.message_streams.specs.declared.farewell.SessionEnd.TheVariants as ends;
 ghost use Rattle.drill_run.specs.Drill as spec;
@@ -12,12 +12,13 @@ ghost use Rattle.drill_run.specs.Drill.{no_attempt_text, EndsRound, HasReply, Is
 
 use crate::script::{Given, Script};
 use crate::still::{Moment, StillClock};
-use bus_host::{NoGate, NoLink};
+use bus_host::{NoDisk, NoGate, NoLink};
 use drill_requests::{DrillMessages, deliver_due_message};
 use json_text::NoMemory;
 use program_lines::Status;
 use router_disk::{MemSink, MemSource, Sink, Source};
-use router_sessions::{Book, SessionEnd, serve_session};
+use router_history::Book;
+use router_sessions::{SessionEnd, serve_session};
 use std::alloc::Global;
 use std::marker::Brand;
 use std::sync::Wait;
@@ -67,7 +68,10 @@ pub fn drill<Rt: Wait, K: Sink>(
     match Book::first(alloc) {
         Ok(book) => match Hall::make(alloc, book, 1) {
             Ok((hall, pass)) => drilled(rt, alloc, hall, pass, seed, events, output),
-            Err((_, _)) => Status::NoMemory,
+            Err((_, book)) => {
+                let _none = book.into_disk();
+                Status::NoMemory
+            }
         },
         Err(NoMemory) => Status::NoMemory,
     }
@@ -77,8 +81,8 @@ pub fn drill<Rt: Wait, K: Sink>(
 fn drilled<Rt: Wait, K: Sink>(
     rt: &Rt,
     alloc: Global,
-    hall: Hall<Book>,
-    mut pass: Pass<Book>,
+    hall: Hall<Book<NoDisk>>,
+    mut pass: Pass<Book<NoDisk>>,
     seed: u32,
     events: u32,
     output: &mut K,
@@ -93,8 +97,11 @@ fn drilled<Rt: Wait, K: Sink>(
     let is_done = serve_all(rt, alloc, &hall, &mut pass, seed, events);
     let book = hall.close(pass, Vec::new(alloc));
     if is_done {
-        sum_up(alloc, book.tables(), output)
+        let status = sum_up(alloc, book.tables(), output);
+        let _none = book.into_disk();
+        status
     } else {
+        let _none = book.into_disk();
         Status::NoMemory
     }
 }
@@ -103,8 +110,8 @@ fn drilled<Rt: Wait, K: Sink>(
 fn serve_all<Rt: Wait>(
     rt: &Rt,
     alloc: Global,
-    hall: &Hall<Book>,
-    pass: &mut Pass<Book>,
+    hall: &Hall<Book<NoDisk>>,
+    pass: &mut Pass<Book<NoDisk>>,
     seed: u32,
     events: u32,
 ) -> bool
@@ -126,8 +133,8 @@ fn serve_all<Rt: Wait>(
 fn load<Rt: Wait>(
     rt: &Rt,
     alloc: Global,
-    hall: &Hall<Book>,
-    pass: &mut Pass<Book>,
+    hall: &Hall<Book<NoDisk>>,
+    pass: &mut Pass<Book<NoDisk>>,
     seed: u32,
     events: u32,
 ) -> bool
@@ -154,7 +161,12 @@ fn load<Rt: Wait>(
 }
 
 /// Asks for attempts until none is made. Returns whether each answer was 200.
-fn deliver<Rt: Wait>(rt: &Rt, alloc: Global, hall: &Hall<Book>, pass: &mut Pass<Book>) -> bool
+fn deliver<Rt: Wait>(
+    rt: &Rt,
+    alloc: Global,
+    hall: &Hall<Book<NoDisk>>,
+    pass: &mut Pass<Book<NoDisk>>,
+) -> bool
     requires here { pass.old.seat.table_id ≡ hall.now.table.shared.table_id }
     requires number { number_of pass.old.seat ≡ 0 }
     requires free { IsFree pass.old.seat }
@@ -175,7 +187,12 @@ fn deliver<Rt: Wait>(rt: &Rt, alloc: Global, hall: &Hall<Book>, pass: &mut Pass<
 }
 
 /// Asks for attempts once.
-fn attempt<Rt: Wait>(rt: &Rt, alloc: Global, hall: &Hall<Book>, pass: &mut Pass<Book>) -> Round
+fn attempt<Rt: Wait>(
+    rt: &Rt,
+    alloc: Global,
+    hall: &Hall<Book<NoDisk>>,
+    pass: &mut Pass<Book<NoDisk>>,
+) -> Round
     requires here { pass.old.seat.table_id ≡ hall.now.table.shared.table_id }
     requires number { number_of pass.old.seat ≡ 0 }
     requires free { IsFree pass.old.seat }
@@ -215,8 +232,8 @@ fn no_attempt_reply() -> &'static [u8]
 fn reply_to<Rt: Wait>(
     rt: &Rt,
     alloc: Global,
-    hall: &Hall<Book>,
-    pass: &mut Pass<Book>,
+    hall: &Hall<Book<NoDisk>>,
+    pass: &mut Pass<Book<NoDisk>>,
     message: Vec<u8>,
 ) -> Option<MemSink>
     requires here { pass.old.seat.table_id ≡ hall.now.table.shared.table_id }
@@ -234,8 +251,8 @@ fn reply_to<Rt: Wait>(
 fn reply_by<N: Given + Send, Rt: Wait>(
     rt: &Rt,
     alloc: Global,
-    hall: &Hall<Book>,
-    pass: &mut Pass<Book>,
+    hall: &Hall<Book<NoDisk>>,
+    pass: &mut Pass<Book<NoDisk>>,
     message: Vec<u8>,
 ) -> Option<MemSink>
     requires here { pass.old.seat.table_id ≡ hall.now.table.shared.table_id }

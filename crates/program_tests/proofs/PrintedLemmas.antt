@@ -20,12 +20,12 @@ use Rattle.door_workers.specs.declared.door.DoorEnd.TheVariants.{Done, DoorFault
 use Rattle.door_workers.specs.Serving.{Session, Worked, IsWorker, session_of, IsAmong}
 use Rattle.router_core.specs.Tables.{first_tables}
 use Rattle.courier_run.specs.Act.{reads, ticks, looks, makes, tries, writes}
-use Rattle.router_sessions.specs.declared.history.Turn as code
-use Rattle.router_sessions.specs.History.{Turn, Ask, State, opens, asked, claims, records, puts_back, breaks, begun, state_of, after_turn, turns_by, IsLegal, IsTurnFor, AreTurnsFrom}
-use Rattle.router_sessions.specs.Book.{opening, IsBook, turn_of}
+use Rattle.router_history.specs.declared.history.Turn as code
+use Rattle.router_history.specs.History.{Turn, Ask, State, opens, asked, claims, records, puts_back, breaks, begun, state_of, after_turn, turns_by, IsLegal, IsTurnFor, AreTurnsFrom}
+use Rattle.router_history.specs.Book.{opening, IsBook, turn_of}
 use Rattle.tables_summary.specs.Summary.{summary_of}
-use Rattle.router_sessions.specs.Acts.{Act, Happens, IsNamed}
-use Rattle.router_sessions.proofs.TurnLemmas.{first_other}
+use Rattle.router_history.specs.Acts.{Act, Happens, IsNamed}
+use Rattle.router_history.proofs.TurnLemmas.{first_other}
 use Rattle.session_workers.specs.Jobs.{Jobs, nothing, serves, steps, looks_on, reads_clock, did_by}
 use Rattle.bus_server.specs.Serve.{AroundDoor, AtDoor, EndsServing, IsMadeBy, IsOpened, IsServe}
 use Rattle.program_tests.specs.Printed.{zeros, PrintsZeros}

@@ -18,11 +18,12 @@ use Rattle.api_messages.proofs.MessageLemmas.{no_message_is_empty, nothing_is_aw
 use Rattle.courier_run.specs.Act.{reads, looks, writes, pieces_of, pieces_in, bytes_of, bytes_in}
 use Rattle.message_streams.specs.declared.farewell.SessionEnd.{SessionEnd}
 use Rattle.message_streams.specs.declared.farewell.SessionEnd.TheVariants as ends
-use Rattle.router_sessions.specs.Acts.{Act, World, world}
+use Rattle.router_history.specs.Book.{opening}
+use Rattle.router_history.specs.Acts.{Act, World, world}
 use Rattle.message_streams.specs.Incoming.{IsWhole}
-use Rattle.router_sessions.specs.Session.{Serving, begun, reads_on, answers, IsLast, IsFarewell, refused, starved}
-use Rattle.router_sessions.specs.Session.{Ended, closed_by_end, cut, closed_by_message, long, farewell, starved_early, read_fault, unwritten, farewell_unwritten}
-use Rattle.bus_server.specs.Run.{status_of, RunsOnce, Around, RunsBy, RunsLinked, IsRun}
+use Rattle.router_history.specs.Session.{Serving, begun, reads_on, answers, IsLast, IsFarewell, refused, starved}
+use Rattle.router_history.specs.Session.{Ended, closed_by_end, cut, closed_by_message, long, farewell, starved_early, read_fault, unwritten, farewell_unwritten}
+use Rattle.bus_server.specs.Run.{status_of, EndsWhole, RunsOnce, Around, RunsBy, RunsLinked, IsRun}
 
 -- the bytes that reads gave
 abbrev read_in : List Act → List ℕ
@@ -108,15 +109,15 @@ status_silent end status (inl is) same = inl (same ∙ ap status_of is)
 status_silent end status (inr (inl is)) same = inr (inl (same ∙ ap status_of is))
 status_silent end status (inr (inr is)) same = inr (inr (inl (same ∙ ap status_of is)))
 
-silent_once : (old new : World) (status : Status) → RunsOnce old new status → concat new.gave ≡ concat old.gave → IsSilent old.written new.written status
+silent_once : (old new : World) (status : Status) → RunsOnce opening (EndsWhole status) old new → concat new.gave ≡ concat old.gave → IsSilent old.written new.written status
 silent_once old new status r same =
     let acts = r.session.0 in
     let none : read_in acts ≡ [] = append_cancel_left (concat old.gave) (read_in acts) []
     (sym (concat-append old.gave (pieces_in acts)) ∙ ap concat (sym r.session.2.gave) ∙ same ∙ sym (append-nil (concat old.gave))) in
     let silent = silent_end r.end acts r.session.1 none in
-    (r.session.2.written ∙ ap (λ (b : List ℕ). old.written ++ b) silent.0 ∙ append-nil old.written, status_silent r.end status silent.1 r.ends)
+    (r.session.2.written ∙ ap (λ (b : List ℕ). old.written ++ b) silent.0 ∙ append-nil old.written, status_silent r.end status silent.1 r.ends.1)
 
-silent_by : (now : Option ℕ) (old new : World) (status : Status) → RunsBy now old new status → concat new.gave ≡ concat old.gave → IsSilent old.written new.written status
+silent_by : (now : Option ℕ) (old new : World) (status : Status) → RunsBy opening (EndsWhole status) now old new → concat new.gave ≡ concat old.gave → IsSilent old.written new.written status
 silent_by None old new status r same = silent_once old new status r same
 silent_by (Some moment) old new status (readings, all, r, unread) same =
     silent_once (record old { readings = [] }) (record new { readings = readings }) status r same

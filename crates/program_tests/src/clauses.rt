@@ -1,5 +1,5 @@
 //! What follows from the clauses of `run` alone.
-ghost use Rattle.std.specs.Prelude.{◌≡◌, ◌⊎◌, ℕ, All, Option, Some, [], map, string_bytes};
+ghost use Rattle.std.specs.Prelude.{◌≡◌, ◌⊎◌, ℕ, All, Option, Some, None, [], map, string_bytes};
 ghost use Rattle.std.specs.List.{concat};
 ghost use Rattle.command_line.specs.Command.{IsCommand};
 ghost use Rattle.command_line.specs.Command as commands;
@@ -19,7 +19,7 @@ use std::sync::Wait;
 use std::thread::Threads;
 use test_exchanges::NOW;
 
-/// Runs `once`. If its reads gave no byte, it wrote nothing, and ended as done, out of memory, or by a fault of its input or its host.
+/// Runs `once` without a journal. If its reads gave no byte, it wrote nothing, and ended as done, out of memory, or by a fault of its input or its host.
 fn once_of_nothing<R: Wait + Threads + Sync, S: Source, K: Sink, E: Sink, H: Host, C: Clocks>(
     rt: &R,
     alloc: Global,
@@ -30,7 +30,7 @@ fn once_of_nothing<R: Wait + Threads + Sync, S: Source, K: Sink, E: Sink, H: Hos
     host: &mut H,
     clock: &mut C,
 ) -> Status
-    requires once { (now : Option ℕ) × IsCommand (map string_bytes words.now) (commands.once now) }
+    requires once { (now : Option ℕ) × IsCommand (map string_bytes words.now) (commands.once None now) }
     ensures silent { concat (S.gave input.new) ≡ concat (S.gave input.old) → K.wrote output.new ≡ K.wrote output.old }
     ensures ends { concat (S.gave input.new) ≡ concat (S.gave input.old)
         → (result ≡ statuses.Done) ⊎ ((result ≡ statuses.NoMemory) ⊎ ((result ≡ statuses.ReadFault) ⊎ (result ≡ statuses.DoorFault))) }
@@ -77,7 +77,12 @@ fn done<R: Wait + Threads + Sync, H: Host>(
     let mut faults = MemSink::new(alloc);
     let mut clock = MemClocks::new(alloc, NOW, LinkedList::new(alloc));
     match read_command(alloc, words) {
-        Ok(Command::Once { now: _ }) => Some(once_of_nothing(
+        Ok(
+            Command::Once {
+                journal: None,
+                now: _,
+            },
+        ) => Some(once_of_nothing(
             rt,
             alloc,
             words,
@@ -106,6 +111,12 @@ fn done<R: Wait + Threads + Sync, H: Host>(
             host,
             &mut clock,
         )),
+        Ok(
+            Command::Once {
+                journal: Some(_),
+                now: _,
+            },
+        ) => None,
         Ok(Command::Check { .. } | Command::Drill { .. }) => None,
         Err(_fault) => None,
     }

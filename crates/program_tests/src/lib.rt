@@ -6,6 +6,8 @@ mod clauses;
 #[cfg(test)]
 mod drill;
 #[cfg(test)]
+mod journal;
+#[cfg(test)]
 mod program;
 #[cfg(test)]
 mod runs;

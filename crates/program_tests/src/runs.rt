@@ -43,7 +43,11 @@ pub(crate) fn door<R: Abort>(rt: &R, alloc: Global, fields: &str) -> MemDoor<Mem
 }
 
 /// The links of a host: how many, and what each of their sends gets, a code or `failed`. With `memory` there is none for lack of memory.
-fn links<R: Abort>(rt: &R, alloc: Global, field: &str) -> LinkedList<Result<MemLink, HostFault>> {
+pub(crate) fn links<R: Abort>(
+    rt: &R,
+    alloc: Global,
+    field: &str,
+) -> LinkedList<Result<MemLink, HostFault>> {
     let (count, answer) = field.split_once(' ').expect(rt, "links");
     let mut links = LinkedList::new(alloc);
     for _ in 0..count.parse::<u32>().expect(rt, "links") {

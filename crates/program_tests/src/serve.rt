@@ -1,8 +1,8 @@
 //! Tests of the program while it serves connections, over a host in memory. The form of a row is that of `left_by` in runs.rt.
 use crate::runs::{clocks, door, host, left, left_by, meet};
-use bus_host::{Door, Gate, Point};
+use bus_host::{Door, Gate, NoDisk, Point};
 use router_disk::{LinkFault, MemClock, MemLink};
-use router_sessions::Book;
+use router_history::Book;
 use session_workers::{DoorEnd, Serving, serve_door};
 use std::alloc::Global;
 use std::hint::spin_loop;
@@ -224,7 +224,7 @@ fn gated<R: Wait + Threads + Sync + Abort, D: Door, G: Gate + Sync>(
         ),
     ];
     let owns = Vec::from_array(alloc, owns).expect(rt, "links and clocks");
-    let book = Book::first(alloc).expect(rt, "a book");
+    let book: Book<NoDisk> = Book::first(alloc).expect(rt, "a book");
     match Hall::make(alloc, book, 4) {
         Ok((hall, mut pass)) => {
             let serving = serve_door(rt, alloc, &hall, &mut pass, owns, door, None, gate);
@@ -234,11 +234,14 @@ fn gated<R: Wait + Threads + Sync + Abort, D: Door, G: Gate + Sync>(
                 passes,
                 end,
             } = serving;
-            let _book = hall.close(pass, passes);
+            let _none = hall.close(pass, passes).into_disk();
             assert_eq!(*rt; end, DoorEnd::Done);
             door
         }
-        Err(_) => panic!(rt; "a hall"),
+        Err((_, book)) => {
+            let _none = book.into_disk();
+            panic!(rt; "a hall")
+        }
     }
 }
 

@@ -7,7 +7,7 @@ use Rattle.router_core.specs.declared.request.Request.{Request}
 use Rattle.router_core.specs.View.{action_of, request_of}
 use Rattle.api_messages.specs.declared.message.Message.{Message}
 use Rattle.api_wire.specs.Call.{IsAsked}
-use Rattle.router_sessions.specs.History.{IsAskable}
+use Rattle.router_history.specs.History.{IsAskable}
 
 pub asked_askable : (m : Message) (reading : ℕ) (r : Request) → IsAsked m reading (request_of r) → IsBounded (action_of r.action)
     → IsEntitled (request_of r) → IsOneTurn (action_of r.action) → IsMoment reading → IsAskable (request_of r)

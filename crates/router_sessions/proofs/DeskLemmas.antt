@@ -1,8 +1,7 @@
--- From the hall's clauses to what a pass knows of the history. Other files cite `seen_of`, `learned`, `IsTaken`, `taken`, `answered_later`, `claimed_later`, `recorded_later`, `unrecorded_later`,
--- `back_later`, `rests_there`, `holds_there`, `rests_more`, `looked`, `extends`, `sees_more`, `sees_same`, `same_again`, `same_seat`, `sees_again`, `sees_none`, `pass_of`, and
--- `map_ok` and the others of results.
-use Rattle.std.proofs.Common.{◌≡◌, ℕ, true, false, cond, List, [], ◌∷◌, ◌++◌, map, Option, Some, None, Result, Ok, Err, refl, sym, ap, ◌∙◌, subst, append-nil, append_assoc}
-use Rattle.std.specs.Prelude.{Bool, IfOk, IfErr, IfSome, IfNone}
+-- From the hall's clauses to what a pass knows of the history. Other files cite `seen_of`, `learned`, `IsTaken`, `taken`, `answered_later`, `claimed_later`, `recorded_later`, `unrecorded_later`, `unanswered_later`,
+-- `back_later`, `rests_there`, `holds_there`, `rests_more`, `looked`, `extends`, `sees_more`, `sees_same`, `same_again`, `same_seat`, `sees_again`, `sees_none`, `pass_of`.
+use Rattle.std.proofs.Common.{◌≡◌, inl, inr, ℕ, true, false, cond, List, [], ◌∷◌, ◌++◌, map, Option, Some, refl, sym, ap, ◌∙◌, subst, append-nil, append_assoc}
+use Rattle.std.specs.Prelude.{Bool}
 use Rattle.std.proofs.lemmas.Bool.{eq-eqb}
 use Rattle.std.proofs.lemmas.List.{map-append, append_cancel_left}
 use Rattle.std.proofs.lemmas.List.Elements.{filter-append, All-weaker, All-nil}
@@ -16,26 +15,27 @@ use Rattle.courier_run.specs.declared.book.BookFault.{BookFault}
 use Rattle.courier_run.specs.Claim.{Claim}
 use Rattle.courier_run.specs.Act.{looks, makes}
 use Rattle.courier_run.specs.Steps.{Why}
-use Rattle.router_sessions.specs.declared.book.Book.{Book}
-use Rattle.router_sessions.specs.declared.book.Seat.{Seat}
-use Rattle.router_sessions.specs.declared.book.TurnReply.{TurnReply}
-use Rattle.router_sessions.specs.declared.history.Turn.{Turn}
-use Rattle.router_sessions.specs.History.{State, claims_of, state_of, turns_by}
-use Rattle.router_sessions.specs.History as history
-use Rattle.router_sessions.specs.Book.{recorded_in, turns_of, turn_of, IsBook, IsKept, HasGrown, Rests, Holds}
-use Rattle.router_sessions.specs.Acts.{Act, Makes, IsNamed}
-use Rattle.router_sessions.specs.Answered.{IsAnswered, IsClaimed, IsRecorded, IsUnrecordedBy, IsPutBack}
+use Rattle.router_history.specs.declared.book.Machine.{Machine}
+use Rattle.router_history.specs.declared.book.Seat.{Seat}
+use Rattle.router_history.specs.declared.book.TurnReply.{TurnReply}
+use Rattle.router_history.specs.declared.history.Turn.{Turn}
+use Rattle.router_history.specs.History.{State, claims_of, state_of, turns_by}
+use Rattle.router_history.specs.History as history
+use Rattle.router_history.specs.Book.{recorded_in, turns_of, turn_of, IsBook, IsSoundMachine, HasGrown, Rests, Holds}
+use Rattle.router_history.specs.Acts.{Act, Makes, IsNamed}
+use Rattle.router_history.specs.Answered.{IsAnswered, IsUnanswered, IsClaimed, IsRecorded, IsUnrecordedBy, IsPutBack}
+use Rattle.router_history.specs.Session.{IsFailed}
 use Rattle.router_sessions.specs.Desk.{Known, seen_by, turns_seen, number_of, seat_of, SeesMore}
-use Rattle.router_sessions.proofs.TurnLemmas.{none_of_mine, claims_stay}
-use Rattle.router_sessions.proofs.BookLemmas.{added_legal}
-use Rattle.router_sessions.proofs.ActLemmas.{makes_joined, makes_look, state_longer}
+use Rattle.router_history.proofs.TurnLemmas.{none_of_mine, claims_stay}
+use Rattle.router_history.proofs.BookLemmas.{added_legal}
+use Rattle.router_history.proofs.ActLemmas.{makes_joined, makes_look, state_longer}
 
 -- the pass that made a turn
 abbrev pub maker : Turn → Option ℕ
 maker t = t.pass
 
 -- what a pass knows once it has seen all turns of the book
-pub seen_of : (b : Book) (known : Known) → seen_by known ≡ recorded_in b.history → turns_seen known ≡ turns_of b
+pub seen_of : {V : Type 0} (b : Machine) (known : Known V) → seen_by known ≡ recorded_in b.history → turns_seen known ≡ turns_of b
 seen_of b known e = ap (map turn_of) e
 
 pub own_turns : (n : ℕ) (turns : List Turn) → turns_by n (map turn_of turns) ≡ map turn_of (book.turns_by maker n turns)
@@ -56,7 +56,7 @@ none_added n seen rest later is same =
     (sym (filter-append (λ (t : Turn). is_number t.pass n) seen rest) ∙ ap own is ∙ same ∙ sym (append-nil (own seen))))
 
 -- the pass learned what the book has beyond what it had seen
-pub learned : (seat : Seat) (old : Known) (b : Book) → seat.pass ≡ number_of old → Learns maker (view old) (recorded_in b.history)
+pub learned : {V : Type 0} (seat : Seat) (old : Known V) (b : Machine) → seat.pass ≡ number_of old → Learns maker (view old) (recorded_in b.history)
     → Makes seat [] (turns_seen old) (turns_of b)
 learned seat old b number ((rest, is), same) = record {
   added = map turn_of rest;
@@ -66,27 +66,27 @@ learned seat old b number ((rest, is), same) = record {
 }
 
 -- a turn of the seat's pass, from the book that it took to the one that it gave
-pub record IsTaken (seat : Seat) (old new : Known) (b b_new : Book) : Type 0 where
+pub record IsTaken {V : Type 0} (seat : Seat) (old new : Known V) (b b_new : Machine) : Type 0 where
   pub book : IsBook (turns_seen old)
   pub learned : Makes seat [] (turns_seen old) (turns_of b)
-  pub kept : IsKept b
+  pub kept : IsSoundMachine b
   pub seen : turns_seen new ≡ turns_of b_new
 
-pub taken : (seat : Seat) (old new : Known) (b b_new : Book) → seat.pass ≡ number_of old → IsBook (turns_seen old)
-    → Learns maker (view old) (recorded_in b.history) → IsKept b → seen_by new ≡ recorded_in b_new.history → IsTaken seat old new b b_new
+pub taken : {V : Type 0} (seat : Seat) (old new : Known V) (b b_new : Machine) → seat.pass ≡ number_of old → IsBook (turns_seen old)
+    → Learns maker (view old) (recorded_in b.history) → IsSoundMachine b → seen_by new ≡ recorded_in b_new.history → IsTaken seat old new b b_new
 taken seat old new b b_new number is learns kept seen =
     record { book = is; learned = learned seat old b number learns; kept = kept; seen = seen_of b_new new seen }
 
-makes_later : (seat : Seat) (acts : List Act) (old new : Known) (b b_new : Book) → IsTaken seat old new b b_new → Makes seat acts (turns_of b) (turns_of b_new)
+makes_later : {V : Type 0} (seat : Seat) (acts : List Act) (old new : Known V) (b b_new : Machine) → IsTaken seat old new b b_new → Makes seat acts (turns_of b) (turns_of b_new)
     → Makes seat acts (turns_seen old) (turns_seen new)
 makes_later seat acts old new b b_new t m =
     subst (λ (ts : List history.Turn). Makes seat acts (turns_seen old) ts) (sym t.seen)
     (makes_joined seat [] acts (turns_seen old) (turns_of b) (turns_of b_new) t.learned
     (added_legal (turns_seen old) (turns_of b) t.learned.added t.book t.kept.book t.learned.turns) m)
 
-pub answered_later : {seat : Seat} {old new : Known} {b b_new : Book} (request : Request) (close : Bool) (reply : TurnReply) → IsTaken seat old new b b_new
+pub answered_later : {V : Type 0} {seat : Seat} {old new : Known V} {b b_new : Machine} (request : Request) (close : Bool) (reply : TurnReply) → IsTaken seat old new b b_new
     → IsAnswered seat (turns_of b) (turns_of b_new) request close reply → IsAnswered seat (turns_seen old) (turns_seen new) request close reply
-answered_later {seat} {old} {new} {b} {b_new} request close reply t a = record {
+answered_later {V} {seat} {old} {new} {b} {b_new} request close reply t a = record {
   placed = a.placed;
   makes = makes_later seat (makes a.placed ∷ []) old new b b_new t a.makes;
   replied = a.replied;
@@ -96,28 +96,35 @@ answered_later {seat} {old} {new} {b} {b_new} request close reply t a = record {
   written = a.written;
 }
 
-pub claimed_later : {seat : Seat} {old new : Known} {b b_new : Book} (moment : ℕ) (c : Claim) → IsTaken seat old new b b_new
+pub unanswered_later : {V : Type 0} {seat : Seat} {old new : Known V} {b b_new : Machine} (request : Request) → IsTaken seat old new b b_new
+    → IsUnanswered seat (turns_of b) (turns_of b_new) request → IsUnanswered seat (turns_seen old) (turns_seen new) request
+unanswered_later {V} {seat} {old} {new} {b} {b_new} request t (inl (p, m, fails)) = inl (p, makes_later seat (makes p ∷ []) old new b b_new t m, fails)
+unanswered_later {V} {seat} {old} {new} {b} {b_new} request t (inr (m, failed)) =
+    inr (subst (λ (ts : List history.Turn). Makes seat (looks (state_of ts) ∷ []) (turns_seen old) (turns_seen new) × IsFailed (state_of ts) request) (sym t.seen)
+    (makes_later seat (looks (state_of (turns_of b_new)) ∷ []) old new b b_new t m, failed))
+
+pub claimed_later : {V : Type 0} {seat : Seat} {old new : Known V} {b b_new : Machine} (moment : ℕ) (c : Claim) → IsTaken seat old new b b_new
     → IsClaimed seat moment (turns_of b) (turns_of b_new) c → IsClaimed seat moment (turns_seen old) (turns_seen new) c
-claimed_later {seat} {old} {new} {b} {b_new} moment c t a = record {
+claimed_later {V} {seat} {old} {new} {b} {b_new} moment c t a = record {
   placed = a.placed;
   makes = makes_later seat (makes a.placed ∷ []) old new b b_new t a.makes;
   claims = a.claims;
   holds = subst (λ (ts : List history.Turn). Holds seat.pass ts c) (sym t.seen) a.holds;
 }
 
-pub recorded_later : {seat : Seat} {old new : Known} {b b_new : Book} (c : Claim) (had : Outcome) (fate : Fate) → IsTaken seat old new b b_new
+pub recorded_later : {V : Type 0} {seat : Seat} {old new : Known V} {b b_new : Machine} (c : Claim) (had : Outcome) (fate : Fate) → IsTaken seat old new b b_new
     → IsRecorded seat c had fate (turns_of b) (turns_of b_new) → IsRecorded seat c had fate (turns_seen old) (turns_seen new)
-recorded_later {seat} {old} {new} {b} {b_new} c had fate t a =
+recorded_later {V} {seat} {old} {new} {b} {b_new} c had fate t a =
     record { placed = a.placed; makes = makes_later seat (makes a.placed ∷ []) old new b b_new t a.makes; records = a.records }
 
-pub unrecorded_later : {seat : Seat} {old new : Known} {b b_new : Book} (c : Claim) (had : Outcome) (fault : BookFault) → IsTaken seat old new b b_new
+pub unrecorded_later : {V : Type 0} {seat : Seat} {old new : Known V} {b b_new : Machine} (c : Claim) (had : Outcome) (fault : BookFault) → IsTaken seat old new b b_new
     → IsUnrecordedBy seat c had fault (turns_of b) (turns_of b_new) → IsUnrecordedBy seat c had fault (turns_seen old) (turns_seen new)
-unrecorded_later {seat} {old} {new} {b} {b_new} c had fault t a =
+unrecorded_later {V} {seat} {old} {new} {b} {b_new} c had fault t a =
     record { acts = a.acts; makes = makes_later seat a.acts old new b b_new t a.makes; ends = a.ends }
 
-pub back_later : {seat : Seat} {old new : Known} {b b_new : Book} (c : Claim) (why : Why) → IsTaken seat old new b b_new
+pub back_later : {V : Type 0} {seat : Seat} {old new : Known V} {b b_new : Machine} (c : Claim) (why : Why) → IsTaken seat old new b b_new
     → IsPutBack seat c why (turns_of b) (turns_of b_new) → IsPutBack seat c why (turns_seen old) (turns_seen new)
-back_later {seat} {old} {new} {b} {b_new} c why t a =
+back_later {V} {seat} {old} {new} {b} {b_new} c why t a =
     record { placed = a.placed; makes = makes_later seat (makes a.placed ∷ []) old new b b_new t a.makes; puts_back = a.puts_back }
 
 -- turns of others make no claim of this pass
@@ -134,33 +141,33 @@ holds_more seat old new c h h_new m holds =
     ∙ claims_stay seat.pass m.added (state_of old) (added_legal old new m.added h h_new m.turns) m.happens ∙ holds
 
 -- in the book that was taken the pass has no claim, or its claim
-pub rests_there : (seat : Seat) (old : Known) (b : Book) → seat.pass ≡ number_of old → Learns maker (view old) (recorded_in b.history)
+pub rests_there : {V : Type 0} (seat : Seat) (old : Known V) (b : Machine) → seat.pass ≡ number_of old → Learns maker (view old) (recorded_in b.history)
     → Rests (number_of old) (turns_seen old) → Rests seat.pass (turns_of b)
 rests_there seat old b number learns rests =
     rests_more seat (turns_seen old) (turns_of b) (learned seat old b number learns)
     (subst (λ (n : ℕ). Rests n (turns_seen old)) (sym number) rests)
 
-pub holds_there : (seat : Seat) (old : Known) (b : Book) (c : Claim) → seat.pass ≡ number_of old → IsBook (turns_seen old) → IsKept b
+pub holds_there : {V : Type 0} (seat : Seat) (old : Known V) (b : Machine) (c : Claim) → seat.pass ≡ number_of old → IsBook (turns_seen old) → IsSoundMachine b
     → Learns maker (view old) (recorded_in b.history) → Holds (number_of old) (turns_seen old) c → Holds seat.pass (turns_of b) c
 holds_there seat old b c number h kept learns holds =
     holds_more seat (turns_seen old) (turns_of b) c h kept.book (learned seat old b number learns)
     (subst (λ (n : ℕ). Holds n (turns_seen old) c) (sym number) holds)
 
 -- the turn left the history as it was
-pub learned_alone : (seat : Seat) (old new : Known) (b b_new : Book) → seat.pass ≡ number_of old → Learns maker (view old) (recorded_in b.history)
+pub learned_alone : {V : Type 0} (seat : Seat) (old new : Known V) (b b_new : Machine) → seat.pass ≡ number_of old → Learns maker (view old) (recorded_in b.history)
     → seen_by new ≡ recorded_in b_new.history → turns_of b_new ≡ turns_of b → Makes seat [] (turns_seen old) (turns_seen new)
 learned_alone seat old new b b_new number learns seen same =
     subst (λ (ts : List history.Turn). Makes seat [] (turns_seen old) ts) (sym (seen_of b_new new seen ∙ same)) (learned seat old b number learns)
 
 -- the same as a look
-pub looked : (seat : Seat) (old new : Known) (b b_new : Book) → seat.pass ≡ number_of old → Learns maker (view old) (recorded_in b.history)
+pub looked : {V : Type 0} (seat : Seat) (old new : Known V) (b b_new : Machine) → seat.pass ≡ number_of old → Learns maker (view old) (recorded_in b.history)
     → seen_by new ≡ recorded_in b_new.history → turns_of b_new ≡ turns_of b
     → Makes seat (looks (state_of (turns_seen new)) ∷ []) (turns_seen old) (turns_seen new)
 looked seat old new b b_new number learns seen same =
     makes_look seat (turns_seen old) (turns_seen new) (learned_alone seat old new b b_new number learns seen same)
 
 -- the turns that the seat added are those of its pass
-pub extends : (seat : Seat) (mid : Known) (b b_new : Book) → HasGrown seat b b_new → seen_by mid ≡ recorded_in b.history → seat.pass ≡ number_of mid
+pub extends : {V : Type 0} (seat : Seat) (mid : Known V) (b b_new : Machine) → HasGrown seat b b_new → seen_by mid ≡ recorded_in b.history → seat.pass ≡ number_of mid
     → Extends maker (number_of mid) (seen_by mid) (recorded_in b_new.history)
 extends seat mid b b_new (more, is, own) seen number = (
   more,
@@ -170,7 +177,7 @@ extends seat mid b b_new (more, is, own) seen number = (
 )
 
 -- what the pass had seen, then what others made, then its own turns
-pub sees_more : (seat : Seat) (old new : Known) (b b_new : Book) → Learns maker (view old) (recorded_in b.history) → HasGrown seat b b_new
+pub sees_more : {V : Type 0} (seat : Seat) (old new : Known V) (b b_new : Machine) → Learns maker (view old) (recorded_in b.history) → HasGrown seat b b_new
     → seen_by new ≡ recorded_in b_new.history → SeesMore old new
 sees_more seat old new b b_new ((rest, is), same) (more, grown, own) seen = (
   rest ++ more,
@@ -178,46 +185,27 @@ sees_more seat old new b b_new ((rest, is), same) (more, grown, own) seen = (
 )
 
 -- the same of a turn that left the history as it was
-pub sees_same : (old new : Known) (b : Book) → Learns maker (view old) (recorded_in b.history) → seen_by new ≡ recorded_in b.history → SeesMore old new
+pub sees_same : {V : Type 0} (old new : Known V) (b : Machine) → Learns maker (view old) (recorded_in b.history) → seen_by new ≡ recorded_in b.history → SeesMore old new
 sees_same old new b ((rest, is), same) seen = (rest, seen ∙ sym is)
 
 -- one pass at two times
-pub same_again : (first mid last : Known) → IsSamePass first mid → IsSamePass mid last → IsSamePass first last
+pub same_again : {V : Type 0} (first mid last : Known V) → IsSamePass first mid → IsSamePass mid last → IsSamePass first last
 same_again first mid last (t, n, p, m) (t2, n2, p2, m2) = (t2 ∙ t, n2 ∙ n, p2 ∙ p, m2 ∙ m)
 
-pub same_seat : (connection : Option ℕ) (first last : Known) → IsSamePass first last → seat_of connection last ≡ seat_of connection first
+pub same_seat : {V : Type 0} (connection : Option ℕ) (first last : Known V) → IsSamePass first last → seat_of connection last ≡ seat_of connection first
 same_seat connection first last (t, n, p, m) = ap (λ (k : ℕ). record { pass = k; connection = connection }) n
 
 -- the pass saw more, and then more
-pub sees_again : (first mid last : Known) → SeesMore first mid → SeesMore mid last → SeesMore first last
+pub sees_again : {V : Type 0} (first mid last : Known V) → SeesMore first mid → SeesMore mid last → SeesMore first last
 sees_again first mid last (xs, one) (ys, two) =
     (xs ++ ys, two ∙ ap (λ (ts : List Turn). ts ++ ys) one ∙ append_assoc (seen_by first) xs ys)
 
-pub sees_none : (known : Known) → SeesMore known known
+pub sees_none : {V : Type 0} (known : Known V) → SeesMore known known
 sees_none known = ([], sym (append-nil (seen_by known)))
 
-pub map_ok : {A E : Type 0} (r : Result A E) (P Q : A → Type 0) → ((a : A) → P a → Q a) → IfOk r P → IfOk r Q
-map_ok (Ok a) P Q f p = f a p
-map_ok (Err e) P Q f p = tt
-
-pub map_err : {A E : Type 0} (r : Result A E) (P Q : E → Type 0) → ((e : E) → P e → Q e) → IfErr r P → IfErr r Q
-map_err (Ok a) P Q f p = tt
-map_err (Err e) P Q f p = f e p
-
-pub map_some : {A E : Type 0} (r : Result (Option A) E) (P Q : A → Type 0) → ((a : A) → P a → Q a) → IfOk r (λ found. IfSome found P)
-    → IfOk r (λ found. IfSome found Q)
-map_some (Ok (Some a)) P Q f p = f a p
-map_some (Ok None) P Q f p = tt
-map_some (Err e) P Q f p = tt
-
-pub map_none : {A E : Type 0} (r : Result (Option A) E) (P Q : Type 0) → (P → Q) → IfOk r (λ found. IfNone found P) → IfOk r (λ found. IfNone found Q)
-map_none (Ok (Some a)) P Q f p = tt
-map_none (Ok None) P Q f p = f p
-map_none (Err e) P Q f p = tt
-
 -- the seat of the pass, before its turn and while it has it
-pub own_number : (connection : Option ℕ) (old : Known) (seat : Seat) → seat ≡ seat_of connection old → seat.pass ≡ number_of old
+pub own_number : {V : Type 0} (connection : Option ℕ) (old : Known V) (seat : Seat) → seat ≡ seat_of connection old → seat.pass ≡ number_of old
 own_number connection old seat is = ap (λ (s : Seat). s.pass) is
 
-pub pass_of : (connection : Option ℕ) (old mid : Known) (seat : Seat) → seat ≡ seat_of connection old → IsSamePass old mid → seat.pass ≡ number_of mid
+pub pass_of : {V : Type 0} (connection : Option ℕ) (old mid : Known V) (seat : Seat) → seat ≡ seat_of connection old → IsSamePass old mid → seat.pass ≡ number_of mid
 pass_of connection old mid seat is (t, n, p, m) = ap (λ (s : Seat). s.pass) is ∙ sym n

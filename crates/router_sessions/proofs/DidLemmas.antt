@@ -3,15 +3,15 @@ use Rattle.std.proofs.Common.{ℕ, List, [], ◌++◌}
 use Rattle.courier_run.specs.Link.{Outside, Goes}
 use Rattle.courier_run.specs.Act.{book_acts_in}
 use Rattle.courier_run.specs.declared.stepped.Stepped.{Stepped}
-use Rattle.router_sessions.specs.declared.book.Seat.{Seat}
-use Rattle.router_sessions.specs.History.{Turn}
-use Rattle.router_sessions.specs.Book.{IsBook}
-use Rattle.router_sessions.specs.Acts.{Act, Steps, Makes}
+use Rattle.router_history.specs.declared.book.Seat.{Seat}
+use Rattle.router_history.specs.History.{Turn}
+use Rattle.router_history.specs.Book.{IsBook}
+use Rattle.router_history.specs.Acts.{Act, Steps, Makes}
 use Rattle.router_sessions.specs.Desk.{Known, turns_seen, SeesMore}
 use Rattle.router_sessions.specs.Delivery.{Made, Did, Delivers}
 use Rattle.router_sessions.proofs.DeskLemmas.{sees_again, sees_none}
-use Rattle.router_sessions.proofs.BookLemmas.{added_legal}
-use Rattle.router_sessions.proofs.ActLemmas.{makes_none, makes_joined, makes_full}
+use Rattle.router_history.proofs.BookLemmas.{added_legal}
+use Rattle.router_history.proofs.ActLemmas.{makes_none, makes_joined, makes_full}
 
 -- acts, and then later ones, between legal histories
 pub makes_append : (seat : Seat) (first second : List Act) (old mid new : List Turn) → IsBook old → IsBook mid → Makes seat first old mid → Makes seat second mid new
@@ -20,11 +20,11 @@ makes_append seat first second old mid new h h_mid one two =
     makes_joined seat first second old mid new one (added_legal old mid one.added h h_mid one.turns) two
 
 -- at first nothing was done
-pub made_start : (seat : Seat) (known : Known) → IsBook (turns_seen known) → Made seat known known []
+pub made_start : {V : Type 0} (seat : Seat) (known : Known V) → IsBook (turns_seen known) → Made seat known known []
 made_start seat known h = record { first_book = h; book = h; more = sees_none known; makes = makes_none seat (turns_seen known) }
 
 -- what was done at the desk is done beside all that was done before
-pub did_made : (seat : Seat) (old new : Known) (acts : List Act) → IsBook (turns_seen old) → IsBook (turns_seen new) → SeesMore old new
+pub did_made : {V : Type 0} (seat : Seat) (old new : Known V) (acts : List Act) → IsBook (turns_seen old) → IsBook (turns_seen new) → SeesMore old new
     → Makes seat acts (turns_seen old) (turns_seen new) → Did seat old new acts
 did_made seat old new acts h h_new more makes = λ start before made. record {
   first_book = made.first_book;

@@ -14,12 +14,12 @@ use Rattle.courier_run.specs.Act.{Try, reads, ticks, writes, pieces_of, bytes_of
 use Rattle.courier_run.specs.Link.{outside, Goes, AreTried}
 use Rattle.courier_run.specs.Steps.{IsStep, attempted, Stepping, none, one_more, limited_by, broken_before, broken_by, IsStop, idle_at, full_at, broken_at, out_of_memory, unsent_at, unrecorded, spent, stopped}
 use Rattle.courier_run.proofs.ActLemmas.{Goes-none, Goes-append}
-use Rattle.router_sessions.specs.declared.book.Seat.{Seat}
-use Rattle.router_sessions.specs.History.{Turn}
-use Rattle.router_sessions.specs.Book.{IsBook}
-use Rattle.router_sessions.specs.Acts.{Act, Claims, Records, PutsBack, Breaks, IsIdle, IsFullAt, IsBrokenAt, IsUnrecorded, Steps, Makes, World, world, Does}
+use Rattle.router_history.specs.declared.book.Seat.{Seat}
+use Rattle.router_history.specs.History.{Turn}
+use Rattle.router_history.specs.Book.{IsBook}
+use Rattle.router_history.specs.Acts.{Act, Claims, Records, PutsBack, Breaks, IsIdle, IsFullAt, IsBrokenAt, IsUnrecorded, Steps, Makes, World, world, Does}
 use Rattle.router_sessions.specs.Reply.{DoesAndWrites}
-use Rattle.router_sessions.proofs.ActLemmas.{makes_none, makes_full}
+use Rattle.router_history.proofs.ActLemmas.{makes_none, makes_full}
 use Rattle.router_sessions.proofs.DidLemmas.{makes_append}
 
 pub does_none : (seat : Seat) (w : World) → Does seat [] w w

@@ -2,12 +2,12 @@
 use Rattle.std.proofs.Common.{ℕ, inl, inr, List, [], map, refl, sym, ap, ◌∙◌, append-nil}
 use Rattle.std.proofs.lemmas.List.{map-append}
 use Rattle.router_core.specs.Tables.{first_tables}
-use Rattle.router_sessions.specs.declared.history.Turn.{Turn}
-use Rattle.router_sessions.specs.History.{State, begun, claims_of, state_of}
-use Rattle.router_sessions.specs.History as history
-use Rattle.router_sessions.specs.Book.{turn_of, Rests}
-use Rattle.router_sessions.specs.Visit.{OwesNothing}
-use Rattle.router_sessions.proofs.TurnLemmas.{state_append, none_of_mine}
+use Rattle.router_history.specs.declared.history.Turn.{Turn}
+use Rattle.router_history.specs.History.{State, begun, claims_of, state_of}
+use Rattle.router_history.specs.History as history
+use Rattle.router_history.specs.Book.{turn_of, Rests}
+use Rattle.router_history.specs.Visit.{OwesNothing}
+use Rattle.router_history.proofs.TurnLemmas.{state_append, none_of_mine}
 use Rattle.router_sessions.proofs.DeskLemmas.{own_turns, none_added}
 
 -- a pass that owes nothing has no open claim

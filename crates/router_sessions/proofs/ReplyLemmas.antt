@@ -1,11 +1,12 @@
--- One message, from what was written for it. Other files cite `unposted_answer`, `memory_answer`, `fault_answer`, `turn_answer`, `delivery_answer`, `undelivered`,
--- `was_delivered` and `answered_rests`.
+-- One message, from what was written for it. Other files cite `unposted_answer`, `memory_answer`, `fault_answer`, `turn_answer`, `failed_answer`, `delivery_answer`,
+-- `undelivered`, `was_delivered`, `answered_rests` and `failed_rests`.
 use Rattle.std.proofs.Common.{◌≡◌, ℕ, inl, inr, Bool, false, List, [], ◌∷◌, Result, Ok, Err, refl, sym, ap, ◌∙◌, subst}
 use Rattle.std.specs.Prelude.{IfOk, OnErr}
 use Rattle.json_text.specs.declared.base.NoMemory.{NoMemory}
 use Rattle.router_disk.specs.Sink.{AddsBytes}
 use Rattle.router_disk.specs.Link.{Exchange}
 use Rattle.router_disk.specs.declared.fault.Failed.{Failed}
+use Rattle.router_core.specs.Batch.{Batch}
 use Rattle.router_core.specs.Request.{deliver_due, Request}
 use Rattle.api_replies.specs.Reply.{Reply, refused as refusal_of, no_memory, not_post}
 use Rattle.api_replies.specs.Written.{reply_text}
@@ -18,21 +19,21 @@ use Rattle.api_members.specs.declared.fault.CallFault.TheVariants as call
 use Rattle.api_wire.specs.Call.{IsAsked}
 use Rattle.api_wire.specs.CallAnswers.{IsFault}
 use Rattle.courier_run.specs.Claim.{moment_of}
-use Rattle.courier_run.specs.Act.{ticks, makes}
+use Rattle.courier_run.specs.Act.{ticks, looks, makes}
 use Rattle.courier_run.specs.Link.{outside}
 use Rattle.courier_run.specs.declared.stepped.Stepped.{Stepped}
-use Rattle.router_sessions.specs.declared.book.Seat.{Seat}
-use Rattle.router_sessions.specs.declared.book.TurnReply.{TurnReply}
-use Rattle.router_sessions.specs.History.{Turn, State, Ask, Placed, asked, state_of, state_after, after_ask, after_turn, claims_of}
-use Rattle.router_sessions.specs.Book.{IsBook, Rests}
-use Rattle.router_sessions.specs.Acts.{Act, Makes, World, world, Does}
-use Rattle.router_sessions.specs.Answered.{turn_text, IsUnrendered, IsAnswered}
-use Rattle.message_streams.specs.Reply.{text_or, IsFaultText, steps_reply}
-use Rattle.router_sessions.specs.Session.{Answers, unposted, refused, out_of_memory, served, unrendered, stepped, sent_text}
+use Rattle.router_history.specs.declared.book.Seat.{Seat}
+use Rattle.router_history.specs.declared.book.TurnReply.{TurnReply}
+use Rattle.router_history.specs.History.{Turn, State, Ask, Placed, asked, breaks, state_of, state_after, after_ask, after_turn, turns_by, claims_of}
+use Rattle.router_history.specs.Book.{IsBook, Rests}
+use Rattle.router_history.specs.Acts.{Act, Makes, World, world, Does}
+use Rattle.router_history.specs.Answered.{turn_text, IsUnrendered, IsAnswered, IsUnanswered}
+use Rattle.message_streams.specs.Reply.{text_or, IsFaultText, journal_failed, steps_reply}
+use Rattle.router_history.specs.Session.{Answers, unposted, refused, out_of_memory, served, unrendered, failed, failed_before, stepped, sent_text}
 use Rattle.router_sessions.specs.Delivery.{Delivers}
 use Rattle.router_sessions.specs.Reply.{DoesAndWrites, IsDelivery, HasAnswered, HasDelivered}
-use Rattle.router_sessions.proofs.TurnLemmas.{none_of_mine, open_written}
-use Rattle.router_sessions.proofs.ActLemmas.{makes_none, state_longer, state_here}
+use Rattle.router_history.proofs.TurnLemmas.{none_append, none_of_mine, open_written}
+use Rattle.router_history.proofs.ActLemmas.{makes_none, state_longer, state_here}
 use Rattle.router_sessions.proofs.DoesLemmas.{does_append, does_acts, does_made, writes_then, after_acts, steps_quiet}
 
 -- the text that is sent to a POST
@@ -112,6 +113,26 @@ turn_answer seat m close old turns turns_new gave written written_new readings a
     (does_made seat (makes a.placed ∷ []) turns turns_new gave written readings answered faults refl refl refl refl a.makes))
     wrote
 
+-- the request is not carried out, since the book is broken
+pub failed_answer : (seat : Seat) (m : Message) (close : Bool) (old : World) (turns turns_new : List Turn) (gave : List (List ℕ)) (written written_new readings : List ℕ)
+    (answered : List Exchange) (faults reading : ℕ) (result : Result (Unit {0}) Failed) (request : Request) → m.method ≡ Post → IsBook old.turns → IsBook turns
+    → IsBook turns_new → Does seat (ticks reading ∷ []) old (world turns gave written readings answered faults) → IsAsked m (moment_of reading) request
+    → IsUnanswered seat turns turns_new request → AddsBytes written written_new result (reply_text journal_failed close)
+    → HasAnswered seat m close old (world turns_new gave written_new readings answered faults) result
+failed_answer seat m close old turns turns_new gave written written_new readings answered faults reading result request post h h_mid h_new done is_asked (inl (p, made, fails)) wrote =
+    post_answer seat m close old turns_new gave written written_new readings answered faults result (ticks reading ∷ makes p ∷ []) journal_failed post h h_new
+    (failed reading request p (ap is_post post) is_asked fails)
+    (does_append seat (ticks reading ∷ []) (makes p ∷ []) old (world turns gave written readings answered faults) (world turns_new gave written readings answered faults) h h_mid done
+    (does_made seat (makes p ∷ []) turns turns_new gave written readings answered faults refl refl refl refl made))
+    wrote
+failed_answer seat m close old turns turns_new gave written written_new readings answered faults reading result request post h h_mid h_new done is_asked (inr (made, broken)) wrote =
+    let s : State = state_of turns_new in
+    post_answer seat m close old turns_new gave written written_new readings answered faults result (ticks reading ∷ looks s ∷ []) journal_failed post h h_new
+    (failed_before reading request s (ap is_post post) is_asked broken)
+    (does_append seat (ticks reading ∷ []) (looks s ∷ []) old (world turns gave written readings answered faults) (world turns_new gave written readings answered faults) h h_mid done
+    (does_made seat (looks s ∷ []) turns turns_new gave written readings answered faults refl refl refl refl made))
+    wrote
+
 -- a DeliverDue, from its steps and its reply
 pub delivery_answer : (seat : Seat) (m : Message) (close : Bool) (old mid new : World) (reading : ℕ) (result : Result (Unit {0}) Failed) (request : Request) (budget : ℕ)
     → m.method ≡ Post → IsBook old.turns → IsBook mid.turns → Does seat (ticks reading ∷ []) old mid → IsAsked m (moment_of reading) request
@@ -167,15 +188,37 @@ asked_claims : (n : ℕ) (turn : Turn) (ask : Ask) (s : State) (request : Reques
 asked_claims n turn ask s request is none =
     ap (λ (a : Ask). claims_of n (after_ask turn a s).open_claims) is ∙ ap (claims_of n) (open_written turn.batch s) ∙ none
 
+-- one turn that leaves its pass without a claim
+one_rests : (seat : Seat) (old new : List Turn) (p : Placed) → Makes seat (makes p ∷ []) old new
+    → (claims_of seat.pass p.before.open_claims ≡ [] → claims_of seat.pass (after_turn p.turn p.before).open_claims ≡ []) → Rests seat.pass old → Rests seat.pass new
+one_rests seat old new p m stays rests =
+    let (others, rest, is, other, pass, before, known, after) = m.happens in
+    let n = seat.pass in
+    let state : state_of new ≡ state_after rest (after_turn p.turn p.before) =
+    state_longer old m.added new m.turns ∙ ap (λ (ts : List Turn). state_after ts (state_of old)) is ∙ state_here (state_of old) others rest p before in
+    let first : claims_of n p.before.open_claims ≡ [] =
+    ap (λ (s : State). claims_of n s.open_claims) before ∙ none_of_mine n others (state_of old) other rests in
+    ap (λ (s : State). claims_of n s.open_claims) state ∙ none_of_mine n rest (after_turn p.turn p.before) after (stays first)
+
 pub answered_rests : (seat : Seat) (old new : List Turn) (request : Request) (close : Bool) (reply : TurnReply) → IsAnswered seat old new request close reply
     → Rests seat.pass old → Rests seat.pass new
 answered_rests seat old new request close reply a rests =
-    let (others, rest, is, other, pass, before, known, after) = a.makes.happens in
-    let n = seat.pass in
-    let p : Placed = a.placed in
-    let state : state_of new ≡ state_after rest (after_turn p.turn p.before) =
-    state_longer old a.makes.added new a.makes.turns ∙ ap (λ (ts : List Turn). state_after ts (state_of old)) is ∙ state_here (state_of old) others rest p before in
-    let first : claims_of n p.before.open_claims ≡ [] =
-    ap (λ (s : State). claims_of n s.open_claims) before ∙ none_of_mine n others (state_of old) other rests in
-    ap (λ (s : State). claims_of n s.open_claims) state
-    ∙ none_of_mine n rest (after_turn p.turn p.before) after (asked_claims n p.turn p.turn.ask p.before request a.replies.0 first)
+    one_rests seat old new a.placed a.makes (asked_claims seat.pass a.placed.turn a.placed.turn.ask a.placed.before request a.replies.0) rests
+
+-- so does the turn that breaks the book
+broken_claims : (n : ℕ) (turn : Turn) (ask : Ask) (s : State) (b : Batch) → ask ≡ breaks (b ∷ []) → claims_of n s.open_claims ≡ []
+    → claims_of n (after_ask turn ask s).open_claims ≡ []
+broken_claims n turn ask s b is none = ap (λ (a : Ask). claims_of n (after_ask turn a s).open_claims) is ∙ none
+
+-- a look leaves them too
+look_rests : (seat : Seat) (old new : List Turn) (seen : State) → Makes seat (looks seen ∷ []) old new → Rests seat.pass old → Rests seat.pass new
+look_rests seat old new seen m rests =
+    let (others, rest, is, other, shown, after) = m.happens in
+    ap (λ (s : State). claims_of seat.pass s.open_claims) (state_longer old m.added new m.turns)
+    ∙ none_of_mine seat.pass m.added (state_of old)
+    (ap (λ (ts : List Turn). turns_by seat.pass ts) is ∙ none_append seat.pass others rest other after) rests
+
+pub failed_rests : (seat : Seat) (old new : List Turn) (request : Request) → IsUnanswered seat old new request → Rests seat.pass old → Rests seat.pass new
+failed_rests seat old new request (inl (p, m, fails)) rests =
+    one_rests seat old new p m (broken_claims seat.pass p.turn p.turn.ask p.before fails.0 fails.1) rests
+failed_rests seat old new request (inr (m, broken)) rests = look_rests seat old new (state_of new) m rests

@@ -13,24 +13,24 @@ use Rattle.api_replies.specs.Written.{reply_text}
 use Rattle.api_messages.specs.declared.message.Message.{Message}
 use Rattle.api_messages.specs.Messages.{HoldsMessage}
 use Rattle.courier_run.specs.Act.{reads, looks, writes}
-use Rattle.router_sessions.specs.declared.book.Seat.{Seat}
+use Rattle.router_history.specs.declared.book.Seat.{Seat}
 use Rattle.message_streams.specs.declared.farewell.SessionEnd.{SessionEnd}
 use Rattle.message_streams.specs.declared.farewell.SessionEnd.TheVariants as ends
 use Rattle.message_streams.specs.declared.incoming.Incoming.TheVariants as incoming
 use Rattle.message_streams.specs.declared.incoming.Lack.{Lack}
 use Rattle.message_streams.specs.declared.incoming.Lack.TheVariants as lacks
-use Rattle.router_sessions.specs.History.{Turn, State, state_of, turns_by}
-use Rattle.router_sessions.specs.Book.{IsBook}
-use Rattle.router_sessions.specs.Acts.{Act, Makes, IsNamed, World, world, Does}
-use Rattle.router_sessions.specs.Session.{Answers, sent_text, request_limit, closes, Serving, begun, reads_on, answers, IsLast, IsFarewell, refused, starved}
-use Rattle.router_sessions.specs.Session.{Ended, closed_by_end, cut, closed_by_message, long, farewell, starved_early, read_fault, unwritten, farewell_unwritten, IsSession}
+use Rattle.router_history.specs.History.{Turn, State, state_of, turns_by}
+use Rattle.router_history.specs.Book.{IsBook}
+use Rattle.router_history.specs.Acts.{Act, Makes, IsNamed, World, world, Does}
+use Rattle.router_history.specs.Session.{Answers, sent_text, request_limit, closes, Serving, begun, reads_on, answers, IsLast, IsFarewell, refused, starved}
+use Rattle.router_history.specs.Session.{Ended, closed_by_end, cut, closed_by_message, long, farewell, starved_early, read_fault, unwritten, farewell_unwritten, IsSession}
 use Rattle.router_sessions.specs.Desk.{Known, seat_of}
 use Rattle.message_streams.specs.Incoming.{AreRead, none, one_more, NextOf}
 use Rattle.message_streams.specs.Farewell.{refusal_reply, IsFinish}
 use Rattle.router_sessions.specs.Reply.{DoesAndWrites, HasAnswered}
 use Rattle.router_sessions.specs.Conversing.{HasEnded}
-use Rattle.router_sessions.proofs.TurnLemmas.{none_append}
-use Rattle.router_sessions.proofs.ActLemmas.{state_longer}
+use Rattle.router_history.proofs.TurnLemmas.{none_append}
+use Rattle.router_history.proofs.ActLemmas.{state_longer}
 use Rattle.router_sessions.proofs.DeskLemmas.{same_seat}
 use Rattle.router_sessions.proofs.DoesLemmas.{does_none, does_append, does_wrote, does_read, read_acts, read_more, after_acts}
 
@@ -233,7 +233,7 @@ lack_end seat old turns gave gave_new written written_new readings answered faul
     (starved_early n held (looks (state_of old.turns) ∷ run.acts) run.serving awaited headless) run.does finish
 
 -- the seat of the pass is the same throughout
-pub answered_at : (connection : Option ℕ) (first now : Known) (m : Message) (close : Bool) (old new : World) (result : Result (Unit {0}) Failed) → IsSamePass first now
+pub answered_at : {V : Type 0} (connection : Option ℕ) (first now : Known V) (m : Message) (close : Bool) (old new : World) (result : Result (Unit {0}) Failed) → IsSamePass first now
     → HasAnswered (seat_of connection now) m close old new result → HasAnswered (seat_of connection first) m close old new result
 answered_at connection first now m close old new result same a = subst (λ (s : Seat). HasAnswered s m close old new result) (same_seat connection first now same) a
 
@@ -274,6 +274,6 @@ session_looked seat old mid new gave gave_new written written_new readings readi
   },
 )
 
-pub ended_at : (connection : Option ℕ) (first now : Known) (old new : World) (end : SessionEnd) → IsSamePass first now
+pub ended_at : {V : Type 0} (connection : Option ℕ) (first now : Known V) (old new : World) (end : SessionEnd) → IsSamePass first now
     → HasEnded (seat_of connection now) old new end → HasEnded (seat_of connection first) old new end
 ended_at connection first now old new end same e = subst (λ (s : Seat). HasEnded s old new end) (same_seat connection first now same) e

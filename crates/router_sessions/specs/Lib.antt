@@ -1,12 +1,5 @@
-pub mod Firsts
-pub mod History
-pub mod Held
-pub mod Book
-pub mod Acts
-pub mod Session
-pub mod Answered
 pub mod Desk
 pub mod Delivery
+pub mod Seated
 pub mod Reply
 pub mod Conversing
-pub mod Visit

@@ -8,9 +8,9 @@ use Rattle.courier_run.specs.Act.{writes}
 use Rattle.courier_run.specs.declared.turned.Turned.{Turned}
 use Rattle.courier_run.specs.declared.stepped.Stop.{Stop}
 use Rattle.message_streams.specs.Reply.{steps_reply}
-use Rattle.router_sessions.specs.declared.book.Seat.{Seat}
-use Rattle.router_sessions.specs.Acts.{Act, Steps, World, Does}
-use Rattle.router_sessions.specs.Session.{Answers, sent_text}
+use Rattle.router_history.specs.declared.book.Seat.{Seat}
+use Rattle.router_history.specs.Acts.{Act, Steps, World, Does}
+use Rattle.router_history.specs.Session.{Answers, sent_text}
 
 -- these acts were done, and then the text was written; if the write failed, a first part of it
 abbrev pub DoesAndWrites : Seat → List Act → List ℕ → World → World → Result (Unit {0}) Failed → Type 0

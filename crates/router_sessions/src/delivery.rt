@@ -1,17 +1,20 @@
 //! The steps of one DeliverDue, by the courier.
 ghost use Rattle.std.specs.Prelude.{◌≡◌};
+ghost use Rattle.json_text.specs.Moment.{IsMoment};
 ghost use Rattle.turn_book.specs.Passes.{IsFree, IsSamePass};
+ghost use Rattle.courier_run.specs.Claim.{FitsClaim, NeedsSend};
 ghost use Rattle.courier_run.specs.Link.{outside};
-ghost use Rattle.router_sessions.specs.Book.{Rests, IsBook};
-ghost use Rattle.router_sessions.specs.Delivery.{Delivers};
+ghost use Rattle.router_history.specs.Held.{held_claim};
+ghost use Rattle.router_history.specs.Book.{Rests, Holds, IsBook};
+ghost use Rattle.router_sessions.specs.Delivery.{Delivers, IsSeated};
+ghost use Rattle.router_sessions.specs.Seated.{IsBackResult, IsClaimResult, IsRecordResult};
 ghost use Rattle.router_sessions.specs.Desk.{turns_seen, number_of, seat_of, SeesMore};
 
-use crate::book::Book;
 use crate::desk::Desk;
-use crate::held::Held;
 use courier_run::{BookFault, DutyBook, Stepped, turn};
 use delivery_duties::{Fate, Outcome};
-use router_disk::{Clock, Link};
+use router_disk::{Clock, Disk, Link};
+use router_history::{Book, Held};
 use std::marker::{Brand, PhantomData};
 use std::sync::Wait;
 use turn_book::Pass;
@@ -20,7 +23,7 @@ use turn_book::Pass;
 pub(crate) trait Naming {
     ghost use Rattle.std.specs.Prelude.{ℕ};
     ghost use Rattle.atomic_table.specs.Seated.{TableId};
-    ghost use Rattle.router_sessions.specs.declared.book.Seat.{Seat};
+    ghost use Rattle.router_history.specs.declared.book.Seat.{Seat};
 
     // The hall.
     ghost hall: { TableId };
@@ -46,21 +49,45 @@ impl Naming for Brand {
     ghost made = { 0 };
 }
 
-/// The book as the courier sees it, through a pass.
+/// A pass, by what it knows of the history. A bound cannot name the passes of a hall.
+trait Knows {
+    ghost use Rattle.router_sessions.specs.Desk.{Known};
+
+    type Value;
+
+    ghost known: { Self → Known Self.Value };
+}
+
+impl<D: Disk> Knows for Pass<Book<D>> {
+    type Value = Book<D>;
+
+    ghost known = { λ p. p.seat };
+}
+
+/// A book as the courier sees it, through a pass, whose turns closures make. In a method of a trait the check does not cover a call of a function
+/// whose bounds are `Send`, as those of a desk's methods are.
 #[derive(Drop)]
-struct Seated<'a, Rt, N> {
-    desk: Desk<'a, Rt>,
-    pass: &'a mut Pass<Book>,
+struct Seated<'a, P, C, R, B, N> {
+    pass: &'a mut P,
+    claim: C,
+    record_of: R,
+    put_back: B,
     of: PhantomData<N>,
 }
 
-impl<Rt: Wait, N: Naming> DutyBook for Seated<'_, Rt, N> {
-    ghost use Rattle.turn_book.specs.Passes.{IsFree};
-    ghost use Rattle.router_sessions.specs.History as history;
-    ghost use Rattle.router_sessions.specs.Book.{Rests, Holds, IsBook};
-    ghost use Rattle.router_sessions.specs.Acts.{Claims, Records, PutsBack, Breaks, IsIdle, IsFullAt, IsBrokenAt};
-    ghost use Rattle.router_sessions.specs.Delivery.{Did, did_none, did_joined};
-    ghost use Rattle.router_sessions.specs.Desk.{turns_seen, seat_of};
+impl<
+    P: Knows,
+    C: Fn(&mut P, u64) -> Result<Option<Held>, BookFault>,
+    R: Fn(&mut P, Held, Outcome) -> Result<Fate, BookFault>,
+    B: Fn(&mut P, Held),
+    N: Naming,
+> DutyBook for Seated<'_, P, C, R, B, N> {
+    ghost use Rattle.router_history.specs.History as history;
+    ghost use Rattle.router_history.specs.Book.{Rests, Holds};
+    ghost use Rattle.router_history.specs.Acts.{Claims, Records, PutsBack, Breaks, IsIdle, IsFullAt, IsBrokenAt};
+    ghost use Rattle.router_sessions.specs.Delivery.{Did, did_none, did_joined, IsSeated};
+    ghost use Rattle.router_sessions.specs.Seated.{AreSeated};
+    ghost use Rattle.router_sessions.specs.Desk.{turns_seen};
 
     type Held = Held;
 
@@ -68,19 +95,18 @@ impl<Rt: Wait, N: Naming> DutyBook for Seated<'_, Rt, N> {
 
     ghost State = { history.State };
 
-    ghost sound = { λ s. (s.desk.hall.now.table.shared.table_id ≡ N.hall) × (s.pass.now.seat.table_id ≡ N.hall) × IsFree s.pass.now.seat
-        × (seat_of s.desk.connection s.pass.now.seat ≡ N.seat) × (s.pass.now.seat.me.0.passes ≡ N.passes) × (s.pass.now.seat.me.0.made ≡ N.made)
-        × IsBook (turns_seen s.pass.now.seat) };
+    ghost sound = { λ s. IsSeated N.hall N.seat N.passes N.made (P.known s.pass.now)
+        × AreSeated P.known N.hall N.seat N.passes N.made C.Fn s.claim R.Fn s.record_of B.Fn s.put_back };
 
-    ghost rests = { λ s. Rests N.seat.pass (turns_seen s.pass.now.seat) };
+    ghost rests = { λ s. Rests N.seat.pass (turns_seen (P.known s.pass.now)) };
 
-    ghost holds = { λ s c. Holds N.seat.pass (turns_seen s.pass.now.seat) c };
+    ghost holds = { λ s c. Holds N.seat.pass (turns_seen (P.known s.pass.now)) c };
 
-    ghost did = { λ a b acts. Did N.seat a.pass.now.seat b.pass.now.seat acts };
+    ghost did = { λ a b acts. Did N.seat (P.known a.pass.now) (P.known b.pass.now) acts };
 
-    ghost begins = { λ b. did_none N.seat b.pass.now.seat };
+    ghost begins = { λ b. did_none N.seat (P.known b.pass.now) };
 
-    ghost joins = { λ a b c first second one two. did_joined N.seat a.pass.now.seat b.pass.now.seat c.pass.now.seat first second one two };
+    ghost joins = { λ a b c first second one two. did_joined N.seat (P.known a.pass.now) (P.known b.pass.now) (P.known c.pass.now) first second one two };
 
     ghost claims = { Claims };
 
@@ -99,23 +125,77 @@ impl<Rt: Wait, N: Naming> DutyBook for Seated<'_, Rt, N> {
     ghost lender = { λ s. s.pass.ghost_name };
 
     fn claim(&mut self, moment: u64) -> Result<Option<Held>, BookFault> {
-        self.desk.claim(self.pass, moment)
+        (self.claim)(self.pass, moment)
     }
 
     fn record_of(&mut self, held: Held, outcome: Outcome, _moment: u64) -> Result<Fate, BookFault> {
-        self.desk.record(self.pass, held, outcome)
+        (self.record_of)(self.pass, held, outcome)
     }
 
     fn put_back(&mut self, held: Held) {
-        self.desk.put_back(self.pass, held);
+        (self.put_back)(self.pass, held);
     }
+}
+
+/// Claims at the desk, as the naming says.
+fn claim_at<N: Naming, Rt: Wait, D: Disk>(
+    desk: Desk<'_, Rt, D>,
+    pass: &mut Pass<Book<D>>,
+    reading: u64,
+) -> Result<Option<Held>, BookFault>
+    requires hall { desk.hall.now.table.shared.table_id ≡ N.hall }
+    requires named { desk.connection ≡ N.seat.connection }
+    requires seated { IsSeated N.hall N.seat N.passes N.made pass.old.seat }
+    requires reading { IsMoment reading }
+    requires rests { Rests N.seat.pass (turns_seen pass.old.seat) }
+    ensures seated { IsSeated N.hall N.seat N.passes N.made pass.new.seat }
+    ensures claimed { IsClaimResult N.seat reading pass.old.seat pass.new.seat result }
+{
+    desk.claim(pass, reading)
+}
+
+/// Records at the desk, as the naming says.
+fn record_at<N: Naming, Rt: Wait, D: Disk>(
+    desk: Desk<'_, Rt, D>,
+    pass: &mut Pass<Book<D>>,
+    held: Held,
+    outcome: Outcome,
+) -> Result<Fate, BookFault>
+    requires hall { desk.hall.now.table.shared.table_id ≡ N.hall }
+    requires named { desk.connection ≡ N.seat.connection }
+    requires seated { IsSeated N.hall N.seat N.passes N.made pass.old.seat }
+    requires holds { Holds N.seat.pass (turns_seen pass.old.seat) (held_claim held) }
+    requires fits { FitsClaim (held_claim held) outcome }
+    ensures seated { IsSeated N.hall N.seat N.passes N.made pass.new.seat }
+    ensures rests { Rests N.seat.pass (turns_seen pass.new.seat) }
+    ensures recorded { IsRecordResult N.seat (held_claim held) outcome pass.old.seat pass.new.seat result }
+{
+    desk.record(pass, held, outcome)
+}
+
+/// Puts a claim back at the desk, as the naming says.
+fn put_back_at<N: Naming, Rt: Wait, D: Disk>(
+    desk: Desk<'_, Rt, D>,
+    pass: &mut Pass<Book<D>>,
+    held: Held,
+)
+    requires hall { desk.hall.now.table.shared.table_id ≡ N.hall }
+    requires named { desk.connection ≡ N.seat.connection }
+    requires seated { IsSeated N.hall N.seat N.passes N.made pass.old.seat }
+    requires holds { Holds N.seat.pass (turns_seen pass.old.seat) (held_claim held) }
+    requires needed { NeedsSend (held_claim held) }
+    ensures seated { IsSeated N.hall N.seat N.passes N.made pass.new.seat }
+    ensures rests { Rests N.seat.pass (turns_seen pass.new.seat) }
+    ensures put_back { IsBackResult N.seat (held_claim held) pass.old.seat pass.new.seat }
+{
+    desk.put_back(pass, held);
 }
 
 /// Makes delivery steps, each at a reading of its own, until no duty is due, `budget` steps were made, or a fault stops them. Between the steps
 /// and during a send other passes can make turns.
-pub(crate) fn deliver<Rt: Wait, L: Link, C: Clock>(
-    desk: Desk<'_, Rt>,
-    pass: &mut Pass<Book>,
+pub(crate) fn deliver<Rt: Wait, D: Disk, L: Link, C: Clock>(
+    desk: Desk<'_, Rt, D>,
+    pass: &mut Pass<Book<D>>,
     link: &mut L,
     clock: &mut C,
     budget: u32,
@@ -132,12 +212,12 @@ pub(crate) fn deliver<Rt: Wait, L: Link, C: Clock>(
         (outside (C.gave clock.old) (L.exchanges link.old) (L.faults link.old))
         (outside (C.gave clock.new) (L.exchanges link.new) (L.faults link.new)) result }
 {
-    deliver_by::<Brand, Rt, L, C>(desk, pass, link, clock, budget)
+    deliver_by::<Brand, Rt, D, L, C>(desk, pass, link, clock, budget)
 }
 
-fn deliver_by<N: Naming, Rt: Wait, L: Link, C: Clock>(
-    desk: Desk<'_, Rt>,
-    pass: &mut Pass<Book>,
+fn deliver_by<N: Naming, Rt: Wait, D: Disk, L: Link, C: Clock>(
+    desk: Desk<'_, Rt, D>,
+    pass: &mut Pass<Book<D>>,
     link: &mut L,
     clock: &mut C,
     budget: u32,
@@ -157,9 +237,37 @@ fn deliver_by<N: Naming, Rt: Wait, L: Link, C: Clock>(
         (outside (C.gave clock.old) (L.exchanges link.old) (L.faults link.old))
         (outside (C.gave clock.new) (L.exchanges link.new) (L.faults link.new)) result }
 {
-    let mut seated: Seated<'_, Rt, N> = Seated {
-        desk,
+    let mut seated: Seated<'_, Pass<Book<D>>, _, _, _, N> = Seated {
         pass,
+        claim: move |pass: &mut Pass<Book<D>>, reading: u64|
+            requires hall { desk.hall.now.table.shared.table_id ≡ N.hall }
+            requires named { desk.connection ≡ N.seat.connection }
+            requires seated { IsSeated N.hall N.seat N.passes N.made pass.old.seat }
+            requires reading { IsMoment reading }
+            requires rests { Rests N.seat.pass (turns_seen pass.old.seat) }
+            ensures seated { IsSeated N.hall N.seat N.passes N.made pass.new.seat }
+            ensures claimed { IsClaimResult N.seat reading pass.old.seat pass.new.seat result }
+        { claim_at::<N, Rt, D>(desk, pass, reading) },
+        record_of: move |pass: &mut Pass<Book<D>>, held: Held, outcome: Outcome|
+            requires hall { desk.hall.now.table.shared.table_id ≡ N.hall }
+            requires named { desk.connection ≡ N.seat.connection }
+            requires seated { IsSeated N.hall N.seat N.passes N.made pass.old.seat }
+            requires holds { Holds N.seat.pass (turns_seen pass.old.seat) (held_claim held) }
+            requires fits { FitsClaim (held_claim held) outcome }
+            ensures seated { IsSeated N.hall N.seat N.passes N.made pass.new.seat }
+            ensures rests { Rests N.seat.pass (turns_seen pass.new.seat) }
+            ensures recorded { IsRecordResult N.seat (held_claim held) outcome pass.old.seat pass.new.seat result }
+        { record_at::<N, Rt, D>(desk, pass, held, outcome) },
+        put_back: move |pass: &mut Pass<Book<D>>, held: Held|
+            requires hall { desk.hall.now.table.shared.table_id ≡ N.hall }
+            requires named { desk.connection ≡ N.seat.connection }
+            requires seated { IsSeated N.hall N.seat N.passes N.made pass.old.seat }
+            requires holds { Holds N.seat.pass (turns_seen pass.old.seat) (held_claim held) }
+            requires needed { NeedsSend (held_claim held) }
+            ensures seated { IsSeated N.hall N.seat N.passes N.made pass.new.seat }
+            ensures rests { Rests N.seat.pass (turns_seen pass.new.seat) }
+            ensures put_back { IsBackResult N.seat (held_claim held) pass.old.seat pass.new.seat }
+        { put_back_at::<N, Rt, D>(desk, pass, held) },
         of: PhantomData,
     };
     turn(&mut seated, link, clock, budget)

@@ -7,43 +7,42 @@ ghost use Rattle.courier_run.specs.Act.{looks};
 ghost use Rattle.courier_run.specs.Claim.{FitsClaim, NeedsSend};
 ghost use Rattle.courier_run.specs.Book.{HasCause};
 ghost use Rattle.courier_run.specs.Steps.{unsent};
-ghost use Rattle.router_sessions.specs.History.{state_of, IsAskable};
-ghost use Rattle.router_sessions.specs.Held.{held_claim};
-ghost use Rattle.router_sessions.specs.Book.{turns_of, Holds, Rests, IsBook, IsKept, HasGrown};
-ghost use Rattle.router_sessions.specs.Acts.{IsIdle, IsFullAt, IsBrokenAt, Makes};
-ghost use Rattle.router_sessions.specs.Answered.{IsAnswered, IsRenderable, IsClaimed, IsRecorded, IsUnrecordedBy, IsPutBack};
+ghost use Rattle.router_history.specs.History.{state_of, IsAskable};
+ghost use Rattle.router_history.specs.Held.{held_claim};
+ghost use Rattle.router_history.specs.Book.{turns_of, Holds, Rests, IsBook, HasGrown};
+ghost use Rattle.router_history.specs.Home.{IsSoundBook};
+ghost use Rattle.router_history.specs.Acts.{IsIdle, IsFullAt, IsBrokenAt, Makes};
+ghost use Rattle.router_history.specs.Answered.{IsAnswered, IsUnanswered, IsRenderable, IsClaimed, IsRecorded, IsUnrecordedBy, IsPutBack};
 ghost use Rattle.router_sessions.specs.Desk.{turns_seen, number_of, seat_of, SeesMore};
 
-use crate::book::{Book, MadeTurn, Seat, TurnReply};
-use crate::fault::RequestFault;
-use crate::held::Held;
-use crate::history::Why;
 use courier_run::BookFault;
 use delivery_duties::{Fate, Outcome};
 use router_core::Request;
+use router_disk::Disk;
+use router_history::{Book, Held, MadeTurn, RequestFault, Seat, TurnReply, Why};
 use std::alloc::{AllocError, Global};
 use std::sync::Wait;
 use turn_book::{Hall, Pass};
 
 /// Where a pass makes its turns. Nothing is held between two of them.
-pub(crate) struct Desk<'a, Rt> {
+pub(crate) struct Desk<'a, Rt, D: Disk> {
     pub(crate) rt: &'a Rt,
     pub(crate) alloc: Global,
-    pub(crate) hall: &'a Hall<Book>,
+    pub(crate) hall: &'a Hall<Book<D>>,
     /// The number of the connection that the turns name, if one is served.
     pub(crate) connection: Option<u64>,
 }
 
-impl<Rt> Clone for Desk<'_, Rt> {
+impl<Rt, D: Disk> Clone for Desk<'_, Rt, D> {
     fn clone(&self) -> Result<Self, AllocError> {
         Ok(*self)
     }
 }
 
-impl<Rt> Copy for Desk<'_, Rt> {}
+impl<Rt, D: Disk> Copy for Desk<'_, Rt, D> {}
 
-impl<Rt: Wait> Desk<'_, Rt> {
-    fn seat(self, pass: &Pass<Book>) -> Seat
+impl<Rt: Wait, D: Disk> Desk<'_, Rt, D> {
+    fn seat(self, pass: &Pass<Book<D>>) -> Seat
         ensures { result ≡ seat_of self.entry.connection pass.now.seat }
     {
         Seat {
@@ -53,7 +52,7 @@ impl<Rt: Wait> Desk<'_, Rt> {
     }
 
     /// Makes no turn. The pass then knows the history as it is.
-    pub(crate) fn look(self, pass: &mut Pass<Book>)
+    pub(crate) fn look(self, pass: &mut Pass<Book<D>>)
         requires here { pass.old.seat.table_id ≡ self.hall.now.table.shared.table_id }
         requires free { IsFree pass.old.seat }
         ensures pass { IsSamePass pass.old.seat pass.new.seat × IsFree pass.new.seat }
@@ -70,7 +69,7 @@ impl<Rt: Wait> Desk<'_, Rt> {
     /// Matches the request on the book's board, and makes its turn, as `Book::turn`. The request and what the turn released are freed once other passes can have the book.
     pub(crate) fn turn(
         self,
-        pass: &mut Pass<Book>,
+        pass: &mut Pass<Book<D>>,
         request: Request,
         close: bool,
     ) -> Result<TurnReply, RequestFault>
@@ -86,6 +85,8 @@ impl<Rt: Wait> Desk<'_, Rt> {
             (turns_seen pass.old.seat) (turns_seen pass.new.seat) (request_of request) close reply) }
         ensures renderable { IfOk result (λ reply. IsRenderable reply) }
         ensures unchanged { result ≡ Err RequestFault.NoMemory → Makes (seat_of self.entry.connection pass.old.seat) [] (turns_seen pass.old.seat) (turns_seen pass.new.seat) }
+        ensures broken { result ≡ Err RequestFault.Broken → IsUnanswered (seat_of self.entry.connection pass.old.seat)
+            (turns_seen pass.old.seat) (turns_seen pass.new.seat) (request_of request) }
     {
         match self.make_turn(pass, &request, close) {
             Ok(made) => Ok(made.into_reply()),
@@ -96,7 +97,7 @@ impl<Rt: Wait> Desk<'_, Rt> {
     /// The same; what the turn released is not freed yet.
     fn make_turn(
         self,
-        pass: &mut Pass<Book>,
+        pass: &mut Pass<Book<D>>,
         request: &Request,
         close: bool,
     ) -> Result<MadeTurn, RequestFault>
@@ -112,6 +113,8 @@ impl<Rt: Wait> Desk<'_, Rt> {
             (turns_seen pass.old.seat) (turns_seen pass.new.seat) (request_of request.now) close made.reply) }
         ensures renderable { IfOk result (λ made. IsRenderable made.reply) }
         ensures unchanged { result ≡ Err RequestFault.NoMemory → Makes (seat_of self.entry.connection pass.old.seat) [] (turns_seen pass.old.seat) (turns_seen pass.new.seat) }
+        ensures broken { result ≡ Err RequestFault.Broken → IsUnanswered (seat_of self.entry.connection pass.old.seat)
+            (turns_seen pass.old.seat) (turns_seen pass.new.seat) (request_of request.now) }
     {
         let seat = self.seat(pass);
         let mut book = self.hall.take(self.rt, pass);
@@ -123,7 +126,7 @@ impl<Rt: Wait> Desk<'_, Rt> {
     /// Claims the duty that is due first at this reading of the clock, as `Book::claim`.
     pub(crate) fn claim(
         self,
-        pass: &mut Pass<Book>,
+        pass: &mut Pass<Book<D>>,
         reading: u64,
     ) -> Result<Option<Held>, BookFault>
         requires here { pass.old.seat.table_id ≡ self.hall.now.table.shared.table_id }
@@ -154,7 +157,7 @@ impl<Rt: Wait> Desk<'_, Rt> {
     /// Records the outcome of an attempt of the held duty, as `Book::record`.
     pub(crate) fn record(
         self,
-        pass: &mut Pass<Book>,
+        pass: &mut Pass<Book<D>>,
         held: Held,
         outcome: Outcome,
     ) -> Result<Fate, BookFault>
@@ -184,7 +187,7 @@ impl<Rt: Wait> Desk<'_, Rt> {
     }
 
     /// Releases the claim of the held duty, of which nothing was sent, as `Book::put_back`.
-    pub(crate) fn put_back(self, pass: &mut Pass<Book>, held: Held)
+    pub(crate) fn put_back(self, pass: &mut Pass<Book<D>>, held: Held)
         requires here { pass.old.seat.table_id ≡ self.hall.now.table.shared.table_id }
         requires free { IsFree pass.old.seat }
         requires book { IsBook (turns_seen pass.old.seat) }
@@ -205,21 +208,22 @@ impl<Rt: Wait> Desk<'_, Rt> {
 }
 
 /// Matches the request on the book's board, and makes its turn.
-fn match_and_turn(
-    book: &mut Book,
+fn match_and_turn<D: Disk>(
+    book: &mut Book<D>,
     alloc: Global,
     seat: Seat,
     request: &Request,
     close: bool,
 ) -> Result<MadeTurn, RequestFault>
-    requires book { IsKept book.old }
+    requires book { IsSoundBook D.calls D.faults book.old }
     requires askable { IsAskable (request_of request.now) }
     requires named { IsSome seat.connection }
-    ensures book { IsKept book.new }
-    ensures grows { HasGrown seat book.old book.new }
-    ensures answered { IfOk result (λ made. IsAnswered seat (turns_of book.old) (turns_of book.new) (request_of request.now) close made.reply) }
+    ensures book { IsSoundBook D.calls D.faults book.new }
+    ensures grows { HasGrown seat book.old.machine book.new.machine }
+    ensures answered { IfOk result (λ made. IsAnswered seat (turns_of book.old.machine) (turns_of book.new.machine) (request_of request.now) close made.reply) }
     ensures renderable { IfOk result (λ made. IsRenderable made.reply) }
-    ensures unchanged { result ≡ Err RequestFault.NoMemory → turns_of book.new ≡ turns_of book.old }
+    ensures unchanged { result ≡ Err RequestFault.NoMemory → turns_of book.new.machine ≡ turns_of book.old.machine }
+    ensures broken { result ≡ Err RequestFault.Broken → IsUnanswered seat (turns_of book.old.machine) (turns_of book.new.machine) (request_of request.now) }
 {
     let seen = book.seen(alloc, request)?;
     book.turn(alloc, seat, request, seen, close)

@@ -2,31 +2,31 @@
 ghost use Rattle.std.specs.Prelude.{◌≡◌, ℕ, List, IsSome};
 ghost use Rattle.router_disk.specs.Faults.{CountsFaults};
 ghost use Rattle.turn_book.specs.Passes.{IsFree, IsSamePass};
-ghost use Rattle.router_sessions.specs.Book.{Rests, IsBook};
+ghost use Rattle.router_history.specs.Book.{Rests, IsBook};
 ghost use Rattle.router_sessions.specs.Desk.{turns_seen, number_of, seat_of, SeesMore};
-ghost use Rattle.router_sessions.specs.Acts.{world};
+ghost use Rattle.router_history.specs.Acts.{world};
 ghost use Rattle.router_sessions.specs.Reply.{HasAnswered, HasDelivered};
 
-use crate::book::Book;
 use crate::delivery::deliver;
 use crate::desk::Desk;
-use crate::fault::RequestFault;
 use crate::text::turn_bytes;
 use api_wire::{Message, Method, no_memory_reply, not_post_head, not_post_reply, read_call};
 use bus_host::Gate;
 use json_text::{LAST_MOMENT, NoMemory};
 use message_streams::{
-    Gated, delivery_budget, delivery_room, fault_bytes, respond, write_delivery,
+    Gated, delivery_budget, delivery_room, fault_bytes, journal_failed_reply, respond,
+    write_delivery,
 };
-use router_disk::{Clock, Failed, Link, Sink};
+use router_disk::{Clock, Disk, Failed, Link, Sink};
+use router_history::{Book, RequestFault};
 use std::sync::Wait;
 use turn_book::Pass;
 
 /// Answers the message, and writes the reply. `close` is true if the session ends after it. A HEAD gets the reply's head alone.
 #[tactic(auto, using(crate::proofs::BoundLemmas::asked_askable))]
-pub(crate) fn answer_message<Rt: Wait, K: Sink, L: Link, C: Clock, G: Gate>(
-    desk: Desk<'_, Rt>,
-    pass: &mut Pass<Book>,
+pub(crate) fn answer_message<Rt: Wait, D: Disk, K: Sink, L: Link, C: Clock, G: Gate>(
+    desk: Desk<'_, Rt, D>,
+    pass: &mut Pass<Book<D>>,
     message: &Message,
     close: bool,
     gated: Gated<'_, Rt, G>,
@@ -75,6 +75,10 @@ pub(crate) fn answer_message<Rt: Wait, K: Sink, L: Link, C: Clock, G: Gate>(
                     gated.at_reply();
                     respond(Err(NoMemory), close, output)
                 }
+                Err(RequestFault::Broken) => {
+                    gated.at_reply();
+                    output.write_all(journal_failed_reply(close))
+                }
             }
         }
         Err(fault) => {
@@ -86,9 +90,9 @@ pub(crate) fn answer_message<Rt: Wait, K: Sink, L: Link, C: Clock, G: Gate>(
 }
 
 /// Makes the steps of a DeliverDue, and writes its reply. The memory of the reply is allocated before the first step.
-fn answer_delivery<Rt: Wait, K: Sink, L: Link, C: Clock, G: Gate>(
-    desk: Desk<'_, Rt>,
-    pass: &mut Pass<Book>,
+fn answer_delivery<Rt: Wait, D: Disk, K: Sink, L: Link, C: Clock, G: Gate>(
+    desk: Desk<'_, Rt, D>,
+    pass: &mut Pass<Book<D>>,
     budget: u32,
     close: bool,
     gated: Gated<'_, Rt, G>,

@@ -3,28 +3,28 @@ ghost use Rattle.std.specs.Prelude.{◌≡◌, ◌∷◌, [], None};
 ghost use Rattle.turn_book.specs.Passes.{IsFree, IsSamePass};
 ghost use Rattle.courier_run.specs.Act.{looks};
 ghost use Rattle.courier_run.specs.Link.{outside};
-ghost use Rattle.router_sessions.specs.History.{state_of};
-ghost use Rattle.router_sessions.specs.Book.{Rests, IsBook};
-ghost use Rattle.router_sessions.specs.Acts.{Makes};
+ghost use Rattle.router_history.specs.History.{state_of};
+ghost use Rattle.router_history.specs.Book.{Rests, IsBook};
+ghost use Rattle.router_history.specs.Acts.{Makes};
 ghost use Rattle.router_sessions.specs.Delivery.{Delivers};
 ghost use Rattle.router_sessions.specs.Desk.{turns_seen, number_of, seat_of, SeesMore};
 
-use crate::book::Book;
 use crate::delivery::deliver;
 use crate::desk::Desk;
 use courier_run::Stepped;
-use router_disk::{Clock, Link};
+use router_disk::{Clock, Disk, Link};
+use router_history::Book;
 use std::alloc::Global;
 use std::sync::Wait;
 use turn_book::{Hall, Pass};
 
 /// Makes at most `budget` delivery steps, each at a reading of its own. Its turns are made through the pass and name no connection.
 /// Between the steps and during a send other passes can make turns.
-pub fn serve_quiet<Rt: Wait, L: Link, C: Clock>(
+pub fn serve_quiet<Rt: Wait, D: Disk, L: Link, C: Clock>(
     rt: &Rt,
     alloc: Global,
-    hall: &Hall<Book>,
-    pass: &mut Pass<Book>,
+    hall: &Hall<Book<D>>,
+    pass: &mut Pass<Book<D>>,
     link: &mut L,
     clock: &mut C,
     budget: u32,
@@ -51,7 +51,12 @@ pub fn serve_quiet<Rt: Wait, L: Link, C: Clock>(
 }
 
 /// Makes no turn. The pass then knows the history as it is.
-pub fn look<Rt: Wait>(rt: &Rt, alloc: Global, hall: &Hall<Book>, pass: &mut Pass<Book>)
+pub fn look<Rt: Wait, D: Disk>(
+    rt: &Rt,
+    alloc: Global,
+    hall: &Hall<Book<D>>,
+    pass: &mut Pass<Book<D>>,
+)
     requires here { pass.old.seat.table_id ≡ hall.now.table.shared.table_id }
     requires free { IsFree pass.old.seat }
     ensures pass { IsSamePass pass.old.seat pass.new.seat × IsFree pass.new.seat }

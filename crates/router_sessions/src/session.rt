@@ -2,19 +2,19 @@
 ghost use Rattle.std.specs.Prelude.{◌≡◌, ◌≢◌, ◌||◌, Some, IsSome, List, ℕ};
 ghost use Rattle.router_disk.specs.Faults.{Rose};
 ghost use Rattle.turn_book.specs.Passes.{IsFree, IsSamePass};
-ghost use Rattle.router_sessions.specs.Book.{Rests, IsBook};
+ghost use Rattle.router_history.specs.Book.{Rests, IsBook};
 ghost use Rattle.router_sessions.specs.Desk.{turns_seen, number_of, seat_of, SeesMore};
-ghost use Rattle.router_sessions.specs.Acts.{world};
-ghost use Rattle.router_sessions.specs.Session.{IsSession};
+ghost use Rattle.router_history.specs.Acts.{world};
+ghost use Rattle.router_history.specs.Session.{IsSession};
 ghost use Rattle.router_sessions.specs.Conversing.{HasEnded};
 
-use crate::book::Book;
 use crate::desk::Desk;
 use crate::exchange::answer_message;
 use api_wire::{Message, WireIn};
 use bus_host::Gate;
 use message_streams::{Gated, Incoming, SessionEnd, finish, next_message};
-use router_disk::{Clock, Failed, Link, Sink, Source};
+use router_disk::{Clock, Disk, Failed, Link, Sink, Source};
+use router_history::Book;
 use std::alloc::Global;
 use std::sync::Wait;
 use turn_book::{Hall, Pass};
@@ -27,11 +27,11 @@ const PIECE: usize = 16_384;
 
 /// Serves the requests of `input` in order, until it ends or a message, a fault or a limit ends the session. Its turns are made through the pass
 /// and name the connection. The pass holds no turn before and after. It begins by a look at the history, without a turn.
-pub fn serve_session<Rt: Wait, S: Source, K: Sink, L: Link, C: Clock, G: Gate>(
+pub fn serve_session<Rt: Wait, D: Disk, S: Source, K: Sink, L: Link, C: Clock, G: Gate>(
     rt: &Rt,
     alloc: Global,
-    hall: &Hall<Book>,
-    pass: &mut Pass<Book>,
+    hall: &Hall<Book<D>>,
+    pass: &mut Pass<Book<D>>,
     link: &mut L,
     input: &mut S,
     output: &mut K,
@@ -65,9 +65,9 @@ pub fn serve_session<Rt: Wait, S: Source, K: Sink, L: Link, C: Clock, G: Gate>(
 }
 
 /// Serves the requests of `input`, once the pass knows a history that is legal.
-fn converse<Rt: Wait, S: Source, K: Sink, L: Link, C: Clock, G: Gate>(
-    desk: Desk<'_, Rt>,
-    pass: &mut Pass<Book>,
+fn converse<Rt: Wait, D: Disk, S: Source, K: Sink, L: Link, C: Clock, G: Gate>(
+    desk: Desk<'_, Rt, D>,
+    pass: &mut Pass<Book<D>>,
     link: &mut L,
     input: &mut S,
     output: &mut K,

@@ -1,10 +1,10 @@
 //! The bytes of a turn's reply.
 ghost use Rattle.std.specs.Prelude.{◌≡◌, IfOk, OnErr};
-ghost use Rattle.router_sessions.specs.Answered.{turn_text, IsUnrendered, IsRenderable};
+ghost use Rattle.router_history.specs.Answered.{turn_text, IsUnrendered, IsRenderable};
 
-use crate::book::TurnReply;
 use json_text::{Bytes, NoMemory};
 use message_streams::reply_bytes;
+use router_history::TurnReply;
 use std::alloc::Global;
 
 /// The bytes of a turn's reply. Only bytes that are not made yet need memory.

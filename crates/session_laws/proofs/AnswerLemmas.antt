@@ -19,10 +19,10 @@ use Rattle.courier_run.specs.Act.{ticks, makes, reads, looks, writes}
 use Rattle.courier_run.specs.Steps.{none, one_more, attempted, idle_at, unrecorded, limited_by, broken_before, broken_by, spent, stopped}
 use Rattle.api_messages.specs.Messages.{HoldsMessage}
 use Rattle.api_messages.proofs.MessageLemmas.{one_message}
-use Rattle.router_sessions.specs.History.{State, Placed, last_version, set_of_version, IsAnsweredBy}
-use Rattle.router_sessions.specs.Acts.{Act, Steps}
+use Rattle.router_history.specs.History.{State, Placed, last_version, set_of_version, IsAnsweredBy}
+use Rattle.router_history.specs.Acts.{Act, Steps}
 use Rattle.message_streams.specs.Reply.{steps_reply}
-use Rattle.router_sessions.specs.Session.{Answers, unposted, refused, out_of_memory, served, unrendered, failed, failed_before, stepped, Replies, sent_text, Serving, begun, reads_on, answers}
+use Rattle.router_history.specs.Session.{Answers, unposted, refused, out_of_memory, served, unrendered, failed, failed_before, stepped, Replies, sent_text, Serving, begun, reads_on, answers}
 use Rattle.session_laws.specs.OneSession.{read_in, IsSameState, IsExcuse, IsAmple}
 use Rattle.session_laws.proofs.SameLemmas.{RunsAct, turn_same, Same, same_append, Given, given_rest, read_append, after_acts, given_front}
 use Rattle.session_laws.proofs.StepLemmas.{Stop, Taken, Excuses, same_steps}

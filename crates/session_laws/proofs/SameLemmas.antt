@@ -14,9 +14,9 @@ use Rattle.router_core.specs.Tables.{after_batch}
 use Rattle.router_core.specs.Steps.{claiming, putting_back}
 use Rattle.courier_run.specs.Claim.{NeedsSend}
 use Rattle.courier_run.specs.Act.{looks, makes, readings_of, readings_in, tries_of, tries_in, bytes_of, pieces_of, pieces_in}
-use Rattle.router_sessions.specs.History.{State, Turn, last_version, Ask, opens, asked, claims, records, puts_back, breaks, controls_in, after_change, after_ask, after_turn}
-use Rattle.router_sessions.specs.History.{state_after, turns_by, IsTurnOf, AreTurnsFrom}
-use Rattle.router_sessions.specs.Acts.{Act, Happens}
+use Rattle.router_history.specs.History.{State, Turn, last_version, Ask, opens, asked, claims, records, puts_back, breaks, controls_in, after_change, after_ask, after_turn}
+use Rattle.router_history.specs.History.{state_after, turns_by, IsTurnOf, AreTurnsFrom}
+use Rattle.router_history.specs.Acts.{Act, Happens}
 use Rattle.session_laws.specs.OneSession.{IsSameState, unnamed, unnamed_of, DoSame, Follows, IsClock, IsLink, IsAmple, read_in}
 
 abbrev pub after_act : Act → State → State

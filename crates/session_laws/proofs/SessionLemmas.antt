@@ -11,16 +11,16 @@ use Rattle.api_messages.specs.Between.{AreEmptyLines}
 use Rattle.api_messages.specs.Messages.{HoldsMessage, IsAwaited, IsRefused}
 use Rattle.api_messages.proofs.MessageLemmas.{not_awaited, not_refused, undecided as undecided_bytes, one_refusal}
 use Rattle.courier_run.specs.Act.{reads, writes}
-use Rattle.router_sessions.specs.declared.book.Seat.{Seat}
+use Rattle.router_history.specs.declared.book.Seat.{Seat}
 use Rattle.message_streams.specs.declared.farewell.SessionEnd.{SessionEnd}
 use Rattle.message_streams.specs.declared.farewell.SessionEnd.TheVariants.{Closed, Cut, Refused, Long}
-use Rattle.router_sessions.specs.History.{State, state_of}
-use Rattle.router_sessions.specs.Acts.{Act, World}
+use Rattle.router_history.specs.History.{State, state_of}
+use Rattle.router_history.specs.Acts.{Act, World}
 use Rattle.message_streams.specs.Farewell.{refusal_reply}
-use Rattle.router_sessions.specs.Session.{Answers, request_limit, closes, Serving, begun, reads_on, answers, IsLast, refused}
-use Rattle.router_sessions.specs.Session.{Ended, closed_by_end, cut, closed_by_message, long, farewell}
-use Rattle.router_sessions.specs.Session.{IsSession}
-use Rattle.router_sessions.proofs.ActLemmas.{state_longer}
+use Rattle.router_history.specs.Session.{Answers, request_limit, closes, Serving, begun, reads_on, answers, IsLast, refused}
+use Rattle.router_history.specs.Session.{Ended, closed_by_end, cut, closed_by_message, long, farewell}
+use Rattle.router_history.specs.Session.{IsSession}
+use Rattle.router_history.proofs.ActLemmas.{state_longer}
 use Rattle.session_laws.specs.OneSession.{IsSameState, IsUndisturbed, read_in, IsUndecided, IsFarewellAct, at_end, at_refusal}
 use Rattle.session_laws.specs.OneSession.{EndedAlike, alike, undecided, BeginAlike, EndAlike}
 use Rattle.session_laws.proofs.SameLemmas.{after_acts, after_append, runs_of, Same, same_append, Side, Given, given_other, read_append}

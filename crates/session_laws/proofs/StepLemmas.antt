@@ -22,9 +22,9 @@ use Rattle.courier_run.specs.Act.{Try, ticks, looks, makes, tries}
 use Rattle.courier_run.specs.Steps.{IsStep, attempted, IsStop, idle_at, full_at, broken_at, out_of_memory, unsent_at, unrecorded, limited, Stepping, none, one_more}
 use Rattle.courier_run.specs.Steps.{limited_by, broken_before, broken_by}
 use Rattle.courier_run.specs.Steps.{spent, stopped}
-use Rattle.router_sessions.specs.History as history
-use Rattle.router_sessions.specs.History.{State, Placed, claim_of, IsOutcome, queued, queue_missing, sent, IsClaimBy, IsRecordBy, IsTurnFor, after_ask, after_turn}
-use Rattle.router_sessions.specs.Acts.{Act, Claims, Records, PutsBack, Breaks, IsOutcomeIn, IsIdle, IsFullAt, IsBrokenAt, Steps}
+use Rattle.router_history.specs.History as history
+use Rattle.router_history.specs.History.{State, Placed, claim_of, IsOutcome, queued, queue_missing, sent, IsClaimBy, IsRecordBy, IsTurnFor, after_ask, after_turn}
+use Rattle.router_history.specs.Acts.{Act, Claims, Records, PutsBack, Breaks, IsOutcomeIn, IsIdle, IsFullAt, IsBrokenAt, Steps}
 use Rattle.session_laws.specs.OneSession.{IsSameState, unnamed, DoSame}
 use Rattle.session_laws.proofs.SameLemmas.{after_acts, RunsAct, turn_same, Same, same_append, Given, given_other, given_front, given_rest}
 

@@ -10,14 +10,14 @@ use Rattle.api_messages.specs.declared.method.Method.{Method}
 use Rattle.api_messages.specs.Messages.{first_bytes}
 use Rattle.courier_run.specs.Claim.{NeedsSend}
 use Rattle.courier_run.specs.Act.{Try, reads, makes, writes, pieces_in, readings_in, tries_in, bytes_in}
-use Rattle.router_sessions.specs.declared.book.Seat.{Seat}
+use Rattle.router_history.specs.declared.book.Seat.{Seat}
 use Rattle.message_streams.specs.declared.farewell.SessionEnd.{SessionEnd}
 use Rattle.message_streams.specs.declared.farewell.SessionEnd.TheVariants.{Closed, Cut, Refused, Long, ReadFault, WriteFault, NoMemory}
-use Rattle.router_sessions.specs.History.{State, Turn, AreTurnsFrom, state_of}
-use Rattle.router_sessions.specs.Acts.{Act, World}
+use Rattle.router_history.specs.History.{State, Turn, AreTurnsFrom, state_of}
+use Rattle.router_history.specs.Acts.{Act, World}
 use Rattle.message_streams.specs.Farewell.{refusal_reply}
 use Rattle.message_streams.specs.Reply.{journal_failed}
-use Rattle.router_sessions.specs.Session.{sent_text, Serving, IsSession}
+use Rattle.router_history.specs.Session.{sent_text, Serving, IsSession}
 
 -- The same tables, and the same configuration, at the start and in its changes. The open claims may be those of other passes.
 -- Shown by: law one_session.

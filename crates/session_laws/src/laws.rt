@@ -1,10 +1,10 @@
 //! The laws of sessions.
 ghost use Rattle.std.specs.Prelude.{◌≡◌, false, List, None};
-ghost use Rattle.router_sessions.specs.Acts.{World};
-ghost use Rattle.router_sessions.specs.declared.book.Seat.{Seat};
+ghost use Rattle.router_history.specs.Acts.{World};
+ghost use Rattle.router_history.specs.declared.book.Seat.{Seat};
 ghost use Rattle.message_streams.specs.declared.farewell.SessionEnd.{SessionEnd};
-ghost use Rattle.router_sessions.specs.History.{Turn, IsLegal, state_of};
-ghost use Rattle.router_sessions.specs.Session.{IsSession};
+ghost use Rattle.router_history.specs.History.{Turn, IsLegal, state_of};
+ghost use Rattle.router_history.specs.Session.{IsSession};
 ghost use Rattle.session_laws.specs.OneSession.{BeginAlike, EndAlike};
 
 use router_calls::one_answer;

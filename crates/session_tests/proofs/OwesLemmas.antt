@@ -2,8 +2,8 @@
 use Rattle.std.proofs.Common.{◌≡◌, ℕ, List, [], sym, subst}
 use Rattle.turn_book.specs.declared.view.View.{View}
 use Rattle.turn_book.specs.Rule.{turns_by, opener, newcomer, Learns}
-use Rattle.router_sessions.specs.declared.history.Turn.{Turn}
-use Rattle.router_sessions.specs.Visit.{OwesNothing, owes_unturned, owes_later}
+use Rattle.router_history.specs.declared.history.Turn.{Turn}
+use Rattle.router_history.specs.Visit.{OwesNothing, owes_unturned, owes_later}
 
 -- the first pass of a book whose turns no pass made
 pub first_owes : (v : View Turn) (turns : List Turn) → v ≡ opener turns → ((n : ℕ) → turns_by (λ t. t.pass) n turns ≡ []) → OwesNothing v.number v.seen

@@ -1,6 +1,10 @@
-//! Tests of sessions over streams and a clock in memory.
+//! Tests of sessions over streams, a clock and a journal in memory.
 #![tactic(auto)]
 
+#[cfg(test)]
+mod halls;
+#[cfg(test)]
+mod journaled;
 #[cfg(test)]
 mod tables;
 #[cfg(test)]

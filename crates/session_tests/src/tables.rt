@@ -1,10 +1,11 @@
 //! What no request shows of the tables after a session: which targets a replay has, the moment, and which values threads share or pass
 //! on. What requests show is in router_core.rows.
-use bus_host::NoGate;
+use bus_host::{NoDisk, NoGate};
 use event_shape::{DEFAULT_BUS, Event};
 use router_core::{Errand, SeenTargets, Tables, see_plain_event};
 use router_disk::{LinkFault, MemClock, MemLink, MemSink, MemSource};
-use router_sessions::{Book, serve_session};
+use router_history::{Book, Machine};
+use router_sessions::serve_session;
 use rule_table::RuleSet;
 use rule_targets::SharedInput;
 use shared_text::{SharedRow, SharedText};
@@ -14,9 +15,9 @@ use std::test::Fail;
 use test_exchanges::{NOW, messages};
 use turn_book::Hall;
 
-/// The book after a session of these messages.
-fn book_after<Rt: Wait>(rt: &Rt, alloc: Global, messages: Vec<u8>) -> Result<Book, Fail> {
-    let book = Book::first(alloc)?;
+/// The machine of the book after a session of these messages.
+fn machine_after<Rt: Wait>(rt: &Rt, alloc: Global, messages: Vec<u8>) -> Result<Machine, Fail> {
+    let book: Book<NoDisk> = Book::first(alloc)?;
     let mut link = MemLink::always(alloc, Err(LinkFault::Failed));
     let mut input = MemSource::new(messages);
     let mut output = MemSink::new(alloc);
@@ -35,9 +36,14 @@ fn book_after<Rt: Wait>(rt: &Rt, alloc: Global, messages: Vec<u8>) -> Result<Boo
                 0,
                 &NoGate,
             );
-            Ok(hall.close(pass, Vec::new(alloc)))
+            let Book { machine, home } = hall.close(pass, Vec::new(alloc));
+            let _disk = home.into_disk();
+            Ok(machine)
         }
-        Err((_, _)) => Err(Fail::from("out of memory")),
+        Err((_, book)) => {
+            let _disk = book.into_disk();
+            Err(Fail::from("out of memory"))
+        }
     }
 }
 
@@ -122,9 +128,12 @@ fn is_row_seen(alloc: Global, set: &RuleSet, row: &str) -> Result<bool, Fail> {
 
 #[test]
 fn a_replay_has_the_targets_of_the_rules_that_match(rt: HostRuntime) -> Result<(), Fail> {
-    let book = book_after(&rt, rt.alloc(), messages_of(rt.alloc(), RULES)?)?;
+    let machine = machine_after(&rt, rt.alloc(), messages_of(rt.alloc(), RULES)?)?;
     for row in REPLAYED.lines() {
-        assert!(rt; is_row_seen(rt.alloc(), book.tables().set(), row)?, "{row}");
+        assert!(rt;
+            is_row_seen(rt.alloc(), machine.tables.set(), row)?,
+            "{row}"
+        );
     }
     assert_eq!(rt; REPLAYED.lines().count(), 2);
     Ok(())
@@ -136,7 +145,7 @@ const TESTED: &str =
 
 /// The moment of the tables after a session of these messages.
 fn moment_after<Rt: Wait>(rt: &Rt, alloc: Global, messages: Vec<u8>) -> Result<u64, Fail> {
-    Ok(book_after(rt, alloc, messages)?.tables().moment())
+    Ok(machine_after(rt, alloc, messages)?.tables.moment())
 }
 
 #[test]

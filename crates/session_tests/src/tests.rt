@@ -1,55 +1,34 @@
 //! Tests of sessions over the first book.
 ghost use Rattle.std.specs.Prelude.{◌≡◌};
-ghost use Rattle.turn_book.specs.Passes.{view, IsFree, IsSamePass};
+ghost use Rattle.turn_book.specs.Passes.{view, IsFree};
 ghost use Rattle.router_sessions.specs.Desk.{number_of, seen_by};
-ghost use Rattle.router_sessions.specs.Visit.{OwesNothing};
+ghost use Rattle.router_history.specs.Visit.{OwesNothing};
 
-use bus_host::NoGate;
-use router_disk::{Clock, Failing, LinkFault, MemClock, MemLink, MemSink, MemSource, Sink, Source};
-use router_sessions::{Book, SessionEnd, serve_session};
+use crate::halls::{hall_of, send, session};
+use bus_host::NoDisk;
+use router_disk::{Clock, Failing, MemClock, MemSink, MemSource, Sink, Source};
+use router_history::Book;
+use router_sessions::SessionEnd;
 use std::alloc::Global;
 use std::process::Abort;
 use std::sync::Wait;
-use test_exchanges::{NOW, messages, wanted};
+use test_exchanges::{messages, wanted};
 use test_rows::four;
 use turn_book::{Hall, Pass};
 
 /// A hall for so many passes, with the first book and the first pass.
-fn first_hall<R: Abort>(rt: &R, alloc: Global, seats: u32) -> (Hall<Book>, Pass<Book>)
+fn first_hall<R: Abort>(
+    rt: &R,
+    alloc: Global,
+    seats: u32,
+) -> (Hall<Book<NoDisk>>, Pass<Book<NoDisk>>)
     ensures here { result.1.seat.table_id ≡ result.0.table.shared.table_id }
     ensures free { IsFree result.1.seat }
     ensures seats { result.0.seats ≡ seats }
     ensures first { (view result.1.seat).made ≡ 1 }
     ensures owes { OwesNothing (number_of result.1.seat) (seen_by result.1.seat) }
 {
-    let book = Book::first(alloc).expect(rt, "a book");
-    match Hall::make(alloc, book, seats) {
-        Ok(made) => made,
-        Err(_) => panic!(rt; "a hall"),
-    }
-}
-
-/// A session of this pass. Its link gives no answer.
-fn session<Rt: Wait, S: Source, K: Sink, C: Clock>(
-    rt: &Rt,
-    alloc: Global,
-    hall: &Hall<Book>,
-    pass: &mut Pass<Book>,
-    connection: u64,
-    input: &mut S,
-    output: &mut K,
-    clock: &mut C,
-) -> SessionEnd
-    requires here { pass.old.seat.table_id ≡ hall.now.table.shared.table_id }
-    requires free { IsFree pass.old.seat }
-    requires owes { OwesNothing (number_of pass.old.seat) (seen_by pass.old.seat) }
-    ensures pass { IsSamePass pass.old.seat pass.new.seat × IsFree pass.new.seat }
-    ensures owes { OwesNothing (number_of pass.new.seat) (seen_by pass.new.seat) }
-{
-    let mut link = MemLink::always(alloc, Err(LinkFault::Failed));
-    serve_session(
-        rt, alloc, hall, pass, &mut link, input, output, clock, connection, &NoGate,
-    )
+    hall_of(rt, alloc, Book::first(alloc).expect(rt, "a book"), seats)
 }
 
 /// A session of the one pass of a new book.
@@ -62,7 +41,7 @@ fn first_session<R: Wait + Abort, S: Source, K: Sink, C: Clock>(
 ) -> SessionEnd {
     let (hall, mut pass) = first_hall(rt, alloc, 1);
     let end = session(rt, alloc, &hall, &mut pass, 0, input, output, clock);
-    let _book = hall.close(pass, Vec::new(alloc));
+    let _disk = hall.close(pass, Vec::new(alloc)).into_disk();
     end
 }
 
@@ -176,30 +155,6 @@ fn a_reading_past_the_last_moment_counts_as_the_last_moment(rt: HostRuntime) {
     meet(&rt, rt.alloc(), row);
 }
 
-/// Sends messages in a session of this pass.
-fn send<R: Wait + Abort>(
-    rt: &R,
-    alloc: Global,
-    hall: &Hall<Book>,
-    pass: &mut Pass<Book>,
-    connection: u64,
-    names: &str,
-    output: &mut MemSink,
-)
-    requires here { pass.old.seat.table_id ≡ hall.now.table.shared.table_id }
-    requires free { IsFree pass.old.seat }
-    requires owes { OwesNothing (number_of pass.old.seat) (seen_by pass.old.seat) }
-    ensures pass { IsSamePass pass.old.seat pass.new.seat × IsFree pass.new.seat }
-    ensures owes { OwesNothing (number_of pass.new.seat) (seen_by pass.new.seat) }
-{
-    let messages = messages(alloc, names).expect(rt, "messages");
-    let mut input = MemSource::new(messages.into_bytes());
-    let mut clock = MemClock::always(alloc, NOW);
-    session(
-        rt, alloc, hall, pass, connection, &mut input, output, &mut clock,
-    );
-}
-
 // The first pass makes the queue and the rule. The second puts the event, so it matches that rule. The first has the version of
 // its own rule still, and looks for deliveries at a history that has gone on.
 #[test]
@@ -214,7 +169,9 @@ fn two_passes_go_on_from_what_the_other_did(rt: HostRuntime) {
     send(&rt, alloc, &hall, &mut two, 3, "peek", &mut output);
     let others = Vec::from_array(alloc, [two]).expect(&rt, "passes");
     let book = hall.close(one, others);
-    assert_eq!(rt; book.tables().events(), 1);
+    let events = book.tables().events();
+    let _disk = book.into_disk();
+    assert_eq!(rt; events, 1);
     let text = str::from_utf8(output.bytes()).expect(&rt, "text");
     let got = format!(in alloc; "|{text}").expect(&rt, "replies");
     let want = wanted(alloc, "=queue rule target event delivered peek").expect(&rt, "replies");

@@ -3,17 +3,18 @@
 use Rattle.std.proofs.Common.{◌≡◌, ℕ, ◌≤◌, List, [], ◌∷◌, ◌++◌, length, Option, Some, None, refl, sym, ap, ◌∙◌, map, subst, arith, append_assoc, append-nil}
 use Rattle.router_core.specs.Tables.{first_tables}
 use Rattle.courier_run.specs.Act.{reads, ticks, looks, makes, tries, writes}
-use Rattle.router_sessions.specs.History.{Turn, State, begun, after_turn, state_after, state_of, turns_by, IsLegal, AreTurnsFrom}
-use Rattle.router_sessions.specs.Book.{opening, IsBook}
-use Rattle.router_sessions.specs.Acts.{Act, Happens, IsNamed, world}
-use Rattle.router_sessions.proofs.TurnLemmas.{turns_back, first_other}
-use Rattle.router_sessions.proofs.ActLemmas.{happens_append}
+use Rattle.router_history.specs.History.{Turn, State, last_version, begun, after_turn, state_after, state_of, turns_by, AreTurnsFrom}
+use Rattle.router_history.specs.Book.{opening_on, IsBook}
+use Rattle.router_history.specs.Acts.{Act, Happens, IsNamed, world}
+use Rattle.router_history.proofs.TurnLemmas.{state_append, turns_back, none_append, versions_grow, first_other}
+use Rattle.router_history.proofs.BookLemmas.{opened_state, legal_later}
+use Rattle.router_history.proofs.ActLemmas.{happens_append}
 use Rattle.courier_run.specs.Link.{Outside, outside, Goes}
 use Rattle.courier_run.proofs.ActLemmas.{Goes-append}
-use Rattle.router_sessions.specs.declared.book.Seat.{Seat}
-use Rattle.router_sessions.specs.declared.history.Turn.{Turn as CodeTurn}
-use Rattle.router_sessions.specs.Book.{turn_of}
-use Rattle.router_sessions.specs.Acts.{Makes}
+use Rattle.router_history.specs.declared.book.Seat.{Seat}
+use Rattle.router_history.specs.declared.history.Turn.{Turn as CodeTurn}
+use Rattle.router_history.specs.Book.{turn_of}
+use Rattle.router_history.specs.Acts.{Makes}
 use Rattle.door_workers.specs.Serving.{Session}
 use Rattle.session_workers.specs.Jobs.{maker, session_by, Jobs, serves, steps, looks_on, reads_clock, HasDone, ServesOne, GoesOn, jobs_later}
 use Rattle.std.proofs.lemmas.List.{map-append, append_cancel_left}
@@ -26,70 +27,102 @@ use Rattle.courier_run.specs.declared.stepped.Stepped.{Stepped}
 use Rattle.message_streams.specs.declared.farewell.SessionEnd.{SessionEnd}
 use Rattle.router_sessions.specs.Desk.{Known, seen_by, turns_seen, number_of, seat_of, SeesMore}
 use Rattle.router_sessions.specs.Delivery.{Delivers}
-use Rattle.router_sessions.specs.Session.{IsSession}
-use Rattle.router_sessions.specs.Visit.{is_cut}
+use Rattle.router_history.specs.Session.{IsSession}
+use Rattle.router_history.specs.Visit.{is_cut}
 use Rattle.router_sessions.proofs.SessionLemmas.{unlooked}
 use Rattle.router_sessions.proofs.DeskLemmas.{own_turns}
 
--- a first turn that leaves the state as it is, and that the pass did not make, may be left out
-pub without_first : (n : ℕ) (s : State) (o : Turn) (xs : List Turn) (acts : List Act) → after_turn o s ≡ s → o.pass ≡ None → Happens n s (o ∷ xs) acts
-    → Happens n s xs acts
-without_first n s o xs [] same none h = (first_other n o xs h).1
-without_first n s o xs (makes p ∷ acts) same none ([], rest, is, other, pass, before, known, h) =
-    let e : o ≡ p.turn = cc (is) in absurd (cc (pass, none, e))
-without_first n s o xs (makes p ∷ acts) same none (t ∷ others, rest, is, other, pass, before, known, h) =
-    let e : o ≡ t = cc (is) in let tail : xs ≡ others ++ p.turn ∷ rest = cc (is) in (
-      others,
-      rest,
-      tail,
-      (first_other n t others other).1,
-      pass,
-      before ∙ ap (state_after others) (ap (λ (u : Turn). after_turn u s) (sym e) ∙ same),
-      known,
-      h,
-    )
-without_first n s o xs (looks state ∷ acts) same none ([], rest, is, other, shows, h) =
-    let same2 : after_turn o state ≡ state = subst (λ (t : State). after_turn o t ≡ t) (sym shows) same in
-    ([], xs, refl, refl, shows, without_first n state o xs acts same2 none (subst (λ (ts : List Turn). Happens n state ts acts) (sym is) h))
-without_first n s o xs (looks state ∷ acts) same none (t ∷ others, rest, is, other, shows, h) =
-    let e : o ≡ t = cc (is) in let tail : xs ≡ others ++ rest = cc (is) in (
-      others,
-      rest,
-      tail,
-      (first_other n t others other).1,
-      shows ∙ ap (state_after others) (ap (λ (u : Turn). after_turn u s) (sym e) ∙ same),
-      h,
-    )
-without_first n s o xs (reads piece ∷ acts) same none h = without_first n s o xs acts same none h
-without_first n s o xs (ticks reading ∷ acts) same none h = without_first n s o xs acts same none h
-without_first n s o xs (tries claim outcome ∷ acts) same none h = without_first n s o xs acts same none h
-without_first n s o xs (writes bytes ∷ acts) same none h = without_first n s o xs acts same none h
+-- turns of others come first, and the version does not fall by them
+after_others : (n : ℕ) (s : State) (xs ys : List Turn) (acts : List Act) → last_version s ≤ last_version (state_after xs s) → turns_by n xs ≡ []
+    → Happens n (state_after xs s) ys acts → Happens n s (xs ++ ys) acts
+after_others n s xs ys [] grow none h = none_append n xs ys none h
+after_others n s xs ys (makes p ∷ acts) grow none (others, rest, is, other, pass, before, known, h) = (
+  xs ++ others,
+  rest,
+  ap (λ (ts : List Turn). xs ++ ts) is ∙ sym (append_assoc xs others (p.turn ∷ rest)),
+  none_append n xs others none other,
+  pass,
+  before ∙ sym (state_append s xs others),
+  omega (arith, grow, known),
+  h,
+)
+after_others n s xs ys (looks state ∷ acts) grow none (others, rest, is, other, shows, h) = (
+  xs ++ others,
+  rest,
+  ap (λ (ts : List Turn). xs ++ ts) is ∙ sym (append_assoc xs others rest),
+  none_append n xs others none other,
+  shows ∙ sym (state_append s xs others),
+  h,
+)
+after_others n s xs ys (reads piece ∷ acts) grow none h = after_others n s xs ys acts grow none h
+after_others n s xs ys (ticks reading ∷ acts) grow none h = after_others n s xs ys acts grow none h
+after_others n s xs ys (tries claim outcome ∷ acts) grow none h = after_others n s xs ys acts grow none h
+after_others n s xs ys (writes bytes ∷ acts) grow none h = after_others n s xs ys acts grow none h
 
--- the turn that opens a book comes first
-pub with_opening : (n : ℕ) (xs : List Turn) (acts : List Act) → Happens n (begun first_tables) xs acts → Happens n (begun first_tables) (opening ∷ xs) acts
-with_opening n xs [] h = h
-with_opening n xs (makes p ∷ acts) (others, rest, is, other, pass, before, known, h) =
-    (opening ∷ others, rest, ap (λ (ts : List Turn). opening ∷ ts) is, other, pass, before, known, h)
-with_opening n xs (looks state ∷ acts) (others, rest, is, other, shows, h) =
-    (opening ∷ others, rest, ap (λ (ts : List Turn). opening ∷ ts) is, other, shows, h)
-with_opening n xs (reads piece ∷ acts) h = with_opening n xs acts h
-with_opening n xs (ticks reading ∷ acts) h = with_opening n xs acts h
-with_opening n xs (tries claim outcome ∷ acts) h = with_opening n xs acts h
-with_opening n xs (writes bytes ∷ acts) h = with_opening n xs acts h
+-- acts from before the turn that opens a book, which no pass made, and then later ones
+opened_append : (n : ℕ) (s : State) (o : Turn) (xs ys : List Turn) (first second : List Act) → o.pass ≡ None → AreTurnsFrom (after_turn o s) xs
+    → last_version s ≤ last_version (after_turn o s) → Happens n s (o ∷ xs) first → Happens n (state_after xs (after_turn o s)) ys second
+    → Happens n s (o ∷ (xs ++ ys)) (first ++ second)
+opened_append n s o xs ys [] second none legal grow h later =
+    let grows = versions_grow xs (after_turn o s) legal in after_others n s (o ∷ xs) ys second (omega (arith, grow, grows)) h later
+opened_append n s o xs ys (makes p ∷ first) second none legal grow ([], rest, is, other, pass, before, known, h) later =
+    let e : o ≡ p.turn = cc (is) in absurd (cc (pass, none, e))
+opened_append n s o xs ys (makes p ∷ first) second none legal grow (t ∷ others, rest, is, other, pass, before, known, h) later =
+    let e : o ≡ t = cc (is) in let tail : xs ≡ others ++ p.turn ∷ rest = cc (is) in
+    let at : p.before ≡ state_after others (after_turn o s) = before ∙ ap (λ (u : Turn). state_after others (after_turn u s)) (sym e) in
+    let there : AreTurnsFrom (after_turn p.turn p.before) rest =
+    subst (λ (u : State). AreTurnsFrom (after_turn p.turn u) rest) (sym at) (turns_back (after_turn o s) others (p.turn ∷ rest) (subst (AreTurnsFrom (after_turn o s)) tail legal)).1.1 in
+    let state : state_after xs (after_turn o s) ≡ state_after rest (after_turn p.turn p.before) =
+    ap (λ (ts : List Turn). state_after ts (after_turn o s)) tail ∙ state_append (after_turn o s) others (p.turn ∷ rest)
+    ∙ ap (λ (u : State). state_after rest (after_turn p.turn u)) (sym at) in (
+      t ∷ others,
+      rest ++ ys,
+      ap (λ (ts : List Turn). ts ++ ys) is ∙ append_assoc (t ∷ others) (p.turn ∷ rest) ys,
+      other,
+      pass,
+      before,
+      known,
+      happens_append n (after_turn p.turn p.before) rest ys first second there h (subst (λ (u : State). Happens n u ys second) state later),
+    )
+opened_append n s o xs ys (looks state ∷ first) second none legal grow ([], rest, is, other, shows, h) later = (
+  [],
+  o ∷ (xs ++ ys),
+  refl,
+  refl,
+  shows,
+  subst (λ (u : State). Happens n u (o ∷ (xs ++ ys)) (first ++ second)) (sym shows)
+      (opened_append n s o xs ys first second none legal grow
+      (subst (λ (u : State). Happens n u (o ∷ xs) first) shows (subst (λ (ts : List Turn). Happens n state ts first) (sym is) h)) later),
+)
+opened_append n s o xs ys (looks state ∷ first) second none legal grow (t ∷ others, rest, is, other, shows, h) later =
+    let e : o ≡ t = cc (is) in let tail : xs ≡ others ++ rest = cc (is) in
+    let at : state ≡ state_after others (after_turn o s) = shows ∙ ap (λ (u : Turn). state_after others (after_turn u s)) (sym e) in
+    let there : AreTurnsFrom state rest =
+    subst (λ (u : State). AreTurnsFrom u rest) (sym at) (turns_back (after_turn o s) others rest (subst (AreTurnsFrom (after_turn o s)) tail legal)).1 in
+    let now : state_after xs (after_turn o s) ≡ state_after rest state =
+    ap (λ (ts : List Turn). state_after ts (after_turn o s)) tail ∙ state_append (after_turn o s) others rest ∙ ap (state_after rest) (sym at) in (
+      t ∷ others,
+      rest ++ ys,
+      ap (λ (ts : List Turn). ts ++ ys) is ∙ append_assoc (t ∷ others) rest ys,
+      other,
+      shows,
+      happens_append n state rest ys first second there h (subst (λ (u : State). Happens n u ys second) now later),
+    )
+opened_append n s o xs ys (reads piece ∷ first) second none legal grow h later = opened_append n s o xs ys first second none legal grow h later
+opened_append n s o xs ys (ticks reading ∷ first) second none legal grow h later = opened_append n s o xs ys first second none legal grow h later
+opened_append n s o xs ys (tries claim outcome ∷ first) second none legal grow h later = opened_append n s o xs ys first second none legal grow h later
+opened_append n s o xs ys (writes bytes ∷ first) second none legal grow h later = opened_append n s o xs ys first second none legal grow h later
 
 -- acts, and then later ones, from the beginning of a history that is legal
 pub happens_joined : (n : ℕ) (xs ys : List Turn) (first second : List Act) → IsBook (xs ++ ys) → Happens n (begun first_tables) xs first
     → Happens n (state_of xs) ys second → Happens n (begun first_tables) (xs ++ ys) (first ++ second)
 happens_joined n [] ys first second h one two = happens_append n (begun first_tables) [] ys first second tt one two
 happens_joined n (o ∷ xs) ys first second h one two =
-    let is : o ≡ opening = cc (h.opened) in let tail : xs ++ ys ≡ h.later = cc (h.opened) in
-    let all : IsLegal (opening ∷ h.later) = subst IsLegal h.opened h.legal in
-    let legal : AreTurnsFrom (begun first_tables) xs = (turns_back (begun first_tables) xs ys (subst (AreTurnsFrom (begun first_tables)) (sym tail) all.1)).0 in
-    let one' : Happens n (begun first_tables) (opening ∷ xs) first = subst (λ (t : Turn). Happens n (begun first_tables) (t ∷ xs) first) is one in
-    let two' : Happens n (state_after xs (begun first_tables)) ys second = subst (λ (t : Turn). Happens n (state_after xs (after_turn t (begun first_tables))) ys second) is two in
-    subst (λ (t : Turn). Happens n (begun first_tables) (t ∷ (xs ++ ys)) (first ++ second)) (sym is)
-    (with_opening n (xs ++ ys) (first ++ second)
-    (happens_append n (begun first_tables) xs ys first second legal (without_first n (begun first_tables) opening xs first refl refl one') two'))
+    let is : o ≡ opening_on h.found h.disk = cc (h.opened) in let tail : xs ++ ys ≡ h.later = cc (h.opened) in
+    let start : after_turn o (begun first_tables) ≡ opened_state h.found h.disk = ap (λ (t : Turn). after_turn t (begun first_tables)) is in
+    let all : AreTurnsFrom (after_turn o (begun first_tables)) (xs ++ ys) =
+    subst (λ (s : State). AreTurnsFrom s (xs ++ ys)) (sym start) (subst (AreTurnsFrom (opened_state h.found h.disk)) (sym tail) (legal_later (o ∷ (xs ++ ys)) h)) in
+    opened_append n (begun first_tables) o xs ys first second (ap (λ (t : Turn). t.pass) is) (turns_back (after_turn o (begun first_tables)) xs ys all).0 (omega arith) one two
 
 module _ {I O : Type 0} (gave : I → List (List ℕ)) (wrote : O → List ℕ) where
   -- what a worker did, and then a job
@@ -106,7 +139,7 @@ module _ {I O : Type 0} (gave : I → List (List ℕ)) (wrote : O → List ℕ) 
   }
 
   -- and then the session of a connection
-  pub done_session : (n : ℕ) (came went : I × O) (old new : Known) (end : SessionEnd) (readings readings_new : List ℕ) (answered answered_new : List Exchange)
+  pub done_session : {V : Type 0} (n : ℕ) (came went : I × O) (old new : Known V) (end : SessionEnd) (readings readings_new : List ℕ) (answered answered_new : List Exchange)
       (faults faults_new : ℕ) → IsBook (turns_seen new)
       → IsSession (seat_of (Some n) old) (world (turns_seen old) (gave came.0) (wrote came.1) readings answered faults)
       (world (turns_seen new) (gave went.0) (wrote went.1) readings_new answered_new faults_new) end
@@ -132,7 +165,7 @@ module _ {I O : Type 0} (gave : I → List (List ℕ)) (wrote : O → List ℕ) 
       })
 
   -- and then delivery steps
-  pub done_steps : (old new : Known) (budget : ℕ) (before after : Outside) (made : Stepped) → IsBook (turns_seen new)
+  pub done_steps : {V : Type 0} (old new : Known V) (budget : ℕ) (before after : Outside) (made : Stepped) → IsBook (turns_seen new)
       → Delivers (seat_of None old) budget (turns_seen old) (turns_seen new) before after made
       → GoesOn gave wrote (number_of old) before after (seen_by old) (seen_by new)
   done_steps old new budget before after made h d = λ lent sessions w.
@@ -140,7 +173,7 @@ module _ {I O : Type 0} (gave : I → List (List ℕ)) (wrote : O → List ℕ) 
       (λ acts jobs. steps acts d.acts sessions budget made.turned made.stop jobs d.steps d.makes.named)
 
   -- and then a look
-  pub done_looked : (old new : Known) (s : State) (shown : Outside) → IsBook (turns_seen new)
+  pub done_looked : {V : Type 0} (old new : Known V) (s : State) (shown : Outside) → IsBook (turns_seen new)
       → Makes (seat_of None old) (looks s ∷ []) (turns_seen old) (turns_seen new) → GoesOn gave wrote (number_of old) shown shown (seen_by old) (seen_by new)
   done_looked old new s shown h made = λ lent sessions w.
       done_joined (seat_of None old) lent shown shown sessions sessions (seen_by old) (seen_by new) (looks s ∷ []) w h made
@@ -189,7 +222,7 @@ no_image f [] none = refl
 no_image f (x ∷ xs) none = cc (none)
 
 -- a pass that looked has learned the history
-pub look_learns : (old new : Known) (s : State) → SeesMore old new → Makes (seat_of None old) (looks s ∷ []) (turns_seen old) (turns_seen new)
+pub look_learns : {V : Type 0} (old new : Known V) (s : State) → SeesMore old new → Makes (seat_of None old) (looks s ∷ []) (turns_seen old) (turns_seen new)
     → Learns maker (view old) (seen_by new)
 look_learns old new s (more, is) looked =
     let m = unlooked (seat_of None old) (turns_seen old) (turns_seen new) s looked in

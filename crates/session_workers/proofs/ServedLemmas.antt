@@ -8,7 +8,7 @@ use Rattle.door_workers.specs.declared.door.DoorEnd.{DoorEnd}
 use Rattle.shared_door.specs.declared.acts.Act.{Act}
 use Rattle.door_workers.specs.Serving.{HasServed, Session, Worked, known_of, IsWorker, AreDone}
 use Rattle.door_workers.proofs.ServingLemmas.{visited_later, map_again}
-use Rattle.router_sessions.specs.declared.history.Turn.{Turn}
+use Rattle.router_history.specs.declared.history.Turn.{Turn}
 
 module _ {D I O : Type 0} (show : D → Shown I O) (fits : ℕ → I × O → I × O → Bool → List Turn → List Turn → Type 0)
     (fits_last : (n : ℕ) (came went : I × O) (cut : Bool) (before turns more : List Turn) → fits n came went cut before turns

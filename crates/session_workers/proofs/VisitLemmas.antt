@@ -2,19 +2,19 @@
 use Rattle.std.proofs.Common.{◌≡◌, ◌≢◌, ℕ, List, [], ◌++◌, map, Some, refl, sym, ap, ◌∙◌, subst, append-nil}
 use Rattle.router_disk.specs.Faults.{Rose}
 use Rattle.router_disk.specs.Link.{Exchange}
-use Rattle.router_sessions.specs.declared.history.Turn.{Turn}
+use Rattle.router_history.specs.declared.history.Turn.{Turn}
 use Rattle.message_streams.specs.declared.farewell.SessionEnd.{SessionEnd}
 use Rattle.message_streams.specs.declared.farewell.SessionEnd.TheVariants.{ReadFault, WriteFault}
-use Rattle.router_sessions.specs.History as history
-use Rattle.router_sessions.specs.Book.{turn_of}
+use Rattle.router_history.specs.History as history
+use Rattle.router_history.specs.Book.{turn_of}
 use Rattle.router_sessions.specs.Desk.{Known, seen_by, turns_seen, number_of, seat_of, SeesMore}
-use Rattle.router_sessions.specs.Acts.{world}
-use Rattle.router_sessions.specs.Session.{IsSession}
-use Rattle.router_sessions.specs.Visit.{is_cut, IsVisit}
+use Rattle.router_history.specs.Acts.{world}
+use Rattle.router_history.specs.Session.{IsSession}
+use Rattle.router_history.specs.Visit.{is_cut, IsVisit}
 
 module _ {I O : Type 0} (gave : I → List (List ℕ)) (wrote : O → List ℕ) (reads : I → ℕ) (writes : O → ℕ) where
   -- the session of connection n, by a pass that then knew `new`
-  pub visit_of : (n : ℕ) (came went : I × O) (old new : Known) (end : SessionEnd) (readings readings_new : List ℕ)
+  pub visit_of : {V : Type 0} (n : ℕ) (came went : I × O) (old new : Known V) (end : SessionEnd) (readings readings_new : List ℕ)
       (answered answered_new : List Exchange) (faults faults_new : ℕ) → SeesMore old new
       → IsSession (seat_of (Some n) old) (world (turns_seen old) (gave came.0) (wrote came.1) readings answered faults)
       (world (turns_seen new) (gave went.0) (wrote went.1) readings_new answered_new faults_new) end

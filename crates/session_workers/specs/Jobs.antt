@@ -13,15 +13,15 @@ use Rattle.courier_run.specs.Act.{reads, ticks, looks, makes, tries, writes}
 use Rattle.courier_run.specs.Link.{Outside, outside, Goes}
 use Rattle.courier_run.specs.declared.turned.Turned.{Turned}
 use Rattle.courier_run.specs.declared.stepped.Stop.{Stop}
-use Rattle.router_sessions.specs.declared.history.Turn.{Turn}
+use Rattle.router_history.specs.declared.history.Turn.{Turn}
 use Rattle.message_streams.specs.declared.farewell.SessionEnd.{SessionEnd}
-use Rattle.router_sessions.specs.declared.book.Seat.{Seat}
-use Rattle.router_sessions.specs.History as history
-use Rattle.router_sessions.specs.History.{State, Placed, begun, turns_by, state_of}
-use Rattle.router_sessions.specs.Book.{turn_of, IsBook}
-use Rattle.router_sessions.specs.Acts.{Act, Steps, Happens, IsNamed, Makes, world, Does}
-use Rattle.router_sessions.specs.Session.{Ended}
-use Rattle.router_sessions.specs.Visit.{is_cut}
+use Rattle.router_history.specs.declared.book.Seat.{Seat}
+use Rattle.router_history.specs.History as history
+use Rattle.router_history.specs.History.{State, Placed, begun, turns_by, state_of}
+use Rattle.router_history.specs.Book.{turn_of, IsBook}
+use Rattle.router_history.specs.Acts.{Act, Steps, Happens, IsNamed, Makes, world, Does}
+use Rattle.router_history.specs.Session.{Ended}
+use Rattle.router_history.specs.Visit.{is_cut}
 
 -- The pass that made a turn.
 -- Shown by: proofs alone.

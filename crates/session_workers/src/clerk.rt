@@ -2,17 +2,18 @@
 ghost use Rattle.std.specs.Prelude.{◌≡◌};
 ghost use Rattle.turn_book.specs.Passes.{IsFree, IsSamePass};
 ghost use Rattle.courier_run.specs.Link.{outside};
-ghost use Rattle.router_sessions.specs.Book.{IsBook, Rests};
+ghost use Rattle.router_history.specs.Book.{IsBook, Rests};
 ghost use Rattle.router_sessions.specs.Desk.{turns_seen, number_of, seen_by};
-ghost use Rattle.router_sessions.specs.Visit.{IsVisit, OwesNothing};
+ghost use Rattle.router_history.specs.Visit.{IsVisit, OwesNothing};
 ghost use Rattle.session_workers.specs.Jobs.{outside_of, session_by, ServesOne, GoesOn};
 
 use crate::places::Placing;
-use bus_host::Gate;
+use bus_host::{Gate, NoDisk};
 use courier_run::Stop;
 use door_workers::Work;
 use router_disk::{Clock, Link, Sink, Source};
-use router_sessions::{Book, look, serve_quiet, serve_session, was_cut};
+use router_history::{Book, was_cut};
+use router_sessions::{look, serve_quiet, serve_session};
 use std::alloc::Global;
 use std::sync::Wait;
 use turn_book::{Hall, Pass};
@@ -33,9 +34,9 @@ impl<
     C: Clock,
     I: Source,
     O: Sink,
-    S: Fn(&mut (L, C), &Hall<Book>, &mut Pass<Book>, u64, &mut I, &mut O) -> bool,
-    M: Fn(&mut (L, C), &Hall<Book>, &mut Pass<Book>),
-> Work<Book, I, O, (L, C)> for Clerk<S, M> {
+    S: Fn(&mut (L, C), &Hall<Book<NoDisk>>, &mut Pass<Book<NoDisk>>, u64, &mut I, &mut O) -> bool,
+    M: Fn(&mut (L, C), &Hall<Book<NoDisk>>, &mut Pass<Book<NoDisk>>),
+> Work<Book<NoDisk>, I, O, (L, C)> for Clerk<S, M> {
     ghost use Rattle.session_workers.specs.Jobs.{outside_of, did_by, done_none, done_later};
     ghost use Rattle.session_workers.specs.Clerk.{IsClerk};
 
@@ -46,8 +47,8 @@ impl<
     fn serve(
         &self,
         own: &mut (L, C),
-        hall: &Hall<Book>,
-        pass: &mut Pass<Book>,
+        hall: &Hall<Book<NoDisk>>,
+        pass: &mut Pass<Book<NoDisk>>,
         number: u64,
         input: &mut I,
         output: &mut O,
@@ -55,7 +56,12 @@ impl<
         (self.serve)(own, hall, pass, number, input, output)
     }
 
-    fn meanwhile(&self, own: &mut (L, C), hall: &Hall<Book>, pass: &mut Pass<Book>) {
+    fn meanwhile(
+        &self,
+        own: &mut (L, C),
+        hall: &Hall<Book<NoDisk>>,
+        pass: &mut Pass<Book<NoDisk>>,
+    ) {
         (self.meanwhile)(own, hall, pass)
     }
 
@@ -72,8 +78,8 @@ pub(crate) fn converse<I: Source, O: Sink, Rt: Wait + Sync, L: Link, C: Clock, G
     alloc: Global,
     gate: &G,
     own: &mut (L, C),
-    hall: &Hall<Book>,
-    pass: &mut Pass<Book>,
+    hall: &Hall<Book<NoDisk>>,
+    pass: &mut Pass<Book<NoDisk>>,
     number: u64,
     input: &mut I,
     output: &mut O,
@@ -99,8 +105,8 @@ pub(crate) fn deliver_in_a_place<I: Source, O: Sink, Rt: Wait + Sync, L: Placing
     rt: &Rt,
     alloc: Global,
     own: &mut (L, C),
-    hall: &Hall<Book>,
-    pass: &mut Pass<Book>,
+    hall: &Hall<Book<NoDisk>>,
+    pass: &mut Pass<Book<NoDisk>>,
 )
     requires here { pass.old.seat.table_id ≡ hall.now.table.shared.table_id }
     requires free { IsFree pass.old.seat }
@@ -123,8 +129,8 @@ fn deliver_for_a_while<I: Source, O: Sink, Rt: Wait + Sync, L: Link, C: Clock>(
     alloc: Global,
     clock: &mut C,
     link: &mut L,
-    hall: &Hall<Book>,
-    pass: &mut Pass<Book>,
+    hall: &Hall<Book<NoDisk>>,
+    pass: &mut Pass<Book<NoDisk>>,
 )
     requires here { pass.old.seat.table_id ≡ hall.now.table.shared.table_id }
     requires free { IsFree pass.old.seat }
@@ -150,8 +156,8 @@ fn deliver_once<I: Source, O: Sink, Rt: Wait + Sync, L: Link, C: Clock>(
     clock: &mut C,
     begun: u64,
     link: &mut L,
-    hall: &Hall<Book>,
-    pass: &mut Pass<Book>,
+    hall: &Hall<Book<NoDisk>>,
+    pass: &mut Pass<Book<NoDisk>>,
 ) -> bool
     requires here { pass.old.seat.table_id ≡ hall.now.table.shared.table_id }
     requires free { IsFree pass.old.seat }

@@ -5,18 +5,19 @@ ghost use Rattle.turn_book.specs.Rule.{Learns};
 ghost use Rattle.turn_book.specs.Passes.{view, known_by, IsFree, IsSamePass};
 ghost use Rattle.shared_door.specs.Shown.{shown_by};
 ghost use Rattle.door_workers.specs.Serving.{IsIdlePass, HasServed, AreDone};
-ghost use Rattle.router_sessions.specs.Book.{IsBook};
+ghost use Rattle.router_history.specs.Book.{IsBook};
 ghost use Rattle.router_sessions.specs.Desk.{turns_seen, number_of, seen_by};
-ghost use Rattle.router_sessions.specs.Visit.{IsVisit, OwesNothing};
+ghost use Rattle.router_history.specs.Visit.{IsVisit, OwesNothing};
 ghost use Rattle.session_workers.specs.Places.{lent_of};
 ghost use Rattle.session_workers.specs.Jobs.{maker, outside_of, session_by, did_by, ServesOne, GoesOn};
 
 use crate::clerk::{Clerk, converse, deliver_in_a_place};
 use crate::places::{Placed, Places, Placing};
-use bus_host::{Door, Gate};
+use bus_host::{Door, Gate, NoDisk};
 use door_workers::{DoorEnd, Serving};
 use router_disk::{Clock, Link, Sink, Source};
-use router_sessions::{Book, look};
+use router_history::Book;
+use router_sessions::look;
 use std::alloc::Global;
 use std::sync::Wait;
 use std::thread::Threads;
@@ -28,13 +29,13 @@ use turn_book::{Hall, Pass};
 pub fn serve_door<Rt: Wait + Threads + Sync, D: Door, L: Link, C: Clock, G: Gate + Sync>(
     rt: &Rt,
     alloc: Global,
-    hall: &Hall<Book>,
-    pass: &mut Pass<Book>,
+    hall: &Hall<Book<NoDisk>>,
+    pass: &mut Pass<Book<NoDisk>>,
     owns: Vec<(L, C)>,
     door: D,
     connections: Option<u64>,
     gate: &G,
-) -> Serving<Book, D, (L, C)>
+) -> Serving<Book<NoDisk>, D, (L, C)>
     requires here { IsIdlePass hall.now.table.shared.table_id pass.old.seat }
     requires maker { 0 < (view pass.old.seat).made }
     requires owns { (0 < vec_len owns) × (vec_len owns ≤ 1024) }
@@ -118,13 +119,13 @@ fn return_all<L, C, Rt>(placed: Vec<(Placed<'_, '_, L, Rt>, C)>, owns: &mut Vec<
 fn serve_placed<Rt: Wait + Threads + Sync, D: Door, L: Placing, C: Clock, G: Gate + Sync>(
     rt: &Rt,
     alloc: Global,
-    hall: &Hall<Book>,
-    pass: &mut Pass<Book>,
+    hall: &Hall<Book<NoDisk>>,
+    pass: &mut Pass<Book<NoDisk>>,
     owns: Vec<(L, C)>,
     door: D,
     connections: Option<u64>,
     gate: &G,
-) -> Serving<Book, D, (L, C)>
+) -> Serving<Book<NoDisk>, D, (L, C)>
     requires here { IsIdlePass hall.now.table.shared.table_id pass.old.seat }
     requires maker { 0 < (view pass.old.seat).made }
     requires owns { (0 < vec_len owns) × (vec_len owns ≤ 1024) }
@@ -145,8 +146,8 @@ fn serve_placed<Rt: Wait + Threads + Sync, D: Door, L: Placing, C: Clock, G: Gat
         × (result.passes.items ≡ []) × (pass.new ≡ pass.old) }
 {
     let clerk = Clerk {
-        serve: |own: &mut (L, C), hall: &Hall<Book>, pass: &mut Pass<
-            Book,
+        serve: |own: &mut (L, C), hall: &Hall<Book<NoDisk>>, pass: &mut Pass<
+            Book<NoDisk>,
         >, number: u64, input: &mut D::In, output: &mut D::Out|
             requires here { pass.old.seat.table_id ≡ hall.now.table.shared.table_id }
             requires free { IsFree pass.old.seat }
@@ -157,7 +158,7 @@ fn serve_placed<Rt: Wait + Threads + Sync, D: Door, L: Placing, C: Clock, G: Gat
             ensures serves { ServesOne D.In.gave D.Out.wrote (number_of pass.old.seat) (session_by number (number_of pass.old.seat) (input.old, output.old) (input.new, output.new) result (seen_by pass.old.seat))
                 (outside_of C.gave L.exchanges L.faults own.old) (outside_of C.gave L.exchanges L.faults own.new) (seen_by pass.old.seat) (seen_by pass.new.seat) }
         { converse(rt, alloc, gate, own, hall, pass, number, input, output) },
-        meanwhile: |own: &mut (L, C), hall: &Hall<Book>, pass: &mut Pass<Book>|
+        meanwhile: |own: &mut (L, C), hall: &Hall<Book<NoDisk>>, pass: &mut Pass<Book<NoDisk>>|
             requires here { pass.old.seat.table_id ≡ hall.now.table.shared.table_id }
             requires free { IsFree pass.old.seat }
             requires rests { OwesNothing (number_of pass.old.seat) (seen_by pass.old.seat) }
@@ -176,8 +177,8 @@ fn serve_placed<Rt: Wait + Threads + Sync, D: Door, L: Placing, C: Clock, G: Gat
 fn look_after<Rt: Wait>(
     rt: &Rt,
     alloc: Global,
-    hall: &Hall<Book>,
-    pass: &mut Pass<Book>,
+    hall: &Hall<Book<NoDisk>>,
+    pass: &mut Pass<Book<NoDisk>>,
     end: DoorEnd,
 )
     requires here { IsIdlePass hall.now.table.shared.table_id pass.old.seat }

@@ -8,7 +8,7 @@ use test_rows::four;
 /// Each reading of the clock, in seconds: 2023-11-14T22:13:20Z. The replies have it.
 pub const NOW: u64 = 1_700_000_000;
 
-/// The name of an exchange, the action that it asks for, the body of its message, and the body of its reply.
+/// The name of an exchange, the action that it asks for, the body of its message, and the body of its reply. Its status is 200.
 const EXCHANGES: &str =
     r#"queue|RouterLocal.CreateQueue|{"QueueName":"q"}|{"QueueArn":"arn:aws:sqs:us-east-1:111122223333:q"}
 rule|AWSEvents.PutRule|{"Name":"r","EventPattern":"{\"source\":[\"shop.orders\"]}"}|{"RuleArn":"arn:aws:events:us-east-1:111122223333:rule/r"}
@@ -18,11 +18,16 @@ address|AWSEvents.PutTargets|{"Rule":"r","Targets":[{"Id":"t","Arn":"http://127.
 event|AWSEvents.PutEvents|{"Entries":[{"Source":"shop.orders","DetailType":"Order","Detail":"{\"total\":12.50}"}]}|{"FailedEntryCount":0,"Entries":[{"EventId":"00000000-0000-8000-8000-000000000001"}]}
 delivered|RouterLocal.DeliverDue|{}|{"Attempts":1,"Delivered":1,"DeadLettered":0,"Dropped":0}
 dropped|RouterLocal.DeliverDue|{}|{"Attempts":1,"Delivered":0,"DeadLettered":0,"Dropped":1}
+idle|RouterLocal.DeliverDue|{}|{"Attempts":0,"Delivered":0,"DeadLettered":0,"Dropped":0}
 pending|RouterLocal.DeliverDue|{}|{"Attempts":1,"Delivered":0,"DeadLettered":0,"Dropped":0}
 peek|RouterLocal.PeekMessages|{"QueueName":"q"}|{"Messages":[{"Number":1,"Body":"{\"version\":\"0\",\"id\":\"00000000-0000-8000-8000-000000000001\",\"detail-type\":\"Order\",\"source\":\"shop.orders\",\"account\":\"111122223333\",\"time\":\"2023-11-14T22:13:20Z\",\"region\":\"us-east-1\",\"resources\":[],\"detail\":{\"total\":12.50}}","Attributes":{}}]}
 peek-last|RouterLocal.PeekMessages|{"QueueName":"q"}|{"Messages":[{"Number":1,"Body":"{\"version\":\"0\",\"id\":\"00000000-0000-8000-8000-000000000001\",\"detail-type\":\"Order\",\"source\":\"shop.orders\",\"account\":\"111122223333\",\"time\":\"9892-03-08T12:26:40Z\",\"region\":\"us-east-1\",\"resources\":[],\"detail\":{\"total\":12.50}}","Attributes":{}}]}
 peek-none|RouterLocal.PeekMessages|{"QueueName":"q"}|{"Messages":[]}
 "#;
+
+/// The reply named `failed`, to any message whose batch cannot be kept.
+const FAILED: &str =
+    "HTTP/1.1 500 Internal Server Error\r\nContent-Type: application/x-amz-json-1.1\r\nContent-Length: 60\r\n\r\n{\"__type\":\"InternalFailure\",\"message\":\"The journal failed.\"}";
 
 /// The action, the body and the reply's body of the exchange with this name.
 fn exchange(name: &str) -> Option<(&'static str, &'static str, &'static str)> {
@@ -55,6 +60,9 @@ pub fn messages(alloc: Global, names: &str) -> Option<String> {
 }
 
 fn add_reply(text: &mut String, name: &str) -> Option<()> {
+    if name == "failed" {
+        return text.push_str(FAILED).ok();
+    }
     let (_, _, body) = exchange(name)?;
     let size = body.len();
     write!(

@@ -1,38 +1,59 @@
-use Rattle.std.proofs.Common.{◌≡◌, ◌∙◌, ◌<◌, ◌≤◌, ℕ, List, Option, ap, refl, subst, sym}
-use Rattle.command_line.specs.Command.{command_view}
+use Rattle.std.proofs.Common.{◌≡◌, ◌∙◌, ◌<◌, ◌≤◌, ℕ, List, Option, Some, None, ap, refl, subst, sym}
+use Rattle.std.specs.Prelude.{option_map}
+use Rattle.command_line.specs.Command.{command_view, once}
 use Rattle.program_lines.specs.Files.{workers_for}
 use Rattle.shared_door.specs.Shown.{shown_by}
-use Rattle.router_sessions.specs.Visit.{IsVisit}
+use Rattle.router_history.specs.Visit.{IsVisit}
 use Rattle.drill_run.specs.Drill.{IsDrill}
 use Rattle.journal_check.specs.Check.{IsCheck, around_disk}
-use Rattle.bus_server.specs.Run.{IsRun, around}
+use Rattle.bus_server.specs.Run.{FaultsMatch, IsRun, around}
+use Rattle.bus_server.specs.Journal.{IsJournaledRun, disks}
 use Rattle.session_workers.specs.Jobs.{did_by}
 use Rattle.bus_server.specs.Serve.{IsServe, around_door}
-use Rattle.bus_server.proofs.RunLemmas.{no_usage}
-use Rattle.bus_server.proofs.WordsLemmas.{fitting_within, no_door_drill, no_usage_check, no_usage_drill, no_usage_serve, reported_alone, reported_last, unread_counts, unread_host, check_drill, once_check, once_drill, once_serve, same_check, same_drill, same_once, same_serve, serve_check, serve_drill}
+use Rattle.bus_server.proofs.WordsLemmas.{fitting_within, no_door_drill, no_usage_check, no_usage_drill, no_path, no_usage_serve, reported_alone, reported_last, unread_counts, unread_host, check_drill, once_check, once_drill, once_serve, same_check, same_drill, same_once, same_serve, serve_check, serve_drill}
 use Rattle.bus_server.proofs.program.obey.Goals as goal
 
 pub returns-in-Once-clause-run : goal.returns-in-Once-clause-run
 returns-in-Once-clause-run g c = λ now is.
-    let same : c.in-Once.now ≡ now = same_once c.in-Once.now now (sym (ap command_view c.in-Once.is) ∙ is) in
+    let (none, same) = same_once (option_map (λ s. s.now) c.in-Once.journal) None c.in-Once.now now (sym (ap command_view c.in-Once.is) ∙ is) in
     subst (λ (n : Option ℕ). IsRun g.H.Link.Link.exchanges g.H.Link.Link.faults n
     (around (g.S.Source.gave c.args.input.now) (g.K.Sink.wrote c.args.output.now) (g.C.Clock.gave c.args.clock.now)
     (g.H.Host.links_given c.args.host.now) (g.H.Host.links_back c.args.host.now))
     (around (g.S.Source.gave c.once-status.new.input) (g.K.Sink.wrote c.once-status.new.output) (g.C.Clock.gave c.once-status.new.clock)
     (g.H.Host.links_given c.once-status.new.host) (g.H.Host.links_back c.once-status.new.host)) c.once-status.result)
-    same c.once-status.ensures.run
+    same (c.once-status.ensures.run none)
+
+pub returns-in-Once-clause-journaled : goal.returns-in-Once-clause-journaled
+returns-in-Once-clause-journaled g c = λ journal now is.
+    let h = g.H.Host in
+    let old = c.args.host.now in let new = c.once-status.new.host in
+    let (some, same) = same_once (option_map (λ s. s.now) c.in-Once.journal) (Some journal) c.in-Once.now now (sym (ap command_view c.in-Once.is) ∙ is) in
+    subst (λ (n : Option ℕ). IsJournaledRun g.H.Disk.Disk.calls g.H.Disk.Disk.faults g.H.Link.Link.exchanges g.H.Link.Link.faults
+    (λ s. FaultsMatch s (g.S.Source.faults c.args.input.now) (g.S.Source.faults c.once-status.new.input) (g.K.Sink.faults c.args.output.now) (g.K.Sink.faults c.once-status.new.output)) journal n
+    (disks (h.disks_given old) (h.disks_back old) (h.disk_faults old)) (disks (h.disks_given new) (h.disks_back new) (h.disk_faults new))
+    (around (g.S.Source.gave c.args.input.now) (g.K.Sink.wrote c.args.output.now) (g.C.Clock.gave c.args.clock.now) (h.links_given old) (h.links_back old))
+    (around (g.S.Source.gave c.once-status.new.input) (g.K.Sink.wrote c.once-status.new.output) (g.C.Clock.gave c.once-status.new.clock) (h.links_given new) (h.links_back new)) c.once-status.result)
+    same (c.once-status.ensures.journaled journal some)
 
 pub returns-in-Once-clause-serve : goal.returns-in-Once-clause-serve
-returns-in-Once-clause-serve g c = λ port workers connections is. absurd (once_serve c.in-Once.now port workers connections (sym (ap command_view c.in-Once.is) ∙ is))
+returns-in-Once-clause-serve g c = λ port workers connections is.
+    absurd (once_serve (option_map (λ s. s.now) c.in-Once.journal) c.in-Once.now port workers connections (sym (ap command_view c.in-Once.is) ∙ is))
 
 pub returns-in-Once-clause-drill : goal.returns-in-Once-clause-drill
-returns-in-Once-clause-drill g c = λ seed events is. absurd (once_drill c.in-Once.now seed events (sym (ap command_view c.in-Once.is) ∙ is))
+returns-in-Once-clause-drill g c = λ seed events is.
+    absurd (once_drill (option_map (λ s. s.now) c.in-Once.journal) c.in-Once.now seed events (sym (ap command_view c.in-Once.is) ∙ is))
 
 pub returns-in-Once-clause-check : goal.returns-in-Once-clause-check
-returns-in-Once-clause-check g c = λ journal is. absurd (once_check c.in-Once.now journal (sym (ap command_view c.in-Once.is) ∙ is))
+returns-in-Once-clause-check g c = λ journal is.
+    absurd (once_check (option_map (λ s. s.now) c.in-Once.journal) c.in-Once.now journal (sym (ap command_view c.in-Once.is) ∙ is))
 
-pub returns-in-Once-clause-usage : goal.returns-in-Once-clause-usage
-returns-in-Once-clause-usage g c = no_usage g.H.Link.Link.exchanges g.H.Link.Link.faults c.in-Once.now _ _ c.once-status.result c.once-status.ensures.run
+pub returns-in-Once-clause-counts : goal.returns-in-Once-clause-counts
+returns-in-Once-clause-counts g c = λ none. c.once-status.ensures.counts (no_path (option_map (λ s. s.now) c.in-Once.journal)
+    (λ path is. none path c.in-Once.now (ap command_view c.in-Once.is ∙ ap (λ (o : Option (List ℕ)). once o c.in-Once.now) is)))
+
+pub returns-in-Once-clause-disk : goal.returns-in-Once-clause-disk
+returns-in-Once-clause-disk g c = λ checks none. c.once-status.ensures.disks (no_path (option_map (λ s. s.now) c.in-Once.journal)
+    (λ path is. none path c.in-Once.now (ap command_view c.in-Once.is ∙ ap (λ (o : Option (List ℕ)). once o c.in-Once.now) is)))
 
 pub returns-in-Once-clause-last : goal.returns-in-Once-clause-last
 returns-in-Once-clause-last g c = reported_alone c.once-status.result _ _ _ _ c.report.ensures
@@ -43,7 +64,11 @@ serve-status-requires-clause-workers g c κs lives =
     subst (λ (n : ℕ). (0 < n) × (n ≤ 1024)) (sym c.fitting_workers-fitting.ensures) (fitting_within c.args.files c.in-Serve.workers asked.0 asked.1)
 
 pub returns-in-Serve-clause-run : goal.returns-in-Serve-clause-run
-returns-in-Serve-clause-run g c = λ now is. absurd (once_serve now c.in-Serve.port c.in-Serve.workers c.in-Serve.connections (sym is ∙ ap command_view c.in-Serve.is))
+returns-in-Serve-clause-run g c = λ now is. absurd (once_serve None now c.in-Serve.port c.in-Serve.workers c.in-Serve.connections (sym is ∙ ap command_view c.in-Serve.is))
+
+pub returns-in-Serve-clause-journaled : goal.returns-in-Serve-clause-journaled
+returns-in-Serve-clause-journaled g c = λ journal now is.
+    absurd (once_serve (Some journal) now c.in-Serve.port c.in-Serve.workers c.in-Serve.connections (sym is ∙ ap command_view c.in-Serve.is))
 
 pub returns-in-Serve-clause-drill : goal.returns-in-Serve-clause-drill
 returns-in-Serve-clause-drill g c = λ seed events is. absurd (serve_drill c.in-Serve.port c.in-Serve.workers c.in-Serve.connections seed events (sym (ap command_view c.in-Serve.is) ∙ is))
@@ -85,7 +110,10 @@ pub returns-in-Serve-clause-host : goal.returns-in-Serve-clause-host
 returns-in-Serve-clause-host g c = λ none checks. absurd (none c.in-Serve.port c.in-Serve.workers c.in-Serve.connections (ap command_view c.in-Serve.is))
 
 pub returns-in-Check-clause-run : goal.returns-in-Check-clause-run
-returns-in-Check-clause-run g c = λ now is. absurd (once_check now c.in-Check.journal.now (sym is ∙ ap command_view c.in-Check.is))
+returns-in-Check-clause-run g c = λ now is. absurd (once_check None now c.in-Check.journal.now (sym is ∙ ap command_view c.in-Check.is))
+
+pub returns-in-Check-clause-journaled : goal.returns-in-Check-clause-journaled
+returns-in-Check-clause-journaled g c = λ journal now is. absurd (once_check (Some journal) now c.in-Check.journal.now (sym is ∙ ap command_view c.in-Check.is))
 
 pub returns-in-Check-clause-serve : goal.returns-in-Check-clause-serve
 returns-in-Check-clause-serve g c = λ port workers connections is. absurd (serve_check port workers connections c.in-Check.journal.now (sym is ∙ ap command_view c.in-Check.is))
@@ -116,18 +144,21 @@ pub returns-in-Check-clause-last : goal.returns-in-Check-clause-last
 returns-in-Check-clause-last g c = reported_alone c.check-status.result _ _ _ _ c.report-in-Check.ensures
 
 pub returns-in-Check-clause-counts : goal.returns-in-Check-clause-counts
-returns-in-Check-clause-counts g c = unread_counts c.check-status.result _ _ _
+returns-in-Check-clause-counts g c = λ none. unread_counts c.check-status.result _ _ _
     (no_usage_check g.H.Disk.Disk.calls g.H.Disk.Disk.faults c.in-Check.journal.now _ _ c.check-status.result c.check-status.ensures.check).1
     c.check-status.ensures.write_fault c.check-status.ensures.output_faultless
 
 pub returns-in-Check-clause-disk : goal.returns-in-Check-clause-disk
-returns-in-Check-clause-disk g c = λ none. absurd (none c.in-Check.journal.now (ap command_view c.in-Check.is))
+returns-in-Check-clause-disk g c = λ checks none. absurd (checks c.in-Check.journal.now (ap command_view c.in-Check.is))
 
 pub returns-in-Check-clause-host : goal.returns-in-Check-clause-host
 returns-in-Check-clause-host g c = λ none checks. absurd (checks c.in-Check.journal.now (ap command_view c.in-Check.is))
 
 pub returns-in-Drill-clause-run : goal.returns-in-Drill-clause-run
-returns-in-Drill-clause-run g c = λ now is. absurd (once_drill now c.in-Drill.seed c.in-Drill.events (sym is ∙ ap command_view c.in-Drill.is))
+returns-in-Drill-clause-run g c = λ now is. absurd (once_drill None now c.in-Drill.seed c.in-Drill.events (sym is ∙ ap command_view c.in-Drill.is))
+
+pub returns-in-Drill-clause-journaled : goal.returns-in-Drill-clause-journaled
+returns-in-Drill-clause-journaled g c = λ journal now is. absurd (once_drill (Some journal) now c.in-Drill.seed c.in-Drill.events (sym is ∙ ap command_view c.in-Drill.is))
 
 pub returns-in-Drill-clause-serve : goal.returns-in-Drill-clause-serve
 returns-in-Drill-clause-serve g c = λ port workers connections is. absurd (serve_drill port workers connections c.in-Drill.seed c.in-Drill.events (sym is ∙ ap command_view c.in-Drill.is))
@@ -152,14 +183,13 @@ pub returns-in-Drill-clause-last : goal.returns-in-Drill-clause-last
 returns-in-Drill-clause-last g c = reported_alone c.drill-status.result _ _ _ _ c.report-in-Drill.ensures
 
 pub returns-in-Drill-clause-counts : goal.returns-in-Drill-clause-counts
-returns-in-Drill-clause-counts g c = unread_counts c.drill-status.result _ _ _
+returns-in-Drill-clause-counts g c = λ none. unread_counts c.drill-status.result _ _ _
     (no_door_drill c.in-Drill.seed c.in-Drill.events _ _ c.drill-status.result c.drill-status.ensures.drill).1 c.drill-status.ensures.write_fault
     c.drill-status.ensures.output_faultless
 
 pub returns-in-Drill-clause-host : goal.returns-in-Drill-clause-host
 returns-in-Drill-clause-host g c = λ none checks. (
-  unread_host g.H.Host.disk_faults g.H.Host.door_faults g.H.Host.link_faults c.drill-status.result c.args.host.now
+  unread_host g.H.Host.door_faults g.H.Host.link_faults c.drill-status.result c.args.host.now
       (no_door_drill c.in-Drill.seed c.in-Drill.events _ _ c.drill-status.result c.drill-status.ensures.drill).0,
-  record { same_given = refl; same_back = refl },
   record { same_given = refl; same_back = refl },
 )

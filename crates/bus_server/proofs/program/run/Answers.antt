@@ -1,12 +1,11 @@
-use Rattle.std.proofs.Common.{◌≡◌, ◌≢◌, ℕ, List, map, Option, inr, refl, subst, Global}
+use Rattle.std.proofs.Common.{map, Some, None, inr, refl, subst, Global}
 use Rattle.std.specs.Prelude.{string_bytes}
 use Rattle.command_line.specs.Command.{IsCommand, command_view, once, serve, check, drill}
 use Rattle.command_line.proofs.LineLemmas.{line_is}
 use Rattle.command_line.proofs.ValueLemmas.{command_once, workers_within}
 use Rattle.program_lines.specs.Files.{workers_for}
-use Rattle.program_lines.specs.declared.status.Status.TheVariants as statuses
-use Rattle.bus_server.specs.Run.{IsUntouched, around}
-use Rattle.bus_server.proofs.WordsLemmas.{unread_by, refused_by, unread_check, unread_command, unread_once, unread_serve, unread_host, no_door_unread}
+use Rattle.bus_server.proofs.JournalLemmas.{unread_journaled}
+use Rattle.bus_server.proofs.WordsLemmas.{unread_begun, unread_by, refused_by, unread_check, unread_command, unread_once, unread_serve, unread_host, no_door_unread}
 use Rattle.bus_server.proofs.program.run.Goals as goal
 
 pub obey-requires-clause-workers : goal.obey-requires-clause-workers
@@ -16,7 +15,11 @@ obey-requires-clause-workers g c κs lives = λ port workers connections is.
 
 pub returns-in-Ok-clause-run : goal.returns-in-Ok-clause-run
 returns-in-Ok-clause-run g c = λ now is. c.obey.ensures.run now
-    (command_once (map (string_bytes {Z = Global}) c.args.words.now) (command_view c.in-Ok.command) (once now) c.in-Ok.ensures.command is)
+    (command_once (map (string_bytes {Z = Global}) c.args.words.now) (command_view c.in-Ok.command) (once None now) c.in-Ok.ensures.command is)
+
+pub returns-in-Ok-clause-journaled : goal.returns-in-Ok-clause-journaled
+returns-in-Ok-clause-journaled g c = λ journal now is. c.obey.ensures.journaled journal now
+    (command_once (map (string_bytes {Z = Global}) c.args.words.now) (command_view c.in-Ok.command) (once (Some journal) now) c.in-Ok.ensures.command is)
 
 pub returns-in-Ok-clause-serve : goal.returns-in-Ok-clause-serve
 returns-in-Ok-clause-serve g c = λ port workers connections is. c.obey.ensures.serve port workers connections
@@ -43,9 +46,14 @@ pub returns-in-Ok-clause-reported : goal.returns-in-Ok-clause-reported
 returns-in-Ok-clause-reported g c = λ other none. c.obey.ensures.reported (λ port workers connections is. none port workers connections
     (subst (IsCommand (map (string_bytes {Z = Global}) c.args.words.now)) is c.in-Ok.ensures.command))
 
-pub returns-in-Ok-clause-disk : goal.returns-in-Ok-clause-disk
-returns-in-Ok-clause-disk g c = λ none. c.obey.ensures.disk (λ journal is. none journal
+pub returns-in-Ok-clause-counts : goal.returns-in-Ok-clause-counts
+returns-in-Ok-clause-counts g c = λ none. c.obey.ensures.counts (λ journal now is. none journal now
     (subst (IsCommand (map (string_bytes {Z = Global}) c.args.words.now)) is c.in-Ok.ensures.command))
+
+pub returns-in-Ok-clause-disk : goal.returns-in-Ok-clause-disk
+returns-in-Ok-clause-disk g c = λ checks none. c.obey.ensures.disk
+    (λ journal is. checks journal (subst (IsCommand (map (string_bytes {Z = Global}) c.args.words.now)) is c.in-Ok.ensures.command))
+    (λ journal now is. none journal now (subst (IsCommand (map (string_bytes {Z = Global}) c.args.words.now)) is c.in-Ok.ensures.command))
 
 pub returns-in-Ok-clause-host : goal.returns-in-Ok-clause-host
 returns-in-Ok-clause-host g c = λ none checks. c.obey.ensures.host (λ port workers connections is. none port workers connections
@@ -55,7 +63,14 @@ returns-in-Ok-clause-host g c = λ none checks. c.obey.ensures.host (λ port wor
 pub returns-in-Err-clause-run : goal.returns-in-Err-clause-run
 returns-in-Err-clause-run g c = λ now is.
     unread_once g.H.Link.Link.exchanges g.H.Link.Link.faults now _ _ _ _ _ _ c.explain.result
-    (unread_command (map (string_bytes {Z = Global}) c.args.words.now) (once now) c.in-Err.fault _ _ c.explain.result is c.in-Err.ensures.fault c.explain.ensures.ends)
+    (unread_command (map (string_bytes {Z = Global}) c.args.words.now) (once None now) c.in-Err.fault _ _ c.explain.result is c.in-Err.ensures.fault c.explain.ensures.ends)
+
+pub returns-in-Err-clause-journaled : goal.returns-in-Err-clause-journaled
+returns-in-Err-clause-journaled g c = λ journal now is.
+    let unread = unread_command (map (string_bytes {Z = Global}) c.args.words.now) (once (Some journal) now) c.in-Err.fault _ _ c.explain.result is c.in-Err.ensures.fault
+    c.explain.ensures.ends in
+    unread_journaled g.H.Disk.Disk.calls g.H.Disk.Disk.faults g.H.Link.Link.exchanges g.H.Link.Link.faults _ journal now _ _ _ _ _ c.explain.result unread.0
+    (unread_begun _ _ _ _ _ _ unread.1) (c.explain.ensures.counts (g.S.Source.faults c.args.input.now))
 
 pub returns-in-Err-clause-serve : goal.returns-in-Err-clause-serve
 returns-in-Err-clause-serve g c = λ port workers connections is. (
@@ -105,12 +120,11 @@ pub returns-in-Err-clause-reported : goal.returns-in-Err-clause-reported
 returns-in-Err-clause-reported g c = λ other none. c.explain.ensures.reported other
 
 pub returns-in-Err-clause-counts : goal.returns-in-Err-clause-counts
-returns-in-Err-clause-counts g c = c.explain.ensures.counts (g.S.Source.faults c.args.input.now)
+returns-in-Err-clause-counts g c = λ none. c.explain.ensures.counts (g.S.Source.faults c.args.input.now)
 
 pub returns-in-Err-clause-host : goal.returns-in-Err-clause-host
 returns-in-Err-clause-host g c = λ none checks. (
-  unread_host g.H.Host.disk_faults g.H.Host.door_faults g.H.Host.link_faults c.explain.result c.args.host.now
+  unread_host g.H.Host.door_faults g.H.Host.link_faults c.explain.result c.args.host.now
       (no_door_unread c.in-Err.fault _ _ c.explain.result c.explain.ensures.ends),
-  record { same_given = refl; same_back = refl },
   record { same_given = refl; same_back = refl },
 )

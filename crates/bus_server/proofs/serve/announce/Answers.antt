@@ -1,6 +1,6 @@
 use Rattle.std.proofs.Common.{◌≡◌, ℕ, List, ◌++◌, arith, refl, subst, ◌∙◌}
 use Rattle.shared_door.specs.Shown.{shown_by}
-use Rattle.router_sessions.specs.Visit.{IsVisit}
+use Rattle.router_history.specs.Visit.{IsVisit}
 use Rattle.session_workers.specs.Jobs.{did_by}
 use Rattle.tables_summary.specs.Summary.{WritesPart}
 use Rattle.bus_server.proofs.ServeLemmas.{announced, unannounced}

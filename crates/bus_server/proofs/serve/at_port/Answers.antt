@@ -1,6 +1,6 @@
 use Rattle.std.proofs.Common.{[], ◌∷◌, ◌++◌, ap, inr, refl, ◌∙◌}
 use Rattle.shared_door.specs.Shown.{shown_by}
-use Rattle.router_sessions.specs.Visit.{IsVisit}
+use Rattle.router_history.specs.Visit.{IsVisit}
 use Rattle.session_workers.specs.Jobs.{did_by}
 use Rattle.bus_server.specs.Serve.{around_door, links_of}
 use Rattle.bus_server.proofs.ServeLemmas.{counted, no_door, no_write_fault, serves_by}

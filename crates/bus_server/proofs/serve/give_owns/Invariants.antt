@@ -11,6 +11,7 @@ invariant-loop-owns g l = (g.H.Host.links_back l.host ++ links_of l.owns.items �
     × (g.C.Clocks.clocks_given l.clock ≡ g.C.Clocks.clocks_given l.initial.clock)
     × (g.C.Clock.gave l.clock ≡ g.C.Clock.gave l.initial.clock)
     × SameGiven g.H.Host.doors_given g.H.Host.doors_back l.initial.host l.host
+    × SameGiven g.H.Host.disks_given g.H.Host.disks_back l.initial.host l.host
     × SameFaults g.H.Host.disk_faults g.H.Host.door_faults g.H.Host.link_faults l.initial.host l.host
 
 abbrev pub decreases-loop-owns : goal.decreases-loop-owns

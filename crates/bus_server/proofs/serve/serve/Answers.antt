@@ -1,9 +1,9 @@
 use Rattle.std.proofs.Common.{◌++◌, ap, arith, inr, map, refl, ◌∙◌}
 use Rattle.turn_book.specs.declared.view.View.{View}
 use Rattle.shared_door.specs.Shown.{shown_by}
-use Rattle.router_sessions.specs.declared.history.Turn.{Turn}
-use Rattle.router_sessions.specs.Book.{turn_of}
-use Rattle.router_sessions.specs.Visit.{IsVisit}
+use Rattle.router_history.specs.declared.history.Turn.{Turn}
+use Rattle.router_history.specs.Book.{turn_of}
+use Rattle.router_history.specs.Visit.{IsVisit}
 use Rattle.session_workers.specs.Jobs.{did_by}
 use Rattle.bus_server.specs.Serve.{around_door, links_of, clocks_of}
 use Rattle.bus_server.proofs.ServeLemmas.{counted_host, no_owns, no_room, serves}

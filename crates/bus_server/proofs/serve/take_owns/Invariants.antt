@@ -12,6 +12,7 @@ invariant-loop-host g l = (g.H.Host.links_given l.host ≡ g.H.Host.links_given 
     × (g.C.Clock.gave l.clock ≡ g.C.Clock.gave l.initial.clock)
     × (vec_len l.owns ≤ l.count) × (l.count ≤ vec_capacity l.owns)
     × SameGiven g.H.Host.doors_given g.H.Host.doors_back l.initial.host l.host
+    × SameGiven g.H.Host.disks_given g.H.Host.disks_back l.initial.host l.host
     × (g.H.Host.link_faults l.host ≡ g.H.Host.link_faults l.initial.host)
     × (g.H.Host.door_faults l.host ≡ g.H.Host.door_faults l.initial.host) × (g.H.Host.disk_faults l.host ≡ g.H.Host.disk_faults l.initial.host)
 

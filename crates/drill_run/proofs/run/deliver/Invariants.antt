@@ -1,6 +1,6 @@
 use Rattle.std.proofs.Common.{ℕ}
 use Rattle.turn_book.specs.Passes.{IsFree, IsSamePass}
-use Rattle.router_sessions.specs.Book.{Rests}
+use Rattle.router_history.specs.Book.{Rests}
 use Rattle.router_sessions.specs.Desk.{turns_seen}
 use Rattle.drill_run.specs.Drill.{IsDelivering}
 use Rattle.drill_run.proofs.run.deliver.Given as goal

@@ -1,6 +1,6 @@
 use Rattle.std.proofs.Common.{◌≡◌, List, [], ◌∷◌, ◌++◌, refl, sym, subst}
-use Rattle.router_sessions.specs.History.{Turn}
-use Rattle.router_sessions.specs.Book.{Rests}
+use Rattle.router_history.specs.History.{Turn}
+use Rattle.router_history.specs.Book.{Rests}
 use Rattle.router_sessions.specs.Desk.{turns_seen}
 use Rattle.router_sessions.proofs.DeskLemmas.{same_again}
 use Rattle.drill_requests.specs.Messages.{drill_messages}

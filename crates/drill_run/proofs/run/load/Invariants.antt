@@ -1,7 +1,7 @@
 use Rattle.std.proofs.Common.{◌≡◌, ℕ, List, ◌++◌, length}
 use Rattle.turn_book.specs.Passes.{IsFree, IsSamePass}
 use Rattle.drill_requests.specs.Messages.{drill_messages}
-use Rattle.router_sessions.specs.Book.{Rests}
+use Rattle.router_history.specs.Book.{Rests}
 use Rattle.router_sessions.specs.Desk.{turns_seen}
 use Rattle.drill_run.specs.Drill.{LeadTo}
 use Rattle.drill_run.proofs.run.load.Given as goal

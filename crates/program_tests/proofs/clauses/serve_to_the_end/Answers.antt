@@ -1,5 +1,5 @@
 use Rattle.shared_door.specs.Shown.{shown_by}
-use Rattle.router_sessions.specs.Visit.{IsVisit}
+use Rattle.router_history.specs.Visit.{IsVisit}
 use Rattle.program_tests.proofs.PrintedLemmas.{printed_by}
 use Rattle.program_tests.proofs.clauses.serve_to_the_end.Goals as goal
 

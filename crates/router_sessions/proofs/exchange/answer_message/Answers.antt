@@ -1,4 +1,4 @@
-use Rattle.std.proofs.Common.{◌≡◌, ℕ, Err, refl, ap, sym, ◌∙◌, subst}
+use Rattle.std.proofs.Common.{◌≡◌, ℕ, Err, ap, sym, ◌∙◌, subst}
 use Rattle.router_core.specs.View.{request_of}
 use Rattle.router_disk.specs.Sink.{AddsBytes}
 use Rattle.api_replies.specs.Reply.{not_post}
@@ -6,17 +6,12 @@ use Rattle.api_messages.specs.declared.method.Method.{Method}
 use Rattle.api_messages.specs.Fields.{is_post}
 use Rattle.api_wire.specs.Call.{IsAsked}
 use Rattle.courier_run.specs.Claim.{moment_of}
-use Rattle.router_sessions.specs.declared.fault.RequestFault.{RequestFault}
-use Rattle.router_sessions.specs.declared.fault.RequestFault.TheVariants as faults
 use Rattle.router_sessions.specs.Desk.{seat_of, turns_seen}
-use Rattle.router_sessions.specs.Session.{sent_text}
+use Rattle.router_history.specs.Session.{sent_text}
 use Rattle.router_sessions.proofs.DoesLemmas.{does_ticked}
-use Rattle.router_sessions.proofs.ReplyLemmas.{unposted_answer, memory_answer, fault_answer, turn_answer, delivery_answer, answered_rests}
+use Rattle.router_sessions.proofs.ReplyLemmas.{unposted_answer, memory_answer, fault_answer, turn_answer, failed_answer, delivery_answer, answered_rests, failed_rests}
 use Rattle.router_sessions.proofs.DeskLemmas.{rests_more}
 use Rattle.router_sessions.proofs.exchange.answer_message.Goals as goal
-
-one_fault : (fault : RequestFault) → fault ≡ faults.NoMemory
-one_fault faults.NoMemory = refl
 
 pub returns-in-Some-clause-answered : goal.returns-in-Some-clause-answered
 returns-in-Some-clause-answered g c = λ gave.
@@ -68,12 +63,28 @@ returns-in-Err-NoMemory-clause-answered g c = λ gave.
     memory_answer seat c.args.message.now c.args.close _ (turns_seen c.args.pass.now.seat) (turns_seen c.turn.new.pass.seat) gave _ _ _ _ _ c.now-reading.result
     c.respond-in-Err-NoMemory.result c.in-Post.is c.requires.book c.requires.book c.in-Err-NoMemory.ensures.book
     (does_ticked seat (turns_seen c.args.pass.now.seat) gave _ _ _ _ _ c.now-reading.result c.now-reading.ensures.gave)
-    (c.in-Err-NoMemory.ensures.unchanged (ap Err (one_fault c.in-Err-NoMemory.field-0))) c.respond-in-Err-NoMemory.ensures.writes
+    (c.in-Err-NoMemory.ensures.unchanged (ap Err c.in-Err-NoMemory.field-0-is)) c.respond-in-Err-NoMemory.ensures.writes
 
 pub returns-in-Err-NoMemory-clause-rests : goal.returns-in-Err-NoMemory-clause-rests
 returns-in-Err-NoMemory-clause-rests g c =
     rests_more (seat_of c.args.desk.connection c.args.pass.now.seat) (turns_seen c.args.pass.now.seat) (turns_seen c.turn.new.pass.seat)
-    (c.in-Err-NoMemory.ensures.unchanged (ap Err (one_fault c.in-Err-NoMemory.field-0))) c.requires.rests
+    (c.in-Err-NoMemory.ensures.unchanged (ap Err c.in-Err-NoMemory.field-0-is)) c.requires.rests
+
+pub returns-in-Err-Broken-clause-answered : goal.returns-in-Err-Broken-clause-answered
+returns-in-Err-Broken-clause-answered g c = λ gave.
+    let seat = seat_of c.args.desk.connection c.args.pass.now.seat in
+    let asked : IsAsked c.args.message.now (moment_of c.now-reading.result) (request_of c.in-Ok.request) =
+    subst (λ (m : ℕ). IsAsked c.args.message.now m (request_of c.in-Ok.request)) c.min.ensures c.in-Ok.ensures.asked in
+    failed_answer seat c.args.message.now c.args.close _ (turns_seen c.args.pass.now.seat) (turns_seen c.turn.new.pass.seat) gave _ _ _ _ _ c.now-reading.result
+    c.write_all-in-Err-Broken.result (request_of c.in-Ok.request) c.in-Post.is c.requires.book c.requires.book c.in-Err-Broken.ensures.book
+    (does_ticked seat (turns_seen c.args.pass.now.seat) gave _ _ _ _ _ c.now-reading.result c.now-reading.ensures.gave)
+    asked (c.in-Err-Broken.ensures.broken (ap Err c.in-Err-Broken.field-0-is))
+    (subst (AddsBytes _ _ c.write_all-in-Err-Broken.result) c.journal_failed_reply.ensures c.write_all-in-Err-Broken.ensures.wrote)
+
+pub returns-in-Err-Broken-clause-rests : goal.returns-in-Err-Broken-clause-rests
+returns-in-Err-Broken-clause-rests g c =
+    failed_rests (seat_of c.args.desk.connection c.args.pass.now.seat) (turns_seen c.args.pass.now.seat) (turns_seen c.turn.new.pass.seat) (request_of c.in-Ok.request)
+    (c.in-Err-Broken.ensures.broken (ap Err c.in-Err-Broken.field-0-is)) c.requires.rests
 
 pub returns-in-Err-clause-answered : goal.returns-in-Err-clause-answered
 returns-in-Err-clause-answered g c = λ gave.

@@ -1,8 +1,8 @@
 use Rattle.std.proofs.Common.{◌≡◌, ℕ, ◌+◌, ◌<◌, arith, rules, refl, sym, subst}
 use Rattle.std.proofs.lemmas.Bool.Decides.{nat_tests}
-use Rattle.router_sessions.specs.Book.{Rests}
+use Rattle.router_history.specs.Book.{Rests}
 use Rattle.router_sessions.specs.Desk.{turns_seen}
-use Rattle.router_sessions.specs.Session.{request_limit}
+use Rattle.router_history.specs.Session.{request_limit}
 use Rattle.router_sessions.proofs.DeskLemmas.{same_again, sees_again, sees_none}
 use Rattle.router_sessions.proofs.SessionLemmas.{answered_at, running_start, read_on, served_by, goes_on, long_end, closed_end, write_end, lack_end}
 use Rattle.router_sessions.proofs.session.converse.Goals as goal

@@ -1,9 +1,9 @@
 use Rattle.std.proofs.Common.{◌≡◌, ◌-◌, ◌<◌, None}
 use Rattle.turn_book.specs.Passes.{IsFree, IsSamePass}
-use Rattle.router_sessions.specs.Book.{IsBook, Rests}
+use Rattle.router_history.specs.Book.{IsBook, Rests}
 use Rattle.router_sessions.specs.Desk.{turns_seen, number_of, seat_of, SeesMore}
-use Rattle.router_sessions.specs.Session.{request_limit}
-use Rattle.router_sessions.specs.Acts.{world}
+use Rattle.router_history.specs.Session.{request_limit}
+use Rattle.router_history.specs.Acts.{world}
 use Rattle.router_sessions.proofs.SessionLemmas.{IsRunning}
 use Rattle.router_sessions.proofs.session.converse.Given as goal
 

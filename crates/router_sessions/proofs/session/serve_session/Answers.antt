@@ -1,5 +1,5 @@
 use Rattle.std.proofs.Common.{ℕ, Some, sym, subst}
-use Rattle.router_sessions.specs.Book.{Rests}
+use Rattle.router_history.specs.Book.{Rests}
 use Rattle.router_sessions.specs.Desk.{seat_of, turns_seen}
 use Rattle.router_sessions.proofs.SessionLemmas.{session_looked, unlooked, ended_at}
 use Rattle.router_sessions.proofs.session.serve_session.Goals as goal

@@ -1,8 +1,8 @@
 use Rattle.std.proofs.Common.{Bool, ℕ, sym, subst}
 use Rattle.courier_run.specs.Link.{outside}
-use Rattle.router_sessions.specs.Book.{Rests}
+use Rattle.router_history.specs.Book.{Rests}
 use Rattle.router_sessions.specs.Desk.{seen_by, turns_seen, number_of}
-use Rattle.router_sessions.specs.Visit.{IsVisit}
+use Rattle.router_history.specs.Visit.{IsVisit}
 use Rattle.router_sessions.proofs.OwesLemmas.{owes_rests, rests_owes}
 use Rattle.session_workers.specs.Jobs.{outside_of, session_by, ServesOne}
 use Rattle.session_workers.proofs.JobsLemmas.{done_session}

@@ -1,5 +1,5 @@
 use Rattle.std.proofs.Common.{ℕ, refl, sym, subst}
-use Rattle.router_sessions.specs.Book.{Rests}
+use Rattle.router_history.specs.Book.{Rests}
 use Rattle.router_sessions.specs.Desk.{turns_seen, number_of, seen_by}
 use Rattle.router_sessions.proofs.DeskLemmas.{same_again}
 use Rattle.router_sessions.proofs.OwesLemmas.{owes_rests, rests_owes}

@@ -1,6 +1,6 @@
 use Rattle.turn_book.specs.Passes.{IsFree, IsSamePass}
 use Rattle.courier_run.specs.Link.{outside}
-use Rattle.router_sessions.specs.Book.{IsBook, Rests}
+use Rattle.router_history.specs.Book.{IsBook, Rests}
 use Rattle.router_sessions.specs.Desk.{turns_seen, number_of, seen_by}
 use Rattle.session_workers.specs.Jobs.{GoesOn}
 use Rattle.session_workers.proofs.clerk.deliver_for_a_while.Given as goal

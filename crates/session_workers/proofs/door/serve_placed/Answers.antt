@@ -1,15 +1,18 @@
-use denote.Param.Send.{sendable}
+use denote.Param.Send.{param_send, arg_send}
+use denote.Exit as exit
+use Rattle.bus_host.specs.contracts.no_host.NoDisk as disk
 use Rattle.shared_door.specs.Shown.{shown_by}
 use Rattle.door_workers.proofs.ServingLemmas.{learns_again}
 use Rattle.session_workers.proofs.ServedLemmas.{served_on}
 use Rattle.router_sessions.specs.Desk.{seen_by}
-use Rattle.router_sessions.specs.Visit.{IsVisit, visit_lasts}
-use Rattle.router_sessions.proofs.MovingLemmas.{book_send}
+use Rattle.router_history.specs.Visit.{IsVisit, visit_lasts}
+use Rattle.router_history.proofs.MovingLemmas.{book_send}
 use Rattle.session_workers.specs.Jobs.{maker}
+use Rattle.session_workers.proofs.MovingLemmas.{no_disk_send}
 use Rattle.session_workers.proofs.door.serve_placed.Goals as goal
 
 pub serve_door-serving-requires-send-V : goal.serve_door-serving-requires-send-V
-serve_door-serving-requires-send-V g c κs lives = search (sendable, book_send)
+serve_door-serving-requires-send-V g c κs lives = param_send 0 _ (arg_send _ exit.no _ (book_send disk.the_row no_disk_send))
 
 pub returns-clause-more : goal.returns-clause-more
 returns-clause-more g c =

@@ -5,11 +5,11 @@ use Rattle.router_sessions.proofs.desk.Desk.look.Goals as goal
 
 pub returns-clause-looked : goal.returns-clause-looked
 returns-clause-looked g c =
-    looked (seat_of c.args.self.connection c.args.pass.now.seat) c.args.pass.now.seat c.give.new.pass.seat c.take-book.result c.take-book.result refl
+    looked (seat_of c.args.self.connection c.args.pass.now.seat) c.args.pass.now.seat c.give.new.pass.seat c.take-book.result.machine c.take-book.result.machine refl
     c.take-book.ensures.history c.give.ensures.seen refl
 
 pub returns-clause-rests : goal.returns-clause-rests
 returns-clause-rests g c =
     rests_more (seat_of c.args.self.connection c.args.pass.now.seat) (turns_seen c.args.pass.now.seat) (turns_seen c.give.new.pass.seat)
-    (learned_alone (seat_of c.args.self.connection c.args.pass.now.seat) c.args.pass.now.seat c.give.new.pass.seat c.take-book.result c.take-book.result refl
+    (learned_alone (seat_of c.args.self.connection c.args.pass.now.seat) c.args.pass.now.seat c.give.new.pass.seat c.take-book.result.machine c.take-book.result.machine refl
     c.take-book.ensures.history c.give.ensures.seen refl)

@@ -1,7 +1,7 @@
 use Rattle.std.proofs.Common.{sym, subst}
 use Rattle.router_core.specs.View.{request_of}
-use Rattle.router_sessions.specs.declared.book.TurnReply.{TurnReply}
-use Rattle.router_sessions.specs.Answered.{IsAnswered, IsRenderable}
+use Rattle.router_history.specs.declared.book.TurnReply.{TurnReply}
+use Rattle.router_history.specs.Answered.{IsAnswered, IsRenderable}
 use Rattle.router_sessions.specs.Desk.{turns_seen, seat_of}
 use Rattle.router_sessions.proofs.desk.Desk.turn.Goals as goal
 

@@ -1,0 +1,10 @@
+pub mod Firsts
+pub mod History
+pub mod Folds
+pub mod Held
+pub mod Book
+pub mod Home
+pub mod Acts
+pub mod Session
+pub mod Visit
+pub mod Answered
