@@ -1,5 +1,5 @@
 #!/usr/bin/env python3
-"""Times `once` and `check` with a journal, and prints two tables. `serve` keeps no journal yet.
+"""Times `ebusd` with a journal, and prints two tables.
 
     bench/journal.py [PROGRAM [OLDER]]
 
@@ -7,7 +7,7 @@ Run at the top of the repository. PROGRAM is a built program; without it bin/ebu
 without a journal: then both are timed without one, and take turns. The journals that `check` reads are made here, by the model of the file in
 .ci/checks/journal_file.py: events of 827 bytes with one delivery each, 1,857 bytes with its attempt. Files are in the folder that TMPDIR names,
 or in /tmp; its file system is printed. gcc builds bench/appends.c, which makes the same four calls for an append as the program, and
-bench/http_load.c, the client of `serve` without a journal. Takes some minutes, 4 GB of disk and 3 GB of memory.
+bench/http_load.c, the client of `serve`. Takes some minutes, 4 GB of disk and 3 GB of memory.
 Outside the gate: nothing depends on a time.
 """
 import datetime
@@ -34,7 +34,8 @@ WINDOWS = [1, 64, 1_024]  # places by which attempts are out of order
 EVENT_BYTES = 827
 WRITTEN = 100_000  # events of the run whose memory is compared
 ONE_CLIENT = 3_000  # requests of one client
-REQUESTS = 20_000  # of all clients of `serve`
+CLIENTS = [1, 8, 32]
+REQUESTS = 20_000  # of all clients
 PIECES = 3
 ROUNDS, ROUND_EVENTS, FIRST = 10, 50_000, 4  # rounds without a journal, of which the first ones fill the heaps
 MIB = 2**20
@@ -193,6 +194,28 @@ def one_client(command, folder):
     return max(rates[0]), max(rates[1])
 
 
+class JournalRouter(Router):
+    """A process of `ebusd serve --journal`."""
+
+    def __init__(self, command, workers, path):
+        self.path = path
+        super().__init__(command, workers)
+
+    def words(self, command, workers):
+        return [*super().words(command, workers), "--journal", self.path]
+
+
+def served(command, folder):
+    table("`serve --journal`, clients", "requests a second", "median, us", "99 of 100, us", "longest, us")
+    for clients in CLIENTS:
+        path = os.path.join(folder, "J")
+        with JournalRouter(command, clients + 1, path) as it:
+            it.set_up()
+            rate, times = max(load(folder, it.port, clients, REQUESTS // 20 * min(clients, 8), put(1)) for _ in range(PIECES))
+        row(clients, f"{rate:,.0f}", *(f"{it:,.0f}" for it in times))
+        os.unlink(path)
+
+
 def without(command, older):
     """Requests a second of both programs without a journal: of `once`, and of `serve` with 8 clients."""
     text, found = setup() + put_827() * 20_000, {}
@@ -240,6 +263,7 @@ def main():
         for name in ("appends", "http_load"):
             build(folder, name)
         rates = openings(command, folder)
+        served(command, folder)
         few, many = (rates[it, None][0] for it in COUNTS)
         table("measured", "result", "target", "met")
         shown("`check`, delivered events", f"{few / 1e6:.0f} and {many / 1e6:.0f} MB/s", "200 MB/s; in proportion", min(few, many) >= 2e8 and many >= 0.8 * few)

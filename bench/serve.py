@@ -68,10 +68,13 @@ class Router:
 
     def __init__(self, command, workers):
         self.port = free_port()
-        words = [command, "serve", "--port", str(self.port), "--workers", str(workers)]
+        words = self.words(command, workers)
         self.ran = subprocess.Popen(words, stdout=subprocess.PIPE)
         if self.ran.stdout.readline() != b"listening %d\n" % self.port:
             sys.exit(f"{' '.join(words)} ended with status {self.ran.wait()}")
+
+    def words(self, command, workers):
+        return [command, "serve", "--port", str(self.port), "--workers", str(workers)]
 
     def set_up(self):
         for action, members in SETUP:

@@ -1,5 +1,5 @@
 #!/usr/bin/env python3
-"""Runs `once --journal`, and compares replies, journals, standard error and statuses with a model.
+"""Runs `once` and `serve` with `--journal`, and compares replies, journals, standard error and statuses with a model.
 
 The model of the requests and their journal is `journal_router.py`. `disk_calls.c`, loaded before the program, notes what it does with its disk
 and makes calls fail; `crash_images.py` makes from these calls the files that a crash may leave.
@@ -11,7 +11,8 @@ and makes calls fail; `crash_images.py` makes from these calls the files that a 
 - If a call of the disk fails, or the disk is full, replies, standard error, status and what a crash may leave are as they have to be. With room
   again a further run goes on.
 - A copy of the journal that is made meanwhile has what was replied before, and so has the journal of a run that is killed.
-- A file that is no journal, is damaged or is in use is refused, and not changed. `serve` keeps no journal yet, and refuses the word.
+- A file that is no journal, is damaged or is in use is refused, and not changed.
+- `serve` ends after a disk fault. examples/journal/kill.py runs meanwhile.
 
 A word names another program to run. A case that fails has a line. The last line is `N passed, M failed`.
 """
@@ -29,12 +30,15 @@ import mixed
 from crash_images import File, calls_in, moments
 from journal_file import HEADER, batch_bytes, checked, journal, records
 from journal_router import RecordingRouter
-from journal_runs import COMMAND, IO_ERROR, JOURNALS, NO_ROOM, NOW, SECONDS, Cases, Room, StoredRun
+from journal_runs import COMMAND, IO_ERROR, JOURNALS, LIBRARY, NO_ROOM, NOW, SECONDS, Cases, Room, StoredRun
 from journal_runs import begin, calls_of, check, disk_failed, make, message, once, records_of, reply, run, stored_runs
 from router import QUEUE_ARN
+from serving import COMMAND as SERVED
+from serving import Served, free_port
 
 SEED = 33
 PARTS = 4
+SERVE_KILLS = 50
 READINGS = [0, 1_900_000_000]  # of mixed requests
 LENGTHS, LONG_LENGTHS = range(2, 20_001, 60), [32_767, 262_144]  # bytes of their bodies
 CUTS = 4
@@ -51,7 +55,10 @@ REFUSED = [
     ["once", "--journal", ""],
     ["once", "--journal", "-x"],
     ["once", "--journal"],
-    ["serve", "--journal", "a"],
+    ["serve", "--journal", "a", "--journal", "b"],
+    ["serve", "--journal", ""],
+    ["serve", "--journal", "-x"],
+    ["serve", "--journal"],
 ]
 
 
@@ -381,7 +388,7 @@ def full_file_system():
 
 
 def refused_files():
-    """Files of examples/journal that are refused; and files that another process has, or that cannot be opened."""
+    """Files of examples/journal that are refused, by `once` and `serve`; and files that another process has, or that cannot be opened."""
     cases = Cases()
     with Room() as room:
         for row in (JOURNALS / "files.rows").read_text().splitlines():
@@ -392,6 +399,7 @@ def refused_files():
             path.write_bytes(bytes.fromhex(text))
             wanted = b"", f"ebusd: {found}\n".encode(), 6
             cases.meets(f"{name}, once", once(path, MORE), wanted)
+            cases.meets(f"{name}, serve", served(path), wanted)
             cases.meets(f"{name}, the file", path.read_bytes().hex(), text)
         made = room / "made"
         cases.meets("once without input", once(made, b""), (b"", b"", 0))
@@ -399,6 +407,7 @@ def refused_files():
         cannot = [(room, "not a regular file"), (room / "none" / "J", "open: No such file or directory (os error 2)")]
         for path, why in cannot:
             cases.meets(f"{path}, once", once(path, MORE), (b"", disk_failed(path, why), 5))
+            cases.meets(f"{path}, serve", served(path), (b"", disk_failed(path, why), 5))
         words = [*COMMAND, "once", "--journal", str(made)]
         with subprocess.Popen(words, stdin=subprocess.PIPE, stdout=subprocess.PIPE) as ran:
             ran.stdin.write(message("DutyCounts", "{}"))
@@ -406,6 +415,7 @@ def refused_files():
             ran.stdout.readline()
             refused = disk_failed(made, "another process has it")
             cases.meets("in use, once", once(made, MORE), (b"", refused, 5))
+            cases.meets("in use, serve", served(made), (b"", refused, 5))
             cases.meets("in use, check", check(made), (5, b"", refused))
             ran.stdin.close()
             ran.stdout.read()
@@ -419,6 +429,10 @@ def refused_files():
         cases.meets(" ".join(words), (output, faults.endswith(b"ebusd: bad arguments\n"), status), (b"", True, 2))
     cases.meets("files that refused words make", [it for it in ("a", "b", "-x") if Path(it).exists()], [])
     return cases
+
+
+def served(path):
+    return run(["serve", "--journal", path, "--port", free_port()])
 
 
 def sends_that_fail():
@@ -436,8 +450,51 @@ def sends_that_fail():
     return cases
 
 
+# ---- serve
+
+
+def serve_ends():
+    """After a disk fault `serve` ends its connections, and then itself, with status 5. Started again, it has what was acknowledged."""
+    cases = Cases()
+    with Room() as room:
+        path = room / "J"
+        env = {"LD_PRELOAD": LIBRARY[0], "DISK_ROOM": "400"}
+        with Served(workers=3, faults=disk_failed(path, f"pwrite: {NO_ROOM}"), journal=path, env=env) as it:
+            with it.client() as idle, it.client() as client:
+                cases.meets("an idle client's request", idle.exchange("DutyCounts")[0], 200)
+                status, made = 200, 0
+                while status == 200:
+                    status, body = client.exchange("CreateQueue", {"QueueName": f"q{made}"})
+                    made += status == 200
+                cases.meets("a request without room", (made > 0, status, body.decode()), (True, *FAILED))
+                cases.meets("its session ends", client.rest(5), b"")
+                cases.meets("the idle session ends, within 5 seconds", idle.rest(5), b"")
+            cases.meets("the end", it.over(60), (b"", 5))
+        counted = checked(path.read_bytes())
+        cases.meets("check", check(path), counted)
+        cases.meets("the records", records_of(path.read_bytes()), made)
+        with Served(workers=3, journal=path) as it, it.client() as client:
+            cases.meets("again, a queue that exists", client.exchange("CreateQueue", {"QueueName": "q0"})[0], 400)
+            cases.meets("again, a new queue", client.exchange("CreateQueue", {"QueueName": f"q{made}"})[0], 200)
+            cases.meets("again, check meanwhile", check(path)[0], 5)
+        cases.meets("again, the records", records_of(path.read_bytes()), made + 1)
+    return cases
+
+
+def serve_killed():
+    """examples/journal/kill.py, by the built program."""
+    cases = Cases()
+    words = [str(JOURNALS / "kill.py"), str(free_port()), "--kills", str(SERVE_KILLS), "--program", *COMMAND]
+    ran = subprocess.run([sys.executable, *words], capture_output=True, timeout=115, check=False)
+    cases.meets("the end", (ran.returncode, ran.stderr), (0, b""))
+    cases.meets("the lines", b"no replied id is missing, and each came once" in ran.stdout, True)
+    return cases
+
+
 def tasks():
-    """The longest first."""
+    """The longest first: kill.py and `serve` sleep most of the time."""
+    yield "kill.py", serve_killed, []
+    yield "serve", serve_ends, []
     for part in range(PARTS):
         yield "crashes of the first run", crashes, [part]
         yield "a full disk", full_disk, [part]
@@ -454,4 +511,5 @@ def tasks():
 
 if __name__ == "__main__":
     begin(sys.argv[1:])
-    sys.exit(make(tasks()))
+    SERVED.extend(COMMAND)
+    sys.exit(make(tasks(), 2))

@@ -237,13 +237,13 @@ def begin(words):
     COMMAND.extend(os.path.abspath(it) if os.path.exists(it) else it for it in command_of(words))
 
 
-def make(tasks):
-    """Makes tasks, each a name, a function and its arguments, as many at once as there are processors. Prints what fails, and returns the
-    status."""
+def make(tasks, more=0):
+    """Makes tasks, each a name, a function and its arguments, as many at once as there are processors, and some more. Prints what fails, and
+    returns the status."""
     passed, failures = 0, []
     with tempfile.TemporaryDirectory() as folder:
         LIBRARY.append(build_library(folder))
-        with ProcessPoolExecutor(os.cpu_count()) as pool:
+        with ProcessPoolExecutor((os.cpu_count() or 1) + more) as pool:
             made = [(name, pool.submit(timed, function, arguments)) for name, function, arguments in tasks]
             for name, it in made:
                 cases, seconds = it.result()

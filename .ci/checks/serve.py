@@ -684,7 +684,7 @@ def bad_words():
     cases += [["--port", port, "--workers", it] for it in ("0", "1025", "02", "")]
     cases += [[*good, "--connections", it] for it in ("0", "1000001", "01", "")]
     cases += [[*good, *it] for it in (good[:2], good[2:], ["--connections", "1", "--connections", "1"], ["--now", "0"], ["x"])]
-    cases += [[*good, "--journal", "J"], ["--journal", "J", *good], ["--prot", port], ["--port"], [*good, "--connections"]]
+    cases += [[*good, "--journal", ""], ["--journal", "-x", *good], ["--prot", port], ["--port"], [*good, "--connections"]]
     for words in cases:
         output, faults, status = run("serve", *words)
         last = faults.splitlines()[-1:]

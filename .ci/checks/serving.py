@@ -43,18 +43,20 @@ def run(*words, stdout=subprocess.PIPE):
 
 class Served:
     """A process that serves. It is ended with the case by SIGTERM. Standard error has to be these lines. `words` are in place of its options,
-    and if they are given with a port, of all of them."""
+    and if they are given with a port, of all of them. `env` is added to its environment."""
 
-    def __init__(self, workers=3, connections=None, port=None, files=None, faults=b"", words=None):
+    def __init__(self, workers=3, connections=None, port=None, files=None, faults=b"", words=None, journal=None, env=None):
         self.faults = faults
         more = [] if connections is None else ["--connections", str(connections)]
+        more += [] if journal is None else ["--journal", str(journal)]
         options = ["--workers", str(workers), *more] if words is None else words
         for _ in range(1 if port else TRIES):
             self.port = port or free_port()
             words = ["serve", *options] if port and words else ["serve", *options, "--port", str(self.port)]
             pipes = {"stdin": subprocess.DEVNULL, "stdout": subprocess.PIPE, "stderr": subprocess.PIPE}
             few = ["prlimit", f"--nofile={files}:"] if files else []
-            self.ran = subprocess.Popen([*few, "env", "--default-signal=INT,TERM", *COMMAND, *words], **pipes)
+            added = [f"{key}={value}" for key, value in (env or {}).items()]
+            self.ran = subprocess.Popen([*few, "env", "--default-signal=INT,TERM", *added, *COMMAND, *words], **pipes)
             self.timer = threading.Timer(SECONDS, self.ran.kill)
             self.timer.start()
             line = self.ran.stdout.readline()
@@ -86,12 +88,12 @@ class Served:
             _, status = self.over()
             expect(f"the status after {by.name}", status, -by)
 
-    def over(self):
-        """What the process wrote after its first line, and its status. It has to end soon."""
+    def over(self, within=END_WITHIN):
+        """What the process wrote after its first line, and its status. It has to end within these seconds."""
         try:
-            status = self.ran.wait(END_WITHIN)
+            status = self.ran.wait(within)
         except subprocess.TimeoutExpired:
-            raise Failure(f"the process has not ended within {END_WITHIN} s") from None
+            raise Failure(f"the process has not ended within {within} s") from None
         self.timer.cancel()
         expect("standard error", self.ran.stderr.read(), self.faults)
         return self.ran.stdout.read(), status

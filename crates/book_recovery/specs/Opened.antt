@@ -46,7 +46,7 @@ pub record IsUnopened {D : Type 0} (calls : D → List DiskCall) (faults : D →
   pub stopped : IsStoppedOpening (calls back)
   pub count : Counts (faults disk) (faults back) (outcome_of {T = Unit {0}} (Err fault))
 
--- Why no book was opened. The disk comes back; without one the fault is want of memory alone.
+-- Why no book was opened. The disk comes back; without one the fault is `NoMemory`.
 -- Shown by: session_tests journaled.rt: a_book_is_opened_from_its_journal.
 abbrev pub HasOpenFault : {D : Type 0} → (D → List DiskCall) → (D → ℕ) → Option D → Option D → JournalFault → Type 0
 HasOpenFault calls faults None back fault = (back ≡ None) × (fault ≡ NoMemory)

@@ -24,7 +24,7 @@ use Rattle.router_history.specs.declared.book.Machine.{Machine}
 use Rattle.router_history.specs.declared.history.Turn.{Turn}
 use Rattle.router_history.specs.History as history
 use Rattle.router_history.specs.History.{State, begun, state_of, after_turn, turns_by, claims_of, IsLegal, AreTurnsFrom}
-use Rattle.router_history.specs.Book.{turn_of, opening, recorded_in, IsBook, IsSoundMachine, Rests}
+use Rattle.router_history.specs.Book.{turn_of, turns_of, recorded_in, IsBook, IsSoundMachine, Rests}
 use Rattle.router_sessions.specs.Desk.{Known, seen_by, turns_seen, number_of}
 use Rattle.router_history.specs.Visit.{OwesNothing, owes_later}
 use Rattle.router_history.proofs.TurnLemmas.{first_other, none_of_mine}
@@ -61,11 +61,11 @@ all_made numbers s (t ∷ ts) legal known =
       | inr there ↦ inr there
     ]))
 
-made_later : (numbers : List ℕ) (turns later : List history.Turn) → IsBook turns → turns ≡ opening ∷ later → ((n : ℕ) → IsKnown numbers turns n)
+made_later : (numbers : List ℕ) (start : history.Turn) (turns later : List history.Turn) → IsBook turns → turns ≡ start ∷ later → ((n : ℕ) → IsKnown numbers turns n)
     → All (IsMadeBy numbers) later
-made_later numbers turns later h opened known =
-    all_made numbers (after_turn opening (begun first_tables)) later (subst IsLegal opened h.legal).1 (λ n. elim (known n) [
-      | inl none ↦ inl (first_none n opening later (subst (λ (ts : List history.Turn). turns_by n ts ≡ []) opened none))
+made_later numbers start turns later h opened known =
+    all_made numbers (after_turn start (begun first_tables)) later (subst IsLegal opened h.legal).1 (λ n. elim (known n) [
+      | inl none ↦ inl (first_none n start later (subst (λ (ts : List history.Turn). turns_by n ts ≡ []) opened none))
       | inr there ↦ inr there
     ])
 
@@ -81,19 +81,19 @@ none_left numbers turns known rests = no_claims (state_of turns).open_claims eac
     ]
 
 -- the pass that opened the hall made no turn
-pub caller_none : {V : Type 0} (old new : Known V) (turns : List Turn) → number_of old ≡ 0 → number_of new ≡ number_of old → turns_seen old ≡ opening ∷ []
+pub caller_none : {V : Type 0} (start : history.Turn) (old new : Known V) (turns : List Turn) → number_of old ≡ 0 → number_of new ≡ number_of old → turns_seen old ≡ start ∷ [] → turns_by 0 (start ∷ []) ≡ []
     → Learns maker (view old) (seen_by new) → Learns maker (view new) turns → turns_by 0 (map turn_of turns) ≡ []
-caller_none old new turns first same opened one two =
+caller_none start old new turns first same opened none one two =
     let later : book.turns_by maker 0 turns ≡ book.turns_by maker 0 (seen_by new) =
     subst (λ (k : ℕ). book.turns_by maker k turns ≡ book.turns_by maker k (seen_by new)) (same ∙ first) two.1 in
     let before : book.turns_by maker 0 (seen_by new) ≡ book.turns_by maker 0 (seen_by old) =
     subst (λ (k : ℕ). book.turns_by maker k (seen_by new) ≡ book.turns_by maker k (seen_by old)) first one.1 in
-    own_turns 0 turns ∙ ap (map turn_of) (later ∙ before) ∙ sym (own_turns 0 (seen_by old)) ∙ ap (turns_by 0) opened
+    own_turns 0 turns ∙ ap (map turn_of) (later ∙ before) ∙ sym (own_turns 0 (seen_by old)) ∙ ap (turns_by 0) opened ∙ none
 
 -- what the pass saw first, with later turns
-pub begins_with : {V : Type 0} (old new : Known V) (turns : List Turn) → turns_seen old ≡ opening ∷ [] → IsPrefix (seen_by old) (seen_by new) → IsPrefix (seen_by new) turns
-    → (later : List history.Turn) × (map turn_of turns ≡ opening ∷ later)
-begins_with old new turns opened (xs, one) (ys, two) =
+pub begins_with : {V : Type 0} (start : history.Turn) (old new : Known V) (turns : List Turn) → turns_seen old ≡ start ∷ [] → IsPrefix (seen_by old) (seen_by new) → IsPrefix (seen_by new) turns
+    → (later : List history.Turn) × (map turn_of turns ≡ start ∷ later)
+begins_with start old new turns opened (xs, one) (ys, two) =
     let whole : turns ≡ seen_by old ++ (xs ++ ys) = sym two ∙ ap (λ (ts : List Turn). ts ++ ys) (sym one) ∙ append_assoc (seen_by old) xs ys in (
       map turn_of (xs ++ ys),
       ap (map turn_of) whole ∙ map-append turn_of (seen_by old) (xs ++ ys) ∙ ap (λ (ts : List history.Turn). ts ++ map turn_of (xs ++ ys)) opened,
@@ -104,7 +104,7 @@ abbrev pub Learned : List Turn → ℕ × List Turn → Type 0
 Learned turns p = IsPrefix p.1 turns × (book.turns_by maker p.0 turns ≡ book.turns_by maker p.0 p.1)
 
 module _ {D Own I O : Type 0} (show : D → Shown I O) (fits : ℕ → I × O → I × O → Bool → List Turn → List Turn → Type 0)
-    (did : ℕ → Own → Own → List (Session I O Turn) → List Turn → Type 0)
+    (did : ℕ → Own → Own → List (Session I O Turn) → List Turn → Type 0) (start : history.Turn) (Keeps : List history.Turn → Type 0)
     (fits_last : (n : ℕ) (came went : I × O) (cut : Bool) (before turns more : List Turn) → fits n came went cut before turns
     → fits n came went cut before (turns ++ more))
     (did_lasts : (n : ℕ) (lent now : Own) (sessions : List (Session I O Turn)) (seen turns : List Turn) → IsPrefix seen turns
@@ -119,20 +119,22 @@ module _ {D Own I O : Type 0} (show : D → Shown I O) (fits : ℕ → I × O �
     pub served : HasServed connections (show old.door) (show new.door) fits seen end
     pub done : AreDone did served.acts maker 1 old.owns new.owns passes
     pub longer : IsPrefix seen turns
-    pub begins : (later : List history.Turn) × (map turn_of turns ≡ opening ∷ later)
+    pub begins : (later : List history.Turn) × (map turn_of turns ≡ start ∷ later)
     pub caller : turns_by 0 (map turn_of turns) ≡ []
     pub learned : All (Learned turns) passes
     pub owes : All (λ p. OwesNothing p.0 p.1) passes
     pub unmade : IsUnmade maker (1 + length passes) turns
 
   opened : (connections : Option ℕ) (old new : AtDoor D Own) (end : DoorEnd) (passes : List (ℕ × List Turn)) (b : Machine) (status : Status)
-      → IsClosed connections old new end passes (recorded_in b.history) → IsSoundMachine b → EndsServing end b.tables old.written new.written status
-      → IsOpened show fits did connections old new status
-  opened connections old new end passes b status c is ends = record {
+      → IsClosed connections old new end passes (recorded_in b.history) → IsSoundMachine b → Keeps (turns_of b)
+      → EndsServing (state_of (turns_of b)).broken end b.tables old.written new.written status
+      → IsOpened show fits did start Keeps connections old new status
+  opened connections old new end passes b status c is kept ends = record {
     turns = turns;
     book = is.book;
     later = c.begins.0;
     opened = c.begins.1;
+    kept = kept;
     end = end;
     served = served_on show fits fits_last connections old.door new.door c.seen turns end c.served c.longer;
     crew = map (at_end turns) c.done.crew;
@@ -143,11 +145,11 @@ module _ {D Own I O : Type 0} (show : D → Shown I O) (fits : ℕ → I × O �
       record { among = w.among; did_so = did_lasts _ _ _ _ _ turns (learned k d below).0 (learned k d below).1 w.did_so },
       refl,
     ));
-    makers = subst (λ (ns : List ℕ). All (IsMadeBy ns) c.begins.0) (sym same_numbers) (made_later numbers (map turn_of turns) c.begins.0 is.book c.begins.1 known);
+    makers = subst (λ (ns : List ℕ). All (IsMadeBy ns) c.begins.0) (sym same_numbers) (made_later numbers start (map turn_of turns) c.begins.0 is.book c.begins.1 known);
     none_open = none_left numbers (map turn_of turns) known
         (All-map (λ n. Rests n (map turn_of turns)) (λ w. w.number) c.done.crew (λ k d below.
         owes_rests _ turns (owes_later _ _ turns (learned k d below).0 (learned k d below).1 (owes k d below))));
-    ends = subst (λ (t : Tables). EndsServing end t old.written new.written status) (sym is.tables) ends;
+    ends = subst (λ (t : Tables). EndsServing (state_of (turns_of b)).broken end t old.written new.written status) (sym is.tables) ends;
   } where
     turns : List Turn
     turns = recorded_in b.history
@@ -182,13 +184,16 @@ module _ {D Own I O : Type 0} (show : D → Shown I O) (fits : ℕ → I × O �
   -- the door was served, or there was no memory for its workers
   pub opens : {Count : Type 0} (connections : Option ℕ) (old new : AtDoor D Own) (end : DoorEnd) (passes : List (ℕ × List Turn)) (b : Machine) (status : Status)
       → (end ≢ ends.NoMemory → IsClosed connections old new end passes (recorded_in b.history))
-      → (end ≡ ends.NoMemory → (new.door ≡ old.door) × (new.owns ≡ old.owns)) → Count → IsSoundMachine b
-      → (end ≢ ends.NoMemory → EndsServing end b.tables old.written new.written status)
+      → (end ≡ ends.NoMemory → (new.door ≡ old.door) × (new.owns ≡ old.owns)) → Count → IsSoundMachine b → Keeps (turns_of b)
+      → (end ≡ ends.NoMemory → Keeps (start ∷ []))
+      → (end ≢ ends.NoMemory → EndsServing (state_of (turns_of b)).broken end b.tables old.written new.written status)
       → (end ≡ ends.NoMemory → (status ≡ statuses.NoMemory) × (new.written ≡ old.written))
-      → (Count × IsOpened show fits did connections old new status) ⊎ IsUnopened old new status
-  opens {Count} connections old new ends.Done passes b status closed same count is ended none =
-      inl (count, opened connections old new ends.Done passes b status (closed (λ e. cc)) is (ended (λ e. cc)))
-  opens {Count} connections old new ends.DoorFault passes b status closed same count is ended none =
-      inl (count, opened connections old new ends.DoorFault passes b status (closed (λ e. cc)) is (ended (λ e. cc)))
-  opens {Count} connections old new ends.NoMemory passes b status closed same count is ended none =
-      inr (record { same_door = (same refl).0; same_owns = (same refl).1; unwritten = (none refl).1; no_memory = (none refl).0 })
+      → (Count × IsOpened show fits did start Keeps connections old new status) ⊎ (IsUnopened old new status × Keeps (start ∷ []))
+  opens {Count} connections old new ends.Done passes b status closed same count is kept first ended none =
+      inl (count, opened connections old new ends.Done passes b status (closed (λ e. cc)) is kept (ended (λ e. cc)))
+  opens {Count} connections old new ends.DoorFault passes b status closed same count is kept first ended none =
+      inl (count, opened connections old new ends.DoorFault passes b status (closed (λ e. cc)) is kept (ended (λ e. cc)))
+  opens {Count} connections old new ends.Stopped passes b status closed same count is kept first ended none =
+      inl (count, opened connections old new ends.Stopped passes b status (closed (λ e. cc)) is kept (ended (λ e. cc)))
+  opens {Count} connections old new ends.NoMemory passes b status closed same count is kept first ended none =
+      inr (record { same_door = (same refl).0; same_owns = (same refl).1; unwritten = (none refl).1; no_memory = (none refl).0 }, first refl)

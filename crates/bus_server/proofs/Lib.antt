@@ -11,5 +11,6 @@ pub mod JournalLemmas
 pub mod RecordedLemmas
 pub mod RunLemmas
 pub mod SeatedLemmas
+pub mod ServeJournalLemmas
 pub mod ServeLemmas
 pub mod WordsLemmas

@@ -1,5 +1,5 @@
 -- Each send is recorded if no other turn comes between a claim and its record, or its record broke the book. Other files cite
--- `session_recorded`.
+-- `session_recorded` and `stays_broken`.
 use Rattle.std.proofs.Common.{◌≡◌, ℕ, zero, suc, ◌⊎◌, inl, inr, Bool, true, false, List, [], ◌∷◌, ◌++◌, Option, Some, None, sym, refl, ap, ◌∙◌, subst, append_assoc, arith}
 use Rattle.std.specs.Prelude.{All, Contains}
 use Rattle.std.proofs.lemmas.Grind.{flat_map-append}
@@ -259,7 +259,7 @@ stays_asked turn (records a) s is broken = broken_written turn.batch s ∙ broke
 stays_asked turn (puts_back c why) s is broken = broken
 stays_asked turn (breaks bs) s is broken = refl
 
-stays_broken : (turns : List Turn) (s : State) → AreTurnsFrom s turns → s.broken ≡ true → (state_after turns s).broken ≡ true
+pub stays_broken : (turns : List Turn) (s : State) → AreTurnsFrom s turns → s.broken ≡ true → (state_after turns s).broken ≡ true
 stays_broken [] s legal broken = broken
 stays_broken (turn ∷ turns) s legal broken = stays_broken turns (after_turn turn s) legal.1 (stays_asked turn turn.ask s legal.0 broken)
 

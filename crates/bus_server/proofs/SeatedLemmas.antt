@@ -1,5 +1,8 @@
--- A session over a book of one turn. Other files cite `home_leaves`, `home_broken`, `run_seated`, `opener`, `ended_home` and `sits_whole`.
+-- A session over a book of one turn. Other files cite `home_leaves`, `home_broken`, `run_seated`, `opener`, `ended_home`, `first_home`, `still_broken` and
+-- `sits_whole`.
 use Rattle.std.proofs.Common.{◌≡◌, ◌≢◌, ℕ, inl, inr, Bool, true, false, List, [], ◌∷◌, ◌++◌, map, Option, Some, None, refl, sym, ap, ◌∙◌, subst}
+use Rattle.std.proofs.lemmas.List.{map-append}
+use mathlib.Core.List.{IsPrefix}
 use Rattle.router_disk.specs.declared.disk_call.DiskCall.{DiskCall}
 use Rattle.router_disk.specs.Link.{Exchange}
 use Rattle.turn_book.specs.Rule.{IsUnmade, Learns}
@@ -15,18 +18,19 @@ use Rattle.program_lines.specs.declared.status.Status.TheVariants as statuses
 use Rattle.message_streams.specs.declared.farewell.SessionEnd.{SessionEnd}
 use Rattle.router_history.specs.declared.book.Book.{Book}
 use Rattle.router_history.specs.declared.history.Turn.{Turn as CodeTurn}
-use Rattle.router_history.specs.History.{Turn, begun, state_of, turns_by}
+use Rattle.router_history.specs.History.{Turn, State, begun, state_of, turns_by}
 use Rattle.router_history.specs.Book.{turn_of, turns_of, recorded_in, opening, IsBook, Rests}
 use Rattle.router_history.specs.Home.{IsHome, IsSoundBook}
 use Rattle.router_history.specs.Acts.{World, world}
-use Rattle.router_history.proofs.TurnLemmas.{none_of_mine}
-use Rattle.router_history.proofs.BookLemmas.{whole_of}
+use Rattle.router_history.proofs.TurnLemmas.{none_of_mine, state_append}
+use Rattle.router_history.proofs.BookLemmas.{added_legal, whole_of}
 use Rattle.router_sessions.specs.Desk.{Known, number_of, turns_seen}
 use Rattle.router_sessions.proofs.DeskLemmas.{maker, own_turns}
 use Rattle.drill_run.proofs.DrillLemmas.{same_history}
 use Rattle.bus_server.specs.Run.{status_of, Around, around, EndsWhole, IsRun, RunsBy, RunsOnce}
 use Rattle.bus_server.specs.Journal.{EndsJournaled, status_after}
 use Rattle.bus_server.specs.Seated.{IsOpener, IsSeated, LeavesHome, Sits}
+use Rattle.bus_server.proofs.RecordedLemmas.{stays_broken}
 use Rattle.bus_server.proofs.RunLemmas.{disk_first, no_door_fault, no_usage_end}
 
 -- the disk that a book leaves
@@ -73,6 +77,7 @@ opener calls faults b known made free is unmade =
       made = ap (λ (v : View CodeTurn). v.made) made;
       free = free;
       book = subst IsBook (sym seen) is.kept.book;
+      unmade = ap (turns_by 0) seen ∙ none;
       rests = subst (Rests 0) (sym seen) (none_of_mine 0 (turns_of b.machine) (begun first_tables) none refl);
     }
 
@@ -82,6 +87,27 @@ pub ended_home : {D : Type 0} (calls : D → List DiskCall) (faults : D → ℕ)
     → IsBook (turns_seen known) → IsHome calls faults (turns_seen known) b.home
 ended_home calls faults b known number learns unmade is seen =
     subst (λ (ts : List Turn). IsHome calls faults ts b.home) (same_history (view known) (recorded_in b.machine.history) number learns unmade seen is.kept.book) is.home
+
+-- a pass that made nothing has seen the one turn of the book
+pub first_home : {D : Type 0} (calls : D → List DiskCall) (faults : D → ℕ) (b : Book D) (old new : Known (Book D)) (start : Turn) (disk : Option D) → IsOpener old
+    → new ≡ old → turns_seen old ≡ start ∷ [] → Learns maker (view new) (recorded_in b.machine.history) → IsUnmade maker (view new).made (recorded_in b.machine.history)
+    → IsSoundBook calls faults b → disk ≡ disk_in b.home → LeavesHome calls faults (start ∷ []) disk
+first_home {D} calls faults b old new start disk o same opened learns unmade is disk_is =
+    let all = recorded_in b.machine.history in
+    let made : (view new).made ≡ 1 = ap (λ (k : Known (Book D)). (view k).made) same ∙ o.made in
+    home_leaves calls faults (start ∷ []) b.home disk
+    (subst (λ (ts : List Turn). IsHome calls faults ts b.home) opened
+    (ended_home calls faults b old o.number (subst (λ (k : Known (Book D)). Learns maker (view k) all) same learns) (subst (λ (n : ℕ). IsUnmade maker n all) made unmade) is o.book))
+    disk_is
+
+-- a broken book stays broken
+pub still_broken : (seen all : List CodeTurn) → IsPrefix seen all → IsBook (map turn_of seen) → IsBook (map turn_of all)
+    → (state_of (map turn_of seen)).broken ≡ true → (state_of (map turn_of all)).broken ≡ true
+still_broken seen all (rest, is) old new broken =
+    let split : map turn_of all ≡ map turn_of seen ++ map turn_of rest = sym (ap (map turn_of) is) ∙ map-append turn_of seen rest in
+    ap (λ (ts : List Turn). (state_of ts).broken) split
+    ∙ ap (λ (s : State). s.broken) (state_append (begun first_tables) (map turn_of seen) (map turn_of rest))
+    ∙ stays_broken (map turn_of rest) (state_of (map turn_of seen)) (added_legal (map turn_of seen) (map turn_of all) (map turn_of rest) old new split) broken
 
 -- the status of a session is none of these
 pub no_door_after : (broken : Bool) (end : SessionEnd) (status : Status) → status ≡ status_after broken end → (status ≢ statuses.DoorFault) × (status ≢ statuses.Usage)

@@ -1,7 +1,7 @@
 -- Words that are not carried out. Other files cite `unread_by`, `refused_by`, `unread_command` with `unread_once`, `unread_serve` and `unread_drill` (a
--- command for which there is no memory), `unread_check`, `no_door_unread`, `no_usage_serve`, `no_usage_drill`, `no_usage_check`, `said`, `reported_last`,
+-- command for which there is no memory), `unread_check`, `no_door_unread`, `serve_apart`, `journal_apart`, `no_usage_drill`, `no_usage_check`, `said`, `reported_last`,
 -- `reported_alone`; `unread_begun`; `same_once` and the others of commands; `no_path`.
-use Rattle.std.proofs.Common.{◌≡◌, ◌≢◌, ℕ, ◌<◌, ◌≤◌, ◌⊎◌, inl, inr, Bool, List, [], ◌++◌, Option, Some, None, Result, Ok, Err, refl, sym, subst, arith, append-nil}
+use Rattle.std.proofs.Common.{◌≡◌, ◌≢◌, ℕ, ◌<◌, ◌≤◌, ◌⊎◌, inl, inr, Bool, true, false, List, [], map, ◌++◌, Option, Some, None, Result, Ok, Err, refl, sym, subst, arith, append-nil}
 use Rattle.program_lines.specs.declared.status.Status.{Status}
 use Rattle.program_lines.specs.declared.status.Status.TheVariants as statuses
 use Rattle.command_line.specs.Command.{CommandView, IsCommand, once, serve, check, drill}
@@ -25,7 +25,12 @@ use Rattle.tables_summary.specs.Summary.{IsSummed}
 use Rattle.program_lines.specs.Files.{workers_for}
 use Rattle.bus_server.specs.Run.{FaultsMatch, HostMatches, IsReported, IsReportedLast, IsRun, IsUnbegun, around}
 use Rattle.door_workers.specs.Serving.{Session}
-use Rattle.bus_server.specs.Serve.{AroundDoor, EndsServing, EndsUnserved, IsServe, IsUnserved, around_door}
+use Rattle.bus_server.specs.Serve.{AroundDoor, EndsServing, EndsUnserved, IsServeOn, IsUnserved, around_door}
+use Rattle.bus_server.specs.Journal.{Disks}
+use Rattle.bus_server.specs.ServeJournal.{IsJournaledServe}
+use Rattle.bus_server.proofs.JournalLemmas.{fault_apart}
+use Rattle.router_history.specs.History as history
+use Rattle.router_history.specs.Book.{turn_of}
 use Rattle.bus_server.specs.Words.{EndsBy, EndsUnread}
 use Rattle.bus_server.proofs.ServeLemmas.{no_room}
 
@@ -89,23 +94,6 @@ no_usage_summed t old new status (inl (is, written)) = λ e. cc
 no_usage_summed t old new status (inr (inl (is, written))) = λ e. cc
 no_usage_summed t old new status (inr (inr (is, written))) = λ e. cc
 
-no_usage_ending : (end : DoorEnd) (t : Tables) (old new : List ℕ) (status : Status) → EndsServing end t old new status → status ≢ statuses.Usage
-no_usage_ending ends.Done t old new status is = no_usage_summed t old new status is
-no_usage_ending ends.DoorFault t old new status (is, same) = λ e. cc
-no_usage_ending ends.NoMemory t old new status is = absurd is
-
-no_usage_unserved : {D L C : Type 0} (port : ℕ) (old new : AroundDoor D L C) (status : Status) → EndsUnserved port old new status → status ≢ statuses.Usage
-no_usage_unserved port old new status (inl (is, same, one)) = λ e. cc
-no_usage_unserved port old new status (inr (inl (is, part))) = λ e. cc
-no_usage_unserved port old new status (inr (inr (is, written))) = λ e. cc
-
-pub no_usage_serve : {D L C I O : Type 0} (show : D → Shown I O) (fits : ℕ → I × O → I × O → Bool → List Turn → List Turn → Type 0)
-    (did : ℕ → L × C → L × C → List (Session I O Turn) → List Turn → Type 0) (port workers : ℕ)
-    (connections : Option ℕ) (old new : AroundDoor D L C) (status : Status) → IsServe show fits did port workers connections old new status → status ≢ statuses.Usage
-no_usage_serve show fits did port workers connections old new status (inl served) =
-    no_usage_ending served.opened.end _ _ new.written status served.opened.ends
-no_usage_serve show fits did port workers connections old new status (inr unserved) = no_usage_unserved port old new status unserved.cause
-
 pub no_usage_drill : (seed events : ℕ) (old new : List ℕ) (status : Status) → IsDrill seed events old new status → status ≢ statuses.Usage
 no_usage_drill seed events old new status (inl (turns, drilled, one, summed)) = no_usage_summed (state_of turns).tables old new status summed
 no_usage_drill seed events old new status (inr (is, same)) = λ e. cc
@@ -164,22 +152,39 @@ pub no_door_drill : (seed events : ℕ) (old new : List ℕ) (status : Status) �
 no_door_drill seed events old new status (inl (turns, drilled, one, summed)) = no_door_summed (state_of turns).tables old new status summed
 no_door_drill seed events old new status (inr (is, same)) = ((λ e. cc), (λ e. cc))
 
-no_read_summed : (end : DoorEnd) (t : Tables) (old new : List ℕ) (status : Status) → EndsServing end t old new status → status ≢ statuses.ReadFault
-no_read_summed ends.Done t old new status is = (no_door_summed t old new status is).1
-no_read_summed ends.DoorFault t old new status (is, same) = λ e. cc
-no_read_summed ends.NoMemory t old new status is = absurd is
+-- a program that serves has no such status
+ending_apart : (broken : Bool) (end : DoorEnd) (t : Tables) (old new : List ℕ) (status : Status) → EndsServing broken end t old new status
+    → (status ≢ statuses.Usage) × (status ≢ statuses.ReadFault)
+ending_apart true end t old new status (is, same) = ((λ e. cc), (λ e. cc))
+ending_apart false ends.Done t old new status is = (no_usage_summed t old new status is, (no_door_summed t old new status is).1)
+ending_apart false ends.DoorFault t old new status (is, same) = ((λ e. cc), (λ e. cc))
+ending_apart false ends.Stopped t old new status is = absurd is
+ending_apart false ends.NoMemory t old new status is = absurd is
 
-no_read_unserved : {D L C : Type 0} (port : ℕ) (old new : AroundDoor D L C) (status : Status) → EndsUnserved port old new status → status ≢ statuses.ReadFault
-no_read_unserved port old new status (inl (is, same, one)) = λ e. cc
-no_read_unserved port old new status (inr (inl (is, part))) = λ e. cc
-no_read_unserved port old new status (inr (inr (is, written))) = λ e. cc
+unserved_apart : {D L C : Type 0} (port : ℕ) (old new : AroundDoor D L C) (status : Status) → EndsUnserved port old new status
+    → (status ≢ statuses.Usage) × (status ≢ statuses.ReadFault)
+unserved_apart port old new status (inl (is, same, one)) = ((λ e. cc), (λ e. cc))
+unserved_apart port old new status (inr (inl (is, part))) = ((λ e. cc), (λ e. cc))
+unserved_apart port old new status (inr (inr (is, written))) = ((λ e. cc), (λ e. cc))
 
-pub no_read_serve : {D L C I O : Type 0} (show : D → Shown I O) (fits : ℕ → I × O → I × O → Bool → List Turn → List Turn → Type 0)
-    (did : ℕ → L × C → L × C → List (Session I O Turn) → List Turn → Type 0) (port workers : ℕ)
-    (connections : Option ℕ) (old new : AroundDoor D L C) (status : Status) → IsServe show fits did port workers connections old new status → status ≢ statuses.ReadFault
-no_read_serve show fits did port workers connections old new status (inl served) =
-    no_read_summed served.opened.end _ _ new.written status served.opened.ends
-no_read_serve show fits did port workers connections old new status (inr unserved) = no_read_unserved port old new status unserved.cause
+pub serve_apart : {D L C I O : Type 0} (show : D → Shown I O) (fits : ℕ → I × O → I × O → Bool → List Turn → List Turn → Type 0)
+    (did : ℕ → L × C → L × C → List (Session I O Turn) → List Turn → Type 0) (start : history.Turn) (Keeps : List history.Turn → Type 0) (port workers : ℕ)
+    (connections : Option ℕ) (old new : AroundDoor D L C) (status : Status) → IsServeOn show fits did start Keeps port workers connections old new status
+    → (status ≢ statuses.Usage) × (status ≢ statuses.ReadFault)
+serve_apart show fits did start Keeps port workers connections old new status (inl served) =
+    let o = served.opened in ending_apart (state_of (map turn_of o.turns)).broken o.end (state_of (map turn_of o.turns)).tables _ new.written status o.ends
+serve_apart show fits did start Keeps port workers connections old new status (inr (unserved, kept)) = unserved_apart port old new status unserved.cause
+
+pub journal_apart : {J D L C I O : Type 0} (calls : J → List DiskCall) (faults : J → ℕ) (show : D → Shown I O)
+    (fits : ℕ → I × O → I × O → Bool → List Turn → List Turn → Type 0) (did : ℕ → L × C → L × C → List (Session I O Turn) → List Turn → Type 0) (path : List ℕ)
+    (port workers : ℕ) (connections : Option ℕ) (old_disks new_disks : Disks J) (old new : AroundDoor D L C) (status : Status)
+    → IsJournaledServe calls faults show fits did path port workers connections old_disks new_disks old new status → (status ≢ statuses.Usage) × (status ≢ statuses.ReadFault)
+journal_apart calls faults show fits did path port workers connections old_disks new_disks old new status (inl lent) = elim lent.has [
+  | inl none ↦ let apart = fault_apart none.fault status none.is in (apart.usage, apart.read)
+  | inr served ↦ serve_apart show fits did _ _ port workers connections old new status served.serves
+]
+journal_apart calls faults show fits did path port workers connections old_disks new_disks old new status (inr none) =
+    unchecked_end (Rose old_disks.faults new_disks.faults) (new_disks.faults ≡ old_disks.faults) status none.cause
 
 -- the faults of a program that does not read
 pub unread_counts : (status : Status) (reads writes writes_new : ℕ) → status ≢ statuses.ReadFault → (status ≡ statuses.WriteFault → Rose writes writes_new)
@@ -192,8 +197,8 @@ unread_counts status reads writes writes_new other rose same =
 pub same_once : (j k : Option (List ℕ)) (a b : Option ℕ) → once j a ≡ once k b → (j ≡ k) × (a ≡ b)
 same_once j k a b is = (cc, cc)
 
-pub same_serve : (p w p2 w2 : ℕ) (k k2 : Option ℕ) → serve p w k ≡ serve p2 w2 k2 → (p ≡ p2) × (w ≡ w2) × (k ≡ k2)
-same_serve p w p2 w2 k k2 is = (cc, cc, cc)
+pub same_serve : (j j2 : Option (List ℕ)) (p w p2 w2 : ℕ) (k k2 : Option ℕ) → serve j p w k ≡ serve j2 p2 w2 k2 → (j ≡ j2) × (p ≡ p2) × (w ≡ w2) × (k ≡ k2)
+same_serve j j2 p w p2 w2 k k2 is = (cc, cc, cc, cc)
 
 pub same_drill : (s e s2 e2 : ℕ) → drill s e ≡ drill s2 e2 → (s ≡ s2) × (e ≡ e2)
 same_drill s e s2 e2 is = (cc, cc)
@@ -201,8 +206,8 @@ same_drill s e s2 e2 is = (cc, cc)
 pub same_check : (a b : List ℕ) → check a ≡ check b → a ≡ b
 same_check a b is = cc
 
-pub once_serve : (j : Option (List ℕ)) (a : Option ℕ) (p w : ℕ) (k : Option ℕ) → once j a ≡ serve p w k → ⊥
-once_serve j a p w k is = cc
+pub once_serve : (j : Option (List ℕ)) (a : Option ℕ) (i : Option (List ℕ)) (p w : ℕ) (k : Option ℕ) → once j a ≡ serve i p w k → ⊥
+once_serve j a i p w k is = cc
 
 pub once_drill : (j : Option (List ℕ)) (a : Option ℕ) (s e : ℕ) → once j a ≡ drill s e → ⊥
 once_drill j a s e is = cc
@@ -215,11 +220,11 @@ pub no_path : (o : Option (List ℕ)) → ((path : List ℕ) → o ≢ Some path
 no_path None none = refl
 no_path (Some path) none = absurd (none path refl)
 
-pub serve_check : (p w : ℕ) (k : Option ℕ) (j : List ℕ) → serve p w k ≡ check j → ⊥
-serve_check p w k j is = cc
+pub serve_check : (i : Option (List ℕ)) (p w : ℕ) (k : Option ℕ) (j : List ℕ) → serve i p w k ≡ check j → ⊥
+serve_check i p w k j is = cc
 
 pub check_drill : (j : List ℕ) (s e : ℕ) → check j ≡ drill s e → ⊥
 check_drill j s e is = cc
 
-pub serve_drill : (p w : ℕ) (k : Option ℕ) (s e : ℕ) → serve p w k ≡ drill s e → ⊥
-serve_drill p w k s e is = cc
+pub serve_drill : (i : Option (List ℕ)) (p w : ℕ) (k : Option ℕ) (s e : ℕ) → serve i p w k ≡ drill s e → ⊥
+serve_drill i p w k s e is = cc

@@ -50,18 +50,38 @@ LeavesDisk {D} calls faults turns disk = (j : Journal D) × (disk ≡ j.file.dis
 abbrev pub opening_of : {D : Type 0} → (D → ℕ) → D → Journal D → Turn
 opening_of faults disk j = opening_on (batches_of j) (Some (faults disk))
 
+-- The host gave one disk, at the path, just opened, and took one back, with no fault of its own. `Has` holds of the disk as it was lent, and as
+-- it came back. That the disk that came back is the one that was lent is in no field: a run with any type of disk has no other to give back.
+-- Shown by: program_tests journal.rt: a_run_keeps_its_journal.
+pub record LendsDisk {D : Type 0} (calls : D → List DiskCall) (path : List ℕ) (Has : D → D → Type 0) (old new : Disks D) : Type 0 where
+  pub lent : D
+  pub returned : D
+  pub just_opened : calls lent ≡ []
+  pub given : new.given ≡ old.given ++ (path, lent) ∷ []
+  pub back : new.back ≡ old.back ++ returned ∷ []
+  pub faultless : new.faults ≡ old.faults
+  pub has : Has lent returned
+
+-- The host gave no disk, and nothing was begun: it failed, or memory was refused.
+-- Shown by: program_tests journal.rt: a_run_without_a_disk_begins_nothing.
+pub record IsUnlent {D : Type 0} (Unbegun : Type 0) (old new : Disks D) (status : Status) : Type 0 where
+  pub unbegun : Unbegun
+  pub none_given : new.given ≡ old.given
+  pub none_back : new.back ≡ old.back
+  pub cause : ((status ≡ statuses.DiskFault) × Rose old.faults new.faults)
+      ⊎ ((status ≡ statuses.NoMemory) × (new.faults ≡ old.faults))
+
+-- No journal was opened on the disk: the status says why, by `HasOpenFault`, and nothing was begun.
+-- Shown by: program_tests journal.rt: other_files_are_refused.
+pub record IsNotOpened {D : Type 0} (calls : D → List DiskCall) (faults : D → ℕ) (Unbegun : Type 0) (lent returned : D) (status : Status) : Type 0 where
+  pub fault : JournalFault
+  pub cause : HasOpenFault calls faults (Some lent) (Some returned) fault
+  pub is : status ≡ status_of_fault fault
+  pub unbegun : Unbegun
+
 -- `calls` and `faults` are what a disk shows, `answered` and `link_faults` what a link shows. `Counts` holds of a status that the counts of
 -- faults of input and output match.
 module _ {D L : Type 0} (calls : D → List DiskCall) (faults : D → ℕ) (answered : L → List Exchange) (link_faults : L → ℕ) (Counts : Status → Type 0) where
-  -- No journal was opened on the disk: the status says why, by `HasOpenFault`, and nothing was begun.
-  -- Shown by: program_tests journal.rt: other_files_are_refused.
-  pub record IsNotOpened (lent returned : D) (old new : Around L) (status : Status) : Type 0 where
-    pub fault : JournalFault
-    pub cause : HasOpenFault calls faults (Some lent) (Some returned) fault
-    pub is : status ≡ status_of_fault fault
-    pub unbegun : IsUnbegun old new
-    pub counted : Counts status
-
   -- A journal was opened on the disk, but memory ran out, or the host gave no link: nothing was begun, and the disk is that of a journal that
   -- holds what was found.
   -- Shown by: program_tests journal.rt: a_run_without_a_link_changes_nothing.
@@ -84,34 +104,12 @@ module _ {D L : Type 0} (calls : D → List DiskCall) (faults : D → ℕ) (answ
 
   -- What became of a disk that was just opened: `IsNotOpened`, `IsOnlyOpened` or `IsJournaled`.
   -- Shown by: program_tests journal.rt: other_files_are_refused, a_run_keeps_its_journal.
-  abbrev pub HasJournal : Option ℕ → D → D → Around L → Around L → Status → Type 0
-  HasJournal now lent returned old new status =
-      IsNotOpened lent returned old new status ⊎ (IsOnlyOpened lent returned old new status ⊎ IsJournaled now lent returned old new status)
+  abbrev pub HasJournal : Option ℕ → Around L → Around L → Status → D → D → Type 0
+  HasJournal now old new status lent returned = IsNotOpened calls faults (IsUnbegun old new × Counts status) lent returned status
+      ⊎ (IsOnlyOpened lent returned old new status ⊎ IsJournaled now lent returned old new status)
 
-  -- The host gave one disk, at the path, just opened, and took one back, with no fault of its own. `HasJournal` says what became of it. That
-  -- the disk that came back is the one that was lent is in no field: a run with any type of disk has no other to give back.
-  -- Shown by: program_tests journal.rt: a_run_keeps_its_journal.
-  pub record LendsDisk (path : List ℕ) (now : Option ℕ) (old_disks new_disks : Disks D) (old new : Around L) (status : Status) : Type 0 where
-    pub lent : D
-    pub returned : D
-    pub just_opened : calls lent ≡ []
-    pub given : new_disks.given ≡ old_disks.given ++ (path, lent) ∷ []
-    pub back : new_disks.back ≡ old_disks.back ++ returned ∷ []
-    pub faultless : new_disks.faults ≡ old_disks.faults
-    pub has : HasJournal now lent returned old new status
-
-  -- The host gave no disk, and nothing was begun: it failed, or memory was refused.
-  -- Shown by: program_tests journal.rt: a_run_without_a_disk_begins_nothing.
-  pub record IsUnlent (old_disks new_disks : Disks D) (old new : Around L) (status : Status) : Type 0 where
-    pub unbegun : IsUnbegun old new
-    pub none_given : new_disks.given ≡ old_disks.given
-    pub none_back : new_disks.back ≡ old_disks.back
-    pub cause : ((status ≡ statuses.DiskFault) × Rose old_disks.faults new_disks.faults)
-        ⊎ ((status ≡ statuses.NoMemory) × (new_disks.faults ≡ old_disks.faults))
-    pub counted : Counts status
-
-  -- The run of a program whose journal is the file at the path: `LendsDisk` or `IsUnlent`.
+  -- The run of a program whose journal is the file at the path: `LendsDisk` with `HasJournal`, or `IsUnlent`.
   -- Shown by: program_tests journal.rt: a_run_keeps_its_journal, a_run_without_a_disk_begins_nothing.
   abbrev pub IsJournaledRun : List ℕ → Option ℕ → Disks D → Disks D → Around L → Around L → Status → Type 0
   IsJournaledRun path now old_disks new_disks old new status =
-      LendsDisk path now old_disks new_disks old new status ⊎ IsUnlent old_disks new_disks old new status
+      LendsDisk calls path (HasJournal now old new status) old_disks new_disks ⊎ IsUnlent (IsUnbegun old new × Counts status) old_disks new_disks status

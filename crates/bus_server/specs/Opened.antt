@@ -8,6 +8,7 @@ use Rattle.program_lines.specs.declared.status.Status.TheVariants as statuses
 use Rattle.program_lines.specs.Printed.{listening_text}
 use Rattle.shared_door.specs.Shown.{Shown}
 use Rattle.router_history.specs.declared.history.Turn.{Turn}
+use Rattle.router_history.specs.History as history
 use Rattle.door_workers.specs.Serving.{Session}
 use Rattle.tables_summary.specs.Summary.{WritesPart}
 use Rattle.bus_server.specs.Serve.{AroundDoor, AtDoor, links_of, clocks_of, EndsUnserved, IsOpened}
@@ -42,11 +43,12 @@ abbrev pub printed : {D Own : Type 0} → ℕ → AtDoor D Own → AtDoor D Own
 printed port old = record old { written = old.written ++ listening_text port }
 
 module _ {D L C I O : Type 0} (show : D → Shown I O) (fits : ℕ → I × O → I × O → Bool → List Turn → List Turn → Type 0)
-    (did : ℕ → L × C → L × C → List (Session I O Turn) → List Turn → Type 0) where
+    (did : ℕ → L × C → L × C → List (Session I O Turn) → List Turn → Type 0) (start : history.Turn) (Keeps : List history.Turn → Type 0) where
   -- the port was printed, and the door served, with a link for each worker; or it was not served
   abbrev pub Announces : ℕ → Option ℕ → AtDoor D (L × C) → AtDoor D (L × C) → Status → Type 0
   Announces port connections old new status =
-      ((length new.owns ≡ length old.owns) × IsOpened show fits did connections (printed port old) new status) ⊎ IsUnannounced port old new status
+      ((length new.owns ≡ length old.owns) × IsOpened show fits did start Keeps connections (printed port old) new status)
+      ⊎ (IsUnannounced port old new status × Keeps (start ∷ []))
 
   -- `Serves`, by links and clocks that were given before
   pub record ServesBy (port : ℕ) (connections : Option ℕ) (owns : List (L × C)) (old new : AroundDoor D L C) (status : Status) : Type 0 where
@@ -60,7 +62,7 @@ module _ {D L C I O : Type 0} (show : D → Shown I O) (fits : ℕ → I × O �
     pub clocks_back : new.clocks_back ≡ old.clocks_back ++ clocks_of owns_back
     pub faultless : (new.door_faults ≡ old.door_faults) × (new.link_faults ≡ old.link_faults)
     pub all_back : length owns_back ≡ length owns
-    pub opened : IsOpened show fits did connections (record { door = lent; owns = owns; written = old.written ++ listening_text port })
+    pub opened : IsOpened show fits did start Keeps connections (record { door = lent; owns = owns; written = old.written ++ listening_text port })
         (record { door = returned; owns = owns_back; written = new.written }) status
 
 -- `IsUnserved`, with links and clocks that were given before

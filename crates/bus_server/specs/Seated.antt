@@ -5,7 +5,7 @@ use Rattle.router_disk.specs.Link.{Exchange}
 use Rattle.turn_book.specs.Passes.{view, IsFree}
 use Rattle.program_lines.specs.declared.status.Status.{Status}
 use Rattle.program_lines.specs.declared.status.Status.TheVariants as statuses
-use Rattle.router_history.specs.History.{Turn, state_of}
+use Rattle.router_history.specs.History.{Turn, state_of, turns_by}
 use Rattle.router_history.specs.Book.{IsBook, Rests}
 use Rattle.router_sessions.specs.Desk.{Known, number_of, turns_seen}
 use Rattle.bus_server.specs.Run.{Around, IsUnbegun, RunsLinked}
@@ -18,6 +18,7 @@ pub record IsOpener {V : Type 0} (known : Known V) : Type 0 where
   pub free : IsFree known
   pub book : IsBook (turns_seen known)
   pub rests : Rests 0 (turns_seen known)
+  pub unmade : turns_by 0 (turns_seen known) ≡ []
 
 -- the disk of the journal that holds a history, if there is one
 abbrev pub LeavesHome : {D : Type 0} → (D → List DiskCall) → (D → ℕ) → List Turn → Option D → Type 0

@@ -1,5 +1,5 @@
 -- The program while it serves connections to a port.
-use Rattle.std.specs.Prelude.{◌≡◌, ◌≢◌, ℕ, ◌≤◌, ◌⊎◌, Bool, List, [], ◌∷◌, ◌++◌, length, map, All, AllPairs, Contains, Option, Some}
+use Rattle.std.specs.Prelude.{◌≡◌, ◌≢◌, ℕ, ◌≤◌, ◌⊎◌, Bool, true, false, List, [], ◌∷◌, ◌++◌, length, map, All, AllPairs, Contains, Option, Some}
 use Rattle.router_disk.specs.Faults.{Rose}
 use Rattle.program_lines.specs.declared.status.Status.{Status}
 use Rattle.program_lines.specs.declared.status.Status.TheVariants as statuses
@@ -52,12 +52,20 @@ links_of owns = map (λ o. o.0) owns
 abbrev pub clocks_of : {L C : Type 0} → List (L × C) → List C
 clocks_of owns = map (λ o. o.1) owns
 
--- The status, and what was written after the workers had ended: `IsSummed` if the door is done; `DoorFault` and nothing if it failed.
+-- The status, and what was written after the workers had ended, if the book is not broken: `IsSummed` if the door is done; `DoorFault` and
+-- nothing if it failed. A door is stopped only by a broken book.
 -- Shown by: program_tests serve.rt: a_door_that_fails_ends_the_run.
-abbrev pub EndsServing : DoorEnd → Tables → List ℕ → List ℕ → Status → Type 0
-EndsServing ends.Done t old new status = IsSummed t old new status
-EndsServing ends.DoorFault t old new status = (status ≡ statuses.DoorFault) × (new ≡ old)
-EndsServing ends.NoMemory t old new status = ⊥
+abbrev pub EndsUnbroken : DoorEnd → Tables → List ℕ → List ℕ → Status → Type 0
+EndsUnbroken ends.Done t old new status = IsSummed t old new status
+EndsUnbroken ends.DoorFault t old new status = (status ≡ statuses.DoorFault) × (new ≡ old)
+EndsUnbroken ends.Stopped t old new status = ⊥
+EndsUnbroken ends.NoMemory t old new status = ⊥
+
+-- `EndsUnbroken`; if the book is broken, `DiskFault` and nothing, whatever ended the workers.
+-- Shown by: as EndsUnbroken.
+abbrev pub EndsServing : Bool → DoorEnd → Tables → List ℕ → List ℕ → Status → Type 0
+EndsServing true end t old new status = (status ≡ statuses.DiskFault) × (new ≡ old)
+EndsServing false end t old new status = EndsUnbroken end t old new status
 
 -- What is known at a door: the door, what its workers were lent, each a link and a clock, and the bytes written.
 -- Shown by: program_tests serve.rt: two_workers_serve_the_first_run.
@@ -71,11 +79,11 @@ pub record AtDoor (D Own : Type 0) : Type 0 where
 abbrev pub IsMadeBy : List ℕ → history.Turn → Type 0
 IsMadeBy numbers turn = (n : ℕ) × (turn.pass ≡ Some n) × Contains numbers n
 
--- `show` is what a door shows, `fits` what an ended connection owes to a history, and `did` what a worker did.
+-- `show` is what a door shows, `fits` what an ended connection owes to a history, and `did` what a worker did. `start` is the turn that opened
+-- the book, and `Keeps` holds of the whole history.
 module _ {D Own I O : Type 0} (show : D → Shown I O) (fits : ℕ → I × O → I × O → Bool → List Turn → List Turn → Type 0)
-    (did : ℕ → Own → Own → List (Session I O Turn) → List Turn → Type 0) where
-  -- The workers served the door, one for each link and its clock. Their turns are one legal history from the first tables: each turn but the
-  -- first is made by the pass of a worker, each worker did what its pass's turns, its link and its clock show (`did`), and no claim is left
+    (did : ℕ → Own → Own → List (Session I O Turn) → List Turn → Type 0) (start : history.Turn) (Keeps : List history.Turn → Type 0) where
+  -- The workers served the door, one for each link and its clock. Their turns are one legal history: each turn but the first is made by the pass of a worker, each worker did what its pass's turns, its link and its clock show (`did`), and no claim is left
   -- open. Each connection that ended fits the history, and each session of a worker is that of such a connection (`HasServed` and `IsWorker` of
   -- door_workers). The program ends by `EndsServing` with the tables after the history.
   -- Shown by: program_tests serve.rt: sixteen_workers_serve_more_connections_than_they_are; program_tests clauses.rt:
@@ -84,7 +92,8 @@ module _ {D Own I O : Type 0} (show : D → Shown I O) (fits : ℕ → I × O �
     pub turns : List Turn
     pub book : IsBook (map turn_of turns)
     pub later : List history.Turn
-    pub opened : map turn_of turns ≡ opening ∷ later
+    pub opened : map turn_of turns ≡ start ∷ later
+    pub kept : Keeps (map turn_of turns)
     pub end : DoorEnd
     pub served : HasServed connections (show old.door) (show new.door) fits turns end
     pub crew : List (Worked I O Turn Own)
@@ -94,10 +103,10 @@ module _ {D Own I O : Type 0} (show : D → Shown I O) (fits : ℕ → I × O �
     pub each : All (λ w. IsWorker did served.acts w × (w.seen ≡ turns)) crew
     pub makers : All (IsMadeBy (map (λ w. w.number) crew)) later
     pub none_open : (state_of (map turn_of turns)).open_claims ≡ []
-    pub ends : EndsServing end (state_of (map turn_of turns)).tables old.written new.written status
+    pub ends : EndsServing (state_of (map turn_of turns)).broken end (state_of (map turn_of turns)).tables old.written new.written status
 
 module _ {D L C I O : Type 0} (show : D → Shown I O) (fits : ℕ → I × O → I × O → Bool → List Turn → List Turn → Type 0)
-    (did : ℕ → L × C → L × C → List (Session I O Turn) → List Turn → Type 0) where
+    (did : ℕ → L × C → L × C → List (Session I O Turn) → List Turn → Type 0) (start : history.Turn) (Keeps : List history.Turn → Type 0) where
   -- The host gave one door, at the port, and one link for each worker, and took back one door and as many links, with no fault. A clock was lent
   -- with each link, and came back with it. `listening` and the port were written, and then the workers served the door (`IsOpened`).
   -- Shown by: program_tests serve.rt: two_workers_serve_the_first_run; serve_counts_one_link_too_few.edit.
@@ -117,7 +126,7 @@ module _ {D L C I O : Type 0} (show : D → Shown I O) (fits : ℕ → I × O �
     pub each_worker : length owns ≡ workers
     pub all_back : length owns_back ≡ workers
     pub faultless : (new.door_faults ≡ old.door_faults) × (new.link_faults ≡ old.link_faults)
-    pub opened : IsOpened show fits did connections (record { door = lent; owns = owns; written = old.written ++ listening_text port })
+    pub opened : IsOpened show fits did start Keeps connections (record { door = lent; owns = owns; written = old.written ++ listening_text port })
         (record { door = returned; owns = owns_back; written = new.written }) status
 
 -- the host failed to give a door, or a link, and not both
@@ -152,9 +161,21 @@ pub record IsUnserved {D L C : Type 0} (port workers : ℕ) (old new : AroundDoo
   pub clocks_back : new.clocks_back ≡ old.clocks_back ++ clocks_of owns
   pub faultless : status ≢ statuses.DoorFault → (new.door_faults ≡ old.door_faults) × (new.link_faults ≡ old.link_faults)
 
--- The run of a program that serves: `Serves` or `IsUnserved`.
+-- The run of a program that serves over a book: `Serves`, or `IsUnserved` and the book has the one turn.
+-- Shown by: program_tests serve.rt: two_workers_serve_the_first_run.
+abbrev pub IsServeOn : {D L C I O : Type 0} → (D → Shown I O) → (ℕ → I × O → I × O → Bool → List Turn → List Turn → Type 0)
+    → (ℕ → L × C → L × C → List (Session I O Turn) → List Turn → Type 0) → history.Turn → (List history.Turn → Type 0) → ℕ → ℕ → Option ℕ
+    → AroundDoor D L C → AroundDoor D L C → Status → Type 0
+IsServeOn show fits did start Keeps port workers connections old new status =
+    Serves show fits did start Keeps port workers connections old new status ⊎ (IsUnserved port workers old new status × Keeps (start ∷ []))
+
+-- The book is not broken after a history.
+-- Shown by: proofs alone.
+abbrev pub IsUnbroken : List history.Turn → Type 0
+IsUnbroken turns = (state_of turns).broken ≡ false
+
+-- The run of a program that serves without a journal: from the first tables, and the book is not broken.
 -- Shown by: program_tests serve.rt: two_workers_serve_the_first_run.
 abbrev pub IsServe : {D L C I O : Type 0} → (D → Shown I O) → (ℕ → I × O → I × O → Bool → List Turn → List Turn → Type 0)
     → (ℕ → L × C → L × C → List (Session I O Turn) → List Turn → Type 0) → ℕ → ℕ → Option ℕ → AroundDoor D L C → AroundDoor D L C → Status → Type 0
-IsServe show fits did port workers connections old new status =
-    Serves show fits did port workers connections old new status ⊎ IsUnserved port workers old new status
+IsServe show fits did port workers connections old new status = IsServeOn show fits did opening IsUnbroken port workers connections old new status

@@ -13,6 +13,7 @@ ghost use Rattle.bus_host.specs.Host.{SameGiven};
 ghost use Rattle.shared_door.specs.Shown.{shown_by};
 ghost use Rattle.session_workers.specs.Jobs.{did_by};
 ghost use Rattle.bus_server.specs.Serve.{around_door, IsServe};
+ghost use Rattle.bus_server.specs.ServeJournal.{IsJournaledServe};
 ghost use Rattle.drill_run.specs.Drill.{IsDrill};
 ghost use Rattle.journal_check.specs.Check.{IsCheck, around_disk};
 ghost use Rattle.router_history.specs.Visit.{IsVisit};
@@ -33,7 +34,7 @@ use std::thread::Threads;
 /// `--now S`, S is every reading of the clock, in seconds. After `--journal FILE` the session goes on from the journal in the file, and each
 /// change is appended to it before its reply is written. With `serve` it serves connections to a port, each as a session of its own, by
 /// workers that each have a link and a clock of their own, with fewer workers if the process may not have as many open files (`files`)
-/// as they need. With `drill` it serves sessions over messages that it makes, and with `check` it reads a journal. Arguments are read first;
+/// as they need, and with a journal as for `once`. With `drill` it serves sessions over messages that it makes, and with `check` it reads a journal. Arguments are read first;
 /// then memory is allocated, then the host gives links and a door, or a disk. A program that serves needs memory once more after it printed
 /// its port, and at its end. Before the line of the status, `faults` gets why words are refused, or how many workers there are if they are
 /// fewer.
@@ -57,10 +58,20 @@ pub fn run<Rt: Wait + Threads + Sync, S: Source, K: Sink, E: Sink, H: Host, C: C
         (disks (H.disks_given host.new) (H.disks_back host.new) (H.disk_faults host.new))
         (around (S.gave input.old) (K.wrote output.old) (C.gave clock.old) (H.links_given host.old) (H.links_back host.old))
         (around (S.gave input.new) (K.wrote output.new) (C.gave clock.new) (H.links_given host.new) (H.links_back host.new)) result }
-    ensures serve { (port workers : ℕ) (connections : Option ℕ) → IsCommand (map string_bytes words.now) (commands.serve port workers connections)
+    ensures serve { (port workers : ℕ) (connections : Option ℕ) → IsCommand (map string_bytes words.now) (commands.serve None port workers connections)
         → (S.gave input.new ≡ S.gave input.old) × (C.gave clock.new ≡ C.gave clock.old) × IsServe (shown_by H.Door.faults H.Door.ahead H.Door.given H.Door.ended H.Door.gave H.Door.took_back H.Door.closed)
         (IsVisit H.Door.In.gave H.Door.Out.wrote H.Door.In.faults H.Door.Out.faults)
         (did_by H.Door.In.gave H.Door.Out.wrote C.Lent.gave H.Link.exchanges H.Link.faults) port (workers_for files workers) connections
+        (around_door (K.wrote output.old) (H.doors_given host.old) (H.doors_back host.old) (H.links_given host.old) (H.links_back host.old)
+        (C.clocks_given clock.old) (C.clocks_back clock.old) (H.door_faults host.old) (H.link_faults host.old))
+        (around_door (K.wrote output.new) (H.doors_given host.new) (H.doors_back host.new) (H.links_given host.new) (H.links_back host.new)
+        (C.clocks_given clock.new) (C.clocks_back clock.new) (H.door_faults host.new) (H.link_faults host.new)) result }
+    ensures served { (journal : List ℕ) (port workers : ℕ) (connections : Option ℕ) → IsCommand (map string_bytes words.now) (commands.serve (Some journal) port workers connections)
+        → (S.gave input.new ≡ S.gave input.old) × (C.gave clock.new ≡ C.gave clock.old) × IsJournaledServe H.Disk.calls H.Disk.faults (shown_by H.Door.faults H.Door.ahead H.Door.given H.Door.ended H.Door.gave H.Door.took_back H.Door.closed)
+        (IsVisit H.Door.In.gave H.Door.Out.wrote H.Door.In.faults H.Door.Out.faults)
+        (did_by H.Door.In.gave H.Door.Out.wrote C.Lent.gave H.Link.exchanges H.Link.faults) journal port (workers_for files workers) connections
+        (disks (H.disks_given host.old) (H.disks_back host.old) (H.disk_faults host.old))
+        (disks (H.disks_given host.new) (H.disks_back host.new) (H.disk_faults host.new))
         (around_door (K.wrote output.old) (H.doors_given host.old) (H.doors_back host.old) (H.links_given host.old) (H.links_back host.old)
         (C.clocks_given clock.old) (C.clocks_back clock.old) (H.door_faults host.old) (H.link_faults host.old))
         (around_door (K.wrote output.new) (H.doors_given host.new) (H.doors_back host.new) (H.links_given host.new) (H.links_back host.new)
@@ -86,14 +97,15 @@ pub fn run<Rt: Wait + Threads + Sync, S: Source, K: Sink, E: Sink, H: Host, C: C
     ensures line { (c : CommandView) → IsLine (map string_bytes words.now) c → result ≢ statuses.Usage }
     ensures last { IsReportedLast result (E.wrote faults.old) (E.wrote faults.new) (E.faults faults.old) (E.faults faults.new) }
     ensures reported { result ≢ statuses.Usage
-        → ((port workers : ℕ) (connections : Option ℕ) → ¬ IsCommand (map string_bytes words.now) (commands.serve port workers connections))
+        → ((journal : Option (List ℕ)) (port workers : ℕ) (connections : Option ℕ) → ¬ IsCommand (map string_bytes words.now) (commands.serve journal port workers connections))
         → IsReported result (E.wrote faults.old) (E.wrote faults.new) (E.faults faults.old) (E.faults faults.new) }
     ensures counts { ((journal : List ℕ) (now : Option ℕ) → ¬ IsCommand (map string_bytes words.now) (commands.once (Some journal) now))
         → FaultsMatch result (S.faults input.old) (S.faults input.new) (K.faults output.old) (K.faults output.new) }
     ensures disk { ((journal : List ℕ) → ¬ IsCommand (map string_bytes words.now) (commands.check journal))
         → ((journal : List ℕ) (now : Option ℕ) → ¬ IsCommand (map string_bytes words.now) (commands.once (Some journal) now))
+        → ((journal : List ℕ) (port workers : ℕ) (connections : Option ℕ) → ¬ IsCommand (map string_bytes words.now) (commands.serve (Some journal) port workers connections))
         → (H.disk_faults host.new ≡ H.disk_faults host.old) × SameGiven H.disks_given H.disks_back host.old host.new }
-    ensures host { ((port workers : ℕ) (connections : Option ℕ) → ¬ IsCommand (map string_bytes words.now) (commands.serve port workers connections))
+    ensures host { ((journal : Option (List ℕ)) (port workers : ℕ) (connections : Option ℕ) → ¬ IsCommand (map string_bytes words.now) (commands.serve journal port workers connections))
         → ((journal : List ℕ) → ¬ IsCommand (map string_bytes words.now) (commands.check journal))
         → HostMatches H.door_faults H.link_faults result host.old host.new × SameGiven H.doors_given H.doors_back host.old host.new }
 {
@@ -117,7 +129,7 @@ fn obey<Rt: Wait + Threads + Sync, S: Source, K: Sink, E: Sink, H: Host, C: Cloc
     host: &mut H,
     clock: &mut C,
 ) -> Status
-    requires workers { (port workers : ℕ) (connections : Option ℕ) → command_view command ≡ commands.serve port workers connections
+    requires workers { (journal : Option (List ℕ)) (port workers : ℕ) (connections : Option ℕ) → command_view command ≡ commands.serve journal port workers connections
         → (1 ≤ workers) × (workers ≤ 1024) }
     ensures run { (now : Option ℕ) → command_view command.entry ≡ commands.once None now → IsRun H.Link.exchanges H.Link.faults now
         (around (S.gave input.old) (K.wrote output.old) (C.gave clock.old) (H.links_given host.old) (H.links_back host.old))
@@ -128,10 +140,20 @@ fn obey<Rt: Wait + Threads + Sync, S: Source, K: Sink, E: Sink, H: Host, C: Cloc
         (disks (H.disks_given host.new) (H.disks_back host.new) (H.disk_faults host.new))
         (around (S.gave input.old) (K.wrote output.old) (C.gave clock.old) (H.links_given host.old) (H.links_back host.old))
         (around (S.gave input.new) (K.wrote output.new) (C.gave clock.new) (H.links_given host.new) (H.links_back host.new)) result }
-    ensures serve { (port workers : ℕ) (connections : Option ℕ) → command_view command.entry ≡ commands.serve port workers connections
+    ensures serve { (port workers : ℕ) (connections : Option ℕ) → command_view command.entry ≡ commands.serve None port workers connections
         → (S.gave input.new ≡ S.gave input.old) × (C.gave clock.new ≡ C.gave clock.old) × IsServe (shown_by H.Door.faults H.Door.ahead H.Door.given H.Door.ended H.Door.gave H.Door.took_back H.Door.closed)
         (IsVisit H.Door.In.gave H.Door.Out.wrote H.Door.In.faults H.Door.Out.faults)
         (did_by H.Door.In.gave H.Door.Out.wrote C.Lent.gave H.Link.exchanges H.Link.faults) port (workers_for files workers) connections
+        (around_door (K.wrote output.old) (H.doors_given host.old) (H.doors_back host.old) (H.links_given host.old) (H.links_back host.old)
+        (C.clocks_given clock.old) (C.clocks_back clock.old) (H.door_faults host.old) (H.link_faults host.old))
+        (around_door (K.wrote output.new) (H.doors_given host.new) (H.doors_back host.new) (H.links_given host.new) (H.links_back host.new)
+        (C.clocks_given clock.new) (C.clocks_back clock.new) (H.door_faults host.new) (H.link_faults host.new)) result }
+    ensures served { (journal : List ℕ) (port workers : ℕ) (connections : Option ℕ) → command_view command.entry ≡ commands.serve (Some journal) port workers connections
+        → (S.gave input.new ≡ S.gave input.old) × (C.gave clock.new ≡ C.gave clock.old) × IsJournaledServe H.Disk.calls H.Disk.faults (shown_by H.Door.faults H.Door.ahead H.Door.given H.Door.ended H.Door.gave H.Door.took_back H.Door.closed)
+        (IsVisit H.Door.In.gave H.Door.Out.wrote H.Door.In.faults H.Door.Out.faults)
+        (did_by H.Door.In.gave H.Door.Out.wrote C.Lent.gave H.Link.exchanges H.Link.faults) journal port (workers_for files workers) connections
+        (disks (H.disks_given host.old) (H.disks_back host.old) (H.disk_faults host.old))
+        (disks (H.disks_given host.new) (H.disks_back host.new) (H.disk_faults host.new))
         (around_door (K.wrote output.old) (H.doors_given host.old) (H.doors_back host.old) (H.links_given host.old) (H.links_back host.old)
         (C.clocks_given clock.old) (C.clocks_back clock.old) (H.door_faults host.old) (H.link_faults host.old))
         (around_door (K.wrote output.new) (H.doors_given host.new) (H.doors_back host.new) (H.links_given host.new) (H.links_back host.new)
@@ -150,14 +172,15 @@ fn obey<Rt: Wait + Threads + Sync, S: Source, K: Sink, E: Sink, H: Host, C: Cloc
         × SameGiven H.doors_given H.doors_back host.old host.new × SameGiven C.clocks_given C.clocks_back clock.old clock.new }
     ensures usage { result ≢ statuses.Usage }
     ensures last { IsReportedLast result (E.wrote faults.old) (E.wrote faults.new) (E.faults faults.old) (E.faults faults.new) }
-    ensures reported { ((port workers : ℕ) (connections : Option ℕ) → command_view command.entry ≢ commands.serve port workers connections)
+    ensures reported { ((journal : Option (List ℕ)) (port workers : ℕ) (connections : Option ℕ) → command_view command.entry ≢ commands.serve journal port workers connections)
         → IsReported result (E.wrote faults.old) (E.wrote faults.new) (E.faults faults.old) (E.faults faults.new) }
     ensures counts { ((journal : List ℕ) (now : Option ℕ) → command_view command.entry ≢ commands.once (Some journal) now)
         → FaultsMatch result (S.faults input.old) (S.faults input.new) (K.faults output.old) (K.faults output.new) }
     ensures disk { ((journal : List ℕ) → command_view command.entry ≢ commands.check journal)
         → ((journal : List ℕ) (now : Option ℕ) → command_view command.entry ≢ commands.once (Some journal) now)
+        → ((journal : List ℕ) (port workers : ℕ) (connections : Option ℕ) → command_view command.entry ≢ commands.serve (Some journal) port workers connections)
         → (H.disk_faults host.new ≡ H.disk_faults host.old) × SameGiven H.disks_given H.disks_back host.old host.new }
-    ensures host { ((port workers : ℕ) (connections : Option ℕ) → command_view command.entry ≢ commands.serve port workers connections)
+    ensures host { ((journal : Option (List ℕ)) (port workers : ℕ) (connections : Option ℕ) → command_view command.entry ≢ commands.serve journal port workers connections)
         → ((journal : List ℕ) → command_view command.entry ≢ commands.check journal)
         → HostMatches H.door_faults H.link_faults result host.old host.new × SameGiven H.doors_given H.doors_back host.old host.new }
 {
@@ -168,13 +191,24 @@ fn obey<Rt: Wait + Threads + Sync, S: Source, K: Sink, E: Sink, H: Host, C: Cloc
             status
         }
         Command::Serve {
+            journal,
             port,
             workers,
             connections,
         } => {
             let fitting = fitting_workers(files, workers);
             announce(alloc, faults, files, workers, fitting);
-            let status = serve(rt, alloc, port, fitting, connections, output, host, clock);
+            let status = serve(
+                rt,
+                alloc,
+                journal,
+                port,
+                fitting,
+                connections,
+                output,
+                host,
+                clock,
+            );
             report(faults, status);
             status
         }

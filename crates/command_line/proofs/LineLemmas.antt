@@ -48,10 +48,11 @@ found word leaf names pick enters plain program os h needs = go (good leaf names
 
 -- other ways to find the same values
 alike : (f g : Text → Option Text) → ((name : Text) → f name ≡ g name) → (c : CommandView) → HasValues f c → HasValues g c
-alike f g same (serve port workers connections) h = (
-  subst (λ (o : Option Text). MatchOption o (port ≡ 9100) (λ word. IsNumber 1 65535 word port)) (same (codes "port")) h.0,
-  subst (λ (o : Option Text). MatchOption o (workers ≡ 64) (λ word. IsNumber 1 1024 word workers)) (same (codes "workers")) h.1,
-  subst (λ (o : Option Text). IsOptional 1 1000000 o connections) (same (codes "connections")) h.2,
+alike f g same (serve journal port workers connections) h = (
+  sym (same (codes "journal")) ∙ h.0,
+  subst (λ (o : Option Text). MatchOption o (port ≡ 9100) (λ word. IsNumber 1 65535 word port)) (same (codes "port")) h.1,
+  subst (λ (o : Option Text). MatchOption o (workers ≡ 64) (λ word. IsNumber 1 1024 word workers)) (same (codes "workers")) h.2,
+  subst (λ (o : Option Text). IsOptional 1 1000000 o connections) (same (codes "connections")) h.3,
 )
 alike f g same (once journal now) h =
     (sym (same (codes "journal")) ∙ h.0, subst (λ (o : Option Text). IsOptional 0 250000000000 o now) (same (codes "now")) h.1)
@@ -77,8 +78,8 @@ line_is words c h = subst (λ (ws : List Text). IsCommand ws c) (sym h.spelled) 
   where
     go : (c : CommandView) (program : Text) (os : List (Text × Text)) → AreOptions (map (λ rule. rule.id) (subcommand_for c).top.rules) os
         → HasValues (λ name. value_of name os) c → IsCommand (program ∷ (name_of c ∷ words_of os)) c
-    go (serve port workers connections) program os named values =
-        is_command (program ∷ (codes "serve" ∷ words_of os)) (codes "serve") os (serve port workers connections) refl values
+    go (serve journal port workers connections) program os named values =
+        is_command (program ∷ (codes "serve" ∷ words_of os)) (codes "serve") os (serve journal port workers connections) refl values
         (found (codes "serve") (of.leaf_of table.serve) (map (λ rule. rule.id) table.serve.top.rules) of.pick_serve of.enters_serve of.plain_serve program os named
         (of.needs_serve (λ name. is_some (value_of name os))))
     go (once journal now) program os named values =

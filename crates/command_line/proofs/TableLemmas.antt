@@ -96,6 +96,15 @@ serve_connections : Has (leaf_of serve) (codes "connections")
 unfolding ebusd program serve once check drill
 serve_connections = (ready (codes "connections") parsers.String, refl, record { dashes = refl; long = refl; by_long = refl; by_id = refl; same = refl; range = refl; action = refl }, λ v h. refl)
 
+serve_journal : Has (leaf_of serve) (codes "journal")
+unfolding ebusd program serve once check drill
+serve_journal = (
+  ready (codes "journal") parsers.NonEmptyString,
+  refl,
+  record { dashes = refl; long = refl; by_long = refl; by_id = refl; same = refl; range = refl; action = refl },
+  path_passes (ready (codes "journal") parsers.NonEmptyString) refl,
+)
+
 once_journal : Has (leaf_of once) (codes "journal")
 unfolding ebusd program serve once check drill
 once_journal = (
@@ -130,10 +139,11 @@ drill_events = (needed (ready (codes "events") parsers.String), refl, record { d
 
 pub pick_serve : (name : Text) → Contains (map (λ rule. rule.id) serve.top.rules) name → Has (leaf_of serve) name
 unfolding serve
-pick_serve name (zero, lt, is) = subst (Has (leaf_of serve)) is serve_port
-pick_serve name (suc zero, lt, is) = subst (Has (leaf_of serve)) is serve_workers
-pick_serve name (suc (suc zero), lt, is) = subst (Has (leaf_of serve)) is serve_connections
-pick_serve name (suc (suc (suc k)), lt, is) = absurd (omega arith)
+pick_serve name (zero, lt, is) = subst (Has (leaf_of serve)) is serve_journal
+pick_serve name (suc zero, lt, is) = subst (Has (leaf_of serve)) is serve_port
+pick_serve name (suc (suc zero), lt, is) = subst (Has (leaf_of serve)) is serve_workers
+pick_serve name (suc (suc (suc zero)), lt, is) = subst (Has (leaf_of serve)) is serve_connections
+pick_serve name (suc (suc (suc (suc k))), lt, is) = absurd (omega arith)
 
 pub pick_once : (name : Text) → Contains (map (λ rule. rule.id) once.top.rules) name → Has (leaf_of once) name
 unfolding once

@@ -35,11 +35,12 @@ differ : {X : Type 0} (x y z : Text) → bytes_eq x y ≡ false → z ≡ x → 
 differ x y z h p q = absurd (true≢false (sym ((bytes_eq-Decides x y).1 (sym p ∙ q)) ∙ h))
 
 read_once : (name : Text) (rows : List Row) (a b : CommandView) → IsRead name rows a → IsRead name rows b → a ≡ b
-read_once name rows (serve p w c) (serve p2 w2 c2) (n, h) (n2, h2) =
-    let port : p ≡ p2 = number_or_once 1 65535 9100 (first_of (codes "port") rows) p p2 (omega arith) h.0 h2.0 in
-    let workers : w ≡ w2 = number_or_once 1 1024 64 (first_of (codes "workers") rows) w w2 (omega arith) h.1 h2.1 in
-    let connections : c ≡ c2 = optional_once 1 1000000 (first_of (codes "connections") rows) c c2 (omega arith) h.2 h2.2 in
-    λ i. serve (port i) (workers i) (connections i)
+read_once name rows (serve j p w c) (serve j2 p2 w2 c2) (n, h) (n2, h2) =
+    let journal : j ≡ j2 = sym h.0 ∙ h2.0 in
+    let port : p ≡ p2 = number_or_once 1 65535 9100 (first_of (codes "port") rows) p p2 (omega arith) h.1 h2.1 in
+    let workers : w ≡ w2 = number_or_once 1 1024 64 (first_of (codes "workers") rows) w w2 (omega arith) h.2 h2.2 in
+    let connections : c ≡ c2 = optional_once 1 1000000 (first_of (codes "connections") rows) c c2 (omega arith) h.3 h2.3 in
+    λ i. serve (journal i) (port i) (workers i) (connections i)
 read_once name rows (once j t) (once j2 t2) (n, h) (n2, h2) =
     let journal : j ≡ j2 = sym h.0 ∙ h2.0 in
     let now : t ≡ t2 = optional_once 0 250000000000 (first_of (codes "now") rows) t t2 (omega arith) h.1 h2.1 in
@@ -49,16 +50,16 @@ read_once name rows (drill s e) (drill s2 e2) (n, h) (n2, h2) =
     let seed : s ≡ s2 = needed_once 0 2147483647 (first_of (codes "seed") rows) s s2 (omega arith) h.0 h2.0 in
     let events : e ≡ e2 = needed_once 1 100000 (first_of (codes "events") rows) e e2 (omega arith) h.1 h2.1 in
     λ i. drill (seed i) (events i)
-read_once name rows (serve p w c) (once j2 t2) (n, h) (n2, h2) = differ (codes "serve") (codes "once") name refl n n2
-read_once name rows (serve p w c) (check j2) (n, h) (n2, h2) = differ (codes "serve") (codes "check") name refl n n2
-read_once name rows (serve p w c) (drill s2 e2) (n, h) (n2, h2) = differ (codes "serve") (codes "drill") name refl n n2
-read_once name rows (once j t) (serve p2 w2 c2) (n, h) (n2, h2) = differ (codes "once") (codes "serve") name refl n n2
+read_once name rows (serve j p w c) (once j2 t2) (n, h) (n2, h2) = differ (codes "serve") (codes "once") name refl n n2
+read_once name rows (serve j p w c) (check j2) (n, h) (n2, h2) = differ (codes "serve") (codes "check") name refl n n2
+read_once name rows (serve j p w c) (drill s2 e2) (n, h) (n2, h2) = differ (codes "serve") (codes "drill") name refl n n2
+read_once name rows (once j t) (serve j2 p2 w2 c2) (n, h) (n2, h2) = differ (codes "once") (codes "serve") name refl n n2
 read_once name rows (once j t) (check j2) (n, h) (n2, h2) = differ (codes "once") (codes "check") name refl n n2
 read_once name rows (once j t) (drill s2 e2) (n, h) (n2, h2) = differ (codes "once") (codes "drill") name refl n n2
-read_once name rows (check j) (serve p2 w2 c2) (n, h) (n2, h2) = differ (codes "check") (codes "serve") name refl n n2
+read_once name rows (check j) (serve j2 p2 w2 c2) (n, h) (n2, h2) = differ (codes "check") (codes "serve") name refl n n2
 read_once name rows (check j) (once j2 t2) (n, h) (n2, h2) = differ (codes "check") (codes "once") name refl n n2
 read_once name rows (check j) (drill s2 e2) (n, h) (n2, h2) = differ (codes "check") (codes "drill") name refl n n2
-read_once name rows (drill s e) (serve p2 w2 c2) (n, h) (n2, h2) = differ (codes "drill") (codes "serve") name refl n n2
+read_once name rows (drill s e) (serve j2 p2 w2 c2) (n, h) (n2, h2) = differ (codes "drill") (codes "serve") name refl n n2
 read_once name rows (drill s e) (once j2 t2) (n, h) (n2, h2) = differ (codes "drill") (codes "once") name refl n n2
 read_once name rows (drill s e) (check j2) (n, h) (n2, h2) = differ (codes "drill") (codes "check") name refl n n2
 
@@ -76,15 +77,15 @@ number_within : (least most absent : ℕ) (o : Option Text) (n : ℕ) → least 
 number_within least most absent None n low high h = (omega (arith, low, h), omega (arith, high, h))
 number_within least most absent (Some word) n low high h = (h.0, h.1)
 
-workers_entered : (entered : Option (Text × List Row)) (port workers : ℕ) (connections : Option ℕ) → IsEntered entered (serve port workers connections)
+workers_entered : (entered : Option (Text × List Row)) (journal : Option Text) (port workers : ℕ) (connections : Option ℕ) → IsEntered entered (serve journal port workers connections)
     → (1 ≤ workers) × (workers ≤ 1024)
-workers_entered None port workers connections h = absurd h
-workers_entered (Some found) port workers connections h =
-    number_within 1 1024 64 (first_of (codes "workers") found.1) workers (omega arith) (omega arith) h.1.1
+workers_entered None journal port workers connections h = absurd h
+workers_entered (Some found) journal port workers connections h =
+    number_within 1 1024 64 (first_of (codes "workers") found.1) workers (omega arith) (omega arith) h.1.2
 
-pub workers_within : (words : List Text) (port workers : ℕ) (connections : Option ℕ) → IsCommand words (serve port workers connections)
+pub workers_within : (words : List Text) (journal : Option Text) (port workers : ℕ) (connections : Option ℕ) → IsCommand words (serve journal port workers connections)
     → (1 ≤ workers) × (workers ≤ 1024)
-workers_within words port workers connections h = workers_entered (subcommand_of ebusd words) port workers connections h.1
+workers_within words journal port workers connections h = workers_entered (subcommand_of ebusd words) journal port workers connections h.1
 
 -- ---- refusals
 
@@ -104,7 +105,7 @@ pub serve_values : (rows : List Row) (c : CommandView) → IsRead (codes "serve"
     → ((port : ℕ) × MatchOption (first_of (codes "port") rows) (port ≡ 9100) (λ word. IsNumber 1 65535 word port))
     × ((workers : ℕ) × MatchOption (first_of (codes "workers") rows) (workers ≡ 64) (λ word. IsNumber 1 1024 word workers))
     × ((connections : Option ℕ) × IsOptional 1 1000000 (first_of (codes "connections") rows) connections)
-serve_values rows (serve p w c) (n, h) = ((p, h.0), (w, h.1), (c, h.2))
+serve_values rows (serve j p w c) (n, h) = ((p, h.1), (w, h.2), (c, h.3))
 serve_values rows (once j t) (n, h) = differ (codes "serve") (codes "once") (codes "serve") refl refl n
 serve_values rows (check j) (n, h) = differ (codes "serve") (codes "check") (codes "serve") refl refl n
 serve_values rows (drill s e) (n, h) = differ (codes "serve") (codes "drill") (codes "serve") refl refl n
@@ -112,7 +113,7 @@ serve_values rows (drill s e) (n, h) = differ (codes "serve") (codes "drill") (c
 pub drill_values : (rows : List Row) (c : CommandView) → IsRead (codes "drill") rows c
     → ((seed : ℕ) × IsSomeAnd (first_of (codes "seed") rows) (λ word. IsNumber 0 2147483647 word seed))
     × ((events : ℕ) × IsSomeAnd (first_of (codes "events") rows) (λ word. IsNumber 1 100000 word events))
-drill_values rows (serve p w c) (n, h) = differ (codes "drill") (codes "serve") (codes "drill") refl refl n
+drill_values rows (serve j p w c) (n, h) = differ (codes "drill") (codes "serve") (codes "drill") refl refl n
 drill_values rows (once j t) (n, h) = differ (codes "drill") (codes "once") (codes "drill") refl refl n
 drill_values rows (check j) (n, h) = differ (codes "drill") (codes "check") (codes "drill") refl refl n
 drill_values rows (drill s e) (n, h) = ((s, h.0), (e, h.1))

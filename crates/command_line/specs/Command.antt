@@ -11,7 +11,7 @@ use Rattle.command_line.specs.declared.command.Command.TheVariants as commands
 -- A command as contracts see it: numbers, and the texts of paths.
 -- Shown by: command_tests test_command_line.rt: words_are_read_to_their_command.
 pub data CommandView : Type 0 where
-  serve : (port workers : ℕ) (connections : Option ℕ) → CommandView
+  serve : (journal : Option Text) (port workers : ℕ) (connections : Option ℕ) → CommandView
   once : (journal : Option Text) (now : Option ℕ) → CommandView
   check : (journal : Text) → CommandView
   drill : (seed events : ℕ) → CommandView
@@ -19,7 +19,7 @@ pub data CommandView : Type 0 where
 -- What contracts see of a command.
 -- Shown by: command_tests test_command_line.rt: words_are_read_to_their_command.
 abbrev pub command_view : Command → CommandView
-command_view (commands.Serve port workers connections) = serve port workers connections
+command_view (commands.Serve journal port workers connections) = serve (option_map (λ s. s.now) journal) port workers connections
 command_view (commands.Once journal now) = once (option_map (λ s. s.now) journal) now
 command_view (commands.Check journal) = check journal.now
 command_view (commands.Drill seed events) = drill seed events
@@ -27,7 +27,7 @@ command_view (commands.Drill seed events) = drill seed events
 -- The subcommand of a command.
 -- Shown by: command_tests test_command_line.rt: words_are_read_to_their_command.
 abbrev pub subcommand_for : CommandView → App
-subcommand_for (serve port workers connections) = table.serve
+subcommand_for (serve journal port workers connections) = table.serve
 subcommand_for (once journal now) = table.once
 subcommand_for (check journal) = table.check
 subcommand_for (drill seed events) = table.drill
@@ -35,7 +35,7 @@ subcommand_for (drill seed events) = table.drill
 -- The name of a command's subcommand.
 -- Shown by: command_tests test_command_line.rt: words_are_read_to_their_command.
 abbrev pub name_of : CommandView → Text
-name_of (serve port workers connections) = codes "serve"
+name_of (serve journal port workers connections) = codes "serve"
 name_of (once journal now) = codes "once"
 name_of (check journal) = codes "check"
 name_of (drill seed events) = codes "drill"
@@ -51,8 +51,9 @@ IsOptional least most (Some word) number = IsSomeAnd number (IsNumber least most
 -- `--events` 1 to 100,000; `--journal` a path. That these are the names of the table is shown by law lines_are_commands.
 -- Shown by: a_number_out_of_range_is_read.edit; connections_are_required.edit.
 abbrev pub HasValues : (Text → Option Text) → CommandView → Type 0
-HasValues given (serve port workers connections) =
-    MatchOption (given (codes "port")) (port ≡ 9100) (λ word. IsNumber 1 65535 word port)
+HasValues given (serve journal port workers connections) =
+    (given (codes "journal") ≡ journal)
+    × MatchOption (given (codes "port")) (port ≡ 9100) (λ word. IsNumber 1 65535 word port)
     × MatchOption (given (codes "workers")) (workers ≡ 64) (λ word. IsNumber 1 1024 word workers)
     × IsOptional 1 1000000 (given (codes "connections")) connections
 HasValues given (once journal now) = (given (codes "journal") ≡ journal) × IsOptional 0 250000000000 (given (codes "now")) now

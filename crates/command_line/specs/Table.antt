@@ -27,7 +27,7 @@ subcommand name options = fold with_rule (new_app name) options
 -- The subcommands.
 -- Shown by: command_tests test_command_line.rt: words_are_read_to_their_command.
 unfoldable pub serve : App
-serve = subcommand (codes "serve") (option (codes "port") ∷ option (codes "workers") ∷ option (codes "connections") ∷ [])
+serve = subcommand (codes "serve") (journal ∷ option (codes "port") ∷ option (codes "workers") ∷ option (codes "connections") ∷ [])
 
 -- as `serve`
 unfoldable pub once : App

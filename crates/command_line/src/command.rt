@@ -32,7 +32,9 @@ const MOST_EVENTS: u64 = 100_000;
 #[derive(Clone, Copy, Debug, PartialEq, Eq)]
 pub enum Command<'a> {
     /// Sessions over connections to the port of 127.0.0.1, on this number of workers. If `connections` is given, it ends after that many.
+    /// If `journal` is given, it is the path of the journal's file.
     Serve {
+        journal: Option<&'a str>,
         port: u16,
         workers: u16,
         connections: Option<u64>,
@@ -102,6 +104,7 @@ fn serve_in<'a>(alloc: Global, options: &ArgMatches<'a>) -> Result<Command<'a>, 
     let workers = number_or(alloc, options, "workers", 1, MOST_WORKERS, WORKERS)?;
     let connections = number_in(alloc, options, "connections", 1, MOST_CONNECTIONS)?;
     Ok(Command::Serve {
+        journal: value_in(options, "journal"),
         port: port as u16,
         workers: workers as u16,
         connections,

@@ -11,18 +11,22 @@ use std::alloc::{AllocError, Global};
 
 /// What the help of `serve` says after its options.
 const SERVE_MANUAL: &str = "\
-Prints `listening` and the port, then serves clients on 127.0.0.1 alone. All is
-in memory, and lost when it ends. With --connections N it ends after N
+Prints `listening` and the port, then serves clients on 127.0.0.1 alone. With no
+--journal all is lost when it ends. With --connections N it ends after N
 connections and prints a summary.
 
-To stop it, send SIGTERM or SIGINT: it ends at once, without a summary. What
-was not delivered is lost. To lose none: stop the publishers, wait until
-DutyCounts shows \"Pending\":0, then send SIGTERM.
+To stop it, send SIGTERM or SIGINT: it ends at once, without a summary. With
+--journal this is always safe: what was acknowledged is found again. A request
+without a reply may have been carried out, and a send without a record is
+repeated. To repeat none: stop the publishers, wait until DutyCounts shows
+\"Pending\":0, then send SIGTERM.
 
 The last line on standard error names the status; lines before it say why:
   0  the connections are served, and no line is printed
   2  bad arguments
   4  the output failed
+  5  the disk failed
+  6  the journal is damaged, or the file is no journal
   7  out of memory
   8  the port or the link to endpoints failed
 
@@ -99,6 +103,7 @@ fn serve<'a>(alloc: Global) -> Result<Command<'a>, AllocError>
     ensures { IfOk result (λ c. (app_of c ≡ table.serve) × ((out-Command c).has_globals ≡ false)) }
 {
     described_serve(alloc)
+        .arg(journal(alloc, "Keep every change in FILE, and go on from it"))?
         .arg(number(alloc, "port", "TCP port, 1 to 65535 [default: 9100]"))?
         .arg(number(alloc, "workers", "Threads, 1 to 1024 [default: 64]"))?
         .arg(number(

@@ -6,11 +6,13 @@ use std::test::Fail;
 use test_rows::{all_met, two};
 
 // A command line, and what it is read to. A single space parts two words.
-const COMMANDS: &str = "ebusd serve|Serve { port: 9100, workers: 64, connections: None }
-ebusd serve --port 1|Serve { port: 1, workers: 64, connections: None }
-ebusd serve --port 65535 --workers 1024|Serve { port: 65535, workers: 1024, connections: None }
-ebusd serve --connections 1000000 --workers 1|Serve { port: 9100, workers: 1, connections: Some(1000000) }
-any serve --port=9101|Serve { port: 9101, workers: 64, connections: None }
+const COMMANDS: &str =
+    "ebusd serve|Serve { journal: None, port: 9100, workers: 64, connections: None }
+ebusd serve --port 1|Serve { journal: None, port: 1, workers: 64, connections: None }
+ebusd serve --port 65535 --workers 1024|Serve { journal: None, port: 65535, workers: 1024, connections: None }
+ebusd serve --connections 1000000 --workers 1|Serve { journal: None, port: 9100, workers: 1, connections: Some(1000000) }
+ebusd serve --journal=--port|Serve { journal: Some(\"--port\"), port: 9100, workers: 64, connections: None }
+any serve --port=9101 --journal J|Serve { journal: Some(\"J\"), port: 9101, workers: 64, connections: None }
 ebusd once|Once { journal: None, now: None }
 ebusd once --now 0|Once { journal: None, now: Some(0) }
 ebusd once --now=250000000000|Once { journal: None, now: Some(250000000000) }
@@ -39,7 +41,7 @@ ebusd check --journal=|refused error: a value is required for '--journal <FILE>'
 ebusd check --journal J --journal J|refused error: the argument '--journal <FILE>' cannot be used multiple times
 ebusd drill --seed 1|refused error: the following required arguments were not provided:
 ebusd once x|refused error: unexpected argument 'x' found
-ebusd serve --journal J|refused error: unexpected argument '--journal' found
+ebusd serve --journal -x|refused error: unexpected argument '-x' found
 ebusd once --journal -x|refused error: unexpected argument '-x' found
 ebusd once --journal=|refused error: a value is required for '--journal <FILE>' but none was supplied
 ebusd once --journal J --journal J|refused error: the argument '--journal <FILE>' cannot be used multiple times
@@ -83,7 +85,7 @@ const ORDERS: &str = "012
 210
 ";
 
-const IN_ANY_ORDER: &str = "Serve { port: 9101, workers: 4, connections: Some(2) }";
+const IN_ANY_ORDER: &str = "Serve { journal: None, port: 9101, workers: 4, connections: Some(2) }";
 
 fn words_of(alloc: Global, line: &str) -> Result<Vec<String>, Fail> {
     let mut words = Vec::new(alloc);
@@ -167,7 +169,7 @@ fn is_narrow(alloc: Global, row: &str) -> Result<bool, Fail> {
 
 #[test]
 fn words_are_read_to_their_command(rt: HostRuntime) -> Result<(), Fail> {
-    all_met(rt.alloc(), COMMANDS, 14, is_read)
+    all_met(rt.alloc(), COMMANDS, 15, is_read)
 }
 
 #[test]

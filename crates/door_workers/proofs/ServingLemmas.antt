@@ -2,7 +2,7 @@
 -- more: `learns_again`, `same_again`, and has nothing open: `newcomer_rests`, `resting_again`. What a worker did: `worked_new`, `worked_later`,
 -- `worked_still`, `worked_more`, `worked_on`, `ended_now`, `same_session`; what all did: `crew_none`, `crew_on`, `all_done`. Numbers: `numbers_more`,
 -- `distinct_more`, `below_more`.
-use Rattle.std.proofs.Common.{◌≡◌, ◌≢◌, ◌⊎◌, ◌+◌, ◌<◌, ◌≤◌, ℕ, zero, suc, Bool, List, [], ◌∷◌, ◌++◌, All, Contains, get_or, length, map, reverse, take, refl, Option, None, inl, inr, ⊎_elim, sym, ap, ◌∙◌, subst, arith, append-nil, append_assoc, length-append}
+use Rattle.std.proofs.Common.{◌≡◌, ◌≢◌, ◌⊎◌, ◌+◌, ◌<◌, ◌≤◌, ℕ, zero, suc, Bool, List, [], ◌∷◌, ◌++◌, All, Contains, get_or, length, map, reverse, take, refl, Option, inl, inr, ⊎_elim, sym, ap, ◌∙◌, subst, arith, append_assoc}
 use Rattle.std.proofs.lemmas.List.{map-append, reverse-append, reverse-reverse}
 use Rattle.std.proofs.lemmas.List.Elements.{All-nil, All-more, All-push, All-weaker, Contains-append_left, Contains-push}
 use Rattle.std.proofs.lemmas.List.Sorted.{IsPermutation-reverse, Contains-permutation, All-permutation}
@@ -20,7 +20,7 @@ use Rattle.shared_door.specs.declared.acts.Act.TheVariants as act
 use Rattle.shared_door.specs.declared.acts.Visit.{Visit}
 use Rattle.shared_door.specs.Shown.{Shown}
 use Rattle.shared_door.specs.Acts.{visits_of, over_in}
-use Rattle.shared_door.specs.declared.connection.Over.TheVariants.{Closed, Failed}
+use Rattle.shared_door.specs.declared.connection.Over.TheVariants.{Closed, Failed, Stopped}
 use Rattle.shared_door.specs.declared.connection.Knocked.{Knocked}
 use Rattle.shared_door.specs.declared.connection.Knocked.TheVariants as knocked
 use Rattle.shared_door.specs.Porches.{PorchState}
@@ -76,7 +76,7 @@ module _ {I O T : Type 0} (fits : ℕ → I × O → I × O → Bool → List T 
   pub visited_later : (start now : Shown I O) (turns turns' : List T) (acts : List (Act I O T)) → IsPrefix turns turns'
       → Visited start now fits turns acts → Visited start now fits turns' acts
   visited_later start now turns turns' acts pre v = record {
-    fit = fits_later None start fits lasts turns turns' pre (visits_of acts) v.fit;
+    fit = fits_later fits lasts turns turns' pre (visits_of acts) v.fit;
     places = v.places;
     numbers = v.numbers;
     ended_is = v.ended_is;
@@ -222,6 +222,7 @@ module _ {D T I O : Type 0} where
   is_knocked tickets name old new seen knocked.NoMemory h pre = tt
   is_knocked tickets name old new seen (knocked.Closed f) (_, _, over) pre = (over.name_is, (Closed, ap over_in over.acts_are ∙ over.over_is))
   is_knocked tickets name old new seen (knocked.Failed f) (_, _, over) pre = (over.name_is, (Failed, ap over_in over.acts_are ∙ over.over_is))
+  is_knocked tickets name old new seen (knocked.Stopped f) (_, _, over) pre = (over.name_is, (Stopped, ap over_in over.acts_are ∙ over.over_is))
 
 -- the image of a list that got one more item
 pub mapped : {A B : Type 0} (f : A → B) (old new : List A) (a : A) → new ≡ old ++ a ∷ [] → map f new ≡ map f old ++ f a ∷ []

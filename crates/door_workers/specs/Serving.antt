@@ -19,7 +19,7 @@ use Rattle.shared_door.specs.declared.connection.Over.TheVariants as over
 use Rattle.shared_door.specs.Shown.{Shown}
 use Rattle.shared_door.specs.Visits.{Gave, Visited}
 use Rattle.door_workers.specs.declared.door.DoorEnd.{DoorEnd}
-use Rattle.door_workers.specs.declared.door.DoorEnd.TheVariants.{Done, DoorFault, NoMemory}
+use Rattle.door_workers.specs.declared.door.DoorEnd.TheVariants.{Done, DoorFault, Stopped, NoMemory}
 
 -- A pass of this hall that has no turn.
 -- Shown by: outside_tests test_door_workers.rt: two_workers_serve_three_connections.
@@ -39,6 +39,7 @@ IsHired rests hall name seat front = IsRestingPass rests hall seat × (front.nam
 abbrev pub over_of : DoorEnd → Option Over
 over_of Done = Some over.Closed
 over_of DoorFault = Some over.Failed
+over_of Stopped = Some over.Stopped
 over_of NoMemory = None
 
 -- A door that showed `start`, of which at most `most` connections were asked for, gave some and shows `now`; `end` says why it gave no
@@ -60,6 +61,7 @@ IsKnocked tickets name seen knocked.Quiet = Unit {0}
 IsKnocked tickets name seen knocked.NoMemory = Unit {0}
 IsKnocked tickets name seen (knocked.Closed f) = (f.name ≡ name) × IsOver f.items
 IsKnocked tickets name seen (knocked.Failed f) = (f.name ≡ name) × IsOver f.items
+IsKnocked tickets name seen (knocked.Stopped f) = (f.name ≡ name) × IsOver f.items
 
 -- A session that a worker served: the number of its connection, the number of the worker's pass, the streams as they came and as they were at the end, whether out of memory
 -- ended it, and the turns that the worker's pass had seen before.

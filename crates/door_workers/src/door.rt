@@ -29,6 +29,8 @@ pub enum DoorEnd {
     Done,
     /// The door failed.
     DoorFault,
+    /// The history says that no further connection is to be served.
+    Stopped,
     /// Out of memory before any worker began. Nothing was served.
     NoMemory,
 }
@@ -45,14 +47,14 @@ pub struct Serving<V: Story, D, Own> {
 }
 
 /// Serves the connections of a door, with a worker for each of `owns`. Returns once the door gives no further connection, or gave
-/// `connections`, and all given have ended. The passes of the workers and of the door are made by `pass`, which then has seen all
-/// that they saw.
+/// `connections`, or a worker found that the history says to stop, and all given have ended. The passes of the workers and of the door
+/// are made by `pass`, which then has seen all that they saw.
 pub fn serve_door<
     V: Served<D::In, D::Out> + Send,
     Rt: Wait + Threads + Sync,
     D: Door,
     Own: Send,
-    W: Work<V, D::In, D::Out, Own> + Sync,
+    W: Work<V, Pass<V>, D::In, D::Out, Own> + Sync,
 >(
     rt: &Rt,
     alloc: Global,
@@ -63,7 +65,7 @@ pub fn serve_door<
     connections: Option<u64>,
     work: &W,
 ) -> Serving<V, D, Own>
-    requires works { W.works work.now }
+    requires works { W.works work.now hall.now.table.shared.table_id }
     requires here { IsIdlePass hall.now.table.shared.table_id pass.old.seat }
     requires maker { 0 < (view pass.old.seat).made }
     requires owns { (0 < vec_len owns) × (vec_len owns ≤ 1024) }
@@ -78,6 +80,7 @@ pub fn serve_door<
         (shown_by D.faults D.ahead D.given D.ended D.gave D.took_back D.closed result.door) V.fits (view pass.new.seat).seen result.end)
         × AreDone W.did h.acts V.made_by (view pass.old.seat).made owns.items result.owns.items (map (λ p. known_by p.seat) result.passes.items) }
     ensures door_fault { result.end ≡ DoorEnd.DoorFault → Rose (D.faults door) (D.faults result.door) }
+    ensures stopped { result.end ≡ DoorEnd.Stopped → V.stops (view pass.new.seat).seen }
     ensures no_memory { result.end ≡ DoorEnd.NoMemory → (result.door ≡ door) × (result.owns.items ≡ owns.items)
         × (result.passes.items ≡ []) × (pass.new ≡ pass.old) }
 {
@@ -101,7 +104,7 @@ fn serve_in<
     Rt: Wait + Threads + Sync,
     D: Door,
     Own: Send,
-    W: Work<V, D::In, D::Out, Own> + Sync,
+    W: Work<V, Pass<V>, D::In, D::Out, Own> + Sync,
 >(
     rt: &Rt,
     hall: &Hall<V>,
@@ -112,7 +115,7 @@ fn serve_in<
     work: &W,
     room: Room<V, Arrival<D::In, D::Out, V::Turn>, Own, Act<D::In, D::Out, V::Turn>>,
 ) -> Serving<V, D, Own>
-    requires works { W.works work.now }
+    requires works { W.works work.now hall.now.table.shared.table_id }
     requires here { IsIdlePass hall.now.table.shared.table_id pass.old.seat }
     requires maker { 0 < (view pass.old.seat).made }
     requires owns { 0 < vec_len owns }
@@ -130,6 +133,7 @@ fn serve_in<
         (shown_by D.faults D.ahead D.given D.ended D.gave D.took_back D.closed result.door) V.fits (view pass.new.seat).seen result.end)
         × AreDone W.did h.acts V.made_by (view pass.old.seat).made owns.items result.owns.items (map (λ p. known_by p.seat) result.passes.items) }
     ensures door_fault { result.end ≡ DoorEnd.DoorFault → Rose (D.faults door) (D.faults result.door) }
+    ensures stopped { result.end ≡ DoorEnd.Stopped → V.stops (view pass.new.seat).seen }
     ensures memory { result.end ≢ DoorEnd.NoMemory }
 {
     let Room {
@@ -178,6 +182,7 @@ fn end_of(over: Option<Over>) -> DoorEnd
     match over {
         Some(Over::Closed) => DoorEnd::Done,
         Some(Over::Failed) => DoorEnd::DoorFault,
+        Some(Over::Stopped) => DoorEnd::Stopped,
         None => unreachable!(),
     }
 }
@@ -189,7 +194,7 @@ fn open_by<
     Rt: Wait + Threads + Sync,
     D: Door,
     Own: Send,
-    W: Work<V, D::In, D::Out, Own> + Sync,
+    W: Work<V, Pass<V>, D::In, D::Out, Own> + Sync,
 >(
     rt: &Rt,
     hall: &Hall<V>,
@@ -201,7 +206,7 @@ fn open_by<
     work: &W,
     workers: &mut [Worker<V, Own, Act<D::In, D::Out, V::Turn>>],
 ) -> Parts<V, D>
-    requires works { W.works work.now }
+    requires works { W.works work.now N.hall }
     requires hall { hall.now.table.shared.table_id ≡ N.hall }
     requires last { IsIdlePass N.hall last.seat }
     requires unturned { ((view last.seat).number ≡ N.pass) × (turns_by V.made_by N.pass (view last.seat).seen ≡ []) }
@@ -222,11 +227,12 @@ fn open_by<
     ensures gave { Gave N.most N.start (shown_by D.faults D.ahead D.given D.ended D.gave D.took_back D.closed result.door) result.standing result.acts.items }
     ensures visited { Visited N.start (shown_by D.faults D.ahead D.given D.ended D.gave D.took_back D.closed result.door)
         V.fits (view result.pass.seat).seen result.acts.items }
+    ensures stopped { result.standing.over ≡ Some Over.Stopped → V.stops (view result.pass.seat).seen }
 {
     let counts = Counts::new(workers.len());
     let porch: Porch<'_, V, D, N> = Porch::open(door, hall, last, tickets, acts, connections);
     let porch = Mutex::new(porch);
-    work_all(rt, hall, &porch, &counts, work, workers);
+    work_all(rt, &porch, &counts, work, workers);
     let over = longest::<V, D, N, Own>(workers);
     porch.into_inner().into_parts(over)
 }
@@ -238,17 +244,15 @@ fn work_all<
     Rt: Wait + Threads + Sync,
     D: Door,
     Own: Send,
-    W: Work<V, D::In, D::Out, Own> + Sync,
+    W: Work<V, Pass<V>, D::In, D::Out, Own> + Sync,
 >(
     rt: &Rt,
-    hall: &Hall<V>,
     porch: &Mutex<Porch<'_, V, D, N>>,
     counts: &Counts,
     work: &W,
     workers: &mut [Worker<V, Own, Act<D::In, D::Out, V::Turn>>],
 )
-    requires works { W.works work.now }
-    requires hall { hall.now.table.shared.table_id ≡ N.hall }
+    requires works { W.works work.now N.hall }
     requires some { 0 < length workers.old }
     requires workers { All (λ w. IsHired V.rests N.hall N.acts w.pass.seat w.front) workers.old }
     requires worked { All (λ w. HasWorked W.did w.front.items w.pass.seat w.lent.value w.own) workers.old }
@@ -264,8 +268,7 @@ fn work_all<
         workers,
         threads,
         &|_, worker: &mut Worker<V, Own, Act<D::In, D::Out, V::Turn>>|
-            requires works { W.works work.now }
-            requires hall { hall.now.table.shared.table_id ≡ N.hall }
+            requires works { W.works work.now N.hall }
             requires hired { IsHired V.rests N.hall N.acts worker.old.pass.seat worker.old.front }
             requires worked { HasWorked W.did worker.old.front.items worker.old.pass.seat worker.old.lent.value worker.old.own }
             ensures idle { IsRestingPass V.rests N.hall worker.new.pass.seat }
@@ -275,7 +278,6 @@ fn work_all<
         {
             let site = Site {
                 rt,
-                hall,
                 porch,
                 counts,
                 work,

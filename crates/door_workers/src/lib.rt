@@ -9,4 +9,4 @@ mod worker;
 
 pub use counts::may_leave;
 pub use door::{DoorEnd, Serving, serve_door};
-pub use worker::Work;
+pub use worker::{Seating, Work};

@@ -15,7 +15,7 @@ use std::alloc::AllocError;
 use std::sync::atomic::Ordering;
 use std::sync::{Mutex, Wait};
 use std::time::Duration;
-use turn_book::Hall;
+use turn_book::Pass;
 
 /// How many milliseconds a worker waits for a connection to end before it knocks again.
 const PAUSE: u64 = 1;
@@ -23,7 +23,6 @@ const PAUSE: u64 = 1;
 /// What the workers share. The porch is locked only for a knock, by one worker at a time, and to take a connection back.
 pub(crate) struct Site<'a, 'h, Rt, V: Served<D::In, D::Out>, D: Door, N: Naming<D::In, D::Out>, W> {
     pub(crate) rt: &'a Rt,
-    pub(crate) hall: &'a Hall<V>,
     pub(crate) porch: &'a Mutex<Porch<'h, V, D, N>>,
     pub(crate) counts: &'a Counts,
     pub(crate) work: &'a W,
@@ -47,10 +46,9 @@ pub(crate) fn attend<
     D: Door,
     N: Naming<D::In, D::Out>,
     Own,
-    W: Work<V, D::In, D::Out, Own>,
+    W: Work<V, Pass<V>, D::In, D::Out, Own>,
 >(site: Site<'_, '_, Rt, V, D, N, W>, worker: &mut Worker<V, Own, Act<D::In, D::Out, V::Turn>>)
-    requires works { W.works site.work.now }
-    requires hall { site.hall.now.table.shared.table_id ≡ N.hall }
+    requires works { W.works site.work.now N.hall }
     requires pass { (worker.old.pass.seat.table_id ≡ N.hall) × IsFree worker.old.pass.seat }
     requires rests { V.rests (view worker.old.pass.seat).number (view worker.old.pass.seat).seen }
     requires front { worker.old.front.name ≡ N.acts }
@@ -69,6 +67,7 @@ pub(crate) fn attend<
             Knocked::NoMemory => be_quiet(site, worker),
             Knocked::Closed(front) => return leave(site, worker, front),
             Knocked::Failed(front) => return leave(site, worker, front),
+            Knocked::Stopped(front) => return leave(site, worker, front),
         }
     }
     unreachable!()
@@ -81,13 +80,12 @@ fn knock<
     D: Door,
     N: Naming<D::In, D::Out>,
     Own,
-    W: Work<V, D::In, D::Out, Own>,
+    W: Work<V, Pass<V>, D::In, D::Out, Own>,
 >(
     site: Site<'_, '_, Rt, V, D, N, W>,
     worker: &mut Worker<V, Own, Act<D::In, D::Out, V::Turn>>,
 ) -> Knocked<D, V::Turn>
-    requires works { W.works site.work.now }
-    requires hall { site.hall.now.table.shared.table_id ≡ N.hall }
+    requires works { W.works site.work.now N.hall }
     requires pass { (worker.old.pass.seat.table_id ≡ N.hall) × IsFree worker.old.pass.seat }
     requires rests { V.rests (view worker.old.pass.seat).number (view worker.old.pass.seat).seen }
     requires front { worker.old.front.name ≡ N.acts }
@@ -100,9 +98,40 @@ fn knock<
     ensures knocked { IsKnocked N.tickets N.acts (view worker.new.pass.seat).seen result }
 {
     site.counts.enter(site.rt);
-    let knocked = site.porch.lock(site.rt).knock(&mut worker.pass);
+    let knocked = ask(site, worker);
     site.counts.leave();
     knocked
+}
+
+/// Knocks, or stops the porch if the work does not go on.
+fn ask<
+    Rt: Wait + Sync,
+    V: Served<D::In, D::Out>,
+    D: Door,
+    N: Naming<D::In, D::Out>,
+    Own,
+    W: Work<V, Pass<V>, D::In, D::Out, Own>,
+>(
+    site: Site<'_, '_, Rt, V, D, N, W>,
+    worker: &mut Worker<V, Own, Act<D::In, D::Out, V::Turn>>,
+) -> Knocked<D, V::Turn>
+    requires works { W.works site.work.now N.hall }
+    requires pass { (worker.old.pass.seat.table_id ≡ N.hall) × IsFree worker.old.pass.seat }
+    requires rests { V.rests (view worker.old.pass.seat).number (view worker.old.pass.seat).seen }
+    requires front { worker.old.front.name ≡ N.acts }
+    requires worked { HasWorked W.did worker.old.front.items worker.old.pass.seat worker.old.lent.value worker.old.own }
+    ensures pass { IsSamePass worker.old.pass.seat worker.new.pass.seat × IsFree worker.new.pass.seat }
+    ensures rests { V.rests (view worker.new.pass.seat).number (view worker.new.pass.seat).seen }
+    ensures front { worker.new.front.name ≡ N.acts }
+    ensures worked { HasWorked W.did worker.new.front.items worker.new.pass.seat worker.new.lent.value worker.new.own }
+    ensures lent { worker.new.lent ≡ worker.old.lent }
+    ensures knocked { IsKnocked N.tickets N.acts (view worker.new.pass.seat).seen result }
+{
+    if site.work.goes_on(&mut worker.pass) {
+        site.porch.lock(site.rt).knock(&mut worker.pass)
+    } else {
+        Knocked::Stopped(site.porch.lock(site.rt).stop(&mut worker.pass))
+    }
 }
 
 /// Lets all others knock, since the porch is over. The front has the act that says so.
@@ -112,14 +141,13 @@ fn leave<
     D: Door,
     N: Naming<D::In, D::Out>,
     Own,
-    W: Work<V, D::In, D::Out, Own>,
+    W: Work<V, Pass<V>, D::In, D::Out, Own>,
 >(
     site: Site<'_, '_, Rt, V, D, N, W>,
     worker: &mut Worker<V, Own, Act<D::In, D::Out, V::Turn>>,
     front: Front<Act<D::In, D::Out, V::Turn>>,
 )
-    requires works { W.works site.work.now }
-    requires hall { site.hall.now.table.shared.table_id ≡ N.hall }
+    requires works { W.works site.work.now N.hall }
     requires pass { (worker.old.pass.seat.table_id ≡ N.hall) × IsFree worker.old.pass.seat }
     requires rests { V.rests (view worker.old.pass.seat).number (view worker.old.pass.seat).seen }
     requires front { worker.old.front.name ≡ N.acts }
@@ -143,14 +171,13 @@ fn serve<
     D: Door,
     N: Naming<D::In, D::Out>,
     Own,
-    W: Work<V, D::In, D::Out, Own>,
+    W: Work<V, Pass<V>, D::In, D::Out, Own>,
 >(
     site: Site<'_, '_, Rt, V, D, N, W>,
     worker: &mut Worker<V, Own, Act<D::In, D::Out, V::Turn>>,
     connection: Connection<D, V::Turn>,
 )
-    requires works { W.works site.work.now }
-    requires hall { site.hall.now.table.shared.table_id ≡ N.hall }
+    requires works { W.works site.work.now N.hall }
     requires pass { (worker.old.pass.seat.table_id ≡ N.hall) × IsFree worker.old.pass.seat }
     requires rests { V.rests (view worker.old.pass.seat).number (view worker.old.pass.seat).seen }
     requires own { tickets_of connection ≡ N.tickets }
@@ -177,14 +204,13 @@ fn converse<
     D: Door,
     N: Naming<D::In, D::Out>,
     Own,
-    W: Work<V, D::In, D::Out, Own>,
+    W: Work<V, Pass<V>, D::In, D::Out, Own>,
 >(
     site: Site<'_, '_, Rt, V, D, N, W>,
     worker: &mut Worker<V, Own, Act<D::In, D::Out, V::Turn>>,
     connection: Connection<D, V::Turn>,
 )
-    requires works { W.works site.work.now }
-    requires hall { site.hall.now.table.shared.table_id ≡ N.hall }
+    requires works { W.works site.work.now N.hall }
     requires pass { (worker.old.pass.seat.table_id ≡ N.hall) × IsFree worker.old.pass.seat }
     requires rests { V.rests (view worker.old.pass.seat).number (view worker.old.pass.seat).seen }
     requires own { tickets_of connection ≡ N.tickets }
@@ -203,7 +229,6 @@ fn converse<
     let before = turns_seen(&worker.pass);
     let cut = site.work.serve(
         &mut worker.own,
-        site.hall,
         &mut worker.pass,
         number,
         &mut connection.input,
@@ -224,10 +249,9 @@ fn be_quiet<
     D: Door,
     N: Naming<D::In, D::Out>,
     Own,
-    W: Work<V, D::In, D::Out, Own>,
+    W: Work<V, Pass<V>, D::In, D::Out, Own>,
 >(site: Site<'_, '_, Rt, V, D, N, W>, worker: &mut Worker<V, Own, Act<D::In, D::Out, V::Turn>>)
-    requires works { W.works site.work.now }
-    requires hall { site.hall.now.table.shared.table_id ≡ N.hall }
+    requires works { W.works site.work.now N.hall }
     requires pass { (worker.old.pass.seat.table_id ≡ N.hall) × IsFree worker.old.pass.seat }
     requires rests { V.rests (view worker.old.pass.seat).number (view worker.old.pass.seat).seen }
     requires front { worker.old.front.name ≡ N.acts }
@@ -261,10 +285,9 @@ fn work_on<
     D: Door,
     N: Naming<D::In, D::Out>,
     Own,
-    W: Work<V, D::In, D::Out, Own>,
+    W: Work<V, Pass<V>, D::In, D::Out, Own>,
 >(site: Site<'_, '_, Rt, V, D, N, W>, worker: &mut Worker<V, Own, Act<D::In, D::Out, V::Turn>>)
-    requires works { W.works site.work.now }
-    requires hall { site.hall.now.table.shared.table_id ≡ N.hall }
+    requires works { W.works site.work.now N.hall }
     requires pass { (worker.old.pass.seat.table_id ≡ N.hall) × IsFree worker.old.pass.seat }
     requires rests { V.rests (view worker.old.pass.seat).number (view worker.old.pass.seat).seen }
     requires front { worker.old.front.name ≡ N.acts }
@@ -275,6 +298,5 @@ fn work_on<
     ensures worked { HasWorked W.did worker.new.front.items worker.new.pass.seat worker.new.lent.value worker.new.own }
     ensures lent { worker.new.lent ≡ worker.old.lent }
 {
-    site.work
-        .meanwhile(&mut worker.own, site.hall, &mut worker.pass);
+    site.work.meanwhile(&mut worker.own, &mut worker.pass);
 }

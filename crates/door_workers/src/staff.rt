@@ -91,7 +91,7 @@ pub(crate) fn hire<V: Served<I, O>, I, O, Own, A>(
 
 /// Takes what the workers had and their passes, in the order of the loan, and then the pass of the door, which made no turn. The
 /// caller's pass has then seen what they saw. `acts` is what the porch did.
-pub(crate) fn gather<V: Served<I, O>, I, O, Own, W: Work<V, I, O, Own>>(
+pub(crate) fn gather<V: Served<I, O>, I, O, Own, W: Work<V, Pass<V>, I, O, Own>>(
     hall: &Hall<V>,
     pass: &mut Pass<V>,
     workers: Vec<Worker<V, Own, Act<I, O, V::Turn>>>,
@@ -124,7 +124,7 @@ pub(crate) fn gather<V: Served<I, O>, I, O, Own, W: Work<V, I, O, Own>>(
 }
 
 /// Takes what the workers had and their passes, last worker first. The caller's pass has then seen what they saw.
-fn dismiss<V: Served<I, O>, I, O, Own, W: Work<V, I, O, Own>>(
+fn dismiss<V: Served<I, O>, I, O, Own, W: Work<V, Pass<V>, I, O, Own>>(
     hall: &Hall<V>,
     pass: &mut Pass<V>,
     workers: Vec<Worker<V, Own, Act<I, O, V::Turn>>>,

@@ -18,7 +18,7 @@ fn main(rt: HostRuntime) -> io::Result<ExitCode> {
     let mut input = ReaderSource::new(rt.stdin());
     let mut output = WriterSink::new(rt.stdout());
     let mut faults = WriterSink::new(rt.stderr());
-    let mut host = TcpHost::new(rt.alloc(), rt);
+    let mut host = TcpHost::new(rt.alloc(), rt)?;
     let mut clock = SystemClocks::new(rt);
     let status = run(
         &rt,

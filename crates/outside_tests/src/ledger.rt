@@ -1,7 +1,8 @@
 //! A list of turns, as the value that threads share, and a door in memory.
-ghost use Rattle.std.specs.Prelude.{◌≡◌, ◌⊎◌, ◌==◌, true, Some};
+ghost use Rattle.std.specs.Prelude.{◌≡◌, ◌⊎◌, ◌==◌, ◌≤◌, length, true, Some, MatchBool};
 ghost use Rattle.std.specs.List.{list_any};
-ghost use Rattle.turn_book.specs.Passes.{view, IsFree, Extends};
+ghost use Rattle.turn_book.specs.Rule.{Learns};
+ghost use Rattle.turn_book.specs.Passes.{view, IsFree, IsSamePass, Extends};
 
 use bus_host::{Door, Knock, MemDoor, Plan};
 use router_disk::{MemSink, MemSource, Sink};
@@ -9,6 +10,7 @@ use shared_door::Served;
 use std::alloc::Global;
 use std::collections::LinkedList;
 use std::process::Abort;
+use std::sync::Wait;
 use turn_book::{Hall, Pass, Story};
 
 /// A list of turns: the pass that made each, and the connection that it served.
@@ -30,9 +32,10 @@ impl Story for Ledger {
 }
 
 impl<I, O> Served<I, O> for Ledger {
-    ghost use Rattle.std.specs.Prelude.{◌≡◌, ◌⊎◌, ◌==◌, ◌||◌, true};
+    ghost use Rattle.std.specs.Prelude.{◌≡◌, ◌⊎◌, ◌==◌, ◌||◌, ◌≤◌, length, true};
     ghost use Rattle.std.specs.List.{list_any};
-    ghost use Rattle.std.proofs.Common.{ap, ◌∙◌, inl, inr, ⊎_elim};
+    ghost use Rattle.std.proofs.Common.{ap, sym, subst, ◌∙◌, inl, inr, ⊎_elim, length-append};
+    ghost use Rattle.std.proofs.Math.Nat.{le_trans, le-add_right};
     ghost use Rattle.std.proofs.lemmas.List.Folds.{list_any-append};
 
     // A turn served the connection, unless out of memory ended it.
@@ -47,6 +50,12 @@ impl<I, O> Served<I, O> for Ledger {
     ghost unturned = { λ _ _ _. tt };
 
     ghost keeps = { λ _ _ _ _ _ _. tt };
+
+    // Five turns are enough.
+    ghost stops = { λ turns. 5 ≤ length turns };
+
+    ghost stays = { λ seen turns pre five. subst (λ l. 5 ≤ length l) pre.1
+        (subst (λ n. 5 ≤ n) (sym (length-append seen pre.0)) (le_trans five (le-add_right (length seen) (length pre.0)))) };
 }
 
 /// Adds a turn. True: out of memory.
@@ -57,6 +66,20 @@ pub(crate) fn add(ledger: Ledger, pass: u64, connection: u64) -> (Ledger, bool)
     let mut ledger = ledger;
     let cut = ledger.entries.push((pass, connection)).is_err();
     (ledger, cut)
+}
+
+/// Whether the ledger has fewer than five turns.
+pub(crate) fn goes_on<R: Wait>(rt: &R, hall: &Hall<Ledger>, pass: &mut Pass<Ledger>) -> bool
+    requires here { pass.old.seat.table_id ≡ hall.now.table.shared.table_id }
+    requires free { IsFree pass.old.seat }
+    ensures pass { IsSamePass pass.old.seat pass.new.seat × IsFree pass.new.seat
+        × Learns (λ t. Some t.0) (view pass.old.seat) (view pass.new.seat).seen }
+    ensures stops { MatchBool result (¬ (5 ≤ length (view pass.new.seat).seen)) (5 ≤ length (view pass.new.seat).seen) }
+{
+    let ledger = hall.take(rt, pass);
+    let goes_on = ledger.entries.len() < 5;
+    hall.give(pass, ledger);
+    goes_on
 }
 
 /// A hall for so many passes, with the first of them.

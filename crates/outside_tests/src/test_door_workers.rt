@@ -1,7 +1,7 @@
 //! Workers at a door in memory, and who of them may stop knocking.
 ghost use Rattle.std.specs.Prelude.{◌<◌, ◌≤◌, length};
 
-use crate::ledger::{Ledger, add, door, make_hall, turns_of};
+use crate::ledger::{Ledger, add, door, goes_on, make_hall, turns_of};
 use door_workers::{Serving, Work, may_leave, serve_door};
 use std::alloc::Global;
 use std::process::Abort;
@@ -16,14 +16,16 @@ use turn_book::{Hall, Pass};
 #[derive(Drop)]
 struct Adding<'a, R> {
     rt: &'a R,
+    hall: &'a Hall<Ledger>,
     served: AtomicU64,
 }
 
-impl<R: Wait, I, O> Work<Ledger, I, O, u32> for Adding<'_, R> {
-    ghost use Rattle.std.specs.Prelude.{◌≤◌, ◌+◌, length};
+impl<R: Wait, I, O> Work<Ledger, Pass<Ledger>, I, O, u32> for Adding<'_, R> {
+    ghost use Rattle.std.specs.Prelude.{◌≡◌, ◌≤◌, ◌+◌, length};
     ghost use Rattle.std.proofs.Common.{le_refl};
 
-    ghost works = { λ _. Unit {0} };
+    // The table is its hall's.
+    ghost works = { λ a table. table ≡ a.hall.now.table.shared.table_id };
 
     // A worker counts up.
     ghost did = { λ _ lent now _ _. lent ≤ now };
@@ -35,20 +37,23 @@ impl<R: Wait, I, O> Work<Ledger, I, O, u32> for Adding<'_, R> {
     fn serve(
         &self,
         _own: &mut u32,
-        hall: &Hall<Ledger>,
         pass: &mut Pass<Ledger>,
         number: u64,
         _input: &mut I,
         _output: &mut O,
     ) -> bool {
         self.served.fetch_add(1, Ordering::SeqCst);
-        let ledger = hall.take(self.rt, pass);
+        let ledger = self.hall.take(self.rt, pass);
         let (ledger, cut) = add(ledger, pass.number(), number);
-        hall.give(pass, ledger);
+        self.hall.give(pass, ledger);
         cut
     }
 
-    fn meanwhile(&self, own: &mut u32, _hall: &Hall<Ledger>, _pass: &mut Pass<Ledger>) {
+    fn goes_on(&self, pass: &mut Pass<Ledger>) -> bool {
+        goes_on(self.rt, self.hall, pass)
+    }
+
+    fn meanwhile(&self, own: &mut u32, _pass: &mut Pass<Ledger>) {
         *own = own.saturating_add(1);
     }
 }
@@ -67,18 +72,23 @@ fn served_by<R: Threads + Wait + Sync + Abort>(
     let (hall, mut pass) = make_hall(rt, alloc, 4);
     let counts = counts.to_vec(alloc).expect(rt, "counts");
     let door = door(rt, alloc, plans);
-    let work = Adding {
-        rt,
-        served: AtomicU64::new(0),
+    let (serving, served) = {
+        let work = Adding {
+            rt,
+            hall: &hall,
+            served: AtomicU64::new(0),
+        };
+        let serving = serve_door(rt, alloc, &hall, &mut pass, counts, door, most, &work);
+        (serving, work.served.load(Ordering::SeqCst))
     };
     let Serving {
         door,
         owns,
         passes,
         end,
-    } = serve_door(rt, alloc, &hall, &mut pass, counts, door, most, &work);
+    } = serving;
     let turns = turns_of(&hall.close(pass, passes));
-    let (back, served) = (door.back.len(), work.served.load(Ordering::SeqCst));
+    let back = door.back.len();
     let served = format!(in alloc; "{end:?} {turns:?} {back} {served}").expect(rt, "a text");
     (served, owns)
 }
@@ -100,6 +110,12 @@ fn one_worker_is_idle_while_none_comes(rt: HostRuntime) {
     let (served, counts) = served_by(&rt, rt.alloc(), "qCm", &[0], None);
     assert_eq!(rt; served.as_str(), "Done [0, 1, 0, 0, 0] 1 1");
     assert_eq!(rt; counts.as_slice(), [2].as_slice());
+}
+
+#[test]
+fn a_worker_stops_after_the_fifth_turn(rt: HostRuntime) {
+    let (served, _) = served_by(&rt, rt.alloc(), "CCCCCC", &[0], None);
+    assert_eq!(rt; served.as_str(), "Stopped [0, 1, 1, 1, 1] 5 5");
 }
 
 #[test]

@@ -5,7 +5,7 @@ ghost use Rattle.turn_book.specs.Passes.{view, IsFree};
 ghost use Rattle.shared_door.specs.Shown.{shown_by};
 ghost use Rattle.shared_door.specs.Acts.{IsOver};
 
-use crate::ledger::{Ledger, add, door, make_hall, turns_of};
+use crate::ledger::{Ledger, add, door, goes_on, make_hall, turns_of};
 use bus_host::Door;
 use growing_list::{Front, GrowingList};
 use shared_door::{Act, Arrival, Knocked, Naming, Over, Parts, Porch, Tickets, turns_seen};
@@ -24,7 +24,7 @@ struct Worker {
     letters: [u8; 5],
 }
 
-// Knocks, and serves the connection that came, if any. Returns a letter for what the knock returned.
+// Knocks, and serves the connection that came, if any. Returns a letter for what the knock returned, or `s` after the fifth turn.
 fn knock<R: Wait, D: Door, N: Naming<D::In, D::Out>>(
     rt: &R,
     hall: &Hall<Ledger>,
@@ -35,6 +35,10 @@ fn knock<R: Wait, D: Door, N: Naming<D::In, D::Out>>(
     requires pass { (pass.old.seat.table_id ≡ N.hall) × IsFree pass.old.seat }
     ensures pass { (pass.new.seat.table_id ≡ N.hall) × IsFree pass.new.seat }
 {
+    if !goes_on(rt, hall, pass) {
+        let _front = porch.lock(rt).stop(pass);
+        return b's';
+    }
     let knocked = porch.lock(rt).knock(pass);
     match knocked {
         Knocked::Conn(connection) => {
@@ -48,6 +52,7 @@ fn knock<R: Wait, D: Door, N: Naming<D::In, D::Out>>(
         Knocked::Quiet => b'q',
         Knocked::Closed(_) => b'c',
         Knocked::Failed(_) => b'f',
+        Knocked::Stopped(_) => b's',
         Knocked::NoMemory => b'm',
     }
 }
@@ -95,18 +100,24 @@ fn serve_all<D: Door, R: Threads + Wait + Sync, N: Naming<D::In, D::Out> + Send>
     );
 }
 
-// Knocks at a porch that is over.
-fn over<D: Door, R: Abort, N: Naming<D::In, D::Out>>(
+// Knocks at a porch that is over, or stops it.
+fn over<D: Door, R: Abort + Wait, N: Naming<D::In, D::Out>>(
     rt: &R,
+    hall: &Hall<Ledger>,
     porch: &mut Porch<'_, Ledger, D, N>,
     pass: &mut Pass<Ledger>,
 ) -> Front<Act<D::In, D::Out, (u64, u64)>>
+    requires hall { hall.now.table.shared.table_id ≡ N.hall }
     requires pass { (pass.old.seat.table_id ≡ N.hall) × IsFree pass.old.seat }
     ensures { (result.name ≡ N.acts) × IsOver result.items }
 {
+    if !goes_on(rt, hall, pass) {
+        return porch.stop(pass);
+    }
     match porch.knock(pass) {
         Knocked::Closed(front) => front,
         Knocked::Failed(front) => front,
+        Knocked::Stopped(front) => front,
         Knocked::Conn(_connection) => panic!(rt; "a connection"),
         Knocked::Quiet => panic!(rt; "no connection"),
         Knocked::NoMemory => panic!(rt; "out of memory"),
@@ -137,7 +148,7 @@ fn served_by<D: Door, R: Threads + Wait + Sync + Abort, N: Naming<D::In, D::Out>
     let porch = Mutex::new(porch);
     serve_all(rt, hall, &porch, workers);
     let mut porch = porch.into_inner();
-    let front = over(rt, &mut porch, &mut workers[0].pass);
+    let front = over(rt, hall, &mut porch, &mut workers[0].pass);
     porch.into_parts(front)
 }
 
@@ -227,6 +238,11 @@ fn returns<R: Threads + Wait + Sync + Abort>(
 #[test]
 fn a_porch_returns_what_its_door_returns(rt: HostRuntime) {
     assert!(rt; returns(&rt, rt.alloc(), "qCmfC", None, *b"qCmff", 1));
+}
+
+#[test]
+fn a_porch_is_stopped_by_the_history(rt: HostRuntime) {
+    assert!(rt; returns(&rt, rt.alloc(), "CCCCCC", None, *b"CCCCC", 5));
 }
 
 #[test]

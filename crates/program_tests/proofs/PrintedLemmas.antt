@@ -16,7 +16,7 @@ use Rattle.shared_door.specs.declared.acts.Arrival.{Arrival}
 use Rattle.shared_door.specs.Tickets.{IsPlace}
 use Rattle.shared_door.specs.Acts.{arrivals_of, visits_of, numbered_of}
 use Rattle.door_workers.specs.declared.door.DoorEnd.{DoorEnd}
-use Rattle.door_workers.specs.declared.door.DoorEnd.TheVariants.{Done, DoorFault, NoMemory}
+use Rattle.door_workers.specs.declared.door.DoorEnd.TheVariants.{Done, DoorFault, Stopped, NoMemory}
 use Rattle.door_workers.specs.Serving.{Session, Worked, IsWorker, session_of, IsAmong}
 use Rattle.router_core.specs.Tables.{first_tables}
 use Rattle.courier_run.specs.Act.{reads, ticks, looks, makes, tries, writes}
@@ -27,7 +27,7 @@ use Rattle.tables_summary.specs.Summary.{summary_of}
 use Rattle.router_history.specs.Acts.{Act, Happens, IsNamed}
 use Rattle.router_history.proofs.TurnLemmas.{first_other}
 use Rattle.session_workers.specs.Jobs.{Jobs, nothing, serves, steps, looks_on, reads_clock, did_by}
-use Rattle.bus_server.specs.Serve.{AroundDoor, AtDoor, EndsServing, IsMadeBy, IsOpened, IsServe}
+use Rattle.bus_server.specs.Serve.{AroundDoor, AtDoor, EndsServing, IsMadeBy, IsOpened, IsServe, IsUnbroken}
 use Rattle.program_tests.specs.Printed.{zeros, PrintsZeros}
 
 -- before any duty was made, only a turn for a request can be made, and that names a connection
@@ -135,7 +135,7 @@ module _ {D L C I O : Type 0} (show : D → Shown I O) (fits : ℕ → I × O �
     (gave : I → List (List ℕ)) (wrote : O → List ℕ) (readings : C → List ℕ) (exchanges : L → List Exchange) (faults : L → ℕ) where
   -- no turn serves a connection
   no_request : (connections : Option ℕ) (old new : AtDoor D (L × C)) (status : Status)
-      (x : IsOpened show fits (did_by gave wrote readings exchanges faults) connections old new status) → (show old.door).ahead ≡ Some []
+      (x : IsOpened show fits (did_by gave wrote readings exchanges faults) opening IsUnbroken connections old new status) → (show old.door).ahead ≡ Some []
       → All (λ t. t.connection ≡ None) x.later
   no_request connections old new status x closed =
       all_unnamed (map (λ w. w.number) x.crew) x.later x.makers
@@ -156,23 +156,25 @@ module _ {D L C I O : Type 0} (show : D → Shown I O) (fits : ℕ → I × O �
           (quiet gave wrote (map turn_of w.seen) w.number is.did_so.acts w.sessions is.did_so.jobs none)))
 
   printed : (port : ℕ) (connections : Option ℕ) (before : List ℕ) (old new : AtDoor D (L × C)) (status : Status)
-      (x : IsOpened show fits (did_by gave wrote readings exchanges faults) connections old new status) → old.written ≡ before ++ listening_text port
+      (x : IsOpened show fits (did_by gave wrote readings exchanges faults) opening IsUnbroken connections old new status) → old.written ≡ before ++ listening_text port
       → (show old.door).ahead ≡ Some [] → status ≡ statuses.Done → PrintsZeros port before new.written
-  printed port connections before old new status x listening closed done = ended x.end x.ends
+  printed port connections before old new status x listening closed done = ended (state_of (map turn_of x.turns)).broken x.end x.ends
     where
-      ended : (end : DoorEnd) → EndsServing end (state_of (map turn_of x.turns)).tables old.written new.written status → PrintsZeros port before new.written
-      ended Done (inl y) = y.1 ∙ ap (λ (w : List ℕ). w ++ summary_lines (summary_of (state_of (map turn_of x.turns)).tables)) listening
+      ended : (broken : Bool) (end : DoorEnd) → EndsServing broken end (state_of (map turn_of x.turns)).tables old.written new.written status → PrintsZeros port before new.written
+      ended true end y = absurd (cc (y.0, done))
+      ended false Done (inl y) = y.1 ∙ ap (λ (w : List ℕ). w ++ summary_lines (summary_of (state_of (map turn_of x.turns)).tables)) listening
           ∙ append_assoc before (listening_text port) (summary_lines (summary_of (state_of (map turn_of x.turns)).tables))
           ∙ ap (λ s. before ++ (listening_text port ++ summary_lines s)) (summed (map turn_of x.turns) x.later x.book x.opened (no_request connections old new status x closed))
-      ended Done (inr (inl y)) = absurd (cc (y.0, done))
-      ended Done (inr (inr y)) = absurd (cc (y.0, done))
-      ended DoorFault y = absurd (cc (y.0, done))
-      ended NoMemory y = absurd y
+      ended false Done (inr (inl y)) = absurd (cc (y.0, done))
+      ended false Done (inr (inr y)) = absurd (cc (y.0, done))
+      ended false DoorFault y = absurd (cc (y.0, done))
+      ended false Stopped y = absurd y
+      ended false NoMemory y = absurd y
 
   pub printed_by : (port workers : ℕ) (connections : Option ℕ) (old new : AroundDoor D L C) (status : Status)
       → IsServe show fits (did_by gave wrote readings exchanges faults) port workers connections old new status
       → All (λ d. (show d.1).ahead ≡ Some []) new.doors → status ≡ statuses.Done → PrintsZeros port old.written new.written
-  printed_by port workers connections old new status (inr x) closed done = elim x.cause [
+  printed_by port workers connections old new status (inr (x, kept)) closed done = elim x.cause [
     | inl y ↦ absurd (cc (y.0, done))
     | inr (inl y) ↦ absurd (cc (y.0, done))
     | inr (inr y) ↦ absurd (cc (y.0, done))

@@ -40,7 +40,7 @@ fn once_of_nothing<R: Wait + Threads + Sync, S: Source, K: Sink, E: Sink, H: Hos
     )
 }
 
-/// Runs `serve`. If the doors of the host have no connection to come, and it ends as done, it printed its port, and then a summary of
+/// Runs `serve` without a journal. If the doors of the host have no connection to come, and it ends as done, it printed its port, and then a summary of
 /// zeros.
 fn serve_to_the_end<R: Wait + Threads + Sync, S: Source, K: Sink, E: Sink, H: Host, C: Clocks>(
     rt: &R,
@@ -55,7 +55,7 @@ fn serve_to_the_end<R: Wait + Threads + Sync, S: Source, K: Sink, E: Sink, H: Ho
     host: &mut H,
     clock: &mut C,
 ) -> Status
-    requires serve { IsCommand (map string_bytes words.now) (commands.serve port workers connections) }
+    requires serve { IsCommand (map string_bytes words.now) (commands.serve None port workers connections) }
     ensures unread { (S.gave input.new ≡ S.gave input.old) × (C.gave clock.new ≡ C.gave clock.old) }
     ensures printed { All (λ d. H.Door.ahead d.1 ≡ Some []) (H.doors_given host.new) → result ≡ statuses.Done
         → PrintsZeros port (K.wrote output.old) (K.wrote output.new) }
@@ -94,6 +94,7 @@ fn done<R: Wait + Threads + Sync, H: Host>(
         )),
         Ok(
             Command::Serve {
+                journal: None,
                 port,
                 workers,
                 connections,
@@ -115,6 +116,12 @@ fn done<R: Wait + Threads + Sync, H: Host>(
             Command::Once {
                 journal: Some(_),
                 now: _,
+            },
+        ) => None,
+        Ok(
+            Command::Serve {
+                journal: Some(_),
+                ..
             },
         ) => None,
         Ok(Command::Check { .. } | Command::Drill { .. }) => None,

@@ -1,5 +1,5 @@
 //! Tests of the program with `once --journal` over a host in memory.
-use crate::runs::{Served, clocks, left, links};
+use crate::runs::{Served, clocks, door, left, links};
 use bus_host::{MemFile, MemHost};
 use std::alloc::Global;
 use std::collections::LinkedList;
@@ -12,8 +12,15 @@ use test_rows::four;
 // A row: the exchanges of the input, the links, the number of the disk's call that fails (0: none), and what is left, in the form of `left` in
 // runs.rt.
 
-/// A host with this file, a call of whose disk fails, and these links.
-fn host<R: Abort>(rt: &R, alloc: Global, bytes: Vec<u8>, call: &str, link: &str) -> Served {
+/// A host with this file, a call of whose disk fails, a door whose one connection has these exchanges, and these links.
+fn host<R: Abort>(
+    rt: &R,
+    alloc: Global,
+    bytes: Vec<u8>,
+    call: &str,
+    sent: &str,
+    link: &str,
+) -> Served {
     let call = call.parse::<usize>().expect(rt, "a call");
     let mut fails = Vec::new(alloc);
     fails
@@ -24,7 +31,11 @@ fn host<R: Abort>(rt: &R, alloc: Global, bytes: Vec<u8>, call: &str, link: &str)
     files
         .push_back(Ok(MemFile { bytes, fails }))
         .expect(rt, "files");
-    MemHost::new(alloc, files, LinkedList::new(alloc), links(rt, alloc, link))
+    let mut doors = LinkedList::new(alloc);
+    doors
+        .push_back(Ok(door(rt, alloc, sent)))
+        .expect(rt, "doors");
+    MemHost::new(alloc, files, doors, links(rt, alloc, link))
 }
 
 /// Runs the program on the file by a row. Fails unless it leaves what the row wants. Returns the file of the disk that came back.
@@ -36,7 +47,7 @@ fn meet<R: Wait + Threads + Sync + Abort>(
     row: &str,
 ) -> Vec<u8> {
     let (sent, link, call, want) = four(row);
-    let mut host = host(rt, alloc, file, call, link);
+    let mut host = host(rt, alloc, file, call, sent, link);
     let mut clock = clocks(rt, alloc, "");
     let got = left(rt, alloc, line, sent, "", &mut host, &mut clock);
     let want = wanted(alloc, want).expect(rt, "a row");
@@ -69,6 +80,19 @@ fn a_run_keeps_its_journal(rt: HostRuntime) {
         "|0 200|0|Done 0||records 5 entries 5 control 3\nevents 1 archived 0 replays 0\nduties 1 pending 0 delivered 1 dead-lettered 0 dropped 0\nmessages 1\n|0 0|";
     let same = meet(&rt, alloc, "ebusd check --journal J", second, counts);
     assert_eq!(rt; same.len(), 832);
+}
+
+#[test]
+fn workers_keep_a_journal(rt: HostRuntime) {
+    let alloc = rt.alloc();
+    let first =
+        "queue rule target|16 200|0|Done 0||listening 8080\nrecords 3 entries 3 control 3\nevents 0 archived 0 replays 0\nduties 0 pending 0 delivered 0 dead-lettered 0 dropped 0\nmessages 0\n|0 0|+0|door 0|=queue rule target";
+    let line = "ebusd serve --port 8080 --workers 1 --connections 1 --journal J";
+    let left = meet(&rt, alloc, line, Vec::new(alloc), first);
+    assert_eq!(rt; left.len(), 189);
+    let broken =
+        "rule|16 200|5|DiskFault 5|ebusd: disk failed\n|listening 8080\n|0 0|+0|door 0|=failed";
+    meet(&rt, alloc, line, left, broken);
 }
 
 /// The bytes of a file.

@@ -41,7 +41,7 @@ Records p a = (recorded : Outcome) × IsOutcomeIn a.claim a.outcome recorded × 
 abbrev pub PutsBack : Placed → Claim → Why → Type 0
 PutsBack p c why = p.turn.ask ≡ history.puts_back c why
 
--- The turn breaks the book: the record of an attempt of this claim with this outcome could not be kept, with the outcome that it would have had
+-- The turn breaks the book: the record of an attempt of this claim with this outcome could not be appended, with the outcome that it would have had
 -- (`IsOutcomeIn`).
 -- Shown by: proofs alone.
 abbrev pub Breaks : Placed → Claim → Outcome → Type 0

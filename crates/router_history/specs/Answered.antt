@@ -75,7 +75,7 @@ pub record IsRecorded (seat : Seat) (c : Claim) (had : Outcome) (fate : Fate) (o
 abbrev pub IsAdded : Ask → Option Batch → List Turn → List Turn → Type 0
 IsAdded ask batch old new = (turn : Turn) × (turn.ask ≡ ask) × (turn.batch ≡ batch) × (new ≡ old ++ turn ∷ [])
 
--- for private clauses: one turn from a seat breaks the book, since this batch could not be kept
+-- for private clauses: one turn from a seat breaks the book, since this batch could not be appended
 pub record IsBroken (seat : Seat) (b : Batch) (old new : List Turn) : Type 0 where
   pub placed : Placed
   pub makes : Makes seat (makes placed ∷ []) old new

@@ -1,5 +1,5 @@
 -- The history: the turns of the router, oldest first. The first one opens the book; each other one is made by a pass.
-use Rattle.std.specs.Prelude.{◌≡◌, ℕ, ◌+◌, ◌-◌, ◌≤◌, false, true, ◌==◌, not, List, [], ◌∷◌, ◌++◌, length, take, Bool, Option, Some, None, IsSome, filter, flat_map}
+use Rattle.std.specs.Prelude.{◌≡◌, ◌⊎◌, ℕ, ◌+◌, ◌-◌, ◌≤◌, false, true, ◌==◌, not, List, [], ◌∷◌, ◌++◌, length, take, Bool, Option, Some, None, IsSome, filter, flat_map}
 use Rattle.event_shape.specs.Names.{IsQueueArn}
 use Rattle.json_text.specs.Moment.{IsMoment}
 use Rattle.turn_book.specs.Rule.{is_number}
@@ -270,6 +270,17 @@ IsTurnFor s turn (claims c) = IsClaimBy s turn c
 IsTurnFor s turn (records a) = IsRecordBy s turn a
 IsTurnFor s turn (puts_back c why) = (turn.batch ≡ None) × EndsClaim s turn c × IsReason s c why
 IsTurnFor s turn (breaks bs) = IsBreak s turn bs
+
+-- The turn breaks the book.
+-- Shown by: law the_mark_breaks.
+abbrev pub IsMark : Turn → Type 0
+IsMark turn = (unacknowledged : List Batch) × (turn.ask ≡ breaks unacknowledged)
+
+-- One of these turns breaks the book.
+-- Shown by: law the_mark_breaks.
+abbrev pub HasMark : List Turn → Type 0
+HasMark [] = ⊥
+HasMark (turn ∷ turns) = IsMark turn ⊎ HasMark turns
 
 -- A turn that may be made in a state.
 -- Shown by: as IsTurnFor.

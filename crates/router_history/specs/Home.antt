@@ -26,8 +26,8 @@ abbrev pub appended_of : List Turn → List Batch
 appended_of [] = []
 appended_of (turn ∷ turns) = batches_of turns
 
--- A disk has shown so many calls when the opening ended, and four more for each batch that was appended. From there on every image has the batch, and
--- all before it, in order: each image since then is a journal of at least these batches.
+-- Each batch that was appended has a call of the disk from which on every image has it and all before it: each image since then is a journal of at
+-- least these batches. If the book is not broken, the last call is that of the last batch, and four calls are between two batches.
 -- Shown by: proofs alone.
 pub record KeepsEach (calls : List DiskCall) (turns : List Turn) : Type 0 where
   pub was : ℕ
@@ -38,8 +38,8 @@ pub record KeepsEach (calls : List DiskCall) (turns : List Turn) : Type 0 where
 
 -- A journal has the batches of a history, and no others. It can be opened again, whatever it has of the batches whose append failed. It is broken
 -- if the history has the mark. Its disk counted a fault since the opening exactly then. Each image since the first sync of the opening is a
--- journal of the batches that were found, and of later ones in order; each that a crash now may leave has all batches of the history. Each batch is
--- in every image from the moment on at which its append had ended (`KeepsEach`).
+-- journal of the batches that were found, and of later ones in order; each that a crash now may leave has all batches of the history. Each batch has
+-- a call of the disk from which on it is in every image (`KeepsEach`).
 -- Shown by: the_journal_has_another_outcome.edit.
 pub record IsHeld {D : Type 0} (calls : D → List DiskCall) (faults : D → ℕ) (turns : List Turn) (j : journals.Journal D) : Type 0 where
   pub sound : IsSoundJournal calls j

@@ -43,7 +43,7 @@ IsFailed s request = (s.broken ≡ true) × ((b : Batch) × WouldWrite s (last_v
 
 -- What is done for a message, with its reply. A message that is no POST, one that is refused, and one for which memory ran out take a
 -- reading; so does a request, and then its turn, or the steps of a DeliverDue. If memory runs out for the reply to a request that changed
--- nothing, the reply says so. Out of memory is allowed for any POST. A request whose batch cannot be kept breaks the book; one that would
+-- nothing, the reply says so. Out of memory is allowed for any POST. A request whose batch cannot be appended breaks the book; one that would
 -- write on a broken book is not carried out after a look.
 -- Shown by: first-run; refusals; get-is-refused.
 pub data Answers (m : Message) : List Act → Reply → Type 0 where

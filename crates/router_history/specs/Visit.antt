@@ -1,6 +1,7 @@
 -- A connection that ended, and the history that its session fits.
-use Rattle.std.specs.Prelude.{◌≡◌, ◌≢◌, ◌⊎◌, ℕ, Bool, true, false, List, [], ◌++◌, Some, map}
-use Rattle.std.proofs.Common.{inl, ap, sym, ◌∙◌, append_assoc}
+use Rattle.std.specs.Prelude.{◌≡◌, ◌≢◌, ◌⊎◌, ℕ, Bool, true, false, List, [], ◌∷◌, ◌++◌, Some, map}
+use Rattle.std.proofs.Common.{inl, inr, ap, sym, ◌∙◌, subst, append_assoc}
+use Rattle.std.proofs.lemmas.List.{map-append}
 use mathlib.Core.List.{IsPrefix}
 use Rattle.turn_book.specs.Rule.{turns_by}
 use Rattle.router_disk.specs.Faults.{Rose}
@@ -8,6 +9,8 @@ use Rattle.router_disk.specs.Link.{Exchange}
 use Rattle.router_history.specs.declared.history.Turn.{Turn}
 use Rattle.message_streams.specs.declared.farewell.SessionEnd.{SessionEnd}
 use Rattle.message_streams.specs.declared.farewell.SessionEnd.TheVariants.{Closed, Cut, Refused, Long, ReadFault, WriteFault, NoMemory}
+use Rattle.router_history.specs.History as history
+use Rattle.router_history.specs.History.{HasMark}
 use Rattle.router_history.specs.Book.{turn_of, Rests}
 use Rattle.router_history.specs.Acts.{world}
 use Rattle.router_history.specs.Session.{IsSession}
@@ -36,6 +39,20 @@ pub owes_later : (n : ℕ) (seen turns : List Turn) → IsPrefix seen turns → 
     → OwesNothing n seen → OwesNothing n turns
 owes_later n seen turns (xs, one) kept owes = λ later (ys, two) same.
     owes later (xs ++ ys, sym (append_assoc seen xs ys) ∙ ap (λ (ts : List Turn). ts ++ ys) one ∙ two) (same ∙ kept)
+
+-- The book broke in these turns, so no further connection is to be served.
+-- Shown by: law the_mark_breaks.
+abbrev pub HasBroken : List Turn → Type 0
+HasBroken turns = HasMark (map turn_of turns)
+
+mark_stays : (xs ys : List history.Turn) → HasMark xs → HasMark (xs ++ ys)
+mark_stays [] ys mark = absurd mark
+mark_stays (x ∷ xs) ys (inl mark) = inl mark
+mark_stays (x ∷ xs) ys (inr mark) = inr (mark_stays xs ys mark)
+
+pub broken_stays : (seen turns : List Turn) → IsPrefix seen turns → HasBroken seen → HasBroken turns
+broken_stays seen turns (rest, is) broken =
+    subst HasBroken is (subst HasMark (sym (map-append turn_of seen rest)) (mark_stays (map turn_of seen) (map turn_of rest) broken))
 
 module _ {I O : Type 0} (gave : I → List (List ℕ)) (wrote : O → List ℕ) (reads : I → ℕ) (writes : O → ℕ) where
   -- A connection with this number came with these streams and ended with those. Its session (`IsSession`) began after the turns `before`

@@ -1,4 +1,4 @@
-//! The router's guarded state: a machine with the history of its turns, and where the batches of these turns are kept.
+//! The router's guarded state: a machine with the history of its turns, and where the batches of these turns are appended.
 ghost use Rattle.std.specs.Prelude.{◌≡◌};
 ghost use Rattle.std.specs.Coded.{Coded-set};
 
@@ -23,7 +23,7 @@ pub struct Machine {
 /// The router's guarded state. It is not `Drop`: `into_disk` ends it.
 pub struct Book<D> {
     pub machine: Machine,
-    /// Where the batches of the turns are kept.
+    /// Where the batches of the turns are appended.
     pub home: Home<D>,
 }
 

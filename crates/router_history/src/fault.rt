@@ -7,7 +7,7 @@ use thiserror::Error;
 pub enum RequestFault {
     #[error("out of memory")]
     NoMemory,
-    /// The book is broken: the batch of the request cannot be kept.
+    /// The book is broken: the batch of the request cannot be appended.
     #[error("the journal failed")]
     Broken,
 }

@@ -42,7 +42,7 @@ pub enum Why {
     Unsent,
     /// The number limit is reached.
     Limited,
-    /// The book is broken, and keeps no record.
+    /// The book is broken, and records nothing.
     Unkept,
 }
 

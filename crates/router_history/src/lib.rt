@@ -1,4 +1,5 @@
-//! The router's book: the tables, the history of its turns, and the journal that keeps their batches. A session's story is told of this history.
+//! The router's book: the tables, the history of its turns, and the journal to which their batches are appended. What a session did is said of
+//! this history.
 #![tactic(auto)]
 
 mod book;

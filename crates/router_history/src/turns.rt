@@ -99,6 +99,14 @@ impl<D: Disk> Book<D> {
         self.machine.board.seen(alloc, request)
     }
 
+    /// Whether the book is broken.
+    pub fn is_broken(&self) -> bool
+        requires book { IsSoundBook D.calls D.faults self.now }
+        ensures { result ≡ (state_of (turns_of self.now.machine)).broken }
+    {
+        self.home.is_broken()
+    }
+
     /// Makes the turn of the request, for which matching found this, and returns its reply with what the turn released. The seat names the
     /// connection by which the request came. If the tables change, the memory of the next board and of the reply's bytes is allocated before,
     /// so `NoMemory` changes nothing. `Broken` means that the request would write, and that its batch cannot be appended: the book was

@@ -8,7 +8,7 @@ use router_disk::{Disk, Sink, Source};
 use shared_door::Served;
 
 impl<D: Disk, I: Source, O: Sink> Served<I, O> for Book<D> {
-    ghost use Rattle.router_history.specs.Visit.{IsVisit, visit_lasts, OwesNothing, owes_unturned, owes_later};
+    ghost use Rattle.router_history.specs.Visit.{IsVisit, visit_lasts, OwesNothing, owes_unturned, owes_later, HasBroken, broken_stays};
 
     ghost fits = { IsVisit I.gave O.wrote I.faults O.faults };
 
@@ -19,6 +19,10 @@ impl<D: Disk, I: Source, O: Sink> Served<I, O> for Book<D> {
     ghost unturned = { owes_unturned };
 
     ghost keeps = { owes_later };
+
+    ghost stops = { HasBroken };
+
+    ghost stays = { broken_stays };
 }
 
 /// Whether out of memory ended the session.

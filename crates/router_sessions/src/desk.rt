@@ -51,8 +51,8 @@ impl<Rt: Wait, D: Disk> Desk<'_, Rt, D> {
         }
     }
 
-    /// Makes no turn. The pass then knows the history as it is.
-    pub(crate) fn look(self, pass: &mut Pass<Book<D>>)
+    /// Makes no turn. The pass then knows the history as it is. Returns whether the book is broken.
+    pub(crate) fn look(self, pass: &mut Pass<Book<D>>) -> bool
         requires here { pass.old.seat.table_id ≡ self.hall.now.table.shared.table_id }
         requires free { IsFree pass.old.seat }
         ensures pass { IsSamePass pass.old.seat pass.new.seat × IsFree pass.new.seat }
@@ -61,9 +61,12 @@ impl<Rt: Wait, D: Disk> Desk<'_, Rt, D> {
         ensures looked { Makes (seat_of self.entry.connection pass.old.seat) (looks (state_of (turns_seen pass.new.seat)) ∷ [])
             (turns_seen pass.old.seat) (turns_seen pass.new.seat) }
         ensures rests { Rests (number_of pass.old.seat) (turns_seen pass.old.seat) → Rests (number_of pass.old.seat) (turns_seen pass.new.seat) }
+        ensures broken { result ≡ (state_of (turns_seen pass.new.seat)).broken }
     {
         let book = self.hall.take(self.rt, pass);
+        let broken = book.is_broken();
         self.hall.give(pass, book);
+        broken
     }
 
     /// Matches the request on the book's board, and makes its turn, as `Book::turn`. The request and what the turn released are freed once other passes can have the book.

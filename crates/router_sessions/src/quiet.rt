@@ -50,13 +50,13 @@ pub fn serve_quiet<Rt: Wait, D: Disk, L: Link, C: Clock>(
     deliver(desk, pass, link, clock, budget)
 }
 
-/// Makes no turn. The pass then knows the history as it is.
+/// Makes no turn. The pass then knows the history as it is. Returns whether the book is broken.
 pub fn look<Rt: Wait, D: Disk>(
     rt: &Rt,
     alloc: Global,
     hall: &Hall<Book<D>>,
     pass: &mut Pass<Book<D>>,
-)
+) -> bool
     requires here { pass.old.seat.table_id ≡ hall.now.table.shared.table_id }
     requires free { IsFree pass.old.seat }
     ensures pass { IsSamePass pass.old.seat pass.new.seat × IsFree pass.new.seat }
@@ -65,6 +65,7 @@ pub fn look<Rt: Wait, D: Disk>(
     ensures looked { Makes (seat_of None pass.old.seat) (looks (state_of (turns_seen pass.new.seat)) ∷ [])
         (turns_seen pass.old.seat) (turns_seen pass.new.seat) }
     ensures rests { Rests (number_of pass.old.seat) (turns_seen pass.old.seat) → Rests (number_of pass.old.seat) (turns_seen pass.new.seat) }
+    ensures broken { result ≡ (state_of (turns_seen pass.new.seat)).broken }
 {
     let desk = Desk {
         rt,

@@ -23,9 +23,9 @@ use Rattle.router_history.specs.History.{State, Placed, last_version, set_of_ver
 use Rattle.router_history.specs.Acts.{Act, Steps}
 use Rattle.message_streams.specs.Reply.{steps_reply}
 use Rattle.router_history.specs.Session.{Answers, unposted, refused, out_of_memory, served, unrendered, failed, failed_before, stepped, Replies, sent_text, Serving, begun, reads_on, answers}
-use Rattle.session_laws.specs.OneSession.{read_in, IsSameState, IsExcuse, IsAmple}
+use Rattle.session_laws.specs.OneSession.{read_in, IsSameState, IsFailureReply, IsAmple}
 use Rattle.session_laws.proofs.SameLemmas.{RunsAct, turn_same, Same, same_append, Given, given_rest, read_append, after_acts, given_front}
-use Rattle.session_laws.proofs.StepLemmas.{Stop, Taken, Excuses, same_steps}
+use Rattle.session_laws.proofs.StepLemmas.{Stop, Taken, IsFailure, same_steps}
 
 -- the law of `router_calls`: a request has at most one answer
 abbrev pub OneAnswer : Type 0
@@ -58,16 +58,16 @@ both_served law s t r r2 request p q a b one two g =
     let readings = (ticks_same s t r r2 (makes p ∷ []) (makes q ∷ []) g).does.readings in
     (record { state = turn.0; does = record { turns = ap (λ u. u ∷ []) turn.1; readings = readings; tries = refl; bytes = refl } }, ap (λ (u : Answer). u.reply) equal)
 
-excused : (x : Turned) (why : Why) → Excuses why → IsExcuse (steps_reply x why)
-excused x why (inl is) = inl (ap (steps_reply x) is)
-excused x why (inr is) = inr (ap (steps_reply x) is)
+failure_reply : (x : Turned) (why : Why) → IsFailure why → IsFailureReply (steps_reply x why)
+failure_reply x why (inl is) = inl (ap (steps_reply x) is)
+failure_reply x why (inr is) = inr (ap (steps_reply x) is)
 
 both_stepped : (s t : State) (r r2 budget : ℕ) (xs ys : List Act) (x y : Turned) (why other : Why) → Steps budget xs x why → Steps budget ys y other
-    → ¬ IsExcuse (steps_reply x why) → ¬ IsExcuse (steps_reply y other) → Given s t (ticks r ∷ xs) (ticks r2 ∷ ys)
+    → ¬ IsFailureReply (steps_reply x why) → ¬ IsFailureReply (steps_reply y other) → Given s t (ticks r ∷ xs) (ticks r2 ∷ ys)
     → Same s t (ticks r ∷ xs) (ticks r2 ∷ ys) × (steps_reply y other ≡ steps_reply x why)
 both_stepped s t r r2 budget xs ys x y why other one two known known2 g =
     let first = ticks_same s t r r2 xs ys g in
-    let is = same_steps s t budget xs ys x y why other one two (λ is. known (excused x why is)) (λ is. known2 (excused y other is))
+    let is = same_steps s t budget xs ys x y why other one two (λ is. known (failure_reply x why is)) (λ is. known2 (failure_reply y other is))
     (given_rest s t (ticks r ∷ []) (ticks r2 ∷ []) xs ys first g) in
     (same_append s t (ticks r ∷ []) (ticks r2 ∷ []) xs ys first is.0, ap (λ z. steps_reply z other) is.1 ∙ ap (steps_reply x) is.2)
 
@@ -78,8 +78,8 @@ same_request s t m r r2 q q2 xs ys g is is2 =
     one_request m (moment_of r) q2 q (subst (λ n. IsAsked m (moment_of n) q2) (g.two.readings.0 ∙ sym g.one.readings.0) is2) is
 
 -- two sessions answer a message alike, unless memory ran out or the journal failed
-pub same_answers : OneAnswer → (s t : State) (m : Message) (xs ys : List Act) (a b : Reply) → Answers m xs a → Answers m ys b → ¬ IsExcuse a
-    → ¬ IsExcuse b → Given s t xs ys → Same s t xs ys × (b ≡ a)
+pub same_answers : OneAnswer → (s t : State) (m : Message) (xs ys : List Act) (a b : Reply) → Answers m xs a → Answers m ys b → ¬ IsFailureReply a
+    → ¬ IsFailureReply b → Given s t xs ys → Same s t xs ys × (b ≡ a)
 same_answers law s t m _ _ _ _ (out_of_memory r post) _ known known2 g = absurd (known (inl refl))
 same_answers law s t m _ _ _ _ (unrendered r q p a post is replies unwritten) _ known known2 g = absurd (known (inl refl))
 same_answers law s t m _ _ _ _ _ (out_of_memory r post) known known2 g = absurd (known2 (inl refl))
@@ -192,7 +192,7 @@ answered_read xs done m reply close u is =
     read_split xs (Answered done m reply close) u
     ∙ ap (λ z. read_in xs ++ (z ++ u)) (read_append done (writes (sent_text m.method reply close) ∷ []) ∙ ap (λ z. z ++ []) (answers_read m done reply is))
 
-remembered : (xs done : List Act) (m : Message) (reply : Reply) (close : Bool) → IsAmple (xs ++ Answered done m reply close) → ¬ IsExcuse reply
+remembered : (xs done : List Act) (m : Message) (reply : Reply) (close : Bool) → IsAmple (xs ++ Answered done m reply close) → ¬ IsFailureReply reply
 remembered xs done m reply close ample says =
     ample (sent_text m.method reply close) (Contains-append_right xs (Answered done m reply close) _ (Contains-push done _))
     (m.method, close, reply, says, refl)

@@ -1,4 +1,4 @@
--- The delivery steps of two sessions. Other files cite `Stop`, `Taken`, `Excuses`, `same_count` and `same_steps`.
+-- The delivery steps of two sessions. Other files cite `Stop`, `Taken`, `IsFailure`, `same_count` and `same_steps`.
 use Rattle.std.proofs.Common.{◌≡◌, ◌⊎◌, ℕ, ◌<◌, inl, inr, true, false, List, [], ◌∷◌, ◌++◌, Option, Some, None, sym, refl, ap, ◌∙◌, subst, arith}
 use Rattle.std.proofs.Common.{append_assoc, append-nil}
 use Rattle.std.specs.Prelude.{codes, nat_le, ◌||◌}
@@ -38,8 +38,8 @@ abbrev pub Taken : List Act → Turned → Type 0
 Taken = Stepping Claims Records PutsBack Breaks IsIdle IsFullAt IsBrokenAt
 
 -- steps that end because memory ran out, or because the book is broken
-abbrev pub Excuses : Why → Type 0
-Excuses why = (why ≡ NoMemory) ⊎ (why ≡ Broken)
+abbrev pub IsFailure : Why → Type 0
+IsFailure why = (why ≡ NoMemory) ⊎ (why ≡ Broken)
 
 some_same : {X : Type 0} {r q : X} → Some r ≡ Some q → r ≡ q
 some_same is = cc
@@ -186,7 +186,7 @@ idle_too s t x y r r2 g idle =
     (subst (λ z. NoneDue z.duties (moment_at z (moment_of r))) (sym tables) idle)
 
 -- two ends of steps from the same state, with the same clock
-same_stop : (s t : State) (xs ys : List Act) (why other : Why) → Stop xs why → Stop ys other → Given s t xs ys → ¬ Excuses why → ¬ Excuses other
+same_stop : (s t : State) (xs ys : List Act) (why other : Why) → Stop xs why → Stop ys other → Given s t xs ys → ¬ IsFailure why → ¬ IsFailure other
     → Same s t xs ys × (other ≡ why)
 same_stop s t _ _ _ _ (idle_at r x idle) (idle_at r2 y idle2) g known known2 = (looked_same s t x y r r2 g, refl)
 same_stop s t _ _ _ _ (idle_at r x idle) (full_at r2 y full) g known known2 = absurd (full.1 (idle_too s t x y r r2 g idle))
@@ -207,7 +207,7 @@ same_stop s t _ _ _ _ _ (unrecorded r p c o _ _ claims fits (broken_by m q break
 same_stop s t _ _ _ _ _ _ g known known2 = absurd (known2 (inl refl))
 
 -- where steps stopped, no claim can be made
-no_more : (s t : State) (xs ys ws : List Act) (why : Why) (f : Fate) → Stop xs why → Step ys f → Given s t xs (ys ++ ws) → ¬ Excuses why → ⊥
+no_more : (s t : State) (xs ys ws : List Act) (why : Why) (f : Fate) → Stop xs why → Step ys f → Given s t xs (ys ++ ws) → ¬ IsFailure why → ⊥
 no_more s t _ _ ws _ _ (idle_at r x idle) (attempted r2 p q c o f claims fits recorded) g known =
     let free = claim_there s t p c r r2 g.state (g.two.readings.0 ∙ sym g.one.readings.0) g.two.runs.1.0 claims in
     omega (arith, subst (λ z. IsIdle z (moment_of r)) g.one.runs.1.0 idle c.number free.next.row free.next.there free.next.free, free.next.due)
@@ -232,7 +232,7 @@ same_taken s t _ _ _ _ (one_more xs step x f before one) (one_more ys other y e 
 same_taken s t _ _ _ _ _ _ count g = absurd (omega (arith, count))
 
 -- where the steps of one stopped, the other made no further one
-not_further : (s t : State) (xs last ys ws : List Act) (x y : Turned) (why : Why) → Taken xs x → Stop last why → ¬ Excuses why → Taken ys y
+not_further : (s t : State) (xs last ys ws : List Act) (x y : Turned) (why : Why) → Taken xs x → Stop last why → ¬ IsFailure why → Taken ys y
     → x.attempts < y.attempts → Given s t (xs ++ last) (ys ++ ws) → ⊥
 not_further s t xs last _ ws x _ why taken stop known none less g = omega (arith, less)
 not_further s t xs last _ ws x _ why taken stop known (one_more ys step y f before one) less g =
@@ -249,7 +249,7 @@ same_count m n a b = omega (arith, a, b)
 
 -- the steps of two sessions within the same budget, neither out of memory or with a broken book
 pub same_steps : (s t : State) (budget : ℕ) (xs ys : List Act) (x y : Turned) (why other : Why) → Steps budget xs x why → Steps budget ys y other
-    → ¬ Excuses why → ¬ Excuses other → Given s t xs ys → Same s t xs ys × (y ≡ x) × (other ≡ why)
+    → ¬ IsFailure why → ¬ IsFailure other → Given s t xs ys → Same s t xs ys × (y ≡ x) × (other ≡ why)
 same_steps s t budget _ _ _ _ _ _ (spent xs x taken used) (spent ys y taken2 used2) known known2 g =
     let is = same_taken s t xs ys x y taken taken2 (used2 ∙ sym used) g in (is.0, is.1, refl)
 same_steps s t budget _ _ _ _ _ _ (spent xs x taken used) (stopped ys last y why taken2 less stop) known known2 g =

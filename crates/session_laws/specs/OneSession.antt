@@ -63,18 +63,18 @@ IsUndisturbed NoMemory = ⊥
 
 -- The reply says that memory ran out, or that the journal failed.
 -- Shown by: law one_session.
-abbrev pub IsExcuse : Reply → Type 0
-IsExcuse reply = (reply ≡ no_memory) ⊎ (reply ≡ journal_failed)
+abbrev pub IsFailureReply : Reply → Type 0
+IsFailureReply reply = (reply ≡ no_memory) ⊎ (reply ≡ journal_failed)
 
 -- Such a reply to a message of some method.
 -- Shown by: law one_session.
-abbrev pub SaysExcuse : List ℕ → Type 0
-SaysExcuse text = (method : Method) × (close : Bool) × (reply : Reply) × IsExcuse reply × (text ≡ sent_text method reply close)
+abbrev pub SaysFailure : List ℕ → Type 0
+SaysFailure text = (method : Method) × (close : Bool) × (reply : Reply) × IsFailureReply reply × (text ≡ sent_text method reply close)
 
 -- No reply of these acts says that memory ran out, or that the journal failed.
 -- Shown by: law one_session.
 abbrev pub IsAmple : List Act → Type 0
-IsAmple acts = (text : List ℕ) → Contains acts (writes text) → ¬ SaysExcuse text
+IsAmple acts = (text : List ℕ) → Contains acts (writes text) → ¬ SaysFailure text
 
 -- A session that nothing around it disturbed: the turns added may be made after the old ones, no stream and no journal failed, and memory did
 -- not run out.

@@ -1,9 +1,9 @@
 //! The laws of sessions.
-ghost use Rattle.std.specs.Prelude.{◌≡◌, false, List, None};
+ghost use Rattle.std.specs.Prelude.{◌≡◌, ◌↔◌, true, false, List, None};
 ghost use Rattle.router_history.specs.Acts.{World};
 ghost use Rattle.router_history.specs.declared.book.Seat.{Seat};
 ghost use Rattle.message_streams.specs.declared.farewell.SessionEnd.{SessionEnd};
-ghost use Rattle.router_history.specs.History.{Turn, IsLegal, state_of};
+ghost use Rattle.router_history.specs.History.{Turn, HasMark, IsLegal, state_of};
 ghost use Rattle.router_history.specs.Session.{IsSession};
 ghost use Rattle.session_laws.specs.OneSession.{BeginAlike, EndAlike};
 
@@ -20,6 +20,11 @@ pub fn one_session()
 {
     one_answer();
 }
+
+/// A book is broken exactly if the turn that breaks it is in its history.
+pub fn the_mark_breaks()
+    ensures { (turns : List Turn) → IsLegal turns → HasMark turns ↔ ((state_of turns).broken ≡ true) }
+{}
 
 /// A book that was opened without a journal is never broken.
 pub fn no_journal_no_break()

@@ -3,4 +3,4 @@
 
 mod laws;
 
-pub use laws::{no_journal_no_break, one_session};
+pub use laws::{no_journal_no_break, one_session, the_mark_breaks};

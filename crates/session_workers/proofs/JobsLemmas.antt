@@ -1,6 +1,9 @@
 -- Acts of a worker from the beginning of a history. What a worker did, and then a session: `done_session`; delivery steps: `done_steps`; a look:
--- `done_looked`; a reading: `done_read`. Several of these: `goes_again`, `goes_beside`, `stays_beside`. A look, as the hall shows it: `look_learns`.
+-- `done_looked`; a reading: `done_read`. Several of these: `goes_again`, `goes_beside`, `stays_beside`. A look, as the hall shows it:
+-- `look_learns`, `stops_if`.
 use Rattle.std.proofs.Common.{◌≡◌, ℕ, ◌≤◌, List, [], ◌∷◌, ◌++◌, length, Option, Some, None, refl, sym, ap, ◌∙◌, map, subst, arith, append_assoc, append-nil}
+use Rattle.std.specs.Prelude.{Bool, true, false, not, MatchBool}
+use Rattle.std.proofs.lemmas.Bool.{true≢false}
 use Rattle.router_core.specs.Tables.{first_tables}
 use Rattle.courier_run.specs.Act.{reads, ticks, looks, makes, tries, writes}
 use Rattle.router_history.specs.History.{Turn, State, last_version, begun, after_turn, state_after, state_of, turns_by, AreTurnsFrom}
@@ -8,6 +11,8 @@ use Rattle.router_history.specs.Book.{opening_on, IsBook}
 use Rattle.router_history.specs.Acts.{Act, Happens, IsNamed, world}
 use Rattle.router_history.proofs.TurnLemmas.{state_append, turns_back, none_append, versions_grow, first_other}
 use Rattle.router_history.proofs.BookLemmas.{opened_state, legal_later}
+use Rattle.router_history.specs.History.{HasMark}
+use Rattle.router_history.proofs.MarkLemmas.{marked, breaks_so}
 use Rattle.router_history.proofs.ActLemmas.{happens_append}
 use Rattle.courier_run.specs.Link.{Outside, outside, Goes}
 use Rattle.courier_run.proofs.ActLemmas.{Goes-append}
@@ -234,3 +239,8 @@ look_learns old new s (more, is) looked =
       ap (book.turns_by maker (number_of old)) is ∙ filter-append (λ (t : CodeTurn). is_number t.pass (number_of old)) (seen_by old) more
           ∙ ap (λ (ts : List CodeTurn). book.turns_by maker (number_of old) (seen_by old) ++ ts) none ∙ append-nil (book.turns_by maker (number_of old) (seen_by old)),
     )
+
+-- whether the book is broken, as its history has it
+pub stops_if : (broken : Bool) (turns : List Turn) → IsBook turns → broken ≡ (state_of turns).broken → MatchBool (not broken) (¬ HasMark turns) (HasMark turns)
+stops_if true turns h is = marked turns h.legal (sym is)
+stops_if false turns h is = λ mark. true≢false (sym (breaks_so turns h.legal mark) ∙ sym is)

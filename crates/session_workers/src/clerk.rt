@@ -1,68 +1,72 @@
 //! What the workers of a door do for the router.
-ghost use Rattle.std.specs.Prelude.{◌≡◌};
-ghost use Rattle.turn_book.specs.Passes.{IsFree, IsSamePass};
+ghost use Rattle.std.specs.Prelude.{◌≡◌, MatchBool};
+ghost use Rattle.turn_book.specs.Rule.{Learns};
+ghost use Rattle.turn_book.specs.Passes.{view, IsFree, IsSamePass};
 ghost use Rattle.courier_run.specs.Link.{outside};
 ghost use Rattle.router_history.specs.Book.{IsBook, Rests};
 ghost use Rattle.router_sessions.specs.Desk.{turns_seen, number_of, seen_by};
-ghost use Rattle.router_history.specs.Visit.{IsVisit, OwesNothing};
-ghost use Rattle.session_workers.specs.Jobs.{outside_of, session_by, ServesOne, GoesOn};
+ghost use Rattle.router_history.specs.Visit.{IsVisit, OwesNothing, HasBroken};
+ghost use Rattle.session_workers.specs.Jobs.{maker, outside_of, session_by, ServesOne, GoesOn};
 
 use crate::places::Placing;
-use bus_host::{Gate, NoDisk};
+use bus_host::Gate;
 use courier_run::Stop;
-use door_workers::Work;
-use router_disk::{Clock, Link, Sink, Source};
+use door_workers::{Seating, Work};
+use router_disk::{Clock, Disk, Link, Sink, Source};
 use router_history::{Book, was_cut};
 use router_sessions::{look, serve_quiet, serve_session};
 use std::alloc::Global;
 use std::sync::Wait;
-use turn_book::{Hall, Pass};
+use turn_book::{Hall, Pass, Story};
 
 /// The number of delivery steps that a worker makes before it knocks again.
 const STEPS: u32 = 1_000;
 
-/// Serves a session by one closure, and does the other work by another. In a method of a trait the check does not cover a call of
-/// a function whose bounds are `Send`, as those of `converse` are; in a function that makes a closure it does.
+/// Serves a session by one closure, says by another whether a further one may be served, and does the other work by the third. In a method
+/// of a trait the check does not cover a call of a function whose bounds are `Send`, as those of `converse` are; in a function that makes a
+/// closure it does. The closures have the hall themselves.
 #[derive(Drop)]
-pub(crate) struct Clerk<S, M> {
+pub(crate) struct Clerk<S, G, M> {
     pub(crate) serve: S,
+    pub(crate) goes_on: G,
     pub(crate) meanwhile: M,
 }
 
 impl<
+    J: Disk,
+    P: Seating<Turn = <Book<J> as Story>::Turn>,
     L: Link,
     C: Clock,
     I: Source,
     O: Sink,
-    S: Fn(&mut (L, C), &Hall<Book<NoDisk>>, &mut Pass<Book<NoDisk>>, u64, &mut I, &mut O) -> bool,
-    M: Fn(&mut (L, C), &Hall<Book<NoDisk>>, &mut Pass<Book<NoDisk>>),
-> Work<Book<NoDisk>, I, O, (L, C)> for Clerk<S, M> {
+    S: Fn(&mut (L, C), &mut P, u64, &mut I, &mut O) -> bool,
+    G: Fn(&mut P) -> bool,
+    M: Fn(&mut (L, C), &mut P),
+> Work<Book<J>, P, I, O, (L, C)> for Clerk<S, G, M> {
     ghost use Rattle.session_workers.specs.Jobs.{outside_of, did_by, done_none, done_later};
     ghost use Rattle.session_workers.specs.Clerk.{IsClerk};
 
-    ghost works = { λ c. IsClerk I.gave O.wrote I.faults O.faults (outside_of C.gave L.exchanges L.faults) S.Fn c.serve M.Fn c.meanwhile };
+    ghost works = { λ c table. IsClerk P.seat table I.gave O.wrote I.faults O.faults (outside_of C.gave L.exchanges L.faults) S.Fn c.serve G.Fn c.goes_on M.Fn c.meanwhile };
 
     ghost did = { did_by I.gave O.wrote C.gave L.exchanges L.faults };
 
     fn serve(
         &self,
         own: &mut (L, C),
-        hall: &Hall<Book<NoDisk>>,
-        pass: &mut Pass<Book<NoDisk>>,
+        pass: &mut P,
         number: u64,
         input: &mut I,
         output: &mut O,
     ) -> bool {
-        (self.serve)(own, hall, pass, number, input, output)
+        (self.serve)(own, pass, number, input, output)
     }
 
-    fn meanwhile(
-        &self,
-        own: &mut (L, C),
-        hall: &Hall<Book<NoDisk>>,
-        pass: &mut Pass<Book<NoDisk>>,
-    ) {
-        (self.meanwhile)(own, hall, pass)
+    fn goes_on(&self, pass: &mut P) -> bool {
+        (self.goes_on)(pass)
+    }
+
+    fn meanwhile(&self, own: &mut (L, C), pass: &mut P) {
+        (self.meanwhile)(own, pass)
     }
 
     ghost unturned = { λ n lent. done_none I.gave O.wrote n (outside_of C.gave L.exchanges L.faults lent) };
@@ -73,13 +77,13 @@ impl<
 /// Serves the session of the connection with this number, with a link and a clock. Returns whether out of memory ended it. It is no
 /// part of its caller's frame, so that the stack of a worker without a connection has no room for a session's input.
 #[inline(never)]
-pub(crate) fn converse<I: Source, O: Sink, Rt: Wait + Sync, L: Link, C: Clock, G: Gate>(
+pub(crate) fn converse<J: Disk, I: Source, O: Sink, Rt: Wait + Sync, L: Link, C: Clock, G: Gate>(
     rt: &Rt,
     alloc: Global,
     gate: &G,
     own: &mut (L, C),
-    hall: &Hall<Book<NoDisk>>,
-    pass: &mut Pass<Book<NoDisk>>,
+    hall: &Hall<Book<J>>,
+    pass: &mut Pass<Book<J>>,
     number: u64,
     input: &mut I,
     output: &mut O,
@@ -101,13 +105,14 @@ pub(crate) fn converse<I: Source, O: Sink, Rt: Wait + Sync, L: Link, C: Clock, G
 
 /// Makes delivery steps for a while, if a place is free. The worker has no place during a send, which holds no turn. `I` and `O` are the
 /// streams of the sessions that the worker served before.
-pub(crate) fn deliver_in_a_place<I: Source, O: Sink, Rt: Wait + Sync, L: Placing, C: Clock>(
-    rt: &Rt,
-    alloc: Global,
-    own: &mut (L, C),
-    hall: &Hall<Book<NoDisk>>,
-    pass: &mut Pass<Book<NoDisk>>,
-)
+pub(crate) fn deliver_in_a_place<
+    J: Disk,
+    I: Source,
+    O: Sink,
+    Rt: Wait + Sync,
+    L: Placing,
+    C: Clock,
+>(rt: &Rt, alloc: Global, own: &mut (L, C), hall: &Hall<Book<J>>, pass: &mut Pass<Book<J>>)
     requires here { pass.old.seat.table_id ≡ hall.now.table.shared.table_id }
     requires free { IsFree pass.old.seat }
     requires rests { OwesNothing (number_of pass.old.seat) (seen_by pass.old.seat) }
@@ -117,20 +122,20 @@ pub(crate) fn deliver_in_a_place<I: Source, O: Sink, Rt: Wait + Sync, L: Placing
         (seen_by pass.old.seat) (seen_by pass.new.seat) }
 {
     if own.0.enter() {
-        deliver_for_a_while::<I, O, Rt, L, C>(rt, alloc, &mut own.1, &mut own.0, hall, pass);
+        deliver_for_a_while::<J, I, O, Rt, L, C>(rt, alloc, &mut own.1, &mut own.0, hall, pass);
         own.0.leave();
     }
 }
 
 /// Makes delivery steps until none is made, a fault comes, `STEPS` were made, or the second in which it began is over. So it waits for
 /// one endpoint at most that does not answer. Its turns name no connection.
-fn deliver_for_a_while<I: Source, O: Sink, Rt: Wait + Sync, L: Link, C: Clock>(
+fn deliver_for_a_while<J: Disk, I: Source, O: Sink, Rt: Wait + Sync, L: Link, C: Clock>(
     rt: &Rt,
     alloc: Global,
     clock: &mut C,
     link: &mut L,
-    hall: &Hall<Book<NoDisk>>,
-    pass: &mut Pass<Book<NoDisk>>,
+    hall: &Hall<Book<J>>,
+    pass: &mut Pass<Book<J>>,
 )
     requires here { pass.old.seat.table_id ≡ hall.now.table.shared.table_id }
     requires free { IsFree pass.old.seat }
@@ -143,21 +148,21 @@ fn deliver_for_a_while<I: Source, O: Sink, Rt: Wait + Sync, L: Link, C: Clock>(
     look(rt, alloc, hall, pass);
     let begun = clock.now();
     for _ in 0..STEPS {
-        if !deliver_once::<I, O, Rt, L, C>(rt, alloc, clock, begun, link, hall, pass) {
+        if !deliver_once::<J, I, O, Rt, L, C>(rt, alloc, clock, begun, link, hall, pass) {
             return;
         }
     }
 }
 
 /// Makes at most one delivery step. Returns whether it made one and the clock still reads `begun`.
-fn deliver_once<I: Source, O: Sink, Rt: Wait + Sync, L: Link, C: Clock>(
+fn deliver_once<J: Disk, I: Source, O: Sink, Rt: Wait + Sync, L: Link, C: Clock>(
     rt: &Rt,
     alloc: Global,
     clock: &mut C,
     begun: u64,
     link: &mut L,
-    hall: &Hall<Book<NoDisk>>,
-    pass: &mut Pass<Book<NoDisk>>,
+    hall: &Hall<Book<J>>,
+    pass: &mut Pass<Book<J>>,
 ) -> bool
     requires here { pass.old.seat.table_id ≡ hall.now.table.shared.table_id }
     requires free { IsFree pass.old.seat }
@@ -174,4 +179,19 @@ fn deliver_once<I: Source, O: Sink, Rt: Wait + Sync, L: Link, C: Clock>(
         Stop::Spent | Stop::Idle => stepped.turned.attempts != 0 && clock.now() == begun,
         Stop::Full | Stop::Broken | Stop::NoMemory => false,
     }
+}
+
+/// Whether the book is not broken, so that a further connection may be served. Makes no turn.
+pub(crate) fn is_whole<J: Disk, Rt: Wait>(
+    rt: &Rt,
+    alloc: Global,
+    hall: &Hall<Book<J>>,
+    pass: &mut Pass<Book<J>>,
+) -> bool
+    requires here { pass.old.seat.table_id ≡ hall.now.table.shared.table_id }
+    requires free { IsFree pass.old.seat }
+    ensures pass { IsSamePass pass.old.seat pass.new.seat × IsFree pass.new.seat × Learns maker (view pass.old.seat) (seen_by pass.new.seat) }
+    ensures stops { MatchBool result (¬ HasBroken (seen_by pass.new.seat)) (HasBroken (seen_by pass.new.seat)) }
+{
+    !look(rt, alloc, hall, pass)
 }

@@ -1,5 +1,5 @@
 //! A door served by workers side by side.
-ghost use Rattle.std.specs.Prelude.{◌≡◌, ◌≢◌, ◌+◌, ◌<◌, ◌≤◌, All, [], map, vec_capacity, vec_len};
+ghost use Rattle.std.specs.Prelude.{◌≡◌, ◌≢◌, ◌+◌, ◌<◌, ◌≤◌, All, [], map, vec_capacity, vec_len, true, MatchBool};
 ghost use Rattle.router_disk.specs.Faults.{Rose};
 ghost use Rattle.turn_book.specs.Rule.{Learns};
 ghost use Rattle.turn_book.specs.Passes.{view, known_by, IsFree, IsSamePass};
@@ -7,15 +7,16 @@ ghost use Rattle.shared_door.specs.Shown.{shown_by};
 ghost use Rattle.door_workers.specs.Serving.{IsIdlePass, HasServed, AreDone};
 ghost use Rattle.router_history.specs.Book.{IsBook};
 ghost use Rattle.router_sessions.specs.Desk.{turns_seen, number_of, seen_by};
-ghost use Rattle.router_history.specs.Visit.{IsVisit, OwesNothing};
+ghost use Rattle.router_history.specs.History.{state_of};
+ghost use Rattle.router_history.specs.Visit.{IsVisit, OwesNothing, HasBroken};
 ghost use Rattle.session_workers.specs.Places.{lent_of};
 ghost use Rattle.session_workers.specs.Jobs.{maker, outside_of, session_by, did_by, ServesOne, GoesOn};
 
-use crate::clerk::{Clerk, converse, deliver_in_a_place};
+use crate::clerk::{Clerk, converse, deliver_in_a_place, is_whole};
 use crate::places::{Placed, Places, Placing};
-use bus_host::{Door, Gate, NoDisk};
+use bus_host::{Door, Gate};
 use door_workers::{DoorEnd, Serving};
-use router_disk::{Clock, Link, Sink, Source};
+use router_disk::{Clock, Disk, Link, Sink, Source};
 use router_history::Book;
 use router_sessions::look;
 use std::alloc::Global;
@@ -24,18 +25,18 @@ use std::thread::Threads;
 use turn_book::{Hall, Pass};
 
 /// Serves the connections of a door, with a worker for each link and its clock. Returns once the door gives no further connection, or
-/// gave `connections`, and all given have ended. The passes of the workers and of the door are made by `pass`, which then has seen all
-/// that they saw.
-pub fn serve_door<Rt: Wait + Threads + Sync, D: Door, L: Link, C: Clock, G: Gate + Sync>(
+/// gave `connections`, or a worker found that the book is broken, and all given have ended. The passes of the workers and of the door are
+/// made by `pass`, which then has seen all that they saw.
+pub fn serve_door<J: Disk, Rt: Wait + Threads + Sync, D: Door, L: Link, C: Clock, G: Gate + Sync>(
     rt: &Rt,
     alloc: Global,
-    hall: &Hall<Book<NoDisk>>,
-    pass: &mut Pass<Book<NoDisk>>,
+    hall: &Hall<Book<J>>,
+    pass: &mut Pass<Book<J>>,
     owns: Vec<(L, C)>,
     door: D,
     connections: Option<u64>,
     gate: &G,
-) -> Serving<Book<NoDisk>, D, (L, C)>
+) -> Serving<Book<J>, D, (L, C)>
     requires here { IsIdlePass hall.now.table.shared.table_id pass.old.seat }
     requires maker { 0 < (view pass.old.seat).made }
     requires owns { (0 < vec_len owns) × (vec_len owns ≤ 1024) }
@@ -52,6 +53,7 @@ pub fn serve_door<Rt: Wait + Threads + Sync, D: Door, L: Link, C: Clock, G: Gate
         × AreDone (did_by ⟦<D::In as Source>⟧.gave ⟦<D::Out as Sink>⟧.wrote C.gave L.exchanges L.faults) h.acts maker (view pass.old.seat).made owns.items result.owns.items (map (λ p. known_by p.seat) result.passes.items) }
     ensures book { result.end ≢ DoorEnd.NoMemory → IsBook (turns_seen pass.new.seat) }
     ensures door_fault { result.end ≡ DoorEnd.DoorFault → Rose (D.faults door) (D.faults result.door) }
+    ensures stopped { result.end ≡ DoorEnd.Stopped → (state_of (turns_seen pass.new.seat)).broken ≡ true }
     ensures no_memory { result.end ≡ DoorEnd.NoMemory → (result.door ≡ door) × (result.owns.items ≡ owns.items)
         × (result.passes.items ≡ []) × (pass.new ≡ pass.old) }
 {
@@ -116,16 +118,16 @@ fn return_all<L, C, Rt>(placed: Vec<(Placed<'_, '_, L, Rt>, C)>, owns: &mut Vec<
 }
 
 /// Serves the connections of a door, with links that have places.
-fn serve_placed<Rt: Wait + Threads + Sync, D: Door, L: Placing, C: Clock, G: Gate + Sync>(
+fn serve_placed<J: Disk, Rt: Wait + Threads + Sync, D: Door, L: Placing, C: Clock, G: Gate + Sync>(
     rt: &Rt,
     alloc: Global,
-    hall: &Hall<Book<NoDisk>>,
-    pass: &mut Pass<Book<NoDisk>>,
+    hall: &Hall<Book<J>>,
+    pass: &mut Pass<Book<J>>,
     owns: Vec<(L, C)>,
     door: D,
     connections: Option<u64>,
     gate: &G,
-) -> Serving<Book<NoDisk>, D, (L, C)>
+) -> Serving<Book<J>, D, (L, C)>
     requires here { IsIdlePass hall.now.table.shared.table_id pass.old.seat }
     requires maker { 0 < (view pass.old.seat).made }
     requires owns { (0 < vec_len owns) × (vec_len owns ≤ 1024) }
@@ -142,12 +144,13 @@ fn serve_placed<Rt: Wait + Threads + Sync, D: Door, L: Placing, C: Clock, G: Gat
         × AreDone (did_by ⟦<D::In as Source>⟧.gave ⟦<D::Out as Sink>⟧.wrote C.gave L.exchanges L.faults) h.acts maker (view pass.old.seat).made owns.items result.owns.items (map (λ p. known_by p.seat) result.passes.items) }
     ensures book { result.end ≢ DoorEnd.NoMemory → IsBook (turns_seen pass.new.seat) }
     ensures door_fault { result.end ≡ DoorEnd.DoorFault → Rose (D.faults door) (D.faults result.door) }
+    ensures stopped { result.end ≡ DoorEnd.Stopped → (state_of (turns_seen pass.new.seat)).broken ≡ true }
     ensures no_memory { result.end ≡ DoorEnd.NoMemory → (result.door ≡ door) × (result.owns.items ≡ owns.items)
         × (result.passes.items ≡ []) × (pass.new ≡ pass.old) }
 {
     let clerk = Clerk {
-        serve: |own: &mut (L, C), hall: &Hall<Book<NoDisk>>, pass: &mut Pass<
-            Book<NoDisk>,
+        serve: |own: &mut (L, C), pass: &mut Pass<
+            Book<J>,
         >, number: u64, input: &mut D::In, output: &mut D::Out|
             requires here { pass.old.seat.table_id ≡ hall.now.table.shared.table_id }
             requires free { IsFree pass.old.seat }
@@ -158,7 +161,13 @@ fn serve_placed<Rt: Wait + Threads + Sync, D: Door, L: Placing, C: Clock, G: Gat
             ensures serves { ServesOne D.In.gave D.Out.wrote (number_of pass.old.seat) (session_by number (number_of pass.old.seat) (input.old, output.old) (input.new, output.new) result (seen_by pass.old.seat))
                 (outside_of C.gave L.exchanges L.faults own.old) (outside_of C.gave L.exchanges L.faults own.new) (seen_by pass.old.seat) (seen_by pass.new.seat) }
         { converse(rt, alloc, gate, own, hall, pass, number, input, output) },
-        meanwhile: |own: &mut (L, C), hall: &Hall<Book<NoDisk>>, pass: &mut Pass<Book<NoDisk>>|
+        goes_on: |pass: &mut Pass<Book<J>>|
+            requires here { pass.old.seat.table_id ≡ hall.now.table.shared.table_id }
+            requires free { IsFree pass.old.seat }
+            ensures pass { IsSamePass pass.old.seat pass.new.seat × IsFree pass.new.seat × Learns maker (view pass.old.seat) (seen_by pass.new.seat) }
+            ensures stops { MatchBool result (¬ HasBroken (seen_by pass.new.seat)) (HasBroken (seen_by pass.new.seat)) }
+        { is_whole::<J, Rt>(rt, alloc, hall, pass) },
+        meanwhile: |own: &mut (L, C), pass: &mut Pass<Book<J>>|
             requires here { pass.old.seat.table_id ≡ hall.now.table.shared.table_id }
             requires free { IsFree pass.old.seat }
             requires rests { OwesNothing (number_of pass.old.seat) (seen_by pass.old.seat) }
@@ -166,7 +175,7 @@ fn serve_placed<Rt: Wait + Threads + Sync, D: Door, L: Placing, C: Clock, G: Gat
             ensures rests { OwesNothing (number_of pass.new.seat) (seen_by pass.new.seat) }
             ensures goes_on { GoesOn D.In.gave D.Out.wrote (number_of pass.old.seat) (outside_of C.gave L.exchanges L.faults own.old) (outside_of C.gave L.exchanges L.faults own.new)
                 (seen_by pass.old.seat) (seen_by pass.new.seat) }
-        { deliver_in_a_place::<D::In, D::Out, Rt, L, C>(rt, alloc, own, hall, pass) },
+        { deliver_in_a_place::<J, D::In, D::Out, Rt, L, C>(rt, alloc, own, hall, pass) },
     };
     let serving = door_workers::serve_door(rt, alloc, hall, pass, owns, door, connections, &clerk);
     look_after(rt, alloc, hall, pass, serving.end);
@@ -174,11 +183,11 @@ fn serve_placed<Rt: Wait + Threads + Sync, D: Door, L: Placing, C: Clock, G: Gat
 }
 
 /// Makes no turn. Once a door was served, the pass then knows the history as it is.
-fn look_after<Rt: Wait>(
+fn look_after<J: Disk, Rt: Wait>(
     rt: &Rt,
     alloc: Global,
-    hall: &Hall<Book<NoDisk>>,
-    pass: &mut Pass<Book<NoDisk>>,
+    hall: &Hall<Book<J>>,
+    pass: &mut Pass<Book<J>>,
     end: DoorEnd,
 )
     requires here { IsIdlePass hall.now.table.shared.table_id pass.old.seat }
@@ -188,7 +197,9 @@ fn look_after<Rt: Wait>(
     ensures none { end ≡ DoorEnd.NoMemory → pass.new ≡ pass.old }
 {
     match end {
-        DoorEnd::Done | DoorEnd::DoorFault => look(rt, alloc, hall, pass),
+        DoorEnd::Done | DoorEnd::DoorFault | DoorEnd::Stopped => {
+            look(rt, alloc, hall, pass);
+        }
         DoorEnd::NoMemory => (),
     }
 }

@@ -11,7 +11,7 @@ use Rattle.shared_door.specs.declared.acts.Visit.{Visit}
 use Rattle.shared_door.specs.declared.acts.Act.{Act}
 use Rattle.shared_door.specs.declared.acts.Act.TheVariants as act
 use Rattle.shared_door.specs.declared.connection.Over.{Over}
-use Rattle.shared_door.specs.declared.connection.Over.TheVariants.{Closed, Failed}
+use Rattle.shared_door.specs.declared.connection.Over.TheVariants.{Closed, Failed, Stopped}
 use Rattle.shared_door.specs.declared.connection.Standing.{Standing}
 use Rattle.std.specs.List.{AllPairs}
 use Rattle.shared_door.specs.Tickets.{IsPlace, IsNew, HasOtherNumber}
@@ -124,8 +124,18 @@ done_same : {I O : Type 0} (most : Option ℕ) (start old now : Shown I O) (gave
 done_same most start old now gave given given' closed is (inl (said, all)) = inl (closed ∙ said, subst (HasGiven start.ahead) (sym is) all)
 done_same most start old now gave given given' closed is (inr all) = inr all
 
-module _ {I O T : Type 0} (most : Option ℕ) (start : Shown I O) (fits : ℕ → I × O → I × O → Bool → List T → List T → Type 0)
+module _ {I O T : Type 0} (fits : ℕ → I × O → I × O → Bool → List T → List T → Type 0)
     (lasts : (n : ℕ) (came went : I × O) (cut : Bool) (before turns more : List T) → fits n came went cut before turns → fits n came went cut before (turns ++ more)) where
+  fit_later : (turns turns' : List T) → IsPrefix turns turns' → (v : Visit I O T) → IsFit fits turns v → IsFit fits turns' v
+  fit_later turns turns' (more, is) v h = subst (λ (l : List T). IsFit fits l v) is
+      (lasts v.number v.arrival.value.came.value v.went.value v.cut v.before.items turns more h)
+
+  pub fits_later : (turns turns' : List T) → IsPrefix turns turns' → (visits : List (Visit I O T)) → All (IsFit fits turns) visits → All (IsFit fits turns') visits
+  fits_later turns turns' pre visits all = All-weaker (IsFit fits turns) (IsFit fits turns') (fit_later turns turns' pre) visits all
+
+module _ {I O T : Type 0} (most : Option ℕ) (start : Shown I O) (fits : ℕ → I × O → I × O → Bool → List T → List T → Type 0)
+    (lasts : (n : ℕ) (came went : I × O) (cut : Bool) (before turns more : List T) → fits n came went cut before turns → fits n came went cut before (turns ++ more))
+    (stops : List T → Type 0) (stays : (seen turns : List T) → IsPrefix seen turns → stops seen → stops turns) where
   abbrev State : Type 0
   State = PorchState I O T
 
@@ -133,17 +143,10 @@ module _ {I O T : Type 0} (most : Option ℕ) (start : Shown I O) (fits : ℕ �
   Tickets = List (ℕ × Arrival I O T)
 
   abbrev KeepsAt : Shown I O → State → List (Arrival I O T) → Tickets → Type 0
-  KeepsAt now p given back = Keeps most start now fits p given back
+  KeepsAt now p given back = Keeps most start now fits stops p given back
 
   abbrev at : Standing → List (Act I O T) → List T → State
   at s acts seen = record { standing = s; acts = acts; seen = seen }
-
-  fit_later : (turns turns' : List T) → IsPrefix turns turns' → (v : Visit I O T) → IsFit fits turns v → IsFit fits turns' v
-  fit_later turns turns' (more, is) v h = subst (λ (l : List T). IsFit fits l v) is
-      (lasts v.number v.arrival.value.came.value v.went.value v.cut v.before.items turns more h)
-
-  pub fits_later : (turns turns' : List T) → IsPrefix turns turns' → (visits : List (Visit I O T)) → All (IsFit fits turns) visits → All (IsFit fits turns') visits
-  fits_later turns turns' pre visits all = All-weaker (IsFit fits turns) (IsFit fits turns') (fit_later turns turns' pre) visits all
 
   pub opens : (now : Shown I O) (left : Option ℕ) (acts : List (Act I O T)) (turns : List T) (given : List (Arrival I O T)) (back : Tickets)
       → now ≡ start → left ≡ most → acts ≡ [] → length given ≡ 0 → back ≡ []
@@ -170,6 +173,7 @@ module _ {I O T : Type 0} (most : Option ℕ) (start : Shown I O) (fits : ℕ �
         seen = turns;
         order = acted.begins turns;
         reached = prefix_self turns;
+        stopped = λ e. absurd (cc (e));
       })
 
   -- what its parts show at the end
@@ -190,7 +194,7 @@ module _ {I O T : Type 0} (most : Option ℕ) (start : Shown I O) (fits : ℕ �
       → KeepsAt now (at s acts turns) given back → IsPrefix turns turns' → KeepsAt now (at s acts turns') given back
   sees now s acts turns turns' given back k pre = record {
     gave = k.gave;
-    fit = fits_later turns turns' pre (visits_of acts) k.fit;
+    fit = fits_later fits lasts turns turns' pre (visits_of acts) k.fit;
     given_is = k.given_is;
     tickets_are = k.tickets_are;
     ended_is = k.ended_is;
@@ -198,6 +202,7 @@ module _ {I O T : Type 0} (most : Option ℕ) (start : Shown I O) (fits : ℕ �
     seen = k.seen;
     order = k.order;
     reached = prefix_again k.seen turns turns' k.reached pre;
+    stopped = λ e. stays turns turns' pre (k.stopped e);
   }
 
   pub enters : (old now : Shown I O) (turns : List T) (s : Standing) (left : Option ℕ) (acts acts' : List (Act I O T)) (given given' : List (Arrival I O T))
@@ -236,6 +241,7 @@ module _ {I O T : Type 0} (most : Option ℕ) (start : Shown I O) (fits : ℕ �
         seen = a.seen.items;
         order = acted.gives acts k.seen a k.order none (let h = g.count in omega (arith, number)) (prefix_to k.seen turns a.seen.items k.reached (sym seen));
         reached = prefix_to a.seen.items a.seen.items turns (prefix_self a.seen.items) seen;
+        stopped = λ e. absurd (cc (e, going));
       }
 
   -- it is over, for a reason that holds
@@ -244,9 +250,9 @@ module _ {I O T : Type 0} (most : Option ℕ) (start : Shown I O) (fits : ℕ �
       → old.faults ≤ now.faults → now.ended ≡ old.ended → now.took_back ≡ old.took_back
       → Lengthened old.given now.given [] → Shortened old.ahead now.ahead [] → now.gave ≡ old.gave
       → s' ≡ record s { over = Some o } → acts' ≡ acts ++ act.Over o ∷ []
-      → (o ≡ Failed → Rose start.faults now.faults) → (o ≡ Closed → IsDone most start now s.gave (given_of acts))
+      → (o ≡ Failed → Rose start.faults now.faults) → (o ≡ Closed → IsDone most start now s.gave (given_of acts)) → (o ≡ Stopped → stops turns)
       → KeepsAt now (at s' acts' turns) given back
-  finishes old now turns s s' acts acts' given back o k going later ended same more fewer gave is acts_is failed closed =
+  finishes old now turns s s' acts acts' given back o k going later ended same more fewer gave is acts_is failed closed stopped =
       let g = k.gave in
       let arrived : arrivals_of (acts ++ act.Over o ∷ []) ≡ arrivals_of acts = arrivals_more acts (act.Over o ∷ []) ∙ append-nil (arrivals_of acts) in
       let visited : visits_of (acts ++ act.Over o ∷ []) ≡ visits_of acts = visits_more acts (act.Over o ∷ []) ∙ append-nil (visits_of acts) in
@@ -278,6 +284,7 @@ module _ {I O T : Type 0} (most : Option ℕ) (start : Shown I O) (fits : ℕ �
         seen = k.seen;
         order = acted.closes acts k.seen o k.order none;
         reached = k.reached;
+        stopped = λ e. stopped (cc (e));
       })
 
   pub leaves : (old now : Shown I O) (turns : List T) (s : Standing) (acts acts' : List (Act I O T)) (given given' : List (Arrival I O T)) (back back' : Tickets)
@@ -328,4 +335,5 @@ module _ {I O T : Type 0} (most : Option ℕ) (start : Shown I O) (fits : ℕ �
         order = acted.ends acts k.seen v k.order here fresh (subst (λ (b : Arrival I O T). IsPrefix b.seen.items v.before.items) (sym came_is) after)
             (subst (λ (l : List T). IsFit fits l v) (sym seen_is) fit_now) (prefix_to k.seen turns v.seen.items k.reached (sym seen_is));
         reached = prefix_to v.seen.items v.seen.items turns (prefix_self v.seen.items) seen_is;
+        stopped = k.stopped;
       }

@@ -71,10 +71,12 @@ Knocks tickets name old new (knocked.Conn c) =
 Knocks tickets name old new knocked.Quiet = IsGoing old.standing × IsIdle old new
 Knocks tickets name old new knocked.NoMemory = IsGoing old.standing × IsIdle old new
 Knocks tickets name old new (knocked.Closed f) =
-    (old.standing.over ≢ Some over.Failed) × (new.standing ≡ record old.standing { over = Some over.Closed }) × IsOverBy name new f over.Closed
+    ((old.standing.over ≡ Some over.Closed) ⊎ (old.standing.over ≡ None)) × (new.standing ≡ record old.standing { over = Some over.Closed })
+    × IsOverBy name new f over.Closed
 Knocks tickets name old new (knocked.Failed f) =
     ((old.standing.over ≡ Some over.Failed) ⊎ IsGoing old.standing) × (new.standing ≡ record old.standing { over = Some over.Failed })
     × IsOverBy name new f over.Failed
+Knocks tickets name old new (knocked.Stopped f) = (old.standing.over ≡ Some over.Stopped) × (new.standing ≡ old.standing) × IsOverBy name new f over.Stopped
 
 module _ {D T I O : Type 0} where
   -- The act by which this connection ended, after a session of this pass. The pass had seen `before` when the session began, and now the

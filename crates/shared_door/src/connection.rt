@@ -33,6 +33,8 @@ pub enum Knocked<D: Door, T> {
     Closed(Front<Act<D::In, D::Out, T>>),
     /// The door failed, now or at an earlier knock. The front has the act that says so.
     Failed(Front<Act<D::In, D::Out, T>>),
+    /// The porch was stopped. The front has the act by which it is over.
+    Stopped(Front<Act<D::In, D::Out, T>>),
     /// Out of memory.
     NoMemory,
 }
@@ -44,6 +46,8 @@ pub enum Over {
     Closed,
     /// The door failed.
     Failed,
+    /// The history says that no further connection is to be served.
+    Stopped,
 }
 
 /// Where a porch is.

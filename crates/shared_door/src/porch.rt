@@ -1,5 +1,5 @@
 //! The porch: what the door's lock has.
-ghost use Rattle.std.specs.Prelude.{◌≡◌, ◌≢◌, ◌+◌, ◌-◌, ◌^◌, ◌<◌, Some, None, [], ◌∷◌, ◌++◌, MatchBool};
+ghost use Rattle.std.specs.Prelude.{◌≡◌, ◌≢◌, ◌+◌, ◌-◌, ◌^◌, ◌<◌, Some, None, [], ◌∷◌, ◌++◌, MatchBool, MatchOption};
 ghost use mathlib.Core.List.{IsPrefix};
 ghost use Rattle.turn_book.specs.Rule.{Learns, turns_by};
 ghost use Rattle.turn_book.specs.Passes.{view, IsFree, IsSamePass};
@@ -48,7 +48,7 @@ impl<'a, V: Served<D::In, D::Out>, D: Door, N: Naming<D::In, D::Out>> Model for 
         × (p.pass.seat.me.0.number ≡ N.pass) × (turns_by V.made_by N.pass p.pass.seat.me.0.seen ≡ []))
         × ((p.tickets.seat.table_id ≡ N.tickets) × (p.tickets.given ≡ p.standing.gave) × (p.acts.name ≡ N.acts))
         × Keeps N.most N.start (shown_by D.faults D.ahead D.given D.ended D.gave D.took_back D.closed p.door)
-        V.fits (record { standing = p.standing; acts = p.acts.items; seen = p.pass.seat.me.0.seen }) p.tickets.seat.me.0.given p.tickets.seat.me.0.back };
+        V.fits V.stops (record { standing = p.standing; acts = p.acts.items; seen = p.pass.seat.me.0.seen }) p.tickets.seat.me.0.given p.tickets.seat.me.0.back };
 }
 
 impl<'a, V: Served<D::In, D::Out>, D: Door, N: Naming<D::In, D::Out>> Porch<'a, V, D, N> {
@@ -92,10 +92,12 @@ impl<'a, V: Served<D::In, D::Out>, D: Door, N: Naming<D::In, D::Out>> Porch<'a, 
         self.standing
     }
 
-    /// The next connection, or why there is none. Once the porch is over, each call returns the same, without asking the
-    /// door. From 2^64 - 1 connections on it returns `Quiet`. The pass has then seen what the porch's pass had seen.
+    /// The next connection, or why there is none. The caller has seen no reason to stop the porch (`stop`). Once the porch is over, each
+    /// call returns the same, without asking the door. From 2^64 - 1 connections on it returns `Quiet`. The pass has then seen what the
+    /// porch's pass had seen.
     pub fn knock(&mut self, pass: &mut Pass<V>) -> Knocked<D, V::Turn>
         requires here { (pass.old.seat.table_id ≡ N.hall) × IsFree pass.old.seat }
+        requires goes_on { ¬ V.stops (view pass.old.seat).seen }
         ensures knocks { Knocks N.tickets N.acts self.old self.new result }
         ensures pass { IsSamePass pass.old.seat pass.new.seat × IsFree pass.new.seat × Learns V.made_by (view pass.old.seat) (view pass.new.seat).seen }
         ensures seen { IsPrefix self.old.seen self.new.seen × IsPrefix self.new.seen (view pass.new.seat).seen }
@@ -104,8 +106,39 @@ impl<'a, V: Served<D::In, D::Out>, D: Door, N: Naming<D::In, D::Out>> Porch<'a, 
         match self.standing.over {
             Some(Over::Closed) => Knocked::Closed(self.acts.front()),
             Some(Over::Failed) => Knocked::Failed(self.acts.front()),
+            Some(Over::Stopped) => Knocked::Stopped(self.acts.front()),
             None => self.ask(),
         }
+    }
+
+    /// Stops the porch, since the history that the caller has seen says so: no further connection is given. A porch that is over stays as it
+    /// is. The front has the act by which it is over.
+    pub fn stop(&mut self, caller: &mut Pass<V>) -> Front<Act<D::In, D::Out, V::Turn>>
+        requires here { (caller.old.seat.table_id ≡ N.hall) × IsFree caller.old.seat }
+        requires stops { V.stops (view caller.old.seat).seen }
+        ensures stopped { MatchOption self.old.standing.over (self.new.standing ≡ record self.old.standing { over = Some Over.Stopped })
+            (λ _. self.new.standing ≡ self.old.standing) }
+        ensures over { (result.name ≡ N.acts) × (result.items ≡ self.new.acts) × IsOver result.items }
+        ensures pass { IsSamePass caller.old.seat caller.new.seat × IsFree caller.new.seat × Learns V.made_by (view caller.old.seat) (view caller.new.seat).seen }
+        ensures seen { IsPrefix self.old.seen self.new.seen × IsPrefix self.new.seen (view caller.new.seat).seen }
+    {
+        self.meet(caller);
+        match self.standing.over {
+            Some(_) => self.acts.front(),
+            None => self.end_stopped(),
+        }
+    }
+
+    // The porch gives no more connections, since the history that its pass has seen says so.
+    fn end_stopped(&mut self) -> Front<Act<D::In, D::Out, V::Turn>>
+        requires going { self.old.standing.over ≡ None }
+        requires stops { V.stops self.old.seen }
+        ensures standing { self.new.standing ≡ record self.old.standing { over = Some Over.Stopped } }
+        ensures front { (result.name ≡ N.acts) × (result.items ≡ self.new.acts) }
+        ensures over { IsOver self.new.acts }
+        ensures seen { self.new.seen ≡ self.old.seen }
+    {
+        end(&mut self.standing, &mut self.acts, Over::Stopped)
     }
 
     // Each of the two passes has then seen what the other had.
@@ -232,6 +265,7 @@ impl<'a, V: Served<D::In, D::Out>, D: Door, N: Naming<D::In, D::Out>> Porch<'a, 
         ensures gave { Gave N.most N.start (shown_by D.faults D.ahead D.given D.ended D.gave D.took_back D.closed result.door) result.standing result.acts.items }
         ensures visited { Visited N.start (shown_by D.faults D.ahead D.given D.ended D.gave D.took_back D.closed result.door)
             V.fits (view result.pass.seat).seen result.acts.items }
+        ensures stopped { result.standing.over ≡ Some Over.Stopped → V.stops (view result.pass.seat).seen }
     {
         let Porch {
             door,

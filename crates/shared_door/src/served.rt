@@ -24,4 +24,10 @@ pub trait Served<I, O>: Story {
     // A pass that has nothing open has nothing open in a longer history that has no more turns of it.
     ghost keeps: { (n : ℕ) (seen turns : List Self.Turn) → IsPrefix seen turns
         → turns_by Self.made_by n turns ≡ turns_by Self.made_by n seen → rests n seen → rests n turns };
+
+    // After this history no further connection is to be served.
+    ghost stops: { List Self.Turn → Type 0 };
+
+    // Nor after a longer one.
+    ghost stays: { (seen turns : List Self.Turn) → IsPrefix seen turns → stops seen → stops turns };
 }

@@ -8,7 +8,7 @@ use crate::alone::Alone;
 use crate::listening::{Arrival, Listening, pause};
 use crate::tcp_source::nanos_between;
 use crate::waiting::Waiting;
-use crate::{TcpSink, TcpSource};
+use crate::{FaultFlag, TcpSink, TcpSource};
 use bus_host::{Door, Ended, HostFault, Knock, raise};
 use http_server::Log;
 use std::alloc::{AllocError, Global};
@@ -36,6 +36,7 @@ pub struct TcpDoor<N> {
     /// How many connections were begun.
     begun: u64,
     alone: Arc<Alone>,
+    flag: FaultFlag,
     open: OpenConnections,
     waiting: Waiting,
     closing: Closing,
@@ -66,8 +67,15 @@ impl<N> Model for TcpDoor<N> {
 impl<N: Net<Stream = TcpStream, Listener = TcpListener> + Eprint + Clock + Copy> TcpDoor<N> {
     /// Listens at `port` for a program with so many workers, that is, links. It gives out one connection fewer at once,
     /// so that a worker stays free, and one if there is only one worker; then each idle connection ends after 0.25 s.
-    /// A line on standard error has the reason if it cannot listen.
-    pub fn open(alloc: Global, system: N, port: u16, workers: usize) -> Result<Self, HostFault>
+    /// If a call of a disk with this flag fails, its connections end between messages. A line on standard error has the reason
+    /// if it cannot listen.
+    pub fn open(
+        alloc: Global,
+        system: N,
+        port: u16,
+        workers: usize,
+        flag: FaultFlag,
+    ) -> Result<Self, HostFault>
         ensures opened { IfOk result (λ door. door ≡ fresh (limit_for workers)) }
     {
         let Ok(alone) = Arc::new(alloc, Alone::new(workers <= 1)) else {
@@ -92,6 +100,7 @@ impl<N: Net<Stream = TcpStream, Listener = TcpListener> + Eprint + Clock + Copy>
             out: 0,
             begun: 0,
             alone,
+            flag,
             open: OpenConnections::new(),
             waiting,
             closing,
@@ -210,6 +219,7 @@ impl<N: Net<Stream = TcpStream, Listener = TcpListener> + Clock + Copy> TcpDoor<
         let input = TcpSource::new(
             Arc::try_clone(&connection)?,
             alone,
+            self.flag.try_clone()?,
             self.system,
             self.start,
             now,

@@ -5,11 +5,11 @@ ghost use Rattle.bus_host.specs.HostFault.{host_outcome};
 ghost use Rattle.tcp_host.specs.Places.{counted, fresh, limit_for};
 
 use crate::journal_file::open_disk;
-use crate::{HttpLink, TcpDoor};
+use crate::{FaultFlag, HttpLink, JournalDisk, TcpDoor};
 use bus_host::{Host, HostFault, raise};
 use http_server::Log;
 use router_disk::{FileDisk, Heard};
-use std::alloc::Global;
+use std::alloc::{AllocError, Global};
 use std::fs::File;
 use std::net::{Net, TcpListener, TcpStream};
 use std::rt::Files;
@@ -17,16 +17,18 @@ use std::time::Clock;
 
 /// A host whose disks are files of the system, and whose doors and links go over its sockets, by its monotonic clock. A door gives out one
 /// connection fewer at once than the host had given links when it opened the door, and at least one: each worker has a link.
+/// Once a call of one of its disks has failed, the connections of its doors end between messages.
 #[derive(Drop)]
 pub struct TcpHost<N> {
     alloc: Global,
     system: N,
+    flag: FaultFlag,
     disk_faults: u64,
     door_faults: u64,
     /// The number of links given. It stays at the last `usize`.
     links: usize,
-    disks_given: Log<Heard, FileDisk<File, N>>,
-    disks_back: Log<FileDisk<File, N>, ()>,
+    disks_given: Log<Heard, JournalDisk<FileDisk<File, N>>>,
+    disks_back: Log<JournalDisk<FileDisk<File, N>>, ()>,
     doors_given: Log<u16, TcpDoor<N>>,
     doors_back: Log<TcpDoor<N>, ()>,
     links_given: Log<HttpLink<N>, ()>,
@@ -44,28 +46,32 @@ impl<
         + Drop,
 > TcpHost<N> {
     /// A host that has given no disk, no door and no link yet.
-    pub fn new(alloc: Global, system: N) -> Self
-        ensures disk { ⟦<TcpHost<N> as Host>⟧.disk_faults result ≡ 0 }
-        ensures door { ⟦<TcpHost<N> as Host>⟧.door_faults result ≡ 0 }
-        ensures disks_given { ⟦<TcpHost<N> as Host>⟧.disks_given result ≡ [] }
-        ensures disks_back { ⟦<TcpHost<N> as Host>⟧.disks_back result ≡ [] }
-        ensures doors_given { ⟦<TcpHost<N> as Host>⟧.doors_given result ≡ [] }
-        ensures doors_back { ⟦<TcpHost<N> as Host>⟧.doors_back result ≡ [] }
-        ensures given { ⟦<TcpHost<N> as Host>⟧.links_given result ≡ [] }
-        ensures back { ⟦<TcpHost<N> as Host>⟧.links_back result ≡ [] }
+    pub fn new(alloc: Global, system: N) -> Result<Self, AllocError>
+        ensures disk { IfOk result (λ host. ⟦<TcpHost<N> as Host>⟧.disk_faults host ≡ 0) }
+        ensures door { IfOk result (λ host. ⟦<TcpHost<N> as Host>⟧.door_faults host ≡ 0) }
+        ensures disks_given { IfOk result (λ host. ⟦<TcpHost<N> as Host>⟧.disks_given host ≡ []) }
+        ensures disks_back { IfOk result (λ host. ⟦<TcpHost<N> as Host>⟧.disks_back host ≡ []) }
+        ensures doors_given { IfOk result (λ host. ⟦<TcpHost<N> as Host>⟧.doors_given host ≡ []) }
+        ensures doors_back { IfOk result (λ host. ⟦<TcpHost<N> as Host>⟧.doors_back host ≡ []) }
+        ensures given { IfOk result (λ host. ⟦<TcpHost<N> as Host>⟧.links_given host ≡ []) }
+        ensures back { IfOk result (λ host. ⟦<TcpHost<N> as Host>⟧.links_back host ≡ []) }
     {
-        TcpHost {
-            alloc,
-            system,
-            disk_faults: 0,
-            door_faults: 0,
-            links: 0,
-            disks_given: Log::new(),
-            disks_back: Log::new(),
-            doors_given: Log::new(),
-            doors_back: Log::new(),
-            links_given: Log::new(),
-            links_back: Log::new(),
+        match FaultFlag::new(alloc) {
+            Ok(flag) => Ok(TcpHost {
+                alloc,
+                system,
+                flag,
+                disk_faults: 0,
+                door_faults: 0,
+                links: 0,
+                disks_given: Log::new(),
+                disks_back: Log::new(),
+                doors_given: Log::new(),
+                doors_back: Log::new(),
+                links_given: Log::new(),
+                links_back: Log::new(),
+            }),
+            Err(AllocError) => Err(AllocError),
         }
     }
 }
@@ -84,7 +90,7 @@ impl<
     ghost use Rattle.bus_host.specs.HostFault.{host_outcome};
     ghost use Rattle.tcp_host.specs.Places.{counted, fresh, limit_for};
 
-    type Disk = FileDisk<File, N>;
+    type Disk = JournalDisk<FileDisk<File, N>>;
 
     type Door = TcpDoor<N>;
 
@@ -122,9 +128,9 @@ impl<
 
     /// A regular file that no other process has so; if it is missing it is made, for its owner alone. A line on standard error has the reason
     /// if it is not opened.
-    fn disk(&mut self, path: &str) -> Result<FileDisk<File, N>, HostFault>
+    fn disk(&mut self, path: &str) -> Result<JournalDisk<FileDisk<File, N>>, HostFault>
         ensures count { CountsFaults self.old.disk_faults self.new.disk_faults (host_outcome result) }
-        ensures opened { IfOk result (λ disk. disk.calls ≡ []) }
+        ensures opened { IfOk result (λ disk. disk.disk.calls ≡ []) }
         ensures given { MatchResult result
             (λ disk. self.new.disks_given.items ≡ self.old.disks_given.items ++ (path.now, disk) ∷ [])
             (λ _. self.new.disks_given.items ≡ self.old.disks_given.items) }
@@ -133,8 +139,12 @@ impl<
         if self.disk_faults == u64::MAX {
             return Err(HostFault::Failed);
         }
+        let Ok(flag) = self.flag.try_clone() else {
+            return Err(HostFault::NoMemory);
+        };
         match open_disk(self.alloc, self.system, path) {
             Ok(disk) => {
+                let disk = JournalDisk::new(disk, flag);
                 let mut name = Heard::new();
                 name.hear(path.as_bytes());
                 self.disks_given = self.disks_given.and(&name, &disk);
@@ -160,7 +170,10 @@ impl<
         if self.door_faults == u64::MAX {
             return Err(HostFault::Failed);
         }
-        match TcpDoor::open(self.alloc, self.system, port, self.links) {
+        let Ok(flag) = self.flag.try_clone() else {
+            return Err(HostFault::NoMemory);
+        };
+        match TcpDoor::open(self.alloc, self.system, port, self.links, flag) {
             Ok(door) => {
                 self.doors_given = self.doors_given.and(&port, &door);
                 Ok(door)
@@ -190,7 +203,7 @@ impl<
     }
 
     /// Closes the file.
-    fn back_disk(&mut self, disk: FileDisk<File, N>) {
+    fn back_disk(&mut self, disk: JournalDisk<FileDisk<File, N>>) {
         self.disks_back = self.disks_back.and(&disk, &());
     }
 

@@ -2,23 +2,31 @@
 ghost use Rattle.std.specs.Prelude.{◌≡◌, []};
 ghost use Rattle.std.specs.Io.{ReadsAtMost};
 
+use crate::FaultFlag;
 use crate::alone::Alone;
 use bus_host::raise;
 use router_disk::{Failed, Pieces, Source};
 use std::sync::Arc;
 use std::time::{Clock, Duration, Instant};
-use tcp_connections::{Connection, Times, is_waiting, one_wait};
+use tcp_connections::{Connection, Times, is_waiting};
 
 /// How many milliseconds a read may wait too long or too short, so that not each read sets its time anew.
 const SLACK: u64 = 50;
 
+/// How many milliseconds a read of the socket waits at most. After that it is made again, so that a connection that waits for its client
+/// notices within a second that the flag is set.
+const LOOK: u64 = 1_000;
+
 /// The bytes that a client sends. The input ends at the client's end, when `Waited::is_over` says so while no other client waits,
 /// and when the door ends it for another client; a connection that had no reply yet is read once more then. By the monotonic
-/// clock; if the clock fails, the read fails.
+/// clock; if the clock fails, the read fails. Once the flag of the door is set, the input also ends between messages, within a
+/// second, and at the first read after a reply, even if a part of the next message has come. A connection that has sent nothing yet
+/// is read once more then.
 #[derive(Drop)]
 pub struct TcpSource<C> {
     pub(crate) connection: Arc<Connection>,
     alone: Arc<Alone>,
+    flag: FaultFlag,
     clock: C,
     /// When the door was opened.
     start: Instant,
@@ -28,7 +36,9 @@ pub struct TcpSource<C> {
     /// Whether a reply was written. Before the first one the socket is read even if the door has ended the connection, so
     /// that a request that has arrived is not lost.
     answered: bool,
-    /// How long a read of the socket waits, at most 16 s; zero, if no time is set yet.
+    /// Whether bytes have come. Before them the socket is read even if the flag is set.
+    began: bool,
+    /// How long a read of the socket waits, at most 1 s; zero, if no time is set yet.
     wait: Duration,
     gave: Pieces,
     faults: u64,
@@ -39,6 +49,7 @@ impl<C: Clock> TcpSource<C> {
     pub(crate) fn new(
         connection: Arc<Connection>,
         alone: Arc<Alone>,
+        flag: FaultFlag,
         clock: C,
         start: Instant,
         now: u64,
@@ -49,11 +60,13 @@ impl<C: Clock> TcpSource<C> {
         TcpSource {
             connection,
             alone,
+            flag,
             clock,
             start,
             times: Times::new(now),
             rests: false,
             answered: false,
+            began: false,
             wait: Duration::ZERO,
             gave: Pieces::new(),
             faults: 0,
@@ -74,8 +87,11 @@ impl<C: Clock> TcpSource<C> {
         ensures faults { self.new.faults ≡ self.old.faults }
     {
         let rests = self.rests;
-        self.begin()?;
+        let replied = self.begin()?;
         if rests && self.answered && self.connection.is_ended() {
+            return Ok(0);
+        }
+        if self.began && (rests || replied) && self.flag.is_set() {
             return Ok(0);
         }
         for _ in 0..u64::MAX {
@@ -98,8 +114,9 @@ impl<C: Clock> TcpSource<C> {
         Err(Failed)
     }
 
-    /// Takes note of the replies since the last read, shows the door that the session waits, and sets how long.
-    fn begin(&mut self) -> Result<(), Failed>
+    /// Takes note of the replies since the last read, shows the door that the session waits, and sets how long. Returns whether there
+    /// was a reply.
+    fn begin(&mut self) -> Result<bool, Failed>
         ensures gave { self.new.gave ≡ self.old.gave }
         ensures faults { self.new.faults ≡ self.old.faults }
     {
@@ -109,7 +126,8 @@ impl<C: Clock> TcpSource<C> {
         self.times = self.times.at_read(now, replied, self.rests);
         self.rests = false;
         self.connection.show(self.times);
-        self.set_wait(now)
+        self.set_wait(now)?;
+        Ok(replied)
     }
 
     /// Takes note of bytes. A clock that fails does not lose them.
@@ -119,6 +137,7 @@ impl<C: Clock> TcpSource<C> {
     {
         let now = self.now().unwrap_or(self.times.last);
         self.times = self.times.at_bytes(now);
+        self.began = true;
         self.connection.show(self.times);
     }
 
@@ -129,21 +148,22 @@ impl<C: Clock> TcpSource<C> {
     {
         let now = self.now()?;
         let waited = self.times.waited(now);
-        let spares = waited.message.is_none() && self.alone.get();
-        if waited.is_over(spares) {
+        let rests = waited.message.is_none();
+        if waited.is_over(rests && self.alone.get()) || rests && self.flag.is_set() {
             return Ok(true);
         }
         self.set_wait(now)?;
         Ok(false)
     }
 
-    /// Has a read of the socket wait until the input is over, within 50 ms, and at least 1 ms; but at most 16 s, after which
+    /// Has a read of the socket wait until the input is over, within 50 ms, and at least 1 ms; but at most 1 s, after which
     /// it is made again.
     fn set_wait(&mut self, now: u64) -> Result<(), Failed>
         ensures gave { self.new.gave ≡ self.old.gave }
         ensures faults { self.new.faults ≡ self.old.faults }
     {
-        let left = one_wait(self.times.waited(now).left(self.alone.get()));
+        let left = self.times.waited(now).left(self.alone.get());
+        let left = left.min(Duration::from_millis(LOOK));
         let slack = Duration::from_millis(SLACK);
         if self.wait.saturating_sub(left) < slack
             && left.saturating_sub(self.wait) < slack

@@ -1,70 +1,54 @@
-use Rattle.std.proofs.Common.{◌++◌, ap, arith, inr, map, refl, ◌∙◌}
-use Rattle.turn_book.specs.declared.view.View.{View}
+use Rattle.std.proofs.Common.{◌≡◌, ◌∙◌, ℕ, List, Some, None, subst, sym}
 use Rattle.shared_door.specs.Shown.{shown_by}
-use Rattle.router_history.specs.declared.history.Turn.{Turn}
-use Rattle.router_history.specs.Book.{turn_of}
 use Rattle.router_history.specs.Visit.{IsVisit}
 use Rattle.session_workers.specs.Jobs.{did_by}
-use Rattle.bus_server.specs.Serve.{around_door, links_of, clocks_of}
-use Rattle.bus_server.proofs.ServeLemmas.{counted_host, no_owns, no_room, serves}
+use Rattle.bus_server.specs.Journal.{disks}
+use Rattle.bus_server.specs.Serve.{IsUnbroken, around_door}
+use Rattle.bus_server.specs.ServeJournal.{IsJournaledServe}
+use Rattle.bus_server.proofs.RunLemmas.{seen_none, seen_some}
+use Rattle.bus_server.proofs.WordsLemmas.{journal_apart, serve_apart}
 use Rattle.bus_server.proofs.serve.serve.Goals as goal
 
-pub returns-then-is_err-clause-serve : goal.returns-then-is_err-clause-serve
-returns-then-is_err-clause-serve g c = inr (no_room c.args.port c.args.workers _ _ refl)
+pub returns-in-Some-clause-serve : goal.returns-in-Some-clause-serve
+returns-in-Some-clause-serve g c = λ none. let some : Some c.in-Some.path.now ≡ None = sym (seen_some c.args.journal c.in-Some.path (λ s. s.now) c.in-Some.is) ∙ none in absurd (cc (some))
 
-pub at_port-requires-clause-opener : goal.at_port-requires-clause-opener
-at_port-requires-clause-opener g c κs lives =
-    let made = c.in-Ok-make.ensures.ok.3 in (
-      ap (λ (v : View Turn). v.number) made,
-      ap (λ (v : View Turn). v.made) made,
-      ap (λ (v : View Turn). map turn_of v.seen) made ∙ c.in-Ok.ensures.first,
-    )
+pub returns-in-Some-clause-disks : goal.returns-in-Some-clause-disks
+returns-in-Some-clause-disks g c = λ none. let some : Some c.in-Some.path.now ≡ None = sym (seen_some c.args.journal c.in-Some.path (λ s. s.now) c.in-Some.is) ∙ none in absurd (cc (some))
 
-pub returns-in-Ok-take_owns-clause-serve : goal.returns-in-Ok-take_owns-clause-serve
-returns-in-Ok-take_owns-clause-serve g c =
-    let h = g.H.Host in let k = g.C.Clocks in
-    let t = c.take_owns.ensures in
-    let old = c.args.host.now in let mid = c.take_owns.new.host in let new = c.at_port.new.host in
-    let owns = c.take_owns.new.owns in
-    serves (shown_by g.H.Door.Door.faults g.H.Door.Door.ahead g.H.Door.Door.given g.H.Door.Door.ended g.H.Door.Door.gave g.H.Door.Door.took_back g.H.Door.Door.closed) (IsVisit g.H.Door.In.Source.gave g.H.Door.Out.Sink.wrote g.H.Door.In.Source.faults g.H.Door.Out.Sink.faults)
-    (did_by g.H.Door.In.Source.gave g.H.Door.Out.Sink.wrote g.C.Lent.Clock.gave g.H.Link.Link.exchanges g.H.Link.Link.faults)
-    c.args.port c.args.workers c.args.connections owns.items
+pub returns-in-Some-clause-journaled : goal.returns-in-Some-clause-journaled
+returns-in-Some-clause-journaled g c = λ path is.
+    let h = g.H.Host in let t = g.C.Clocks in
+    let old = c.args.host.now in let new = c.serve_with_journal.new.host in
+    let some : Some c.in-Some.path.now ≡ Some path = sym (seen_some c.args.journal c.in-Some.path (λ s. s.now) c.in-Some.is) ∙ is in
+    let same : c.in-Some.path.now ≡ path = cc (some) in
+    subst (λ (p : List ℕ). IsJournaledServe g.H.Disk.Disk.calls g.H.Disk.Disk.faults (shown_by g.H.Door.Door.faults g.H.Door.Door.ahead g.H.Door.Door.given g.H.Door.Door.ended g.H.Door.Door.gave g.H.Door.Door.took_back g.H.Door.Door.closed)
+    (IsVisit g.H.Door.In.Source.gave g.H.Door.Out.Sink.wrote g.H.Door.In.Source.faults g.H.Door.Out.Sink.faults)
+    (did_by g.H.Door.In.Source.gave g.H.Door.Out.Sink.wrote g.C.Lent.Clock.gave g.H.Link.Link.exchanges g.H.Link.Link.faults) p c.args.port c.args.workers c.args.connections
+    (disks (h.disks_given old) (h.disks_back old) (h.disk_faults old)) (disks (h.disks_given new) (h.disks_back new) (h.disk_faults new))
     (around_door (g.K.Sink.wrote c.args.output.now) (h.doors_given old) (h.doors_back old) (h.links_given old) (h.links_back old)
-    (k.clocks_given c.args.clock.now) (k.clocks_back c.args.clock.now) (h.door_faults old) (h.link_faults old))
-    (around_door (g.K.Sink.wrote c.args.output.now) (h.doors_given mid) (h.doors_back mid) (h.links_given mid) (h.links_back mid)
-    (k.clocks_given c.take_owns.new.clock) (k.clocks_back c.take_owns.new.clock) (h.door_faults mid) (h.link_faults mid))
-    (around_door (g.K.Sink.wrote c.at_port.new.output) (h.doors_given new) (h.doors_back new) (h.links_given new) (h.links_back new)
-    (k.clocks_given c.at_port.new.clock) (k.clocks_back c.at_port.new.clock) (h.door_faults new) (h.link_faults new)) c.at_port.result refl t.doors.same_given t.doors.same_back t.given t.back t.clocks t.clocks_back t.same.0
-    c.in-Ok-take_owns.ensures.counts (omega (arith, owns.ok, c.in-Ok-take_owns.ensures.all, c.from-count.ensures)) c.at_port.ensures.served
+    (t.clocks_given c.args.clock.now) (t.clocks_back c.args.clock.now) (h.door_faults old) (h.link_faults old))
+    (around_door (g.K.Sink.wrote c.serve_with_journal.new.output) (h.doors_given new) (h.doors_back new) (h.links_given new) (h.links_back new)
+    (t.clocks_given c.serve_with_journal.new.clock) (t.clocks_back c.serve_with_journal.new.clock) (h.door_faults new) (h.link_faults new)) c.serve_with_journal.result) same c.serve_with_journal.ensures.journaled
 
-pub returns-in-Ok-listening_line-clause-serve : goal.returns-in-Ok-listening_line-clause-serve
-returns-in-Ok-listening_line-clause-serve g c =
-    let h = g.H.Host in let k = g.C.Clocks in
-    let t = c.take_owns.ensures in let l = c.give_owns.ensures in
-    let old = c.args.host.now in let new = c.give_owns.new.host in
-    let owns = c.take_owns.new.owns in
-    let fault = c.in-Err-take_owns.fault in
-    let (rose, same) = counted_host (Unit {0}) fault (h.link_faults old) (h.link_faults c.take_owns.new.host) (h.link_faults new) c.in-Err-take_owns.ensures.counts
-    l.faults.same_link in
-    inr (no_owns c.args.port c.args.workers fault owns.items
-    (around_door (g.K.Sink.wrote c.args.output.now) (h.doors_given old) (h.doors_back old) (h.links_given old) (h.links_back old)
-    (k.clocks_given c.args.clock.now) (k.clocks_back c.args.clock.now) (h.door_faults old) (h.link_faults old))
-    (around_door (g.K.Sink.wrote c.args.output.now) (h.doors_given new) (h.doors_back new) (h.links_given new) (h.links_back new)
-    (k.clocks_given c.give_owns.new.clock) (k.clocks_back c.give_owns.new.clock) (h.door_faults new) (h.link_faults new)) c.host_status.result c.host_status.ensures refl
-    (l.doors.same_given ∙ t.doors.same_given)
-    (l.doors.same_back ∙ t.doors.same_back)
-    (l.given ∙ t.given)
-    (l.back ∙ ap (λ ls. ls ++ links_of owns.items) t.back)
-    (l.clocks ∙ t.clocks)
-    (l.clocks_back ∙ ap (λ cs. cs ++ clocks_of owns.items) t.clocks_back)
-    (omega (arith, owns.ok, t.few, c.from-count.ensures))
-    (l.faults.same_door ∙ t.same.0) rose same)
+pub returns-in-Some-clause-usage : goal.returns-in-Some-clause-usage
+returns-in-Some-clause-usage g c =
+    journal_apart g.H.Disk.Disk.calls g.H.Disk.Disk.faults (shown_by g.H.Door.Door.faults g.H.Door.Door.ahead g.H.Door.Door.given g.H.Door.Door.ended g.H.Door.Door.gave g.H.Door.Door.took_back g.H.Door.Door.closed)
+    (IsVisit g.H.Door.In.Source.gave g.H.Door.Out.Sink.wrote g.H.Door.In.Source.faults g.H.Door.Out.Sink.faults)
+    (did_by g.H.Door.In.Source.gave g.H.Door.Out.Sink.wrote g.C.Lent.Clock.gave g.H.Link.Link.exchanges g.H.Link.Link.faults) c.in-Some.path.now c.args.port c.args.workers c.args.connections _ _ _ _ c.serve_with_journal.result
+    c.serve_with_journal.ensures.journaled
 
-pub returns-in-Ok-make-clause-serve : goal.returns-in-Ok-make-clause-serve
-returns-in-Ok-make-clause-serve g c = inr (no_room c.args.port c.args.workers _ _ refl)
+pub returns-in-None-clause-serve : goal.returns-in-None-clause-serve
+returns-in-None-clause-serve g c = λ none. c.serve_in_memory.ensures.serve
 
-pub returns-in-Ok-clause-serve : goal.returns-in-Ok-clause-serve
-returns-in-Ok-clause-serve g c = inr (no_room c.args.port c.args.workers _ _ refl)
+pub returns-in-None-clause-disks : goal.returns-in-None-clause-disks
+returns-in-None-clause-disks g c = λ none. c.serve_in_memory.ensures.disk
 
-pub returns-clause-serve : goal.returns-clause-serve
-returns-clause-serve g c = inr (no_room c.args.port c.args.workers _ _ refl)
+pub returns-in-None-clause-journaled : goal.returns-in-None-clause-journaled
+returns-in-None-clause-journaled g c = λ path is.
+    let none : None ≡ Some path = sym (seen_none c.args.journal (λ s. s.now) c.in-None.is) ∙ is in absurd (cc (none))
+
+pub returns-in-None-clause-usage : goal.returns-in-None-clause-usage
+returns-in-None-clause-usage g c =
+    serve_apart (shown_by g.H.Door.Door.faults g.H.Door.Door.ahead g.H.Door.Door.given g.H.Door.Door.ended g.H.Door.Door.gave g.H.Door.Door.took_back g.H.Door.Door.closed)
+    (IsVisit g.H.Door.In.Source.gave g.H.Door.Out.Sink.wrote g.H.Door.In.Source.faults g.H.Door.Out.Sink.faults)
+    (did_by g.H.Door.In.Source.gave g.H.Door.Out.Sink.wrote g.C.Lent.Clock.gave g.H.Link.Link.exchanges g.H.Link.Link.faults) _ IsUnbroken c.args.port c.args.workers c.args.connections _ _ c.serve_in_memory.result c.serve_in_memory.ensures.serve

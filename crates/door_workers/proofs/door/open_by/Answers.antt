@@ -1,5 +1,4 @@
 use Rattle.shared_door.proofs.Keeping.{prefix_again}
-use Rattle.std.proofs.Common.{get_or}
 use Rattle.std.specs.Prelude.{slice_index_or}
 use Rattle.door_workers.proofs.ServingLemmas.{worked_still}
 use Rattle.door_workers.proofs.door.open_by.Goals as goal

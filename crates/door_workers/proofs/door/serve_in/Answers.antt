@@ -5,7 +5,7 @@ use Rattle.shared_door.specs.Shown.{shown_by}
 use Rattle.shared_door.specs.declared.acts.Act.{Act}
 use Rattle.door_workers.specs.declared.worker.Worker.{Worker}
 use Rattle.turn_book.specs.declared.hall.Pass.{Pass}
-use Rattle.door_workers.specs.Serving.{IsIdlePass, IsRestingPass, HasWorked, IsGathered}
+use Rattle.door_workers.specs.Serving.{over_of, IsIdlePass, IsRestingPass, HasWorked, IsGathered}
 use Rattle.turn_book.specs.Passes.{known_by}
 use Rattle.turn_book.specs.Rule.{turns_by}
 use Rattle.turn_book.specs.declared.view.View.{View}
@@ -79,3 +79,6 @@ pub returns-clause-rests : goal.returns-clause-rests
 returns-clause-rests g c = let hall = c.args.hall.now.table.shared.table_id in let R : Type 0 = Pass g.row.V.Denot g.row.V-Turn.Denot g.V.Story in
     All-weaker (λ (p : R). IsRestingPass g.V.Served.rests hall p.seat) (λ p. g.V.Served.rests p.seat.me.0.number p.seat.me.0.seen) (λ p h. h.1) _
     c.gather.ensures.passes
+
+pub returns-clause-stopped : goal.returns-clause-stopped
+returns-clause-stopped g c = λ is. g.V.Served.stays _ _ c.gather.ensures.last (c.open_by-parts.ensures.stopped (c.end_of.ensures.over ∙ ap over_of is))

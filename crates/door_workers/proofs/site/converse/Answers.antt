@@ -1,6 +1,6 @@
 use Rattle.shared_door.proofs.RestLemmas.{still_rests}
-use Rattle.std.proofs.Common.{ap, sym, ◌∙◌}
-use Rattle.shared_door.proofs.Keeping.{prefix_self}
+use Rattle.std.proofs.Common.{ap, sym, subst, ◌∙◌}
+use Rattle.atomic_table.specs.Seated.{TableId}
 use Rattle.door_workers.specs.Serving.{Session}
 use Rattle.door_workers.proofs.ServingLemmas.{among_later, ended_now, same_session, worked_more, worked_later}
 use Rattle.door_workers.proofs.site.converse.Goals as goal
@@ -27,3 +27,6 @@ returns-clause-worked g c =
     worked_later g.W.Work.did g.V.Story.made_by g.met.W.Work.lasts l.new.self.items s.new.pass.seat b.new.session.seat w.lent.value s.new.own number learns
     (worked_more g.W.Work.did g.V.Story.made_by w.front.items l.new.self.items mine w.pass.seat s.new.pass.seat w.lent.value w.own s.new.own one
     s.ensures.pass.0.1 c.requires.worked s.ensures.did there)
+
+pub serve-cut-requires-clause-works : goal.serve-cut-requires-clause-works
+serve-cut-requires-clause-works g c = subst (λ (t : TableId). g.W.Work.works c.args.site.work.now t) (sym c.requires.pass.0) c.requires.works

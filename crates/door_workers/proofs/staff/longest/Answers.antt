@@ -1,4 +1,4 @@
-use Rattle.std.proofs.Common.{◌≡◌, ◌<◌, ◌≤◌, All, get_or, length, rules, ◌∙◌, subst, sym}
+use Rattle.std.proofs.Common.{◌≡◌, ◌<◌, ◌≤◌, get_or, length, rules, ◌∙◌, subst, sym}
 use mathlib.Core.List.{IsPrefix}
 use Rattle.shared_door.specs.declared.acts.Act.{Act}
 use Rattle.shared_door.proofs.Keeping.{over_later}

@@ -10,16 +10,16 @@ invariant_of-self g c = let p = c.self.inside in let (here, (own, count, name), 
     let going = ap (λ s. s.standing.over) c.self.view_is ∙ c.requires.going in let now = shown_by d.faults d.ahead d.given d.ended d.gave d.took_back d.closed p.door in (
       here,
       (own, count ∙ sym (ap (λ s. s.gave) e.standing), e.acts.0 ∙ name),
-      finishes g.N.Naming.most g.N.Naming.start g.V.Served.fits g.V.Served.lasts now now p.pass.seat.me.0.seen p.standing c.end-front.new.standing
+      finishes g.N.Naming.most g.N.Naming.start g.V.Served.fits g.V.Served.lasts g.V.Served.stops g.V.Served.stays now now p.pass.seat.me.0.seen p.standing c.end-front.new.standing
           p.acts.items c.end-front.new.acts.items p.tickets.seat.me.0.given p.tickets.seat.me.0.back Closed k going (omega arith) refl refl
           (no_more now.given) (no_fewer now.ahead) refl e.standing e.acts.1 (λ is. absurd (cc (is)))
-          (λ _. inr (given_all g.N.Naming.most p.standing.gave p.standing.left k.gave.left c.if-gave_all.ensures)),
+          (λ _. inr (given_all g.N.Naming.most p.standing.gave p.standing.left k.gave.left c.if-gave_all.ensures)) (λ is. absurd (cc (is))),
     )
 
 pub returns-then-gave_all-clause-knocks : goal.returns-then-gave_all-clause-knocks
 returns-then-gave_all-clause-knocks g c = let p = c.self.inside in let (_, (_, _, name), k) = c.self.invariant in let e = c.end-front.ensures in
     let going = ap (λ s. s.standing.over) c.self.view_is ∙ c.requires.going in (
-      (λ is. absurd (cc (is, c.requires.going))),
+      inr c.requires.going,
       e.standing ∙ ap (λ s. record s.standing { over = Some Closed }) c.self.view_is,
       record {
         name_is = e.front.0 ∙ (e.acts.0 ∙ name);
@@ -34,7 +34,7 @@ invariant_of-self-in-Conn g c = let p = c.self.inside in let (here, (own, count,
     let going = ap (λ s. s.standing.over) c.self.view_is ∙ c.requires.going in (
       here,
       (x.same ∙ own, x.count ∙ ap (λ (n : ℕ). n + 1) count, x.acts.0 ∙ name),
-      enters g.N.Naming.most g.N.Naming.start g.V.Served.fits g.V.Served.lasts (shown_by d.faults d.ahead d.given d.ended d.gave d.took_back d.closed p.door)
+      enters g.N.Naming.most g.N.Naming.start g.V.Served.fits g.V.Served.lasts g.V.Served.stops g.V.Served.stays (shown_by d.faults d.ahead d.given d.ended d.gave d.took_back d.closed p.door)
           (shown_by d.faults d.ahead d.given d.ended d.gave d.took_back d.closed c.next.new.self) p.pass.seat.me.0.seen p.standing c.one_fewer-self-inside.result p.acts.items
           c.enter-came.new.acts.items p.tickets.seat.me.0.given c.enter-came.new.tickets.seat.me.0.given p.tickets.seat.me.0.back
           c.enter-came.new.tickets.seat.me.0.back c.enter-came.result.ticket.came.value (c.in-Conn.input, c.in-Conn.output) k going
@@ -47,10 +47,10 @@ invariant_of-self-in-Closed g c = let p = c.self.inside in let (here, (own, coun
     let old = shown_by d.faults d.ahead d.given d.ended d.gave d.took_back d.closed p.door in let now = shown_by d.faults d.ahead d.given d.ended d.gave d.took_back d.closed c.next.new.self in (
       here,
       (own, count ∙ sym (ap (λ s. s.gave) e.standing), e.acts.0 ∙ name),
-      finishes g.N.Naming.most g.N.Naming.start g.V.Served.fits g.V.Served.lasts old now p.pass.seat.me.0.seen p.standing c.end-front-in-Closed.new.standing
+      finishes g.N.Naming.most g.N.Naming.start g.V.Served.fits g.V.Served.lasts g.V.Served.stops g.V.Served.stays old now p.pass.seat.me.0.seen p.standing c.end-front-in-Closed.new.standing
           p.acts.items c.end-front-in-Closed.new.acts.items p.tickets.seat.me.0.given p.tickets.seat.me.0.back Closed k going n.count.later n.ended n.took_back
           n.given n.ahead (n.gave ∙ append-nil old.gave) e.standing e.acts.1 (λ is. absurd (cc (is)))
-          (λ _. inl (n.over, has_given g.N.Naming.start.ahead old.ahead (given_of p.acts.items) k.gave.ahead_is (n.closed refl))),
+          (λ _. inl (n.over, has_given g.N.Naming.start.ahead old.ahead (given_of p.acts.items) k.gave.ahead_is (n.closed refl))) (λ is. absurd (cc (is))),
     )
 
 pub invariant_of-self-in-Failed : goal.invariant_of-self-in-Failed
@@ -59,16 +59,16 @@ invariant_of-self-in-Failed g c = let p = c.self.inside in let (here, (own, coun
     let old = shown_by d.faults d.ahead d.given d.ended d.gave d.took_back d.closed p.door in let now = shown_by d.faults d.ahead d.given d.ended d.gave d.took_back d.closed c.next.new.self in (
       here,
       (own, count ∙ sym (ap (λ s. s.gave) e.standing), e.acts.0 ∙ name),
-      finishes g.N.Naming.most g.N.Naming.start g.V.Served.fits g.V.Served.lasts old now p.pass.seat.me.0.seen p.standing c.end-front-in-Failed.new.standing
+      finishes g.N.Naming.most g.N.Naming.start g.V.Served.fits g.V.Served.lasts g.V.Served.stops g.V.Served.stays old now p.pass.seat.me.0.seen p.standing c.end-front-in-Failed.new.standing
           p.acts.items c.end-front-in-Failed.new.acts.items p.tickets.seat.me.0.given p.tickets.seat.me.0.back Failed k going n.count.later n.ended n.took_back
           n.given n.ahead (n.gave ∙ append-nil old.gave) e.standing e.acts.1
-          (λ _. rose_later g.N.Naming.start.faults old.faults now.faults k.gave.later n.count.rose) (λ is. absurd (cc (is))),
+          (λ _. rose_later g.N.Naming.start.faults old.faults now.faults k.gave.later n.count.rose) (λ is. absurd (cc (is))) (λ is. absurd (cc (is))),
     )
 
 pub returns-in-Closed-clause-knocks : goal.returns-in-Closed-clause-knocks
 returns-in-Closed-clause-knocks g c = let p = c.self.inside in let (_, (_, _, name), k) = c.self.invariant in let e = c.end-front-in-Closed.ensures in
     let going = ap (λ s. s.standing.over) c.self.view_is ∙ c.requires.going in (
-      (λ is. absurd (cc (is, c.requires.going))),
+      inr c.requires.going,
       e.standing ∙ ap (λ s. record s.standing { over = Some Closed }) c.self.view_is,
       record {
         name_is = e.front.0 ∙ (e.acts.0 ∙ name);

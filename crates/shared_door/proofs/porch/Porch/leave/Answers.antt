@@ -13,7 +13,7 @@ invariant_of-self g c = let p = c.self.inside in let a = c.args.connection in le
     (sym (ap (λ s. s.seen) c.self.view_is)) c.requires.fits in (
       here,
       (took.same.0 ∙ own, took.same.1 ∙ count, c.push.ensures.0 ∙ name),
-      leaves g.N.Naming.most g.N.Naming.start g.V.Served.fits g.V.Served.lasts (shown_by d.faults d.ahead d.given d.ended d.gave d.took_back d.closed p.door)
+      leaves g.N.Naming.most g.N.Naming.start g.V.Served.fits g.V.Served.lasts g.V.Served.stops g.V.Served.stays (shown_by d.faults d.ahead d.given d.ended d.gave d.took_back d.closed p.door)
           (shown_by d.faults d.ahead d.given d.ended d.gave d.took_back d.closed c.done.new.self) p.pass.seat.me.0.seen p.standing p.acts.items c.push.new.self.items p.tickets.seat.me.0.given c.take-number.new.self.seat.me.0.given
           p.tickets.seat.me.0.back c.take-number.new.self.seat.me.0.back
           record { number = c.take-number.result.0; pass = c.args.pass; arrival = c.take-number.result.1; before = c.args.before; went = c.of.result; cut = c.args.cut; seen = c.turns_seen.result }

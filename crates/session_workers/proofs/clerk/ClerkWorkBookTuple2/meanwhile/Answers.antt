@@ -1,9 +1,10 @@
+use Rattle.std.proofs.Common.{refl}
 use Rattle.session_workers.specs.Jobs.{outside_of}
-use Rattle.session_workers.proofs.clerk.ClerkWorkBookNoDiskTuple2.meanwhile.Goals as goal
+use Rattle.session_workers.proofs.clerk.ClerkWorkBookTuple2.meanwhile.Goals as goal
 
 pub returns : goal.returns
 returns g c =
-    let (same, free, rests, goes_on) = c.requires.works.waits _ _ c.args.hall _ _ c.requires.here c.requires.free c.requires.rests c.meanwhile.ensures in
+    let (same, free, rests, goes_on) = c.requires.works.waits _ _ _ _ refl c.requires.free c.requires.rests c.meanwhile.ensures in
     record {
       pass = (same, free);
       rests = rests;
