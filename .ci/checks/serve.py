@@ -393,26 +393,32 @@ def a_reply_is_whole_while_another_waits():
 
 def a_busy_client_stays():
     """A client that is never idle for 0.25 s stays while another waits, and is closed once it is idle."""
-    for _ in range(5):
-        longest = []
+    for _ in range(20):
+        rounds = []
         try:
-            return busy_for_a_while(longest)
+            return busy_for_a_while(rounds)
         except Closed:
-            # A busy machine may have stopped the client itself.
-            if max(longest) < SHORT - 0.05:
+            # The server has no byte of it for at most the time of two rounds. A busy machine may have stopped either of them.
+            if max(map(sum, itertools.pairwise([0.0, *rounds]))) < SHORT - 0.05:
                 raise
-    raise Failure("in five tries the machine was too slow to send a request every 0.25 s")
+    raise Failure("in twenty tries the machine was too slow to send a request every 0.25 s")
 
 
-def busy_for_a_while(pauses):
+def busy_for_a_while(rounds):
+    def ask_later():
+        time.sleep(0.05)
+        busy.ask("DutyCounts")
+
     with Served(2) as it, it.client() as busy:
         busy.ask("DutyCounts")
         with it.client() as waiting:
             waiting.send(message("DutyCounts", b"{}"))
             for _ in range(30):
-                _, seconds = timed(lambda: time.sleep(0.05))
-                pauses.append(seconds)
-                busy.ask("DutyCounts")
+                began = time.monotonic()
+                try:
+                    ask_later()
+                finally:
+                    rounds.append(time.monotonic() - began)
             expect("the waiting client has no reply", waiting.is_quiet(), True)
             rest, seconds = timed(lambda: busy.rest(PATIENCE))
             expect("what comes after the last reply", rest, b"")

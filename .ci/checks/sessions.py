@@ -1,5 +1,6 @@
 """One run of `ebusd once` that is asked one request after the other, and what the checks of deliveries share."""
 import json
+import multiprocessing
 import os
 import subprocess
 import threading
@@ -107,21 +108,33 @@ def answered(arn, code, condition, retries, rule="r"):
 
 
 def side_by_side(cases):
-    """Makes the cases, a name and a function each, at the same time. Prints each failure, and returns the status."""
-    failures = {}
+    """Makes the cases, a name and a function each, at the same time, each in a process of its own: threads of one would wait for each
+    other's Python. Prints each failure, and returns the status."""
+    fork = multiprocessing.get_context("fork")
 
-    def make(name, case):
+    def make(case, answer):
         try:
             case()
+            answer.send(None)
         except Exception as fault:
-            failures[name] = fault if isinstance(fault, Failure) else repr(fault)
+            answer.send(str(fault) if isinstance(fault, Failure) else repr(fault))
 
-    threads = [threading.Thread(target=make, args=it) for it in cases]
-    for it in threads:
-        it.start()
-    for it in threads:
-        it.join()
-    for name, fault in failures.items():
-        print(f"{name}: {fault}")
-    print(f"{len(cases) - len(failures)} passed, {len(failures)} failed")
-    return 1 if failures else 0
+    running = []
+    for name, case in cases:
+        fault, answer = fork.Pipe(duplex=False)
+        process = fork.Process(target=make, args=(case, answer))
+        process.start()
+        answer.close()
+        running.append((name, process, fault))
+    failed = 0
+    for name, process, fault in running:
+        try:
+            said = fault.recv()
+        except EOFError:
+            said = "its process ended without a result"
+        process.join()
+        if said is not None:
+            failed += 1
+            print(f"{name}: {said}")
+    print(f"{len(cases) - failed} passed, {failed} failed")
+    return 1 if failed else 0
